@@ -1,0 +1,49 @@
+//! Where bytes come from and go to.
+ghost use Rattle.std.specs.Prelude.{◌≡◌, ℕ, ◌<◌, ◌≤◌, Bool, ◌||◌, Option, List, length, is_err, true, IsErr, IfOk, OnOk, MatchResult};
+ghost use Rattle.rota_core.specs.Ports.{Told, told_len, LeavesAfterRead, SendsOnWrite};
+
+/// A port failed. It fails from then on.
+#[derive(Clone, Copy, PartialEq, Eq, Debug)]
+pub struct PortFault;
+
+/// Where bytes come from. A source that failed once fails at every later call.
+pub trait Source {
+    // the bytes that are left, where they are told
+    ghost left: { Self → Told };
+
+    ghost has_failed: { Self → Bool };
+
+    /// Moves the next bytes into the front of the buffer, and answers how many. None are moved only at
+    /// the end, where the buffer is empty, and at an error.
+    fn read(&mut self, buffer: &mut [u8]) -> Result<usize, PortFault>
+        ensures bound { IfOk result (λ n. n ≤ length buffer.new) }
+        ensures bytes { LeavesAfterRead (left self.old) result buffer.new (left self.new) }
+        ensures failure { has_failed self.new ≡ (has_failed self.old || is_err result) }
+        ensures for_good { has_failed self.old ≡ true → IsErr result };
+}
+
+/// Where bytes go to. A target that failed once fails at every later call.
+pub trait Target {
+    // the bytes that were sent, where they are told
+    ghost sent: { Self → Told };
+
+    // how many of the sent bytes are flushed, where it is told
+    ghost flushed: { Self → Option ℕ };
+
+    ghost has_failed: { Self → Bool };
+
+    /// Sends the first bytes of the piece, at least one where it has any. An error sends none.
+    fn write(&mut self, piece: &[u8]) -> Result<usize, PortFault>
+        ensures bound { IfOk result (λ n. n ≤ length piece.now) }
+        ensures progress { IfOk result (λ n. 0 < length piece.now → 0 < n) }
+        ensures bytes { SendsOnWrite (sent self.old) result piece.now (sent self.new) }
+        ensures failure { has_failed self.new ≡ (has_failed self.old || is_err result) }
+        ensures for_good { has_failed self.old ≡ true → IsErr result };
+
+    /// Makes all sent bytes flushed.
+    fn flush(&mut self) -> Result<(), PortFault>
+        ensures bytes { sent self.new ≡ sent self.old }
+        ensures flushed { OnOk result (flushed self.new ≡ told_len (sent self.new)) }
+        ensures failure { has_failed self.new ≡ (has_failed self.old || is_err result) }
+        ensures for_good { has_failed self.old ≡ true → IsErr result };
+}

@@ -1,0 +1,126 @@
+//! A scenario: what all weeks share.
+
+ghost use Rattle.std.specs.Prelude.{◌≡◌, ◌<◌, length};
+ghost use Rattle.rota_core.specs.Names.{place_of};
+
+use crate::names::place_of_name;
+use crate::values::{Contract, Span};
+use indexmap::IndexSet;
+use std::marker::Model;
+
+/// The rows of a scenario, not checked. Names are bytes, numbered from 0 in the order of the sets.
+#[derive(Drop)]
+pub struct ScenarioParts {
+    pub name: Vec<u8>,
+    pub weeks: u16,
+    pub skills: IndexSet<Vec<u8>>,
+    pub shifts: IndexSet<Vec<u8>>,
+    pub nurses: IndexSet<Vec<u8>>,
+    /// Of consecutive assignments, by shift type.
+    pub limits: Vec<Span>,
+    /// At s * S + t whether shift type t may not follow s, where there are S shift types.
+    pub forbidden: Vec<bool>,
+    pub contracts: Vec<Contract>,
+    /// By nurse, the place in `contracts`.
+    pub contract_of: Vec<u8>,
+    /// At n * K + k whether nurse n has skill k, where there are K skills.
+    pub has_skill: Vec<bool>,
+}
+
+/// A scenario within the limits: 1 to 16 skills and shift types, 1 to 64 contracts, 1 to 1000
+/// nurses, 1 to 52 weeks, other numbers up to 9999.
+#[derive(Drop)]
+pub struct Scenario {
+    parts: ScenarioParts,
+}
+
+impl Model for Scenario {
+    ghost use Rattle.rota_core.specs.ScenarioTables.{ScenarioTables, IsScenario};
+
+    ghost Value = { ScenarioTables };
+
+    ghost use Rattle.rota_core.specs.Parts.{scenario_of};
+
+    ghost view = { λ s. scenario_of s.parts };
+
+    ghost invariant = { λ s. IsScenario (scenario_of s.parts) };
+}
+
+impl Scenario {
+    ghost use Rattle.rota_core.specs.ScenarioTables.{IsScenario, Within};
+    ghost use Rattle.rota_core.specs.Parts.{scenario_of};
+    ghost use Rattle.rota_core.specs.Week.{bare_week};
+
+    /// The scenario of these rows.
+    pub fn of_parts(parts: ScenarioParts) -> Scenario
+        requires { IsScenario (scenario_of parts) }
+        ensures { result ≡ scenario_of parts }
+    {
+        Scenario { parts }
+    }
+
+    /// The number of weeks that the scenario spans, 1 to 52.
+    pub fn weeks(&self) -> u16
+        ensures weeks { result ≡ self.now.weeks }
+        ensures within { IsScenario self.now }
+    {
+        self.parts.weeks
+    }
+
+    /// The number of nurses, 1 to 1000.
+    pub fn nurses(&self) -> u16
+        ensures count { result ≡ length self.now.nurses }
+        ensures within { Within 1000 result }
+    {
+        self.parts.nurses.len() as u16
+    }
+
+    /// The number of shift types, 1 to 16.
+    pub fn shifts(&self) -> u8
+        ensures count { result ≡ length self.now.shifts }
+        ensures within { Within 16 result }
+    {
+        self.parts.shifts.len() as u8
+    }
+
+    /// The number of skills, 1 to 16.
+    pub fn skills(&self) -> u8
+        ensures count { result ≡ length self.now.skills }
+        ensures within { Within 16 result }
+    {
+        self.parts.skills.len() as u8
+    }
+
+    /// Whether the nurse has the skill.
+    pub fn has_skill(&self, nurse: u16, skill: u8) -> bool
+        requires nurse_in { nurse < length self.now.nurses }
+        requires skill_in { skill < length self.now.skills }
+        ensures { result ≡ (bare_week self.now).has_skill nurse skill }
+    {
+        self.parts.has_skill[usize::from(nurse) * self.parts.skills.len() + usize::from(skill)]
+    }
+
+    /// The number of the nurse with this name, or `None` for another word.
+    pub fn find_nurse(&self, name: &[u8]) -> Option<u16>
+        ensures { result ≡ place_of self.now.nurses name.now }
+    {
+        let place = place_of_name(&self.parts.nurses, name)?;
+        Some(place as u16)
+    }
+
+    /// The number of the shift type with this name, or `None` for another word.
+    pub fn find_shift(&self, name: &[u8]) -> Option<u8>
+        ensures { result ≡ place_of self.now.shifts name.now }
+    {
+        let place = place_of_name(&self.parts.shifts, name)?;
+        Some(place as u8)
+    }
+
+    /// The number of the skill with this name, or `None` for another word.
+    pub fn find_skill(&self, name: &[u8]) -> Option<u8>
+        ensures { result ≡ place_of self.now.skills name.now }
+    {
+        let place = place_of_name(&self.parts.skills, name)?;
+        Some(place as u8)
+    }
+}

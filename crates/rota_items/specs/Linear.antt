@@ -1,0 +1,37 @@
+-- Linear constraints over truth values, and what they mean: the linear format of the Pseudo-Boolean Competition.
+use Rattle.std.specs.Prelude.{ℕ, ℤ, pos, ◌+ℤ◌, ◌≤ℤ◌, Bool, if◌then◌else◌, List, [], ◌∷◌, map, All}
+
+-- a coefficient and what it stands at: a cell, or a variable's number
+abbrev pub Term : Type 0 → Type 0
+Term X = ℤ × X
+
+-- the sum of these, each with this coefficient
+abbrev pub times : {X : Type 0} → ℤ → List X → List (Term X)
+times coefficient variables = map (λ v. (coefficient, v)) variables
+
+-- the sum of the coefficients of what is true
+abbrev pub value_of : {X : Type 0} → (X → Bool) → List (Term X) → ℤ
+value_of assignment [] = pos 0
+value_of assignment (term ∷ terms) =
+    (if assignment term.1 then term.0 else pos 0) +ℤ value_of assignment terms
+
+-- terms that are to sum to at least the degree
+pub record Constraint : Type 0 where
+  pub terms : List (Term ℕ)
+  pub degree : ℤ
+
+-- the number of variables, what is to be least, and what is to hold
+pub record Model : Type 0 where
+  pub variables : ℕ
+  pub objective : List (Term ℕ)
+  pub constraints : List Constraint
+
+abbrev pub Satisfies : (ℕ → Bool) → Constraint → Type 0
+Satisfies assignment constraint = constraint.degree ≤ℤ value_of assignment constraint.terms
+
+-- the assignment satisfies every constraint of the model
+abbrev pub SatisfiesModel : (ℕ → Bool) → Model → Type 0
+SatisfiesModel assignment model = All (Satisfies assignment) model.constraints
+
+abbrev pub objective_value : (ℕ → Bool) → Model → ℤ
+objective_value assignment model = value_of assignment model.objective
