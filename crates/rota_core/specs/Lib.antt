@@ -1,8 +1,13 @@
 pub mod Below
+pub mod Bits
+pub mod InstanceTables
+pub mod MemoryPorts
 pub mod Names
 pub mod Parts
 pub mod Ports
 pub mod Roster
+pub mod RosterTables
 pub mod ScenarioTables
 pub mod Week
+pub mod WeekTables
 pub mod Words

@@ -1,7 +1,11 @@
 -- The tables that parts hold.
 use Rattle.rota_core.specs.Names.{bytes_of}
 use Rattle.rota_core.specs.ScenarioTables.{ScenarioTables}
+use Rattle.rota_core.specs.InstanceTables.{InstanceTables}
+use Rattle.rota_core.specs.WeekTables.{HistoryTables, WeekTables}
+use Rattle.rota_core.specs.declared.history.HistoryParts.{HistoryParts}
 use Rattle.rota_core.specs.declared.scenario.ScenarioParts.{ScenarioParts}
+use Rattle.rota_core.specs.declared.week.WeekParts.{WeekParts}
 
 abbrev pub scenario_of : ScenarioParts → ScenarioTables
 scenario_of parts = record {
@@ -16,3 +20,24 @@ scenario_of parts = record {
   contract_of = parts.contract_of.items;
   has_skill = parts.has_skill.items;
 }
+
+abbrev pub history_of : HistoryParts → HistoryTables
+history_of parts = record {
+  nurses = parts.nurses;
+  shifts = parts.shifts;
+  skills = parts.skills;
+  week = parts.week;
+  past = parts.past.items;
+}
+
+abbrev pub week_tables_of : WeekParts → WeekTables
+week_tables_of parts = record {
+  nurses = parts.nurses;
+  shifts = parts.shifts;
+  skills = parts.skills;
+  demands = parts.demands.items;
+  requests = parts.requests.items;
+}
+
+abbrev pub instance_of : ScenarioTables → HistoryParts → WeekParts → InstanceTables
+instance_of scenario history week = record { scenario = scenario; history = history_of history; week = week_tables_of week }

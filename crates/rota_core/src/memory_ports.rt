@@ -8,15 +8,20 @@ use std::alloc::{AllocError, Global};
 /// calls where that is wanted. A flush is a call.
 #[derive(Clone, Copy, Debug)]
 pub struct Pace {
-    greatest_piece: usize,
-    good_calls: Option<u64>,
+    pub greatest_piece: usize,
+    /// How many calls succeed before one fails; `None` for all.
+    pub good_calls: Option<u64>,
     ghost moves: { 0 < greatest_piece },
 }
 
 impl Pace {
+    ghost use Rattle.rota_core.specs.MemoryPorts.{has_call, calls_after};
+
     /// At most `greatest_piece` bytes a call, and `good_calls` calls before one fails.
     pub fn new(greatest_piece: usize, good_calls: Option<u64>) -> Pace
         requires { 0 < greatest_piece }
+        ensures piece { result.greatest_piece ≡ greatest_piece }
+        ensures calls { result.good_calls ≡ good_calls }
     {
         Pace {
             greatest_piece,
@@ -25,7 +30,11 @@ impl Pace {
     }
 
     // Counts a call, and says whether it may succeed.
-    fn count_call(&mut self) -> bool {
+    fn count_call(&mut self) -> bool
+        ensures may_succeed { result ≡ has_call self.old.good_calls }
+        ensures counted { self.new.good_calls ≡ calls_after self.old.good_calls }
+        ensures same_piece { self.new.greatest_piece ≡ self.old.greatest_piece }
+    {
         match self.good_calls {
             None => true,
             Some(0) => false,
@@ -46,9 +55,13 @@ pub struct MemorySource<'a> {
 }
 
 impl<'a> MemorySource<'a> {
+    ghost use Rattle.rota_core.specs.MemoryPorts.{source_pace};
+
+    /// The source of these bytes.
     pub fn new(bytes: &'a [u8], pace: Pace) -> MemorySource<'a>
         ensures bytes { ⟦<MemorySource<'a> as Source>⟧.left result ≡ Some bytes.now }
         ensures sound { ⟦<MemorySource<'a> as Source>⟧.has_failed result ≡ false }
+        ensures pace { source_pace result ≡ pace }
     {
         MemorySource {
             rest: bytes,
@@ -87,9 +100,14 @@ pub struct MemoryTarget {
 }
 
 impl MemoryTarget {
+    ghost use Rattle.rota_core.specs.MemoryPorts.{room_of, target_pace};
+
+    /// An empty target with room for so many bytes.
     pub fn new(alloc: Global, room: usize, pace: Pace) -> Result<MemoryTarget, AllocError>
         ensures empty { IfOk result (λ target. ⟦<MemoryTarget as Target>⟧.sent target ≡ Some []) }
         ensures sound { IfOk result (λ target. ⟦<MemoryTarget as Target>⟧.has_failed target ≡ false) }
+        ensures room { IfOk result (λ target. room_of target ≡ room) }
+        ensures pace { IfOk result (λ target. target_pace target ≡ pace) }
     {
         Ok(MemoryTarget {
             bytes: Vec::with_capacity(alloc, room)?,

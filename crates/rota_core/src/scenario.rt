@@ -1,9 +1,9 @@
 //! A scenario: what all weeks share.
 
-ghost use Rattle.std.specs.Prelude.{◌≡◌, ◌<◌, length};
+ghost use Rattle.std.specs.Prelude.{◌≡◌, ◌<◌, length, slice_get};
 ghost use Rattle.rota_core.specs.Names.{place_of};
 
-use crate::names::place_of_name;
+use crate::names::{name_at, place_of_name};
 use crate::values::{Contract, Span};
 use indexmap::IndexSet;
 use std::marker::Model;
@@ -98,6 +98,63 @@ impl Scenario {
         ensures { result ≡ (bare_week self.now).has_skill nurse skill }
     {
         self.parts.has_skill[usize::from(nurse) * self.parts.skills.len() + usize::from(skill)]
+    }
+
+    /// What the nurse's contract asks of her.
+    pub(crate) fn contract(&self, nurse: u16) -> Contract
+        requires { nurse < length self.now.nurses }
+        ensures { result ≡ (bare_week self.now).contract nurse }
+    {
+        let place = self.parts.contract_of[usize::from(nurse)];
+        self.parts.contracts[usize::from(place)]
+    }
+
+    /// The limits of consecutive assignments to the shift type.
+    pub(crate) fn limits(&self, shift: u8) -> Span
+        requires { shift < length self.now.shifts }
+        ensures { result ≡ (bare_week self.now).limits shift }
+    {
+        self.parts.limits[usize::from(shift)]
+    }
+
+    /// Whether the second shift type may not follow the first on the next day.
+    pub(crate) fn forbidden(&self, first: u8, second: u8) -> bool
+        requires first_in { first < length self.now.shifts }
+        requires second_in { second < length self.now.shifts }
+        ensures { result ≡ (bare_week self.now).is_forbidden first second }
+    {
+        self.parts.forbidden[usize::from(first) * self.parts.shifts.len() + usize::from(second)]
+    }
+
+    /// The name of the scenario.
+    pub(crate) fn name(&self) -> &[u8]
+        ensures { result.now ≡ self.now.name }
+    {
+        self.parts.name.as_slice()
+    }
+
+    /// The name of the nurse.
+    pub(crate) fn nurse_name(&self, nurse: u16) -> &[u8]
+        requires { nurse < length self.now.nurses }
+        ensures { slice_get self.now.nurses nurse ≡ Some result.now }
+    {
+        name_at(&self.parts.nurses, usize::from(nurse))
+    }
+
+    /// The name of the shift type.
+    pub(crate) fn shift_name(&self, shift: u8) -> &[u8]
+        requires { shift < length self.now.shifts }
+        ensures { slice_get self.now.shifts shift ≡ Some result.now }
+    {
+        name_at(&self.parts.shifts, usize::from(shift))
+    }
+
+    /// The name of the skill.
+    pub(crate) fn skill_name(&self, skill: u8) -> &[u8]
+        requires { skill < length self.now.skills }
+        ensures { slice_get self.now.skills skill ≡ Some result.now }
+    {
+        name_at(&self.parts.skills, usize::from(skill))
     }
 
     /// The number of the nurse with this name, or `None` for another word.

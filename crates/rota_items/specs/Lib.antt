@@ -1,2 +1,9 @@
+pub mod Adding
+pub mod Cells
+pub mod HardRows
 pub mod Linear
+pub mod LinearRow
+pub mod Lists
+pub mod WeekModel
 pub mod Whole
+pub mod WorkedWeeks

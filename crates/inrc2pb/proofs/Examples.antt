@@ -1,0 +1,20 @@
+-- Words that the command takes, and what it makes of them.
+use Rattle.std.proofs.Common.{◌≡◌, List, [], ◌∷◌, Some, true, codes, refl, option_map, Option}
+use Rattle.clap.specs.Words.{Text, first_of, subcommand_of, takes}
+use Rattle.clap.proofs.OnLiterals.{clap_on_literals}
+use Rattle.inrc2pb.specs.CommandLine.{inrc2pb_app}
+use Rattle.inrc2pb.specs.Jobs.{Matched}
+
+abbrev words : List Text
+words = codes "inrc2pb" ∷ codes "encode" ∷ codes "--sce" ∷ codes "s" ∷ []
+
+pub taken : takes inrc2pb_app words ≡ true
+unfolding clap_on_literals
+taken = refl
+
+abbrev sce_in : Option Matched → Option (Text × Option Text)
+sce_in = option_map (λ m. (m.0, first_of (codes "sce") m.1))
+
+pub sce_given : sce_in (subcommand_of inrc2pb_app words) ≡ Some (codes "encode", Some (codes "s"))
+unfolding clap_on_literals
+sce_given = refl

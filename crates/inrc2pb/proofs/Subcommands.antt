@@ -1,0 +1,105 @@
+-- What a parse of the command says of the subcommand that it met.
+use Rattle.std.proofs.Common.{◌≡◌, ◌∙◌, ◌⊎◌, Bool, true, false, List, [], ◌∷◌, Option, Some, None, Result, Ok, Err, IfOk, IfErr, IsErrAnd, IsSomeAnd, Bor, inl, inr, ap, sym, refl, subst, cond, option_map}
+use Rattle.std.specs.List.{find}
+use Rattle.std.proofs.lemmas.Result.{IfErr-weaker, IfOk-weaker}
+use Rattle.clap.specs.Words.{App, HasMatchesOf, Row, Shape, Text, built, found_of, is_simple, kind_of, rows_of, subcommand_of, subcommand_rows_of, takes}
+use Rattle.clap.specs.Matches.{subcommand_name_of}
+use Rattle.clap.specs.Simple.{argument_words, entered, label_of, names_of, rows_at}
+use Rattle.clap.specs.Walk.{answers_to, stop_after}
+use Rattle.clap.specs.declared.error.Error.{Error}
+use Rattle.clap.specs.declared.error.kind.ErrorKind.TheVariants.{OutOfMemory}
+use Rattle.clap.specs.declared.parser.matches.ArgMatches.{ArgMatches}
+use Rattle.clap.specs.declared.parser.matches.ArgMatches.TheViews.{out-ArgMatches}
+use Rattle.clap.proofs.OnLiterals.{clap_on_literals}
+use Rattle.inrc2pb.specs.CommandLine.{inrc2pb_app}
+use Rattle.inrc2pb.specs.Jobs.{IsFaultOf, IsForMemoryOr, IsJobOf, IsSubcommand, LacksPath, Matched, options_of}
+use Rattle.inrc2pb.specs.declared.jobs.Job.{Job}
+use Rattle.inrc2pb.specs.declared.jobs.JobFault.{JobFault}
+use Rattle.inrc2pb.specs.declared.jobs.JobFault.TheVariants.{Words, Missing, Memory}
+
+-- ---- the command
+
+pub is_simple-inrc2pb : is_simple inrc2pb_app ≡ true
+unfolding clap_on_literals
+is_simple-inrc2pb = refl
+
+-- ---- the subcommand is one of the command's
+
+abbrev pub IsNamedIn : List Shape → Text → Type 0
+IsNamedIn [] name = ⊥
+IsNamedIn (s ∷ rest) name = (name ≡ s.name) ⊎ IsNamedIn rest name
+
+found_named : (test : Shape → Bool) (subs : List Shape) (s : Shape) → find test subs ≡ Some s → IsNamedIn subs s.name
+found_named test [] s e = absurd (cc)
+found_named test (x ∷ rest) s e = go (test x) e (found_named test rest s)
+  where
+    go : (b : Bool) → cond b (Some x) (find test rest) ≡ Some s → (find test rest ≡ Some s → IsNamedIn rest s.name) → IsNamedIn (x ∷ rest) s.name
+    go true is later = inl (let same : x ≡ s = cc in ap (λ (y : Shape). y.name) (sym same))
+    go false is later = inr (later is)
+
+entered_named : (a : App) (stop : Option (Text × List Text)) (p : Matched) → entered a stop ≡ Some p → IsNamedIn a.subs p.0
+entered_named a None p e = absurd (cc)
+entered_named a (Some q) p e = go (find (λ s. answers_to q.0 (label_of s)) a.subs) refl e
+  where
+    go : (o : Option Shape) → find (λ s. answers_to q.0 (label_of s)) a.subs ≡ o → option_map (λ s. rows_at s q.1) o ≡ Some p → IsNamedIn a.subs p.0
+    go None found is = absurd (cc)
+    go (Some s) found is =
+        let same : rows_at s q.1 ≡ p = cc in
+        subst (IsNamedIn a.subs) (ap (λ (m : Matched). m.0) same) (found_named (λ s. answers_to q.0 (label_of s)) a.subs s found)
+
+pub named_of : (a : App) (words : List Text) (p : Matched) → subcommand_of a words ≡ Some p → IsNamedIn (built a).subs p.0
+named_of a words p e = entered_named (built a) (stop_after (built a).top.rules (names_of (built a)) (argument_words a words)) p e
+
+-- ---- the subcommand that the caller reads
+
+module _ {A B : Type 0} (f : A → Text) (g : A → List Row) (h : B → Matched) where
+  paired : (o : Option A) (q : Option B) → option_map f o ≡ option_map (λ b. (h b).0) q → option_map g o ≡ option_map (λ p. p.1) (option_map h q)
+      → option_map (λ a. (f a, g a)) o ≡ option_map h q
+  paired None None e k = refl
+  paired None (Some b) e k = absurd (cc)
+  paired (Some a) None e k = absurd (cc)
+  paired (Some a) (Some b) e k =
+      let name : f a ≡ (h b).0 = cc in
+      let rows : g a ≡ (h b).1 = cc in
+      ap Some (λ i. (name i, rows i))
+
+-- what the caller holds of a subcommand: its name and its matches
+abbrev pub Used : Type 0
+Used = Bor Text × Bor ArgMatches
+
+-- the name and the options behind references
+abbrev pub matched_at : Used → Matched
+matched_at p = (p.0.now, options_of p.1.now)
+
+-- what `subcommand` gives is what the words name
+pub subcommand_read : (a : App) (words : List Text) (m : ArgMatches) (o : Option Used) (p : Used) → a ≡ inrc2pb_app
+    → HasMatchesOf a words m → option_map (λ p. p.0.now) o ≡ subcommand_name_of m
+    → option_map (λ p. rows_of (found_of p.1.now)) o ≡ option_map (λ p. p.1) (subcommand_rows_of m) → o ≡ Some p
+    → subcommand_of inrc2pb_app words ≡ Some (matched_at p)
+subcommand_read a words m o p is has name rows some =
+    let read = paired (λ p. p.0.now) (λ p. rows_of (found_of p.1.now)) _ o (out-ArgMatches m).subcommand name rows in
+    let named = (has (ap is_simple is ∙ is_simple-inrc2pb)).1 ∙ ap (λ x. subcommand_of x words) is in
+    sym (read ∙ named) ∙ ap (option_map matched_at) some
+
+-- ---- what the job's functions say, of the words
+
+pub ok_for : (o : Option Matched) (p : Matched) (r : Result Job JobFault) → o ≡ Some p → IfOk r (IsJobOf p) → IfOk r (λ j. IsSomeAnd o (λ matched. IsJobOf matched j))
+ok_for o p r is = IfOk-weaker r _ _ (λ j h. subst (λ x. IsSomeAnd x (λ matched. IsJobOf matched j)) (sym is) h)
+
+fault_for : (words : List Text) (p : Matched) (e : JobFault) → subcommand_of inrc2pb_app words ≡ Some p → IsForMemoryOr (LacksPath p) e → IsFaultOf words e
+fault_for words p (Words error) is h = absurd h
+fault_for words p Missing is h = subst (λ x. IsSomeAnd x LacksPath) (sym is) h
+fault_for words p Memory is h = h
+
+pub err_for : (words : List Text) (p : Matched) (r : Result Job JobFault) → subcommand_of inrc2pb_app words ≡ Some p → IfErr r (IsForMemoryOr (LacksPath p))
+    → IfErr r (IsFaultOf words)
+err_for words p r is = IfErr-weaker r _ _ (λ e h. fault_for words p e is h)
+
+pub subcommand_named : (words : List Text) (p : Matched) → subcommand_of inrc2pb_app words ≡ Some p → IsSubcommand p.0
+subcommand_named words p e = elim (named_of inrc2pb_app words p e) [ inl h ↦ h | inr none ↦ absurd none ]
+
+-- words that the command takes are refused by clap for want of memory alone
+pub words_refused : (a : App) (words : List Text) (e : Error) (r : Result Job JobFault) → a ≡ inrc2pb_app
+    → (takes a words ≡ true → kind_of e ≡ OutOfMemory) → IsErrAnd r (λ fault. fault ≡ Words e) → IfErr r (IsFaultOf words)
+words_refused a words e (Ok j) is passes same = absurd same
+words_refused a words e (Err fault) is passes same = subst (IsFaultOf words) (sym same) (λ taken. passes (ap (λ x. takes x words) is ∙ taken))

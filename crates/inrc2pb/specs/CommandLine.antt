@@ -1,0 +1,37 @@
+-- The program's command line, as a command of clap.
+use Rattle.std.specs.Prelude.{◌≡◌, Some, true, false, codes}
+use Rattle.clap.specs.Words.{App, Rule, Text, app_of, new_app, new_rule, with_rule, with_subcommand}
+use Rattle.clap.specs.Simple.{new_shape}
+use Rattle.clap.specs.declared.builder.action.ArgAction.TheVariants.{Set}
+use Rattle.clap.specs.declared.builder.command.Command.{Command}
+use Rattle.clap.specs.declared.builder.command.Command.TheViews.{out-Command as fields_of}
+
+-- the option `--id FILE`
+abbrev pub file_rule : Text → Rule
+file_rule id =
+    record (new_rule id) { long = Some id; action = Some Set; value_names = 1 }
+
+-- the option `--id FILE`, which has to be given
+abbrev pub required_file_rule : Text → Rule
+required_file_rule id = record (file_rule id) { required = true }
+
+abbrev pub encode_app : App
+encode_app = with_rule (new_app (codes "encode")) (required_file_rule (codes "sce"))
+
+-- the command before its subcommands: one of them has to be named
+abbrev pub bare_app : App
+bare_app = record (new_app (codes "inrc2pb")) {
+  top = record (new_shape (codes "inrc2pb")) {
+    subcommand_required = true;
+    arg_required_else_help = true;
+    disable_help_subcommand = true;
+    has_version = true;
+  };
+}
+
+abbrev pub inrc2pb_app : App
+inrc2pb_app = with_subcommand bare_app encode_app.top
+
+-- the command is the app, and none of its arguments is global
+abbrev pub IsCommandOf : App → Command → Type 0
+IsCommandOf a c = (app_of c ≡ a) × ((fields_of c).has_globals ≡ false)

@@ -1,0 +1,52 @@
+-- The job that the matches of a subcommand spell.
+use Rattle.std.specs.Prelude.{◌≡◌, List, Some, None, true, codes, ⊤}
+use Rattle.std.specs.Prelude.{IsSomeAnd, map, string_bytes}
+use Rattle.std.specs.Borrow.{Bor}
+use Rattle.clap.specs.Words.{Row, Text, first_of, found_of, kind_of, rows_of}
+use Rattle.clap.specs.Words.{subcommand_of, takes}
+use Rattle.clap.specs.declared.error.kind.ErrorKind.TheVariants.{OutOfMemory}
+use Rattle.clap.specs.declared.parser.matches.ArgMatches.{ArgMatches}
+use Rattle.inrc2pb.specs.CommandLine.{inrc2pb_app}
+use Rattle.inrc2pb.specs.declared.jobs.Job.{Job}
+use Rattle.inrc2pb.specs.declared.jobs.Job.TheVariants.{Encode}
+use Rattle.inrc2pb.specs.declared.jobs.JobFault.{JobFault}
+use Rattle.inrc2pb.specs.declared.jobs.JobFault.TheVariants.{Words, Missing, Memory}
+
+-- the words behind references
+abbrev pub texts : List (Bor Text) → List Text
+texts = map (λ word. word.now)
+
+-- the options that the matches of one command hold
+abbrev pub options_of : ArgMatches → List Row
+options_of m = rows_of (found_of m)
+
+-- a subcommand's name, with its options
+abbrev pub Matched : Type 0
+Matched = Text × List Row
+
+abbrev pub IsSubcommand : Text → Type 0
+IsSubcommand name = name ≡ codes "encode"
+
+-- the job is the subcommand, with the path of its option, unchanged
+abbrev pub IsJobOf : Matched → Job → Type 0
+IsJobOf matched (Encode sce) = (matched.0 ≡ codes "encode")
+    × (first_of (codes "sce") matched.1 ≡ Some (string_bytes sce))
+
+abbrev pub LacksOption : Text → List Row → Type 0
+LacksOption id options = first_of id options ≡ None
+
+-- a required path is not there
+abbrev pub LacksPath : Matched → Type 0
+LacksPath matched = LacksOption (codes "sce") matched.1
+
+-- memory ran out, or a path is missing where `lacks` says so
+abbrev pub IsForMemoryOr : Type 0 → JobFault → Type 0
+IsForMemoryOr lacks (Words error) = ⊥
+IsForMemoryOr lacks Missing = lacks
+IsForMemoryOr lacks Memory = ⊤
+
+-- why the words give no job: words that the command takes are refused for want of memory alone
+abbrev pub IsFaultOf : List Text → JobFault → Type 0
+IsFaultOf words (Words error) = takes inrc2pb_app words ≡ true → kind_of error ≡ OutOfMemory
+IsFaultOf words Missing = IsSomeAnd (subcommand_of inrc2pb_app words) LacksPath
+IsFaultOf words Memory = ⊤

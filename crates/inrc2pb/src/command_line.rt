@@ -1,0 +1,60 @@
+//! The job that the words of the command line spell.
+ghost use Rattle.std.specs.Prelude.{◌≡◌, IfErr, IfOk, IsSomeAnd, Some, option_map, string_bytes};
+ghost use Rattle.clap.specs.Words.{first_of, subcommand_of};
+ghost use Rattle.inrc2pb.specs.CommandLine.{inrc2pb_app};
+ghost use Rattle.inrc2pb.specs.Jobs.{IsFaultOf, IsForMemoryOr, IsJobOf, IsSubcommand};
+ghost use Rattle.inrc2pb.specs.Jobs.{LacksOption, LacksPath, options_of, texts};
+
+use crate::command;
+use crate::jobs::{Job, JobFault};
+use clap::ArgMatches;
+use std::alloc::{AllocError, Global};
+
+/// The job that the words spell, the first of which is the program's name.
+pub fn job(alloc: Global, words: &[&str]) -> Result<Job, JobFault>
+    ensures ok { IfOk result (λ j. IsSomeAnd (subcommand_of inrc2pb_app (texts words.now))
+        (λ matched. IsJobOf matched j)) }
+    ensures err { IfErr result (IsFaultOf (texts words.now)) }
+{
+    let command = command::inrc2pb(alloc)?;
+    let matches = command.try_get_matches_from(words)?;
+    let Some((name, options)) = matches.subcommand() else {
+        unreachable!()
+    };
+    job_of(alloc, name, options)
+}
+
+fn job_of(alloc: Global, name: &str, options: &ArgMatches<'_>) -> Result<Job, JobFault>
+    requires { IsSubcommand name.now }
+    ensures ok { IfOk result (IsJobOf (name.now, options_of options.now)) }
+    ensures err { IfErr result (IsForMemoryOr (LacksPath (name.now, options_of options.now))) }
+{
+    match name {
+        "encode" => Ok(Job::Encode {
+            sce: required_path(alloc, options, "sce")?,
+        }),
+        _ => unreachable!(),
+    }
+}
+
+fn required_path(alloc: Global, options: &ArgMatches<'_>, id: &str) -> Result<String, JobFault>
+    ensures ok { IfOk result (λ path. first_of id.now (options_of options.now)
+        ≡ Some (string_bytes path)) }
+    ensures err { IfErr result (IsForMemoryOr (LacksOption id.now (options_of options.now))) }
+{
+    optional_path(alloc, options, id)?.ok_or(JobFault::Missing)
+}
+
+fn optional_path(
+    alloc: Global,
+    options: &ArgMatches<'_>,
+    id: &str,
+) -> Result<Option<String>, AllocError>
+    ensures { IfOk result (λ path. first_of id.now (options_of options.now)
+        ≡ option_map string_bytes path) }
+{
+    match options.get_str(id) {
+        Some(path) => Ok(Some(String::from_str(alloc, path)?)),
+        None => Ok(None),
+    }
+}

@@ -1,0 +1,39 @@
+//! What the program is asked to do.
+ghost use Rattle.std.specs.Prelude.{◌≡◌};
+ghost use Rattle.inrc2pb.specs.declared.jobs.JobFault.TheVariants.{Memory, Words};
+
+use std::alloc::AllocError;
+
+/// What the program is asked to do, with the paths as they were given.
+#[derive(Debug, Drop)]
+pub enum Job {
+    /// Write the model of the week to standard output.
+    Encode { sce: String },
+}
+
+/// Why the words give no job.
+#[derive(Debug, Drop)]
+pub enum JobFault {
+    /// The words are refused, or ask for help or the version.
+    Words(clap::Error),
+    /// The matches lack a required path.
+    Missing,
+    /// A path could not be copied.
+    Memory,
+}
+
+impl From<clap::Error> for JobFault {
+    ghost from_gives = { λ e fault. fault ≡ Words e };
+
+    fn from(error: clap::Error) -> JobFault {
+        JobFault::Words(error)
+    }
+}
+
+impl From<AllocError> for JobFault {
+    ghost from_gives = { λ _ fault. fault ≡ Memory };
+
+    fn from(_error: AllocError) -> JobFault {
+        JobFault::Memory
+    }
+}

@@ -1,0 +1,4 @@
+pub mod Begins
+pub mod ModelText
+pub mod Numeral
+pub mod Sink

@@ -1,0 +1,134 @@
+//! A buffer of fixed size before a target.
+ghost use Rattle.std.specs.Prelude.{◌||◌, is_err, ◌≡◌, true, false, [], OnOk, OnErr, IsErr};
+ghost use Rattle.opb_text.specs.Numeral.{signed_numeral};
+ghost use Rattle.std.specs.Io.KnownBytes.{append_known};
+ghost use Rattle.opb_text.specs.Begins.{Begins};
+ghost use Rattle.rota_core.specs.Ports.{told_len};
+
+use arrayvec::ArrayVec;
+use itoa::Buffer;
+use rota_core::{PortFault, Target};
+
+const CAPACITY: usize = 4096;
+
+/// A buffer of 4096 bytes before a target. What went out is at every moment a beginning of what was
+/// put. After the first failure every call is a failure, and the target is not called again.
+#[derive(Drop)]
+pub struct Sink<'a, W: Target> {
+    target: &'a mut W,
+    buffer: ArrayVec<u8, CAPACITY>,
+    failed: bool,
+    ghost fails_with_target: { failed ≡ true → W.has_failed target.now ≡ true },
+}
+
+impl<'a, W: Target> Sink<'a, W> {
+    ghost use Rattle.opb_text.specs.Sink.{stands_for, sink_failed, target_name, target_of, sent_by, Takes};
+
+    /// A sink over the target, which stands for what the target was sent.
+    pub fn new(target: &'a mut W) -> Sink<'a, W>
+        ensures same_target { target_name result ≡ target.entry.ghost_name }
+        ensures target { target_of result ≡ target.old }
+        ensures bytes { stands_for result ≡ W.sent target.old }
+        ensures sound { sink_failed result ≡ false }
+    {
+        Sink {
+            target,
+            buffer: ArrayVec::new(),
+            failed: false,
+        }
+    }
+
+    /// Appends the piece. It fails only where the target does.
+    #[inline]
+    pub fn put(&mut self, piece: &[u8]) -> Result<(), PortFault>
+        ensures takes { Takes self.old result piece.now self.new }
+        ensures for_good { sink_failed self.old ≡ true → IsErr result }
+    {
+        if self.failed {
+            return Err(PortFault);
+        }
+        if self.buffer.try_extend_from_slice(piece).is_ok() {
+            return Ok(());
+        }
+        self.put_past_buffer(piece)
+    }
+
+    /// Appends the number in decimal digits, with a minus sign where it is negative and no sign
+    /// otherwise. It fails only where the target does.
+    #[inline]
+    pub fn number(&mut self, number: i128) -> Result<(), PortFault>
+        ensures takes { Takes self.old result (signed_numeral number) self.new }
+        ensures for_good { sink_failed self.old ≡ true → IsErr result }
+    {
+        let mut digits = Buffer::new();
+        self.put(digits.format(number).as_bytes())
+    }
+
+    /// Sends what is still in the buffer, and makes all sent bytes flushed. Ok says that all that was
+    /// put is out. It fails only where the target does.
+    pub fn finish(&mut self) -> Result<(), PortFault>
+        ensures takes { Takes self.old result [] self.new }
+        ensures sent { OnOk result (sent_by self.new ≡ stands_for self.old) }
+        ensures err { OnErr result (Begins (sent_by self.new) (stands_for self.old)) }
+        ensures flushed { OnOk result (W.flushed (target_of self.new) ≡ told_len (sent_by self.new)) }
+        ensures for_good { sink_failed self.old ≡ true → IsErr result }
+        ensures target_for_good { W.has_failed (target_of self.old) ≡ true → IsErr result }
+    {
+        if self.failed {
+            return Err(PortFault);
+        }
+        self.send_buffer()?;
+        let flushed = self.target.flush();
+        self.failed = flushed.is_err();
+        flushed
+    }
+
+    // Appends a piece for which the buffer has no room.
+    #[cold]
+    #[inline(never)]
+    fn put_past_buffer(&mut self, piece: &[u8]) -> Result<(), PortFault>
+        requires { sink_failed self.old ≡ false }
+        ensures { Takes self.old result piece.now self.new }
+    {
+        self.send_buffer()?;
+        if self.buffer.try_extend_from_slice(piece).is_ok() {
+            return Ok(());
+        }
+        let sent = send(self.target, piece);
+        self.failed = sent.is_err();
+        sent
+    }
+
+    // Sends what is in the buffer.
+    fn send_buffer(&mut self) -> Result<(), PortFault>
+        requires { sink_failed self.old ≡ false }
+        ensures takes { Takes self.old result [] self.new }
+        ensures empty { OnOk result (self.new.buffer.items ≡ []) }
+        ensures err { OnErr result (Begins (sent_by self.new) (stands_for self.old)) }
+    {
+        match send(self.target, self.buffer.as_slice()) {
+            Ok(()) => {
+                self.buffer.clear();
+                Ok(())
+            }
+            Err(fault) => {
+                self.failed = true;
+                Err(fault)
+            }
+        }
+    }
+}
+
+// Sends the whole piece.
+fn send<W: Target>(target: &mut W, piece: &[u8]) -> Result<(), PortFault>
+    ensures ok { OnOk result (W.sent target.new ≡ append_known (W.sent target.old) piece.now) }
+    ensures err { OnErr result (Begins (W.sent target.new) (append_known (W.sent target.old) piece.now)) }
+    ensures failure { W.has_failed target.new ≡ (W.has_failed target.old || is_err result) }
+{
+    let mut rest = piece;
+    while !rest.is_empty() {
+        let count = target.write(rest)?;
+        rest = &rest[count..];
+    }
+    Ok(())
+}

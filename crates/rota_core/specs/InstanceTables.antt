@@ -1,0 +1,42 @@
+-- What an instance holds, and the week that it describes.
+use Rattle.std.specs.Prelude.{◌≡◌, ℕ, ◌+◌, ◌*◌, ◌<◌, ◌==◌, length, slice_index_or}
+use Rattle.rota_core.specs.ScenarioTables.{ScenarioTables, IsScenario}
+use Rattle.rota_core.specs.Week.{Week, bare_week, no_demand, no_past}
+use Rattle.rota_core.specs.WeekTables.{HistoryTables, WeekTables, IsHistory, IsWeek}
+
+-- The tables of a scenario, of the history before the week, and of the week.
+pub record InstanceTables : Type 0 where
+  pub scenario : ScenarioTables
+  pub history : HistoryTables
+  pub week : WeekTables
+
+-- rows for the scenario's numbers of nurses, shift types and skills
+pub record HasNumbersOf (scenario : ScenarioTables) (nurses shifts skills : ℕ) : Type 0 where
+  pub same_nurses : nurses ≡ length scenario.nurses
+  pub same_shifts : shifts ≡ length scenario.shifts
+  pub same_skills : skills ≡ length scenario.skills
+
+-- The three are within their limits and fit each other, and the scenario spans the week.
+pub record IsInstance (t : InstanceTables) : Type 0 where
+  pub scenario : IsScenario t.scenario
+  pub history : IsHistory t.history
+  pub week : IsWeek t.week
+  pub history_fits : HasNumbersOf t.scenario t.history.nurses t.history.shifts t.history.skills
+  pub week_fits : HasNumbersOf t.scenario t.week.nurses t.week.shifts t.week.skills
+  pub spanned : t.history.week < t.scenario.weeks
+
+-- what the tables say of the week
+abbrev pub week_of : InstanceTables → Week
+week_of t = record {
+  nurses = length t.scenario.nurses;
+  shifts = length t.scenario.shifts;
+  skills = length t.scenario.skills;
+  is_last = t.history.week + 1 == t.scenario.weeks;
+  has_skill = (bare_week t.scenario).has_skill;
+  demand = λ d s k. slice_index_or t.week.demands ((d * length t.scenario.shifts + s) * length t.scenario.skills + k) no_demand;
+  is_forbidden = (bare_week t.scenario).is_forbidden;
+  limits = (bare_week t.scenario).limits;
+  contract = (bare_week t.scenario).contract;
+  past = λ n. slice_index_or t.history.past n no_past;
+  requests = λ n d s. slice_index_or t.week.requests ((n * 7 + d) * length t.scenario.shifts + s) 0;
+}

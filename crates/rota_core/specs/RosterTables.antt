@@ -1,0 +1,74 @@
+-- What a roster holds: a set of cells, within the numbers of an instance.
+use Rattle.std.specs.Prelude.{◌≡◌, ◌≢◌, ℕ, ◌+◌, ◌*◌, ◌≤◌, ◌<◌, Bool, true, false, List, length, take, slice_index_or}
+use Rattle.std.specs.List.{count_by}
+use Rattle.rota_core.specs.declared.values.Cell.{Cell}
+use Rattle.rota_core.specs.Roster.{Roster}
+use Rattle.rota_core.specs.ScenarioTables.{Within}
+use Rattle.rota_core.specs.Week.{Week}
+
+-- For so many nurses, shift types and skills, whether each cell is in the roster, by the cell's place.
+pub record RosterTables : Type 0 where
+  pub nurses : ℕ
+  pub shifts : ℕ
+  pub skills : ℕ
+  pub cells : List Bool
+
+-- the place of a cell, where there are so many shift types and skills
+abbrev pub cell_place : ℕ → ℕ → Cell → ℕ
+cell_place shifts skills cell = ((cell.nurse * 7 + cell.day) * shifts + cell.shift) * skills + cell.skill
+
+-- the number of the cells, in the roster or not
+abbrev pub place_count : ℕ → ℕ → ℕ → ℕ
+place_count nurses shifts skills = 7 * nurses * shifts * skills
+
+-- the set of the roster's cells
+abbrev pub set_of : RosterTables → Roster
+set_of t cell = slice_index_or t.cells (cell_place t.shifts t.skills cell) false
+
+-- how many cells are in the roster
+abbrev pub count_of : RosterTables → ℕ
+count_of t = count_by (λ is_in. is_in) t.cells
+
+-- the cell lies within the roster's numbers
+pub record InShape (t : RosterTables) (cell : Cell) : Type 0 where
+  pub nurse_in : cell.nurse < t.nurses
+  pub day_in : cell.day < 7
+  pub shift_in : cell.shift < t.shifts
+  pub skill_in : cell.skill < t.skills
+
+-- the roster is one of the week's nurses, shift types and skills
+pub record HasShapeOf (week : Week) (t : RosterTables) : Type 0 where
+  pub same_nurses : t.nurses ≡ week.nurses
+  pub same_shifts : t.shifts ≡ week.shifts
+  pub same_skills : t.skills ≡ week.skills
+
+-- The numbers are within the limits, and each cell has its place.
+pub record IsRoster (t : RosterTables) : Type 0 where
+  pub nurses : Within 1000 t.nurses
+  pub shifts : Within 16 t.shifts
+  pub skills : Within 16 t.skills
+  pub cells : length t.cells ≡ place_count t.nurses t.shifts t.skills
+
+-- the new roster has the shape of the old, the cell, and of the others those that the old one has
+pub record AddsCell (old new : RosterTables) (cell : Cell) : Type 0 where
+  pub same_nurses : new.nurses ≡ old.nurses
+  pub same_shifts : new.shifts ≡ old.shifts
+  pub same_skills : new.skills ≡ old.skills
+  pub is_there : set_of new cell ≡ true
+  pub others_stay : (other : Cell) → InShape old other → other ≢ cell → set_of new other ≡ set_of old other
+
+-- the tables of truth values for so many nurses, shift types and skills, of which there may be more
+abbrev pub roster_of : ℕ → ℕ → ℕ → List Bool → RosterTables
+roster_of nurses shifts skills bits = record {
+  nurses = nurses;
+  shifts = shifts;
+  skills = skills;
+  cells = take (place_count nurses shifts skills) bits;
+}
+
+-- the numbers are within the limits, and there is a truth value for each cell
+pub record HoldsRoster (nurses shifts skills : ℕ) (bits : List Bool) : Type 0 where
+  pub nurses_in : Within 1000 nurses
+  pub shifts_in : Within 16 shifts
+  pub skills_in : Within 16 skills
+  pub enough : place_count nurses shifts skills ≤ length bits

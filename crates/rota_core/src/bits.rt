@@ -1,0 +1,60 @@
+//! Truth values, packed in words.
+
+use std::alloc::{AllocError, Global};
+use std::marker::Model;
+
+/// A list of truth values of fixed length, packed in words of 64. Place i stands for variable i + 1 of
+/// a model.
+#[derive(Drop)]
+pub struct Bits {
+    words: Vec<u64>,
+    len: u32,
+}
+
+impl Model for Bits {
+    ghost use Rattle.std.specs.Prelude.{◌*◌, ◌≤◌, Bool, List, vec_len};
+    ghost use Rattle.rota_core.specs.Bits.{truths_of};
+
+    ghost Value = { List Bool };
+
+    ghost view = { λ b. truths_of b.words.items b.len };
+
+    ghost invariant = { λ b. b.len ≤ 64 * vec_len b.words };
+}
+
+impl Bits {
+    ghost use Rattle.std.specs.Prelude.{◌≡◌, ◌<◌, false, true, IfOk, length, replicate, slice_index_or, slice_set};
+
+    /// So many truth values, all false.
+    pub fn new(alloc: Global, len: u32) -> Result<Bits, AllocError>
+        ensures { IfOk result (λ bits. bits ≡ replicate len false) }
+    {
+        let words = vec![in alloc; 0; len.div_ceil(64) as usize]?;
+        Ok(Bits { words, len })
+    }
+
+    /// The number of truth values.
+    pub fn len(&self) -> u32
+        ensures { result ≡ length self.now }
+    {
+        self.len
+    }
+
+    /// The truth value at the place.
+    pub fn get(&self, place: u32) -> bool
+        requires { place < length self.now }
+        ensures { result ≡ slice_index_or self.now place false }
+    {
+        let word = self.words[place as usize / 64];
+        (word >> (place % 64)) & 1 == 1
+    }
+
+    /// Makes the truth value at the place true.
+    pub fn set(&mut self, place: u32)
+        requires { place < length self.old }
+        ensures { self.new ≡ slice_set self.old place true }
+    {
+        let word = &mut self.words[place as usize / 64];
+        *word |= 1 << (place % 64);
+    }
+}

@@ -1,0 +1,220 @@
+//! An instance: one week of a rostering problem, with what the weeks before left.
+
+ghost use Rattle.std.specs.Prelude.{◌≡◌, ◌<◌, ◌≤◌, ◌↔◌, IfOk, IfErr, IsErr, slice_get};
+ghost use Rattle.rota_core.specs.Names.{place_of};
+ghost use Rattle.rota_core.specs.ScenarioTables.{Within};
+
+use crate::fault::{FileFault, FileName, Kind};
+use crate::history::{History, HistoryParts};
+use crate::scenario::Scenario;
+use crate::values::{Contract, Demand, Past, Span};
+use crate::week::{Week, WeekParts};
+use std::marker::Model;
+
+/// The tables of one week: its scenario, the history before it, and its own demands and requests, all
+/// for the same nurses, shift types and skills. The week is one of those that the scenario spans.
+///
+/// Nurses, shift types and skills are numbered from 0 in the order of the scenario's file, and days
+/// are 0 (Monday) to 6 (Sunday).
+#[derive(Drop)]
+pub struct Instance {
+    scenario: Scenario,
+    history: HistoryParts,
+    week: WeekParts,
+}
+
+impl Model for Instance {
+    ghost use Rattle.rota_core.specs.InstanceTables.{InstanceTables, IsInstance};
+
+    ghost Value = { InstanceTables };
+
+    ghost use Rattle.rota_core.specs.Parts.{instance_of};
+
+    ghost view = { λ i. instance_of i.scenario i.history i.week };
+
+    ghost invariant = { λ i. IsInstance (instance_of i.scenario i.history i.week) };
+}
+
+impl Instance {
+    ghost use Rattle.rota_core.specs.InstanceTables.{HasNumbersOf, IsInstance, week_of};
+
+    /// The instance of these three, or `LateWeek` at line 0 of the history where its week's number is
+    /// not below the scenario's number of weeks.
+    pub fn join(scenario: Scenario, history: History, week: Week) -> Result<Instance, FileFault>
+        requires history_fits { HasNumbersOf scenario history.nurses history.shifts history.skills }
+        requires week_fits { HasNumbersOf scenario week.nurses week.shifts week.skills }
+        ensures joined { IfOk result (λ i. i ≡ record { scenario = scenario; history = history; week = week }) }
+        ensures fault { IfErr result (λ e. e ≡ FileFault.Bad Kind.LateWeek FileName.History 0) }
+        ensures late { IsErr result ↔ (scenario.weeks ≤ history.week) }
+    {
+        let history = history.into_parts();
+        if history.week >= scenario.weeks() {
+            return Err(FileFault::Bad {
+                kind: Kind::LateWeek,
+                file: FileName::History,
+                line: 0,
+            });
+        }
+        Ok(Instance {
+            scenario,
+            history,
+            week: week.into_parts(),
+        })
+    }
+
+    /// The number of nurses, 1 to 1000.
+    pub fn nurses(&self) -> u16
+        ensures count { result ≡ (week_of self.now).nurses }
+        ensures within { Within 1000 result }
+        ensures limits { IsInstance self.now }
+    {
+        self.scenario.nurses()
+    }
+
+    /// The number of shift types, 1 to 16.
+    pub fn shifts(&self) -> u8
+        ensures count { result ≡ (week_of self.now).shifts }
+        ensures within { Within 16 result }
+    {
+        self.scenario.shifts()
+    }
+
+    /// The number of skills, 1 to 16.
+    pub fn skills(&self) -> u8
+        ensures count { result ≡ (week_of self.now).skills }
+        ensures within { Within 16 result }
+    {
+        self.scenario.skills()
+    }
+
+    /// The number of the week, from 0.
+    pub fn week(&self) -> u16
+        ensures week { result ≡ self.now.history.week }
+        ensures spanned { result < self.now.scenario.weeks }
+    {
+        self.history.week
+    }
+
+    /// Whether the week is the last that the scenario spans.
+    pub fn last_week(&self) -> bool
+        ensures { result ≡ (week_of self.now).is_last }
+    {
+        self.scenario.weeks() == self.week() + 1
+    }
+
+    /// What the nurse's contract asks of her.
+    pub fn contract(&self, nurse: u16) -> Contract
+        requires { nurse < (week_of self.now).nurses }
+        ensures { result ≡ (week_of self.now).contract nurse }
+    {
+        self.scenario.contract(nurse)
+    }
+
+    /// What the weeks before left of the nurse.
+    pub fn past(&self, nurse: u16) -> Past
+        requires { nurse < (week_of self.now).nurses }
+        ensures { result ≡ (week_of self.now).past nurse }
+    {
+        self.history.past[usize::from(nurse)]
+    }
+
+    /// The limits of consecutive assignments to the shift type.
+    pub fn limits(&self, shift: u8) -> Span
+        requires { shift < (week_of self.now).shifts }
+        ensures { result ≡ (week_of self.now).limits shift }
+    {
+        self.scenario.limits(shift)
+    }
+
+    /// Whether the second shift type may not follow the first on the next day.
+    pub fn forbidden(&self, first: u8, second: u8) -> bool
+        requires first_in { first < (week_of self.now).shifts }
+        requires second_in { second < (week_of self.now).shifts }
+        ensures { result ≡ (week_of self.now).is_forbidden first second }
+    {
+        self.scenario.forbidden(first, second)
+    }
+
+    /// Whether the nurse has the skill.
+    pub fn has_skill(&self, nurse: u16, skill: u8) -> bool
+        requires nurse_in { nurse < (week_of self.now).nurses }
+        requires skill_in { skill < (week_of self.now).skills }
+        ensures { result ≡ (week_of self.now).has_skill nurse skill }
+    {
+        self.scenario.has_skill(nurse, skill)
+    }
+
+    /// How many nurses the day asks for, on the shift type and with the skill.
+    pub fn demand(&self, day: u8, shift: u8, skill: u8) -> Demand
+        requires day_in { day < 7 }
+        requires shift_in { shift < (week_of self.now).shifts }
+        requires skill_in { skill < (week_of self.now).skills }
+        ensures { result ≡ (week_of self.now).demand day shift skill }
+    {
+        let row = usize::from(day) * usize::from(self.week.shifts) + usize::from(shift);
+        self.week.demands[row * usize::from(self.week.skills) + usize::from(skill)]
+    }
+
+    /// How many request rows ask for the nurse's day off, by the shift type or by any.
+    pub fn requests(&self, nurse: u16, day: u8, shift: u8) -> u16
+        requires nurse_in { nurse < (week_of self.now).nurses }
+        requires day_in { day < 7 }
+        requires shift_in { shift < (week_of self.now).shifts }
+        ensures { result ≡ (week_of self.now).requests nurse day shift }
+    {
+        let row = usize::from(nurse) * 7 + usize::from(day);
+        self.week.requests[row * usize::from(self.week.shifts) + usize::from(shift)]
+    }
+
+    /// The scenario's name.
+    pub fn scenario_name(&self) -> &[u8]
+        ensures { result.now ≡ self.now.scenario.name }
+    {
+        self.scenario.name()
+    }
+
+    /// The name of the nurse.
+    pub fn nurse_name(&self, nurse: u16) -> &[u8]
+        requires { nurse < (week_of self.now).nurses }
+        ensures { slice_get self.now.scenario.nurses nurse ≡ Some result.now }
+    {
+        self.scenario.nurse_name(nurse)
+    }
+
+    /// The name of the shift type.
+    pub fn shift_name(&self, shift: u8) -> &[u8]
+        requires { shift < (week_of self.now).shifts }
+        ensures { slice_get self.now.scenario.shifts shift ≡ Some result.now }
+    {
+        self.scenario.shift_name(shift)
+    }
+
+    /// The name of the skill.
+    pub fn skill_name(&self, skill: u8) -> &[u8]
+        requires { skill < (week_of self.now).skills }
+        ensures { slice_get self.now.scenario.skills skill ≡ Some result.now }
+    {
+        self.scenario.skill_name(skill)
+    }
+
+    /// The number of the nurse with this name, or `None` for another word.
+    pub fn find_nurse(&self, name: &[u8]) -> Option<u16>
+        ensures { result ≡ place_of self.now.scenario.nurses name.now }
+    {
+        self.scenario.find_nurse(name)
+    }
+
+    /// The number of the shift type with this name, or `None` for another word.
+    pub fn find_shift(&self, name: &[u8]) -> Option<u8>
+        ensures { result ≡ place_of self.now.scenario.shifts name.now }
+    {
+        self.scenario.find_shift(name)
+    }
+
+    /// The number of the skill with this name, or `None` for another word.
+    pub fn find_skill(&self, name: &[u8]) -> Option<u8>
+        ensures { result ≡ place_of self.now.scenario.skills name.now }
+    {
+        self.scenario.find_skill(name)
+    }
+}

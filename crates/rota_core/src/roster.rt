@@ -1,0 +1,128 @@
+//! A roster: a set of cells.
+
+ghost use Rattle.std.specs.Prelude.{◌≡◌, ◌<◌, ◌≤◌, Bool, not, IfOk, false, length, slice_index_or};
+ghost use Rattle.rota_core.specs.RosterTables.{cell_place, place_count};
+
+use crate::bits::Bits;
+use crate::instance::Instance;
+use crate::values::Cell;
+use std::alloc::{AllocError, Global};
+use std::marker::Model;
+
+/// A set of cells within the numbers of an instance: its nurses, the days 0 to 6, its shift types and
+/// its skills.
+#[derive(Drop)]
+pub struct Roster {
+    nurses: u16,
+    shifts: u8,
+    skills: u8,
+    bits: Bits,
+}
+
+impl Model for Roster {
+    ghost use Rattle.rota_core.specs.RosterTables.{RosterTables, roster_of, HoldsRoster};
+
+    ghost Value = { RosterTables };
+
+    ghost view = { λ r. roster_of r.nurses r.shifts r.skills r.bits };
+
+    ghost invariant = { λ r. HoldsRoster r.nurses r.shifts r.skills r.bits };
+}
+
+impl Roster {
+    ghost use Rattle.rota_core.specs.RosterTables.{set_of, count_of, InShape, HasShapeOf, IsRoster, AddsCell};
+    ghost use Rattle.rota_core.specs.Roster.{InWeek};
+    ghost use Rattle.rota_core.specs.InstanceTables.{week_of};
+
+    /// The roster of the instance's shape with no cell.
+    pub fn new(alloc: Global, instance: &Instance) -> Result<Roster, AllocError>
+        ensures shape { IfOk result (λ roster. HasShapeOf (week_of instance.now) roster) }
+        ensures empty { IfOk result (λ roster. (cell : Cell) → set_of roster cell ≡ false) }
+    {
+        let (nurses, shifts, skills) = (instance.nurses(), instance.shifts(), instance.skills());
+        Ok(Roster {
+            nurses,
+            shifts,
+            skills,
+            bits: Bits::new(alloc, count_of_places(nurses, shifts, skills))?,
+        })
+    }
+
+    /// The roster of the instance's shape with the cells whose variable is true: that of nurse n, day
+    /// d, shift type s and skill k, at place ((n * 7 + d) * S + s) * K + k where there are S shift
+    /// types and K skills.
+    pub fn of_bits(bits: Bits, instance: &Instance) -> Roster
+        requires enough { let week = week_of instance.now in
+            place_count week.nurses week.shifts week.skills ≤ length bits }
+        ensures shape { HasShapeOf (week_of instance.now) result }
+        ensures cells { let week = week_of instance.now in
+            (cell : Cell) → InWeek week cell →
+            set_of result cell ≡ slice_index_or bits (cell_place week.shifts week.skills cell) false }
+    {
+        Roster {
+            nurses: instance.nurses(),
+            shifts: instance.shifts(),
+            skills: instance.skills(),
+            bits,
+        }
+    }
+
+    /// Puts the cell into the roster, and says whether it was not there.
+    pub fn put(&mut self, cell: Cell) -> bool
+        requires { InShape self.old cell }
+        ensures is_new { result ≡ not (set_of self.old cell) }
+        ensures adds { AddsCell self.old self.new cell }
+    {
+        let place = place_of_cell(self.shifts, self.skills, cell);
+        let is_new = !self.bits.get(place);
+        self.bits.set(place);
+        is_new
+    }
+
+    /// Whether the cell is in the roster.
+    pub fn has(&self, cell: Cell) -> bool
+        requires { InShape self.now cell }
+        ensures { result ≡ set_of self.now cell }
+    {
+        self.bits.get(place_of_cell(self.shifts, self.skills, cell))
+    }
+
+    /// How many cells are in the roster.
+    pub fn count(&self) -> u32
+        ensures count { result ≡ count_of self.now }
+        ensures within { IsRoster self.now }
+    {
+        let mut count = 0;
+        for place in 0..count_of_places(self.nurses, self.shifts, self.skills) {
+            if self.bits.get(place) {
+                count += 1;
+            }
+        }
+        count
+    }
+}
+
+// The place of a cell, where there are so many shift types and skills.
+fn place_of_cell(shifts: u8, skills: u8, cell: Cell) -> u32
+    requires nurse_in { cell.nurse < 1000 }
+    requires day_in { cell.day < 7 }
+    requires shifts_in { shifts ≤ 16 }
+    requires skills_in { skills ≤ 16 }
+    requires shift_in { cell.shift < shifts }
+    requires skill_in { cell.skill < skills }
+    ensures { result ≡ cell_place shifts skills cell }
+{
+    let day = u32::from(cell.nurse) * 7 + u32::from(cell.day);
+    let row = day * u32::from(shifts) + u32::from(cell.shift);
+    row * u32::from(skills) + u32::from(cell.skill)
+}
+
+// How many cells there are for so many nurses, shift types and skills.
+fn count_of_places(nurses: u16, shifts: u8, skills: u8) -> u32
+    requires nurses_in { nurses ≤ 1000 }
+    requires shifts_in { shifts ≤ 16 }
+    requires skills_in { skills ≤ 16 }
+    ensures { result ≡ place_count nurses shifts skills }
+{
+    7 * u32::from(nurses) * u32::from(shifts) * u32::from(skills)
+}

@@ -1,0 +1,59 @@
+//! A week's own tables: the demands of its days, and the requests for shifts or days off.
+
+use crate::values::Demand;
+use std::marker::Model;
+
+/// The rows of a week, not checked, with the numbers of nurses, shift types and skills that they were
+/// read for.
+#[derive(Drop)]
+pub struct WeekParts {
+    pub nurses: u16,
+    pub shifts: u8,
+    pub skills: u8,
+    /// At (d * S + s) * K + k what day d asks for on shift type s with skill k, where there are S
+    /// shift types and K skills.
+    pub demands: Vec<Demand>,
+    /// At (n * 7 + d) * S + s how many request rows ask for nurse n's day d off, by shift type s or
+    /// by any.
+    pub requests: Vec<u16>,
+}
+
+/// A week within the limits: a row for each place, and numbers up to 9999.
+#[derive(Drop)]
+pub struct Week {
+    parts: WeekParts,
+}
+
+impl Model for Week {
+    ghost use Rattle.rota_core.specs.WeekTables.{WeekTables, IsWeek};
+
+    ghost Value = { WeekTables };
+
+    ghost use Rattle.rota_core.specs.Parts.{week_tables_of};
+
+    ghost view = { λ w. week_tables_of w.parts };
+
+    ghost invariant = { λ w. IsWeek (week_tables_of w.parts) };
+}
+
+impl Week {
+    ghost use Rattle.std.specs.Prelude.{◌≡◌};
+    ghost use Rattle.rota_core.specs.WeekTables.{IsWeek};
+    ghost use Rattle.rota_core.specs.Parts.{week_tables_of};
+
+    /// The week of these rows.
+    pub fn of_parts(parts: WeekParts) -> Week
+        requires { IsWeek (week_tables_of parts) }
+        ensures { result ≡ week_tables_of parts }
+    {
+        Week { parts }
+    }
+
+    /// The rows of the week.
+    pub fn into_parts(self) -> WeekParts
+        ensures tables { week_tables_of result ≡ self }
+        ensures within { IsWeek self }
+    {
+        self.parts
+    }
+}

@@ -1,0 +1,10 @@
+pub mod Adding
+pub mod CellCounts
+pub mod HardRules
+pub mod Loops
+pub mod Numbers
+pub mod RowBounds
+pub mod Satisfied
+pub mod SumsBelow
+pub mod Values
+pub mod WholeModel

@@ -1,0 +1,40 @@
+-- The cells that the sums of the model stand for, and their numbers.
+use Rattle.std.specs.Prelude.{ℕ, ◌+◌, ◌-◌, ◌*◌, ◌/◌, ◌%◌, List, [], ◌∷◌}
+use Rattle.rota_core.specs.declared.values.Cell.{Cell}
+use Rattle.rota_core.specs.Week.{Week}
+use Rattle.rota_core.specs.Roster.{cell}
+use Rattle.rota_items.specs.Lists.{each_below}
+
+-- the cells of a nurse's day on a shift type
+abbrev pub on_cells : Week → ℕ → ℕ → ℕ → List Cell
+on_cells week n s d = each_below week.skills (λ k. cell n d s k ∷ [])
+
+-- the cells of a nurse's day
+abbrev pub work_cells : Week → ℕ → ℕ → List Cell
+work_cells week n d = each_below week.shifts (λ s. on_cells week n s d)
+
+-- the cells of a nurse's day that need the skill
+abbrev pub skill_cells_on : Week → ℕ → ℕ → ℕ → List Cell
+skill_cells_on week n k d = each_below week.shifts (λ s. cell n d s k ∷ [])
+
+-- the cells of a nurse that need the skill
+abbrev pub skill_cells : Week → ℕ → ℕ → List Cell
+skill_cells week n k = each_below 7 (λ d. skill_cells_on week n k d)
+
+-- the variable that is true where the cell is in the roster
+abbrev pub cell_number : Week → Cell → ℕ
+cell_number week cell =
+    ((cell.nurse * 7 + cell.day) * week.shifts + cell.shift) * week.skills + cell.skill + 1
+
+abbrev pub cell_of_number : Week → ℕ → Cell
+cell_of_number week v =
+    let place = v - 1 in
+    cell (place / week.skills / week.shifts / 7) (place / week.skills / week.shifts % 7)
+    (place / week.skills % week.shifts) (place % week.skills)
+
+abbrev pub cell_count : Week → ℕ
+cell_count week = 7 * week.nurses * week.shifts * week.skills
+
+-- the variable that is true in every solution: it follows those of the cells
+abbrev pub unit_number : Week → ℕ
+unit_number week = cell_count week + 1

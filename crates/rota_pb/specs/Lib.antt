@@ -1,0 +1,4 @@
+pub mod Encoding
+pub mod Faults
+pub mod Statuses
+pub mod WholeRead

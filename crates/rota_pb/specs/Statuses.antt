@@ -1,0 +1,10 @@
+-- The exit status of each fault.
+use Rattle.std.specs.Prelude.{ℕ}
+use Rattle.rota_pb.specs.declared.fault.Fault.{Fault}
+use Rattle.rota_pb.specs.declared.fault.Fault.TheVariants.{File, Memory, Write, Read}
+
+abbrev pub exit_status : Fault → ℕ
+exit_status (File file) = 1
+exit_status Memory = 4
+exit_status Write = 3
+exit_status Read = 3

@@ -1,0 +1,86 @@
+-- A file as a list of slots, which its tokens fill in order.
+use Rattle.std.specs.Prelude.{◌==◌, ℕ, zero, suc, ◌+◌, ◌-◌, ◌*◌, Bool, false, ◌&&◌, List, [], ◌∷◌, Option, Some, None, unwrap_or, nat_le, if◌then◌else◌, fold}
+use Rattle.std.specs.List.{list_all, list_any}
+use Rattle.std.specs.Option.{option_map_or}
+use Rattle.rota_core.specs.Names.{is_among, place_of}
+use Rattle.std.specs.Char.{is_ascii_digit}
+use Rattle.std.specs.Str.{bytes_eq}
+use Rattle.rota_core.specs.Words.{is_sign}
+use Rattle.rota_core.specs.declared.fault.Kind.{Kind}
+use Rattle.rota_core.specs.declared.fault.Kind.TheVariants as kinds
+
+-- what a token may be at one place of a file
+pub data Slot : Type 0 where
+  -- this word or sign
+  wants_exactly : List ℕ → Slot
+  -- a number from the first to the second
+  wants_number : ℕ → ℕ → Slot
+  wants_word : Slot
+  -- a word that is none of these names
+  wants_new : List (List ℕ) → Slot
+  -- one of these names, at a place that is not taken
+  wants_known : List (List ℕ) → (ℕ → Bool) → Slot
+
+abbrev pub is_decimal : List ℕ → Bool
+is_decimal word = list_all is_ascii_digit word
+
+-- the number that decimal digits stand for
+abbrev pub decimal : List ℕ → ℕ
+decimal word = fold (λ n b. 10 * n + (b - 48)) 0 word
+
+-- whether a token is a sign
+abbrev pub is_sign_token : List ℕ → Bool
+is_sign_token [] = false
+is_sign_token (b ∷ bytes) = is_sign b
+
+-- why a token does not fit a slot
+abbrev pub misfit : Slot → List ℕ → Option Kind
+misfit (wants_exactly wanted) word = if bytes_eq wanted word then None else Some kinds.OtherWord
+misfit (wants_number low high) word =
+    if is_decimal word then (if nat_le low (decimal word) && nat_le (decimal word) high then None else Some kinds.Limit) else Some kinds.NoNumber
+misfit wants_word word = if is_sign_token word then Some kinds.OtherWord else None
+misfit (wants_new names) word =
+    if is_sign_token word then Some kinds.OtherWord else (if is_among names word then Some kinds.Repeated else None)
+misfit (wants_known names is_taken) word =
+    if is_sign_token word then Some kinds.OtherWord
+    else option_map_or (λ place. if is_taken place then Some kinds.Repeated else None) (place_of names word) (Some kinds.Unknown)
+
+-- The slots of a part of a file, one after the other, and the value that they spell. Which slots follow may depend on what was spelled
+-- before them.
+infixl 10 ◌>>=◌
+pub data Layout : Type 0 → Type 1 where
+  end : {V : Type 0} → V → Layout V
+  slot : Slot → Layout (List ℕ)
+  ◌>>=◌ : {A B : Type 0} → Layout A → (A → Layout B) → Layout B
+
+unfoldable pub exactly : List ℕ → Layout (List ℕ)
+exactly word = slot (wants_exactly word)
+
+unfoldable pub number : ℕ → ℕ → Layout ℕ
+number low high = do
+  digits ← slot (wants_number low high)
+  end (decimal digits)
+
+unfoldable pub any_word : Layout (List ℕ)
+any_word = slot wants_word
+
+unfoldable pub new_name : List (List ℕ) → Layout (List ℕ)
+new_name names = slot (wants_new names)
+
+-- whether a place is among these
+abbrev pub is_one_of : List ℕ → ℕ → Bool
+is_one_of places place = list_any (λ p. p == place) places
+
+abbrev pub none_taken : ℕ → Bool
+none_taken place = false
+
+-- the place of a known name
+unfoldable pub known_name : List (List ℕ) → (ℕ → Bool) → Layout ℕ
+known_name names is_taken = do
+  name ← slot (wants_known names is_taken)
+  end (unwrap_or (place_of names name) 0)
+
+-- the rows, one after the other, each read from the state that those before it leave
+unfoldable pub repeat : {S : Type 0} → ℕ → (S → Layout S) → S → Layout S
+repeat zero row state = end state
+repeat (suc n) row state = row state >>= repeat n row

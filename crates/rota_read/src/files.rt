@@ -1,0 +1,83 @@
+//! Reads whole files.
+
+ghost use Rattle.std.specs.Prelude.{◌≡◌, IfOk, IfErr};
+ghost use Rattle.rota_core.specs.Parts.{scenario_of};
+ghost use Rattle.rota_core.specs.declared.fault.FileName.TheVariants as files;
+ghost use Rattle.rota_read.specs.FileFaults.{fault_in};
+ghost use Rattle.rota_read.specs.Files.{Spells, IsFaultOf, OneMeaning};
+ghost use Rattle.rota_read.specs.Reading.{opened, read_file, ReadsFile};
+ghost use Rattle.rota_read.specs.ScenarioLayout.{scenario};
+
+use crate::cursor::Cursor;
+use crate::fault::{Fault, Stop};
+use rota_core::{FileFault, FileName, Kind, Scenario, ScenarioParts};
+use std::alloc::Global;
+
+/// The greatest number of bytes of a file.
+pub const LONGEST: usize = 4_194_304;
+
+/// A cursor at the front of the text, where that is not too long.
+#[tactic(auto, unfolding(crate::specs::Reading::opened))]
+fn open(text: &[u8]) -> Result<Cursor<'_>, Stop>
+    ensures { ReadsFile (λ cursor. cursor) result (opened text.now) }
+{
+    if text.len() > LONGEST {
+        return Err(Stop::Fault(Fault {
+            kind: Kind::Limit,
+            line: 0,
+        }));
+    }
+    Ok(Cursor::new(text))
+}
+
+impl Stop {
+    fn in_file(self, file: FileName) -> FileFault
+        ensures { result ≡ fault_in file self }
+    {
+        match self {
+            Stop::Memory => FileFault::Memory,
+            Stop::Fault(fault) => FileFault::Bad {
+                kind: fault.kind,
+                file,
+                line: fault.line,
+            },
+        }
+    }
+}
+
+/// The rows of a scenario, from the whole text.
+#[tactic(auto, unfolding(crate::specs::Reading::read_file))]
+fn scenario_parts(alloc: Global, text: &[u8]) -> Result<ScenarioParts, Stop>
+    ensures { ReadsFile scenario_of result (read_file scenario text.now) }
+{
+    let mut cursor = open(text)?;
+    let parts = cursor.scenario(alloc)?;
+    cursor.finish()?;
+    Ok(parts)
+}
+
+/// The scenario that the text spells.
+///
+/// The text is a scenario file of the Second International Nurse Rostering Competition (INRC-II), in
+/// the layout of `docs/formats.md`: skills, shift types and the successions that are forbidden,
+/// contracts and nurses, all numbered from 0 in the order of the file.
+///
+/// # Errors
+///
+/// `Bad` is the text's one fault: that of the first token that does not fit its place, with the
+/// token's line, or that of the end, with the last line; a text of more than 4,194,304 bytes has
+/// `Limit` on line 0. `Memory` comes only where memory runs out before a fault was met.
+pub fn read_scenario(alloc: Global, text: &[u8]) -> Result<Scenario, FileFault>
+    ensures spelled { IfOk result (Spells scenario text.now) }
+    ensures fault { IfErr result (IsFaultOf files.Scenario scenario text.now) }
+{
+    match scenario_parts(alloc, text) {
+        Ok(parts) => Ok(Scenario::of_parts(parts)),
+        Err(stop) => Err(stop.in_file(FileName::Scenario)),
+    }
+}
+
+/// A law: every text spells one scenario or has one fault, and never both.
+pub fn each_text_means_one_scenario()
+    ensures { OneMeaning scenario }
+{}

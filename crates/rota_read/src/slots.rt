@@ -1,0 +1,153 @@
+//! Reads the slots of a file.
+
+ghost use Rattle.std.specs.Prelude.{◌≡◌, ◌==◌, false, IfOk, ◌<◌, ◌≤◌, ◌∷◌, [], min, length, Some, None, MatchResult, if◌then◌else◌};
+ghost use Rattle.rota_core.specs.declared.fault.Kind.TheVariants.{Ended};
+ghost use Rattle.rota_read.specs.Layout.{exactly, number, any_word, new_name, known_name, is_decimal, decimal, is_sign_token, is_one_of};
+ghost use Rattle.rota_read.specs.Reading.{read, Reads, at_end, ReadsFile};
+ghost use Rattle.rota_core.specs.Names.{bytes_of, is_among};
+
+use crate::cursor::{Cursor, Token};
+use crate::fault::{Fault, Stop};
+use indexmap::IndexSet;
+use rota_core::{Kind, is_name, place_of_name};
+
+/// The greatest number of a file.
+pub const MOST: u16 = 9999;
+
+/// The number that decimal digits stand for, or 10000 where it is more.
+fn decimal_of(word: &[u8]) -> Option<u16>
+    ensures { result ≡ (if is_decimal word.now then Some (min (decimal word.now) 10000) else None) }
+{
+    let mut value: u32 = 0;
+    for b in word {
+        if !b.is_ascii_digit() {
+            return None;
+        }
+        value = (10 * value + u32::from(*b - b'0')).min(10000);
+    }
+    Some(value as u16)
+}
+
+pub(crate) fn is_taken(taken: &[usize], place: usize) -> bool
+    ensures { result ≡ is_one_of taken.now place }
+{
+    taken.iter().any(|p| *p == place)
+}
+
+impl Token<'_> {
+    pub(crate) fn is_sign(&self) -> bool
+        ensures { result ≡ is_sign_token self.now.word.now }
+    {
+        matches!(self.word, [b'(' | b')' | b',' | b'=', ..])
+    }
+
+    pub(crate) fn fault(&self, kind: Kind) -> Stop
+        ensures { result ≡ Stop.Fault (record { kind = kind; line = self.now.line }) }
+    {
+        Stop::Fault(Fault {
+            kind,
+            line: self.line,
+        })
+    }
+}
+
+impl<'a> Cursor<'a> {
+    pub(crate) fn token(&mut self) -> Result<Token<'a>, Stop>
+        ensures { MatchResult result
+            (λ t. (self.old.rest ≡ record { word = t.word.now; line = t.line } ∷ self.new.rest)
+            × (self.new.last ≡ t.line))
+            (λ e. (self.old.rest ≡ []) × (e ≡ Stop.Fault (record { kind = Ended; line = self.old.last }))) }
+    {
+        let last = self.last_line();
+        self.next().ok_or(Stop::Fault(Fault {
+            kind: Kind::Ended,
+            line: last,
+        }))
+    }
+
+    /// The end of the file.
+    pub fn finish(&mut self) -> Result<(), Stop>
+        ensures { ReadsFile (λ _. tt) result (at_end self.old.rest) }
+    {
+        match self.next() {
+            None => Ok(()),
+            Some(token) => Err(token.fault(Kind::Trailing)),
+        }
+    }
+
+    /// This word or sign.
+    #[tactic(auto, unfolding(crate::specs::Layout::exactly, crate::specs::Reading::read))]
+    pub fn exactly(&mut self, wanted: &[u8]) -> Result<(), Stop>
+        ensures { Reads (λ _. wanted.now) result self.new (read (exactly wanted.now) self.old) }
+    {
+        let token = self.token()?;
+        if token.word != wanted {
+            return Err(token.fault(Kind::OtherWord));
+        }
+        Ok(())
+    }
+
+    /// A number between the limits.
+    #[tactic(auto, unfolding(crate::specs::Layout::number, crate::specs::Reading::read))]
+    pub fn number(&mut self, low: u16, high: u16) -> Result<u16, Stop>
+        requires { high ≤ MOST }
+        ensures read { Reads (λ n. n) result self.new (read (number low high) self.old) }
+        ensures within { IfOk result (λ n. n ≤ high) }
+    {
+        let token = self.token()?;
+        let Some(value) = decimal_of(token.word) else {
+            return Err(token.fault(Kind::NoNumber));
+        };
+        if value < low || high < value {
+            return Err(token.fault(Kind::Limit));
+        }
+        Ok(value)
+    }
+
+    /// Any word.
+    #[tactic(auto, unfolding(crate::specs::Layout::any_word, crate::specs::Reading::read))]
+    pub fn any_word(&mut self) -> Result<&'a [u8], Stop>
+        ensures { Reads (λ w. w.now) result self.new (read any_word self.old) }
+    {
+        let token = self.token()?;
+        if token.is_sign() {
+            return Err(token.fault(Kind::OtherWord));
+        }
+        Ok(token.word)
+    }
+
+    /// A word that is none of the names.
+    #[tactic(auto, unfolding(crate::specs::Layout::new_name, crate::specs::Reading::read))]
+    pub fn new_name(&mut self, names: &IndexSet<Vec<u8>>) -> Result<&'a [u8], Stop>
+        ensures read { Reads (λ w. w.now) result self.new (read (new_name (bytes_of names.now)) self.old) }
+        ensures new { IfOk result (λ w. is_among (bytes_of names.now) w.now ≡ false) }
+    {
+        let token = self.token()?;
+        if token.is_sign() {
+            return Err(token.fault(Kind::OtherWord));
+        }
+        if is_name(names, token.word) {
+            return Err(token.fault(Kind::Repeated));
+        }
+        Ok(token.word)
+    }
+
+    /// The place of a name, where it is not among those taken.
+    #[tactic(auto, unfolding(crate::specs::Layout::known_name, crate::specs::Reading::read))]
+    pub fn known_name(&mut self, names: &IndexSet<Vec<u8>>, taken: &[usize]) -> Result<usize, Stop>
+        ensures read { Reads (λ n. n) result self.new (read (known_name (bytes_of names.now) (is_one_of taken.now)) self.old) }
+        ensures below { IfOk result (λ n. n < length (bytes_of names.now)) }
+    {
+        let token = self.token()?;
+        if token.is_sign() {
+            return Err(token.fault(Kind::OtherWord));
+        }
+        let Some(place) = place_of_name(names, token.word) else {
+            return Err(token.fault(Kind::Unknown));
+        };
+        if is_taken(taken, place) {
+            return Err(token.fault(Kind::Repeated));
+        }
+        Ok(place)
+    }
+}
