@@ -1,5 +1,5 @@
 -- What the tables of a week say. Days are 0 (Monday) to 6 (Sunday).
-use Rattle.std.specs.Prelude.{ℕ, ◌+◌, ◌*◌, Bool, false, None, Option, length, slice_index_or}
+use Rattle.std.specs.Prelude.{ℕ, ◌+◌, ◌*◌, Bool, false, None, length, slice_index_or}
 use Rattle.rota_core.specs.declared.values.Span.{Span}
 use Rattle.rota_core.specs.declared.values.Contract.{Contract}
 use Rattle.rota_core.specs.declared.values.Demand.{Demand}

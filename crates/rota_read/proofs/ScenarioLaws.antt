@@ -18,13 +18,13 @@ use Rattle.rota_read.specs.Files.{Fills, Spells}
 use Rattle.rota_read.proofs.WordLaws.{IsToken, tokens-are_tokens}
 use Rattle.rota_read.proofs.SlotLaws.{AreTokens, all_first, all_second, all_push, length_push, number-within, any_word-is_word, new_name-is_new, known_name-below, repeat-keeps}
 
-left : (front first second : List Token) → front ≡ first ++ second → AreTokens front → AreTokens first
+pub left : (front first second : List Token) → front ≡ first ++ second → AreTokens front → AreTokens first
 left front first second e all = all_first IsToken first second (subst AreTokens e all)
 
-right : (front first second : List Token) → front ≡ first ++ second → AreTokens front → AreTokens second
+pub right : (front first second : List Token) → front ≡ first ++ second → AreTokens front → AreTokens second
 right front first second e all = all_second IsToken first second (subst AreTokens e all)
 
-pair-limits : (front : List Token) (span : Span) → Fills pair front span → AreLimits span
+pub pair-limits : (front : List Token) (span : Span) → Fills pair front span → AreLimits span
 unfolding Fills pair
 pair-limits front span h =
     -- `(`, the minimum, `,`, the maximum, `)`
@@ -161,7 +161,7 @@ heading-kept front part all h =
     let after = right h.2 equals.1 equals.2 equals.3 (right front h.1 h.2 h.3 all) in
     rw weeks.5.1 (any_word-is_word name.1 name.0 (left equals.2 name.1 name.2 name.3 after) name.4, setting-within (codes "WEEKS") 1 52 weeks.1 weeks.0 weeks.4)
 
-rows_length : (row : ℕ → List Bool) (len : ℕ) → ((k : ℕ) → length (row k) ≡ len) → (first n : ℕ) → length (flat_map row (range_with_len first n)) ≡ n * len
+pub rows_length : {X : Type 0} (row : ℕ → List X) (len : ℕ) → ((k : ℕ) → length (row k) ≡ len) → (first n : ℕ) → length (flat_map row (range_with_len first n)) ≡ n * len
 rows_length row len each first zero = let e : 0 ≡ 0 * len = omega arith in e
 rows_length row len each first (suc n) =
     let e : suc n * len ≡ len + n * len = omega arith in

@@ -1,7 +1,15 @@
+pub mod Days
 pub mod FileFaults
 pub mod Files
+pub mod HistoryLayout
+pub mod HistoryRows
 pub mod Layout
 pub mod Reading
 pub mod ScenarioLayout
 pub mod ScenarioRows
+pub mod SolutionLayout
+pub mod SolutionRows
 pub mod Tokens
+pub mod WeekBound
+pub mod WeekLayout
+pub mod WeekRows

@@ -18,7 +18,7 @@ pub const LONGEST: usize = 4_194_304;
 
 /// A cursor at the front of the text, where that is not too long.
 #[tactic(auto, unfolding(crate::specs::Reading::opened))]
-fn open(text: &[u8]) -> Result<Cursor<'_>, Stop>
+pub(crate) fn open(text: &[u8]) -> Result<Cursor<'_>, Stop>
     ensures { ReadsFile (λ cursor. cursor) result (opened text.now) }
 {
     if text.len() > LONGEST {
@@ -31,7 +31,7 @@ fn open(text: &[u8]) -> Result<Cursor<'_>, Stop>
 }
 
 impl Stop {
-    fn in_file(self, file: FileName) -> FileFault
+    pub(crate) fn in_file(self, file: FileName) -> FileFault
         ensures { result ≡ fault_in file self }
     {
         match self {

@@ -1,0 +1,131 @@
+-- Each row of requirements takes a pair of a shift type and a skill that had none, so a greater bound on the rows changes nothing.
+use Rattle.std.proofs.Common.{◌≡◌, ℕ, zero, suc, ◌+◌, ◌*◌, ◌<◌, ◌≤◌, Bool, true, false, List, ◌∷◌, Option, Some, None, Result, Ok, Err, length, get_or, is_some, slice_set, unwrap_or, codes, if◌then◌else◌, refl, ap, ◌∙◌, arith}
+use Rattle.std.specs.List.{count_by}
+use Rattle.std.specs.Option.{option_map_or}
+use Rattle.std.proofs.lemmas.List.{length-replicate, length-set}
+use Rattle.std.proofs.lemmas.List.Sums.{count_by-le-length, sum_by-set}
+use Rattle.std.proofs.lemmas.Nat.{mul-add-lt}
+use Rattle.rota_core.specs.ScenarioTables.{ScenarioTables}
+use Rattle.rota_core.specs.Names.{place_of}
+use Rattle.rota_core.specs.declared.values.Demand.{Demand}
+use Rattle.rota_core.specs.declared.fault.Kind.TheVariants as kinds
+use Rattle.rota_read.specs.declared.fault.Fault.{Fault}
+use Rattle.rota_read.specs.Tokens.{Token, Reading}
+use Rattle.rota_read.specs.Layout.{Layout, is_sign_token, known_name, none_taken}
+use Rattle.rota_read.specs.Reading.{and_then, read}
+use Rattle.rota_read.specs.Files.{Fills}
+use Rattle.rota_read.specs.WeekLayout.{shift_at, shift_or, Requirements, is_listed, requirement, requirement_of, requirement_row, after_row, repeat_until, most_rows, no_requirements, requirement_rows}
+use Rattle.rota_read.specs.WeekBound.{BoundEndsNoRows}
+use Rattle.rota_read.proofs.FileLaws.{fills-read}
+use Rattle.rota_read.proofs.SlotLaws.{known_name-below}
+
+-- ---- how many pairs have no row
+
+abbrev is_vacant : Option (List Demand) → Bool
+is_vacant None = true
+is_vacant (Some days) = false
+
+abbrev vacant : Requirements → ℕ
+vacant rows = count_by is_vacant rows
+
+abbrev as_number : Option (List Demand) → ℕ
+as_number row = if is_vacant row then 1 else 0
+
+vacant_at : (row : Option (List Demand)) → is_some row ≡ false → as_number row ≡ 1
+vacant_at None h = refl
+vacant_at (Some days) h = absurd (cc)
+
+-- a row was put where there was none
+one_less : (rows : Requirements) (place : ℕ) (days : List Demand) → place < length rows → is_listed rows place ≡ false → vacant rows ≡ suc (vacant (slice_set rows place (Some days)))
+one_less rows place days lt free =
+    let e = sum_by-set as_number rows place (Some days) None lt in
+    let one = vacant_at (get_or rows place None) free in
+    omega arith
+
+is_free : (b : Bool) (place : Option ℕ) (is_taken : ℕ → Bool) → (if b then Some kinds.OtherWord else option_map_or (λ p. if is_taken p then Some kinds.Repeated else None) place (Some kinds.Unknown)) ≡ None
+    → is_taken (unwrap_or place 0) ≡ false
+is_free true place is_taken h = absurd (cc)
+is_free false None is_taken h = absurd (cc)
+is_free false (Some p) is_taken h = by (is_taken p) h
+  where
+    by : (taken : Bool) → (if taken then Some kinds.Repeated else None) ≡ None → taken ≡ false
+    by true h = absurd (cc)
+    by false h = refl
+
+-- a known name is at a place that is not taken
+known_name-free : (names : List (List ℕ)) (is_taken : ℕ → Bool) (front : List Token) (place : ℕ) → Fills (known_name names is_taken) front place → is_taken place ≡ false
+unfolding Fills known_name
+known_name-free names is_taken front place h =
+    let t = h.4.0 in
+    let free = is_free (is_sign_token t.word) (place_of names t.word) is_taken h.4.2 in
+    let same : place ≡ unwrap_or (place_of names t.word) 0 = h.5.1 ∙ ap (λ w. unwrap_or (place_of names w) 0) h.4.3 in
+    rw same free
+
+below_suc : (place shift n : ℕ) → Some shift ≡ shift_at place → place < suc n → shift < n
+below_suc zero shift n e lt = absurd (cc)
+below_suc (suc place) shift n e lt = let same : shift ≡ place = cc in omega arith
+
+shift_or-below : (word : List ℕ) (shifts : List (List ℕ)) (front : List Token) (shift : ℕ) → Fills (shift_or word shifts) front (Some shift) → shift < length shifts
+unfolding Fills shift_or
+shift_or-below word shifts front shift h = below_suc h.0 shift (length shifts) h.5.1 (known_name-below (word ∷ shifts) none_taken h.1 h.0 h.4)
+
+-- a row leaves one pair less without a row
+abbrev OneLess : Requirements → Requirements → Type 0
+OneLess rows next = (length next ≡ length rows) × (vacant rows ≡ suc (vacant next))
+
+requirement-takes : (shifts skills : List (List ℕ)) (shift : ℕ) (rows : Requirements) (front : List Token) (next : Requirements) → shift < length shifts → length rows ≡ length shifts * length skills
+    → Fills (requirement skills shift rows) front next → OneLess rows next
+unfolding Fills requirement
+requirement-takes shifts skills shift rows front next lt size h =
+    let place = shift * length skills + h.0 in
+    let days = h.5.0 in
+    let skill = known_name-below skills (λ k. is_listed rows (shift * length skills + k)) h.1 h.0 h.4 in
+    let turned : place < length skills * length shifts = mul-add-lt shift (length skills) h.0 (length shifts) lt skill in
+    let same : length skills * length shifts ≡ length shifts * length skills = omega arith in
+    let within : place < length rows = omega (arith, turned, same, size) in
+    rw h.5.5.1 (length-set rows place (Some days), one_less rows place days within (known_name-free skills (λ k. is_listed rows (shift * length skills + k)) h.1 h.0 h.4))
+
+requirement_row-takes : (t : ScenarioTables) (rows : Requirements) (front : List Token) (next : Requirements) → length rows ≡ length t.shifts * length t.skills → Fills (requirement_row t rows) front (true, next) → OneLess rows next
+unfolding Fills requirement_row
+requirement_row-takes t rows front next size h = by h.0 h.1 h.4 h.2 h.5
+  where
+    by : (shift : Option ℕ) (first : List Token) → Fills (shift_or (codes "SHIFT_OFF_REQUESTS") t.shifts) first shift → (second : List Token) → Fills (requirement_of t.skills rows shift) second (true, next) → OneLess rows next
+    by None first f second h = absurd (let e : true ≡ false = ap (λ (x : Bool × Requirements). x.0) h.1 in cc)
+    by (Some shift) first f second h =
+        let e : next ≡ h.0 = ap (λ (x : Bool × Requirements). x.1) h.5.1 in
+        rw e (requirement-takes t.shifts t.skills shift rows h.1 h.0 (shift_or-below (codes "SHIFT_OFF_REQUESTS") t.shifts first shift f) size h.4)
+
+-- ---- two bounds
+
+and_then-same : {A B : Type 0} (r : Result A Fault) (f g : A → Result B Fault) → ((a : A) → r ≡ Ok a → f a ≡ g a) → and_then r f ≡ and_then r g
+and_then-same (Ok a) f g same = same a refl
+and_then-same (Err e) f g same = refl
+
+after_row-same : (rows rows' : Requirements → Layout Requirements) (more : Bool) (state : Requirements) (left : Reading) → (more ≡ true → read (rows state) left ≡ read (rows' state) left)
+    → read (after_row rows more state) left ≡ read (after_row rows' more state) left
+after_row-same rows rows' true state left same = same refl
+after_row-same rows rows' false state left same = refl
+
+-- two bounds that are above the number of pairs without a row read the same
+bounds_agree : (t : ScenarioTables) (n m : ℕ) (rows : Requirements) (left : Reading) → length rows ≡ length t.shifts * length t.skills → vacant rows < n → vacant rows < m
+    → read (repeat_until n (requirement_row t) rows) left ≡ read (repeat_until m (requirement_row t) rows) left
+unfolding read repeat_until
+bounds_agree t zero m rows left size few few' = absurd (omega arith)
+bounds_agree t (suc n) zero rows left size few few' = absurd (omega arith)
+bounds_agree t (suc n) (suc m) rows left size few few' =
+    and_then-same (read (requirement_row t rows) left) (λ x. read (after_row (repeat_until n (requirement_row t)) x.0.0 x.0.1) x.1) (λ x. read (after_row (repeat_until m (requirement_row t)) x.0.0 x.0.1) x.1)
+    (λ x is.
+    after_row-same (repeat_until n (requirement_row t)) (repeat_until m (requirement_row t)) x.0.0 x.0.1 x.1
+    (λ more.
+    let found : read (requirement_row t rows) left ≡ Ok ((true, x.0.1), x.1) = is ∙ ap (λ (b : Bool). Ok ((b, x.0.1), x.1)) more in
+    let fills = fills-read (requirement_row t rows) left.last left.rest (true, x.0.1) x.1 found in
+    let less = requirement_row-takes t rows fills.0 x.0.1 size fills.3 in
+    bounds_agree t n m x.0.1 x.1 (less.0 ∙ size) (omega (arith, less.1)) (omega (arith, less.1))))
+
+pub bound_ends_no_rows : BoundEndsNoRows
+unfolding requirement_rows
+bound_ends_no_rows t more left =
+    let pairs = length t.shifts * length t.skills in
+    let size = length-replicate {A = Option (List Demand)} pairs None in
+    let few : vacant (no_requirements t) ≤ pairs = omega (arith, count_by-le-length is_vacant (no_requirements t), size) in
+    bounds_agree t (most_rows t + more) (most_rows t) (no_requirements t) left size (omega (arith, few)) (omega (arith, few))

@@ -1,0 +1,187 @@
+-- What a history's text spells is within the limits, and each nurse has her past.
+use Rattle.std.proofs.Common.{◌≡◌, ℕ, zero, suc, ◌+◌, ◌<◌, ◌≤◌, Bool, true, false, List, [], ◌∷◌, ◌++◌, length, codes, map, Option, Some, None, unwrap_or, is_some, cond, get_or, set, replicate, refl, sym, ap, ◌∙◌, subst, arith, if◌then◌else◌}
+use Rattle.std.specs.List.{AllByRecursion, count_by}
+use Rattle.std.specs.Option.{ForSome, option_map_or}
+use Rattle.std.proofs.lemmas.List.{length-set, length-map, length-replicate}
+use Rattle.std.proofs.lemmas.List.Sums.{sum_by-cons, sum_by-set, count_by-le-length}
+use Rattle.rota_core.specs.declared.fault.Kind.TheVariants as kinds
+use Rattle.rota_core.specs.declared.values.Past.{Past}
+use Rattle.rota_core.specs.InstanceTables.{HasNumbersOf}
+use Rattle.rota_core.specs.Names.{place_of}
+use Rattle.rota_core.specs.ScenarioTables.{ScenarioTables}
+use Rattle.rota_core.specs.Week.{no_past}
+use Rattle.rota_core.specs.WeekTables.{HistoryTables, IsHistory, IsPast}
+use Rattle.rota_read.specs.Tokens.{Token, tokens}
+use Rattle.rota_read.specs.Layout.{known_name, none_taken, repeat, is_sign_token}
+use Rattle.rota_read.specs.HistoryLayout.{shift_at, last_shift, past, Pasts, has_past, past_row, past_rows, history_heading, history}
+use Rattle.rota_read.specs.HistoryRows.{GivesEachPast, HasLimitedNumbers}
+use Rattle.rota_read.specs.Files.{Fills, Spells}
+use Rattle.rota_read.proofs.SlotLaws.{number-within, known_name-below}
+
+-- ---- a known name that is not taken
+
+is_free : (b : Bool) (place : Option ℕ) (is_taken : ℕ → Bool) → (if b then Some kinds.OtherWord else option_map_or (λ p. if is_taken p then Some kinds.Repeated else None) place (Some kinds.Unknown)) ≡ None
+    → is_taken (unwrap_or place 0) ≡ false
+is_free true place is_taken h = absurd (cc)
+is_free false None is_taken h = absurd (cc)
+is_free false (Some p) is_taken h = by (is_taken p) h
+  where
+    by : (b : Bool) → (if b then Some kinds.Repeated else None) ≡ None → b ≡ false
+    by true e = absurd (cc)
+    by false e = refl
+
+known_name-free : (names : List (List ℕ)) (is_taken : ℕ → Bool) (front : List Token) (place : ℕ) → Fills (known_name names is_taken) front place → is_taken place ≡ false
+unfolding Fills known_name
+known_name-free names is_taken front place h =
+    let t = h.4.0 in
+    let same : place ≡ unwrap_or (place_of names t.word) 0 = h.5.1 ∙ ap (λ w. unwrap_or (place_of names w) 0) h.4.3 in
+    rw same (is_free (is_sign_token t.word) (place_of names t.word) is_taken h.4.2)
+
+-- ---- one past
+
+below_shifts : (n place : ℕ) → place < suc n → ForSome (shift_at place) (λ s. s < n)
+below_shifts n zero lt s e = absurd (cc)
+below_shifts n (suc shift) lt s e = let same : shift ≡ s = cc in subst (λ k. k < n) same (omega arith)
+
+last_shift-below : (shifts : List (List ℕ)) (front : List Token) (last : Option ℕ) → Fills (last_shift shifts) front last → ForSome last (λ s. s < length shifts)
+unfolding Fills last_shift
+last_shift-below shifts front last h =
+    rw h.5.1 (below_shifts (length shifts) h.0 (known_name-below (codes "None" ∷ shifts) none_taken h.1 h.0 h.4))
+
+past-is_past : (shifts : List (List ℕ)) (front : List Token) (one : Past) → Fills (past shifts) front one → IsPast (length shifts) one
+unfolding Fills past
+past-is_past shifts front one h =
+    -- assignments, weekends, the last shift type, three runs
+    let weekends = h.5 in
+    let last = weekends.5 in
+    let shift_run = last.5 in
+    let work_run = shift_run.5 in
+    let off_run = work_run.5 in
+    rw off_run.5.1 (record {
+      totals = ((number-within 0 9999 h.1 h.0 h.4).1, (number-within 0 9999 weekends.1 weekends.0 weekends.4).1);
+      last = last_shift-below shifts last.1 last.0 last.4;
+      runs = ((number-within 0 9999 shift_run.1 shift_run.0 shift_run.4).1, (number-within 0 9999 work_run.1 work_run.0 work_run.4).1, (number-within 0 9999 off_run.1 off_run.0 off_run.4).1);
+    })
+
+-- ---- all pasts
+
+all_set : {X : Type 0} (P : X → Type 0) (xs : List X) (i : ℕ) (x : X) → AllByRecursion P xs → P x → AllByRecursion P (set xs i x)
+all_set P [] i x all p = tt
+all_set P (y ∷ xs) zero x all p = (p, all.1)
+all_set P (y ∷ xs) (suc i) x all p = (all.0, all_set P xs i x all.1 p)
+
+-- the pasts of so many nurses, of whom so many have one
+abbrev Kept : ℕ → ℕ → ℕ → Pasts → Type 0
+Kept nurses shifts i pasts = (length pasts ≡ nurses) × AllByRecursion (λ one. IsPast shifts (unwrap_or one no_past)) pasts × (count_by is_some pasts ≡ i)
+
+abbrev number_of : Bool → ℕ
+number_of b = cond b 1 0
+
+one_more : (pasts : Pasts) (nurse : ℕ) (one : Past) → nurse < length pasts → has_past pasts nurse ≡ false → count_by is_some (set pasts nurse (Some one)) ≡ suc (count_by is_some pasts)
+one_more pasts nurse one lt free =
+    let e = sum_by-set (λ (o : Option Past). number_of (is_some o)) pasts nurse (Some one) None lt in
+    let none = ap (λ (b : Bool). number_of b) free in
+    omega (arith, e, none)
+
+past_row-keeps : (tables : ScenarioTables) (i : ℕ) (pasts : Pasts) (front : List Token) (next : Pasts) → Fills (past_row tables pasts) front next
+    → Kept (length tables.nurses) (length tables.shifts) i pasts → Kept (length tables.nurses) (length tables.shifts) (suc i) next
+unfolding Fills past_row
+past_row-keeps tables i pasts front next h k =
+    let nurse = h.0 in
+    let one = h.5.0 in
+    let below = known_name-below tables.nurses (has_past pasts) h.1 nurse h.4 in
+    let free = known_name-free tables.nurses (has_past pasts) h.1 nurse h.4 in
+    rw h.5.5.1 (
+      length-set pasts nurse (Some one) ∙ k.0,
+      all_set (λ one. IsPast (length tables.shifts) (unwrap_or one no_past)) pasts nurse (Some one) k.1 (past-is_past tables.shifts h.5.1 one h.5.4),
+      one_more pasts nurse one (omega (arith, below, k.0)) free ∙ ap suc k.2,
+    )
+
+no_past-is_past : (shifts : ℕ) → IsPast shifts no_past
+no_past-is_past shifts = record {
+  totals = (omega arith, omega arith);
+  last = λ s e. absurd (cc);
+  runs = (omega arith, omega arith, omega arith);
+}
+
+none_yet : (shifts n : ℕ) → AllByRecursion (λ one. IsPast shifts (unwrap_or one no_past)) (replicate n None)
+none_yet shifts zero = tt
+none_yet shifts (suc n) = (no_past-is_past shifts, none_yet shifts n)
+
+none_counted : (n : ℕ) → count_by (is_some {T = Past}) (replicate n None) ≡ 0
+none_counted zero = refl
+none_counted (suc n) = none_counted n
+
+-- what each row keeps holds after all of them
+rows-keep : (tables : ScenarioTables) (n i : ℕ) (pasts : Pasts) (front : List Token) (last : Pasts) → Fills (repeat n (past_row tables) pasts) front last
+    → Kept (length tables.nurses) (length tables.shifts) i pasts → Kept (length tables.nurses) (length tables.shifts) (n + i) last
+unfolding Fills repeat
+rows-keep tables zero i pasts front last h k =
+    let e : i ≡ 0 + i = omega arith in
+    subst (λ j. Kept (length tables.nurses) (length tables.shifts) j last) e (rw h.1 k)
+rows-keep tables (suc n) i pasts front last h k =
+    let one = past_row-keeps tables i pasts h.1 h.0 h.4 k in
+    let e : n + suc i ≡ suc n + i = omega arith in
+    subst (λ j. Kept (length tables.nurses) (length tables.shifts) j last) e (rows-keep tables n (suc i) h.0 h.2 last h.5 one)
+
+past_rows-kept : (tables : ScenarioTables) (front : List Token) (pasts : Pasts) → Fills (past_rows tables) front pasts
+    → Kept (length tables.nurses) (length tables.shifts) (length tables.nurses) pasts
+unfolding past_rows
+past_rows-kept tables front pasts h =
+    let nurses = length tables.nurses in
+    let shifts = length tables.shifts in
+    let kept = rows-keep tables nurses 0 (replicate nurses None) front pasts h (length-replicate nurses None, none_yet shifts nurses, none_counted nurses) in
+    let e : nurses + 0 ≡ nurses = omega arith in
+    subst (λ n. Kept nurses shifts n pasts) e kept
+
+-- where as many as there are have one, each has one
+all_given : (pasts : Pasts) → count_by is_some pasts ≡ length pasts → pasts ≡ map Some (map (λ past. unwrap_or past no_past) pasts)
+all_given [] h = refl
+all_given (None ∷ pasts) h =
+    let few = count_by-le-length (is_some {T = Past}) pasts in
+    let e : count_by is_some pasts ≡ suc (length pasts) = h in
+    absurd (omega (arith, e, few))
+all_given (Some one ∷ pasts) h =
+    let e = sym (sum_by-cons (λ (o : Option Past). number_of (is_some o)) (Some one) pasts) ∙ h in
+    ap (λ rest. Some one ∷ rest) (all_given pasts (omega (arith, e)))
+
+-- ---- whole histories
+
+all_past : (shifts : ℕ) (pasts : Pasts) → AllByRecursion (λ one. IsPast shifts (unwrap_or one no_past)) pasts → AllByRecursion (IsPast shifts) (map (λ past. unwrap_or past no_past) pasts)
+all_past shifts [] h = tt
+all_past shifts (one ∷ pasts) h = (h.0, all_past shifts pasts h.1)
+
+heading-within : (front : List Token) (week : ℕ) → Fills history_heading front week → week ≤ 9999
+unfolding Fills history_heading
+heading-within front week h =
+    let number = h.5 in
+    rw number.5.5.5.1 (number-within 0 9999 number.1 number.0 number.4).1
+
+-- the rows give the past of each nurse
+pub gives_each_past : (tables : ScenarioTables) → GivesEachPast tables
+gives_each_past tables front pasts h =
+    let kept = past_rows-kept tables front pasts h in
+    all_given pasts (kept.2 ∙ sym kept.0)
+
+history-is_history : (tables : ScenarioTables) (front : List Token) (spelled : HistoryTables) → HasLimitedNumbers spelled → Fills (history tables) front spelled → IsHistory spelled
+unfolding Fills history
+history-is_history tables front spelled numbers h =
+    let rows = h.5 in
+    let kept = past_rows-kept tables rows.1 rows.0 rows.4 in
+    let within = subst HasLimitedNumbers rows.5.1 numbers in
+    rw rows.5.1 (record {
+      nurses = within.0;
+      shifts = within.1;
+      skills = within.2;
+      week = heading-within h.1 h.0 h.4;
+      past = (length-map rows.0 (λ past. unwrap_or past no_past) ∙ kept.0, all_past (length tables.shifts) rows.0 kept.1);
+    })
+
+-- a text spells histories alone
+pub spells-is_history : (tables : ScenarioTables) (text : List ℕ) (spelled : HistoryTables) → HasLimitedNumbers spelled → Spells (history tables) text spelled → IsHistory spelled
+spells-is_history tables text spelled numbers h = history-is_history tables (tokens text) spelled numbers h.filled
+
+-- the numbers of a history are those of its scenario
+pub spells-HasNumbersOf : (tables : ScenarioTables) (text : List ℕ) (spelled : HistoryTables) → Spells (history tables) text spelled → HasNumbersOf tables spelled.nurses spelled.shifts spelled.skills
+unfolding Fills history
+spells-HasNumbersOf tables text spelled h = rw h.filled.5.5.1 (record { same_nurses = refl; same_shifts = refl; same_skills = refl })

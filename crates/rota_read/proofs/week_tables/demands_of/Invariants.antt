@@ -1,0 +1,7 @@
+use Rattle.std.proofs.Common.{◌≡◌, map}
+use Rattle.std.specs.List.{flat_map, range_with_len}
+use Rattle.rota_read.specs.WeekLayout.{demand_on}
+use Rattle.rota_read.proofs.week_tables.demands_of.Given as goal
+
+abbrev pub invariant-loop-day : goal.invariant-loop-day
+invariant-loop-day l = l.demands.items ≡ flat_map (λ day. map (demand_on day) l.rows) (range_with_len 0 l.day)

@@ -1,0 +1,23 @@
+use Rattle.std.proofs.Common.{◌≡◌, ◌*◌, ◌≤◌, None, length, take, replicate, ap, ◌∙◌, refl, arith}
+use Rattle.std.proofs.lemmas.List.{length-take-le}
+use Rattle.rota_read.proofs.CountLemmas.{no_rows_counted, request_table-most, row_counted}
+use Rattle.rota_read.proofs.week_tables.requests_of.Goals as goal
+
+pub loop-row-init : goal.loop-row-init
+loop-row-init c =
+    let e = c.in_ok-table.ensures.items_if_clones_equal (λ y h. h) in
+    let size : c.from.result * 7 * c.from-2.result ≡ c.args.nurses * 7 * c.args.shifts = rw (c.from.ensures, c.from-2.ensures) refl in
+    e ∙ ap (λ n. replicate n 0) size ∙ no_rows_counted c.args.nurses c.args.shifts
+
+pub count_row-requires-clause-small : goal.count_row-requires-clause-small
+count_row-requires-clause-small c = λ k d lt.
+    let i = c.loop-row.row-index in
+    let few : length (take i c.args.rows.now) ≤ i = omega (arith, length-take-le i c.args.rows.now) in
+    let e = request_table-most c.args.nurses c.args.shifts (take i c.args.rows.now) i few in
+    let within = rw (← c.loop-row.invariant) at e in
+    let one = within k d lt in
+    omega arith
+
+pub loop-row-preserved : goal.loop-row-preserved
+loop-row-preserved c =
+    row_counted c.args.nurses c.args.shifts c.args.rows.now c.loop-row.row-index (record { nurse = 0; shift = None; day = 0 }) c.loop-row.table.items c.count_row.new.table.items c.loop-row-test.true c.loop-row.invariant c.count_row.ensures.length c.count_row.ensures.sums

@@ -1,0 +1,67 @@
+-- The slots of a history file.
+use Rattle.std.specs.Prelude.{ℕ, zero, suc, Bool, List, ◌∷◌, Option, Some, None, codes, length, map, unwrap_or, is_some, replicate, slice_index_or, slice_set}
+use Rattle.rota_core.specs.declared.values.Past.{Past}
+use Rattle.rota_core.specs.ScenarioTables.{ScenarioTables}
+use Rattle.rota_core.specs.Week.{no_past}
+use Rattle.rota_core.specs.WeekTables.{HistoryTables}
+use Rattle.rota_read.specs.Layout.{Layout, end, ◌>>=◌, exactly, number, any_word, known_name, none_taken, repeat}
+
+-- the first name is `None`, and the others are the shift types
+abbrev pub shift_at : ℕ → Option ℕ
+shift_at zero = None
+shift_at (suc shift) = Some shift
+
+-- `None` or a shift type
+unfoldable pub last_shift : List (List ℕ) → Layout (Option ℕ)
+last_shift shifts = do
+  place ← known_name (codes "None" ∷ shifts) none_taken
+  end (shift_at place)
+
+unfoldable pub past : List (List ℕ) → Layout Past
+past shifts = do
+  assignments ← number 0 9999
+  weekends ← number 0 9999
+  last ← last_shift shifts
+  shift_run ← number 0 9999
+  work_run ← number 0 9999
+  off_run ← number 0 9999
+  end (record { assignments = assignments; weekends = weekends; last = last; shift_run = shift_run; work_run = work_run; off_run = off_run })
+
+-- by nurse, her past where a row has given it
+abbrev pub Pasts : Type 0
+Pasts = List (Option Past)
+
+abbrev pub has_past : Pasts → ℕ → Bool
+has_past pasts nurse = is_some (slice_index_or pasts nurse None)
+
+-- the row of a nurse who had none yet
+unfoldable pub past_row : ScenarioTables → Pasts → Layout Pasts
+past_row tables pasts = do
+  nurse ← known_name tables.nurses (has_past pasts)
+  one ← past tables.shifts
+  end (slice_set pasts nurse (Some one))
+
+-- a row for each nurse, in any order
+unfoldable pub past_rows : ScenarioTables → Layout Pasts
+past_rows tables = repeat (length tables.nurses) (past_row tables) (replicate (length tables.nurses) None)
+
+unfoldable pub history_heading : Layout ℕ
+history_heading = do
+  _ ← exactly (codes "HISTORY")
+  week ← number 0 9999
+  _ ← any_word
+  _ ← exactly (codes "NURSE_HISTORY")
+  end week
+
+-- After the rows each nurse has her past.
+unfoldable pub history : ScenarioTables → Layout HistoryTables
+history tables = do
+  week ← history_heading
+  pasts ← past_rows tables
+  end (record {
+    nurses = length tables.nurses;
+    shifts = length tables.shifts;
+    skills = length tables.skills;
+    week = week;
+    past = map (λ past. unwrap_or past no_past) pasts;
+  })

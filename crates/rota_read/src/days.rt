@@ -1,0 +1,42 @@
+//! Reads days.
+
+ghost use Rattle.std.specs.Prelude.{◌≡◌, ◌<◌, IfOk};
+ghost use Rattle.rota_core.specs.Names.{place_of};
+ghost use Rattle.rota_read.specs.Days.{day_names};
+ghost use Rattle.rota_read.specs.Layout.{known_name, none_taken};
+ghost use Rattle.rota_read.specs.Reading.{read, Reads};
+
+use crate::cursor::Cursor;
+use crate::fault::Stop;
+use rota_core::Kind;
+
+impl<'a> Cursor<'a> {
+    /// A day, from 0 for `Mon`.
+    #[tactic(auto, unfolding(crate::specs::Layout::known_name, crate::specs::Reading::read))]
+    pub fn day(&mut self) -> Result<u8, Stop>
+        ensures read { Reads (λ d. d) result self.new (read (known_name day_names none_taken) self.old) }
+        ensures below { IfOk result (λ d. d < 7) }
+    {
+        let token = self.token()?;
+        if token.is_sign() {
+            return Err(token.fault(Kind::OtherWord));
+        }
+        day_named(token.word).ok_or(token.fault(Kind::Unknown))
+    }
+}
+
+/// The number of the day with this name, from 0 for `Mon`.
+fn day_named(word: &[u8]) -> Option<u8>
+    ensures { result ≡ place_of day_names word.now }
+{
+    match word {
+        b"Mon" => Some(0),
+        b"Tue" => Some(1),
+        b"Wed" => Some(2),
+        b"Thu" => Some(3),
+        b"Fri" => Some(4),
+        b"Sat" => Some(5),
+        b"Sun" => Some(6),
+        _ => None,
+    }
+}

@@ -1,0 +1,235 @@
+//! Reads a history file.
+
+ghost use Rattle.std.specs.Prelude.{◌≡◌, ◌<◌, ◌∷◌, codes, length, map, None, unwrap_or, replicate, option_map, IfOk, IfErr};
+ghost use Rattle.rota_core.specs.Names.{place_of};
+ghost use Rattle.rota_core.specs.Parts.{history_of};
+ghost use Rattle.rota_core.specs.Week.{no_past};
+ghost use Rattle.rota_core.specs.InstanceTables.{HasNumbersOf};
+ghost use Rattle.rota_core.specs.ScenarioTables.{ScenarioTables};
+ghost use Rattle.rota_core.specs.declared.fault.FileName.TheVariants as files;
+ghost use Rattle.rota_read.specs.Files.{Spells, IsFaultOf, OneMeaning};
+ghost use Rattle.rota_read.specs.HistoryLayout.{shift_at, last_shift, past, has_past, past_row, past_rows, history_heading, history};
+ghost use Rattle.rota_read.specs.HistoryRows.{GivesEachPast, HasLimitedNumbers};
+ghost use Rattle.rota_read.specs.Layout.{known_name, repeat};
+ghost use Rattle.rota_read.specs.Reading.{read, Reads, read_file, ReadsFile};
+
+use crate::cursor::Cursor;
+use crate::fault::Stop;
+use crate::files::open;
+use rota_core::{FileFault, FileName, History, HistoryParts, Kind, Past, Scenario};
+use std::alloc::{AllocError, Global};
+
+#[cfg(test)]
+mod tests;
+
+/// What a nurse has behind her who never worked.
+const NO_PAST: Past = Past {
+    assignments: 0,
+    weekends: 0,
+    last: None,
+    shift_run: 0,
+    work_run: 0,
+    off_run: 0,
+};
+
+fn has_row(pasts: &[Option<Past>], nurse: u16) -> bool
+    requires { nurse < length pasts.now }
+    ensures { result ≡ has_past pasts.now nurse }
+{
+    pasts[usize::from(nurse)].is_some()
+}
+
+/// The shift type of the word, or `None` of it for the word `None`.
+fn last_of(scenario: &Scenario, word: &[u8]) -> Option<Option<u8>>
+    ensures { result ≡ option_map shift_at (place_of (codes "None" ∷ scenario.now.shifts) word.now) }
+{
+    if word == b"None".as_slice() {
+        return Some(None);
+    }
+    scenario.find_shift(word).map(Some)
+}
+
+impl<'a> Cursor<'a> {
+    /// The number of a nurse who has no row yet.
+    #[tactic(auto, unfolding(crate::specs::Layout::known_name, crate::specs::Reading::read))]
+    fn nurse_of_row(&mut self, scenario: &Scenario, pasts: &[Option<Past>]) -> Result<u16, Stop>
+        requires { length pasts.now ≡ length scenario.now.nurses }
+        ensures read { Reads (λ n. n) result self.new (read (known_name scenario.now.nurses (has_past pasts.now)) self.old) }
+        ensures below { IfOk result (λ n. n < length scenario.now.nurses) }
+    {
+        let token = self.token()?;
+        if token.is_sign() {
+            return Err(token.fault(Kind::OtherWord));
+        }
+        let Some(nurse) = scenario.find_nurse(token.word) else {
+            return Err(token.fault(Kind::Unknown));
+        };
+        if has_row(pasts, nurse) {
+            return Err(token.fault(Kind::Repeated));
+        }
+        Ok(nurse)
+    }
+
+    /// `None` or a shift type.
+    #[tactic(auto, unfolding(crate::specs::HistoryLayout::last_shift, crate::specs::Layout::known_name, crate::specs::Reading::read))]
+    fn last_shift(&mut self, scenario: &Scenario) -> Result<Option<u8>, Stop>
+        ensures { Reads (λ s. s) result self.new (read (last_shift scenario.now.shifts) self.old) }
+    {
+        let token = self.token()?;
+        if token.is_sign() {
+            return Err(token.fault(Kind::OtherWord));
+        }
+        match last_of(scenario, token.word) {
+            Some(last) => Ok(last),
+            None => Err(token.fault(Kind::Unknown)),
+        }
+    }
+
+    #[tactic(auto, unfolding(crate::specs::HistoryLayout::past, crate::specs::Reading::read))]
+    fn past(&mut self, scenario: &Scenario) -> Result<Past, Stop>
+        ensures { Reads (λ p. p) result self.new (read (past scenario.now.shifts) self.old) }
+    {
+        let assignments = self.number(0, 9999)?;
+        let weekends = self.number(0, 9999)?;
+        let last = self.last_shift(scenario)?;
+        let shift_run = self.number(0, 9999)?;
+        let work_run = self.number(0, 9999)?;
+        let off_run = self.number(0, 9999)?;
+        Ok(Past {
+            assignments,
+            weekends,
+            last,
+            shift_run,
+            work_run,
+            off_run,
+        })
+    }
+
+    #[tactic(auto, unfolding(crate::specs::HistoryLayout::past_row, crate::specs::Reading::read))]
+    fn past_row(&mut self, scenario: &Scenario, pasts: &mut [Option<Past>]) -> Result<(), Stop>
+        requires { length pasts.old ≡ length scenario.now.nurses }
+        ensures { Reads (λ _. pasts.new) result self.new (read (past_row scenario.now pasts.old) self.old) }
+    {
+        let nurse = self.nurse_of_row(scenario, pasts)?;
+        let past = self.past(scenario)?;
+        pasts[usize::from(nurse)] = Some(past);
+        Ok(())
+    }
+
+    fn rows_of_nurses(
+        &mut self,
+        scenario: &Scenario,
+        count: u16,
+        pasts: &mut [Option<Past>],
+    ) -> Result<(), Stop>
+        requires { length pasts.old ≡ length scenario.now.nurses }
+        ensures { Reads (λ _. pasts.new) result self.new (read (repeat count (past_row scenario.now) pasts.old) self.old) }
+    {
+        for _ in 0..count {
+            self.past_row(scenario, pasts)?;
+        }
+        Ok(())
+    }
+
+    /// The row of each nurse, by nurse.
+    #[tactic(auto, unfolding(crate::specs::HistoryLayout::past_rows))]
+    fn past_rows(&mut self, alloc: Global, scenario: &Scenario) -> Result<Vec<Option<Past>>, Stop>
+        ensures { Reads (λ v. v.items) result self.new (read (past_rows scenario.now) self.old) }
+    {
+        let count = scenario.nurses();
+        let mut pasts = no_rows(alloc, count)?;
+        self.rows_of_nurses(scenario, count, &mut pasts)?;
+        Ok(pasts)
+    }
+
+    /// The number of the week.
+    #[tactic(auto, unfolding(crate::specs::HistoryLayout::history_heading, crate::specs::Reading::read))]
+    fn history_heading(&mut self) -> Result<u16, Stop>
+        ensures { Reads (λ n. n) result self.new (read history_heading self.old) }
+    {
+        self.exactly(b"HISTORY")?;
+        let week = self.number(0, 9999)?;
+        self.any_word()?;
+        self.exactly(b"NURSE_HISTORY")?;
+        Ok(week)
+    }
+
+    #[tactic(auto, unfolding(crate::specs::HistoryLayout::history, crate::specs::Reading::read))]
+    pub fn history(&mut self, alloc: Global, scenario: &Scenario) -> Result<HistoryParts, Stop>
+        ensures read { Reads history_of result self.new (read (history scenario.now) self.old) }
+        ensures limits { IfOk result (λ parts. HasLimitedNumbers (history_of parts)) }
+    {
+        let week = self.history_heading()?;
+        let pasts = self.past_rows(alloc, scenario)?;
+        Ok(HistoryParts {
+            nurses: scenario.nurses(),
+            shifts: scenario.shifts(),
+            skills: scenario.skills(),
+            week,
+            past: each_past(alloc, &pasts)?,
+        })
+    }
+}
+
+fn no_rows(alloc: Global, count: u16) -> Result<Vec<Option<Past>>, AllocError>
+    ensures { IfOk result (λ v. v.items ≡ replicate count None) }
+{
+    let mut pasts = Vec::new(alloc);
+    for _ in 0..count {
+        pasts.push(None)?;
+    }
+    Ok(pasts)
+}
+
+fn each_past(alloc: Global, pasts: &[Option<Past>]) -> Result<Vec<Past>, AllocError>
+    ensures { IfOk result (λ v. v.items ≡ map (λ past. unwrap_or past no_past) pasts.now) }
+{
+    pasts
+        .iter()
+        .map(|past| past.unwrap_or(NO_PAST))
+        .collect(alloc)
+}
+
+/// The rows of a history, from the whole text.
+#[tactic(auto, unfolding(crate::specs::Reading::read_file))]
+fn history_parts(alloc: Global, scenario: &Scenario, text: &[u8]) -> Result<HistoryParts, Stop>
+    ensures read { ReadsFile history_of result (read_file (history scenario.now) text.now) }
+    ensures limits { IfOk result (λ parts. HasLimitedNumbers (history_of parts)) }
+{
+    let mut cursor = open(text)?;
+    let parts = cursor.history(alloc, scenario)?;
+    cursor.finish()?;
+    Ok(parts)
+}
+
+/// The history that the text spells, for a scenario.
+///
+/// The text is a history file of the Second International Nurse Rostering Competition (INRC-II), in
+/// the layout of `docs/formats.md`: the number of the week, and a row for each nurse of the scenario,
+/// in any order. The history's rows are by nurse, numbered as in the scenario.
+///
+/// # Errors
+///
+/// `Bad` is the text's one fault: that of the first token that does not fit its place, with the
+/// token's line, or that of the end, with the last line; a text of more than 4,194,304 bytes has
+/// `Limit` on line 0. `Memory` comes only where memory runs out before a fault was met.
+pub fn read_history(alloc: Global, scenario: &Scenario, text: &[u8]) -> Result<History, FileFault>
+    ensures spelled { IfOk result (Spells (history scenario.now) text.now) }
+    ensures numbers { IfOk result (λ h. HasNumbersOf scenario.now h.nurses h.shifts h.skills) }
+    ensures fault { IfErr result (IsFaultOf files.History (history scenario.now) text.now) }
+{
+    match history_parts(alloc, scenario, text) {
+        Ok(parts) => Ok(History::of_parts(parts)),
+        Err(stop) => Err(stop.in_file(FileName::History)),
+    }
+}
+
+/// A law: for each scenario, every text spells one history or has one fault, and never both.
+pub fn each_text_means_one_history()
+    ensures { (tables : ScenarioTables) → OneMeaning (history tables) }
+{}
+
+/// A law: after the rows of a history file each nurse has her past.
+pub fn each_nurse_has_a_past()
+    ensures { (tables : ScenarioTables) → GivesEachPast tables }
+{}

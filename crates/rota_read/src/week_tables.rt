@@ -1,0 +1,105 @@
+//! The tables that the rows of a week's file make.
+
+ghost use Rattle.std.specs.Prelude.{◌≡◌, ◌*◌, ◌+◌, ◌<◌, ◌≤◌, ◌++◌, ◌&&◌, ℕ, IfOk, OnOk, length, map, nat_le, nat_lt, slice_index, if◌then◌else◌};
+ghost use Rattle.std.specs.List.{All};
+ghost use Rattle.rota_read.specs.WeekLayout.{demand_on, demand_table, asks_at, request_table};
+ghost use Rattle.rota_read.specs.WeekRows.{IsRequest};
+
+use crate::slots::MOST;
+use crate::week::RequestRow;
+use rota_core::Demand;
+use std::alloc::{AllocError, Global};
+
+/// What is asked for where no row says it.
+const NO_DEMAND: Demand = Demand {
+    minimum: 0,
+    optimal: 0,
+};
+
+fn demand_on(row: &Option<[Demand; 7]>, day: usize) -> Demand
+    requires { day < 7 }
+    ensures { result ≡ demand_on day row.now }
+{
+    match row {
+        Some(demands) => demands[day],
+        None => NO_DEMAND,
+    }
+}
+
+/// Appends what each row asks for on the day.
+fn append_day(
+    out: &mut Vec<Demand>,
+    rows: &[Option<[Demand; 7]>],
+    day: usize,
+) -> Result<(), AllocError>
+    requires { day < 7 }
+    ensures { OnOk result (out.new.items ≡ out.old.items ++ map (demand_on day) rows.now) }
+{
+    for row in rows {
+        out.push(demand_on(row, day))?;
+    }
+    Ok(())
+}
+
+/// The demands of all pairs of a shift type and a skill, day by day.
+pub fn demands_of(alloc: Global, rows: &[Option<[Demand; 7]>]) -> Result<Vec<Demand>, AllocError>
+    ensures { IfOk result (λ v. v.items ≡ demand_table rows.now) }
+{
+    let mut demands = Vec::new(alloc);
+    for day in 0..7 {
+        append_day(&mut demands, rows, day)?;
+    }
+    Ok(demands)
+}
+
+/// Adds one at so many places from the first on.
+fn add_one(table: &mut Vec<u16>, first: usize, count: usize)
+    requires room { first + count ≤ length table.old.items }
+    requires small { All (λ n. n < MOST) table.old.items }
+    ensures length { length table.new.items ≡ length table.old.items }
+    ensures sums { (k : ℕ) → slice_index table.new.items k
+        ≡ slice_index table.old.items k + (if nat_le first k && nat_lt k (first + count) then 1 else 0) }
+{
+    for place in first..first + count {
+        table[place] += 1;
+    }
+}
+
+/// Counts a row: for one shift type, or for each.
+fn count_row(table: &mut Vec<u16>, nurses: u16, shifts: u8, row: RequestRow)
+    requires nurses { nurses ≤ 1000 }
+    requires shifts { 1 ≤ shifts }
+    requires within { IsRequest nurses shifts row }
+    requires length { length table.old.items ≡ nurses * 7 * shifts }
+    requires small { All (λ n. n < MOST) table.old.items }
+    ensures length { length table.new.items ≡ length table.old.items }
+    ensures sums { (k : ℕ) → slice_index table.new.items k
+        ≡ slice_index table.old.items k + (if asks_at shifts k row then 1 else 0) }
+{
+    let day = usize::from(row.nurse) * 7 + usize::from(row.day);
+    let first = day * usize::from(shifts);
+    match row.shift {
+        Some(shift) => add_one(table, first + usize::from(shift), 1),
+        None => add_one(table, first, usize::from(shifts)),
+    }
+}
+
+/// How many rows ask for each nurse's days off, day by day and shift type by shift type.
+pub fn requests_of(
+    alloc: Global,
+    nurses: u16,
+    shifts: u8,
+    rows: &[RequestRow],
+) -> Result<Vec<u16>, AllocError>
+    requires nurses { nurses ≤ 1000 }
+    requires shifts { 1 ≤ shifts }
+    requires within { All (IsRequest nurses shifts) rows.now }
+    requires few { length rows.now ≤ MOST }
+    ensures { IfOk result (λ v. v.items ≡ request_table nurses shifts rows.now) }
+{
+    let mut table = vec![in alloc; 0; usize::from(nurses) * 7 * usize::from(shifts)]?;
+    for row in rows {
+        count_row(&mut table, nurses, shifts, *row);
+    }
+    Ok(table)
+}
