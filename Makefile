@@ -11,7 +11,8 @@ build:
 	cp crates/inrc2pb/out/inrc2pb out/inrc2pb
 
 example: build
-	out/inrc2pb encode --sce examples/n005w4/Sc-n005w4.txt
+	out/inrc2pb encode --sce examples/n005w4/Sc-n005w4.txt --his examples/n005w4/H0-n005w4-0.txt \
+	    --week examples/n005w4/WD-n005w4-0.txt
 
 test:
 	rt ci

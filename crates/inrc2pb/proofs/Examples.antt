@@ -6,7 +6,7 @@ use Rattle.inrc2pb.specs.CommandLine.{inrc2pb_app}
 use Rattle.inrc2pb.specs.Jobs.{Matched}
 
 abbrev words : List Text
-words = codes "inrc2pb" ∷ codes "encode" ∷ codes "--sce" ∷ codes "s" ∷ []
+words = codes "inrc2pb" ∷ codes "encode" ∷ codes "--sce" ∷ codes "s" ∷ codes "--his=h" ∷ codes "--week" ∷ codes "w" ∷ codes "--opb" ∷ codes "o" ∷ []
 
 pub taken : takes inrc2pb_app words ≡ true
 unfolding clap_on_literals

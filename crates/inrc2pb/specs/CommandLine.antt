@@ -1,5 +1,5 @@
 -- The program's command line, as a command of clap.
-use Rattle.std.specs.Prelude.{◌≡◌, Some, true, false, codes}
+use Rattle.std.specs.Prelude.{◌≡◌, List, [], ◌∷◌, ◌++◌, Some, true, false, codes, fold}
 use Rattle.clap.specs.Words.{App, Rule, Text, app_of, new_app, new_rule, with_rule, with_subcommand}
 use Rattle.clap.specs.Simple.{new_shape}
 use Rattle.clap.specs.declared.builder.action.ArgAction.TheVariants.{Set}
@@ -15,8 +15,17 @@ file_rule id =
 abbrev pub required_file_rule : Text → Rule
 required_file_rule id = record (file_rule id) { required = true }
 
+-- the options that every subcommand has
+abbrev pub input_rules : List Rule
+input_rules = required_file_rule (codes "sce") ∷ required_file_rule (codes "his")
+    ∷ required_file_rule (codes "week") ∷ []
+
+-- a subcommand, with the options of its own
+abbrev pub subcommand_app : Text → List Rule → App
+subcommand_app name own = fold with_rule (new_app name) (input_rules ++ own)
+
 abbrev pub encode_app : App
-encode_app = with_rule (new_app (codes "encode")) (required_file_rule (codes "sce"))
+encode_app = subcommand_app (codes "encode") (file_rule (codes "opb") ∷ [])
 
 -- the command before its subcommands: one of them has to be named
 abbrev pub bare_app : App

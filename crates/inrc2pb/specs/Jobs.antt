@@ -1,12 +1,13 @@
 -- The job that the matches of a subcommand spell.
-use Rattle.std.specs.Prelude.{◌≡◌, List, Some, None, true, codes, ⊤}
-use Rattle.std.specs.Prelude.{IsSomeAnd, map, string_bytes}
+use Rattle.std.specs.Prelude.{◌≡◌, ◌⊎◌, List, Some, None, true, codes, ⊤}
+use Rattle.std.specs.Prelude.{IsSomeAnd, map, option_map, string_bytes}
 use Rattle.std.specs.Borrow.{Bor}
 use Rattle.clap.specs.Words.{Row, Text, first_of, found_of, kind_of, rows_of}
 use Rattle.clap.specs.Words.{subcommand_of, takes}
 use Rattle.clap.specs.declared.error.kind.ErrorKind.TheVariants.{OutOfMemory}
 use Rattle.clap.specs.declared.parser.matches.ArgMatches.{ArgMatches}
 use Rattle.inrc2pb.specs.CommandLine.{inrc2pb_app}
+use Rattle.inrc2pb.specs.declared.jobs.Inputs.{Inputs}
 use Rattle.inrc2pb.specs.declared.jobs.Job.{Job}
 use Rattle.inrc2pb.specs.declared.jobs.Job.TheVariants.{Encode}
 use Rattle.inrc2pb.specs.declared.jobs.JobFault.{JobFault}
@@ -27,17 +28,27 @@ Matched = Text × List Row
 abbrev pub IsSubcommand : Text → Type 0
 IsSubcommand name = name ≡ codes "encode"
 
--- the job is the subcommand, with the path of its option, unchanged
+-- the paths are those of the options, unchanged
+pub record HasInputs (options : List Row) (inputs : Inputs) : Type 0 where
+  pub sce : first_of (codes "sce") options ≡ Some (string_bytes inputs.sce)
+  pub his : first_of (codes "his") options ≡ Some (string_bytes inputs.his)
+  pub week : first_of (codes "week") options ≡ Some (string_bytes inputs.week)
+
+-- the job is the subcommand, with the paths of its options
 abbrev pub IsJobOf : Matched → Job → Type 0
-IsJobOf matched (Encode sce) = (matched.0 ≡ codes "encode")
-    × (first_of (codes "sce") matched.1 ≡ Some (string_bytes sce))
+IsJobOf matched (Encode inputs opb) = (matched.0 ≡ codes "encode") × HasInputs matched.1 inputs
+    × (first_of (codes "opb") matched.1 ≡ option_map string_bytes opb)
 
 abbrev pub LacksOption : Text → List Row → Type 0
 LacksOption id options = first_of id options ≡ None
 
+abbrev pub LacksInput : List Row → Type 0
+LacksInput options = LacksOption (codes "sce") options ⊎ (LacksOption (codes "his") options
+    ⊎ LacksOption (codes "week") options)
+
 -- a required path is not there
 abbrev pub LacksPath : Matched → Type 0
-LacksPath matched = LacksOption (codes "sce") matched.1
+LacksPath matched = LacksInput matched.1
 
 -- memory ran out, or a path is missing where `lacks` says so
 abbrev pub IsForMemoryOr : Type 0 → JobFault → Type 0

@@ -1,8 +1,8 @@
 //! The command line, as a command of clap.
-ghost use Rattle.std.specs.Prelude.{◌≡◌, IfOk, false};
+ghost use Rattle.std.specs.Prelude.{◌≡◌, [], IfOk, false};
 ghost use Rattle.clap.specs.Words.{rule_of};
 ghost use Rattle.inrc2pb.specs.CommandLine.{IsCommandOf, bare_app, encode_app, file_rule};
-ghost use Rattle.inrc2pb.specs.CommandLine.{inrc2pb_app, required_file_rule};
+ghost use Rattle.inrc2pb.specs.CommandLine.{inrc2pb_app, required_file_rule, subcommand_app};
 
 use clap::{Arg, ArgAction, Command};
 use std::alloc::{AllocError, Global};
@@ -29,9 +29,22 @@ fn bare<'a>(alloc: Global) -> Result<Command<'a>, AllocError>
 fn encode<'a>(alloc: Global) -> Result<Command<'a>, AllocError>
     ensures { IfOk result (IsCommandOf encode_app) }
 {
-    Command::new(alloc, "encode")
-        .about("Writes the week as a pseudo-Boolean model to standard output")
-        .arg(required_file(alloc, "sce", "The scenario"))
+    subcommand(alloc, "encode", "Writes the week as a pseudo-Boolean model")?.arg(file_option(
+        alloc,
+        "opb",
+        "Where to write the model [default: standard output]",
+    ))
+}
+
+/// A subcommand with the options that each of them has.
+fn subcommand<'a>(alloc: Global, name: &'a str, about: &'a str) -> Result<Command<'a>, AllocError>
+    ensures { IfOk result (IsCommandOf (subcommand_app name.entry.now [])) }
+{
+    Command::new(alloc, name)
+        .about(about)
+        .arg(required_file(alloc, "sce", "The scenario"))?
+        .arg(required_file(alloc, "his", "The history before the week"))?
+        .arg(required_file(alloc, "week", "The requirements and requests of the week"))
 }
 
 /// The option `--id FILE`.

@@ -2,11 +2,11 @@
 ghost use Rattle.std.specs.Prelude.{◌≡◌, IfErr, IfOk, IsSomeAnd, Some, option_map, string_bytes};
 ghost use Rattle.clap.specs.Words.{first_of, subcommand_of};
 ghost use Rattle.inrc2pb.specs.CommandLine.{inrc2pb_app};
-ghost use Rattle.inrc2pb.specs.Jobs.{IsFaultOf, IsForMemoryOr, IsJobOf, IsSubcommand};
-ghost use Rattle.inrc2pb.specs.Jobs.{LacksOption, LacksPath, options_of, texts};
+ghost use Rattle.inrc2pb.specs.Jobs.{HasInputs, IsFaultOf, IsForMemoryOr, IsJobOf, IsSubcommand};
+ghost use Rattle.inrc2pb.specs.Jobs.{LacksInput, LacksOption, LacksPath, options_of, texts};
 
 use crate::command;
-use crate::jobs::{Job, JobFault};
+use crate::jobs::{Inputs, Job, JobFault};
 use clap::ArgMatches;
 use std::alloc::{AllocError, Global};
 
@@ -31,10 +31,22 @@ fn job_of(alloc: Global, name: &str, options: &ArgMatches<'_>) -> Result<Job, Jo
 {
     match name {
         "encode" => Ok(Job::Encode {
-            sce: required_path(alloc, options, "sce")?,
+            inputs: inputs(alloc, options)?,
+            opb: optional_path(alloc, options, "opb")?,
         }),
         _ => unreachable!(),
     }
+}
+
+fn inputs(alloc: Global, options: &ArgMatches<'_>) -> Result<Inputs, JobFault>
+    ensures ok { IfOk result (HasInputs (options_of options.now)) }
+    ensures err { IfErr result (IsForMemoryOr (LacksInput (options_of options.now))) }
+{
+    Ok(Inputs {
+        sce: required_path(alloc, options, "sce")?,
+        his: required_path(alloc, options, "his")?,
+        week: required_path(alloc, options, "week")?,
+    })
 }
 
 fn required_path(alloc: Global, options: &ArgMatches<'_>, id: &str) -> Result<String, JobFault>

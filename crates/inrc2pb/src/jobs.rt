@@ -4,11 +4,19 @@ ghost use Rattle.inrc2pb.specs.declared.jobs.JobFault.TheVariants.{Memory, Words
 
 use std::alloc::AllocError;
 
+/// The files that every job reads: a scenario, the history before the week and the week's data.
+#[derive(Debug, Drop)]
+pub struct Inputs {
+    pub sce: String,
+    pub his: String,
+    pub week: String,
+}
+
 /// What the program is asked to do, with the paths as they were given.
 #[derive(Debug, Drop)]
 pub enum Job {
-    /// Write the model of the week to standard output.
-    Encode { sce: String },
+    /// Write the model of the week, to standard output where no file is named for it.
+    Encode { inputs: Inputs, opb: Option<String> },
 }
 
 /// Why the words give no job.

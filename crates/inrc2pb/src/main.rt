@@ -10,9 +10,10 @@ mod stop;
 #[cfg(test)]
 mod tests;
 
-use crate::jobs::Job;
+use crate::files::{FileOnFirstWrite, open_inputs};
+use crate::jobs::{Inputs, Job};
 use crate::stop::Stop;
-use rota_core::ToWrite;
+use rota_core::{Target, ToWrite};
 use rota_pb::{Fault, run_encode};
 use std::process::ExitCode;
 use std::rt::{Env, Files};
@@ -43,10 +44,28 @@ fn arguments<R: Env + AllocGlobal>(rt: &R) -> Result<Vec<String>, Stop> {
 
 fn perform<R: Files + Print + AllocGlobal>(rt: &R, job: &Job) -> Result<(), Fault> {
     match job {
-        Job::Encode { sce } => {
-            let mut sce = files::open(rt, sce.as_str())?;
-            let mut out = ToWrite::new(io::writer(rt));
-            run_encode(rt.alloc(), &mut sce, &mut out)
+        Job::Encode {
+            inputs,
+            opb: Some(path),
+        } => {
+            let out = FileOnFirstWrite::new(rt, path.as_str());
+            encode(rt, inputs, &mut ToWrite::new(out))
         }
+        Job::Encode { inputs, opb: None } => encode(rt, inputs, &mut ToWrite::new(io::writer(rt))),
     }
+}
+
+fn encode<R: Files + AllocGlobal, W: Target>(
+    rt: &R,
+    inputs: &Inputs,
+    out: &mut W,
+) -> Result<(), Fault> {
+    let mut files = open_inputs(rt, inputs)?;
+    run_encode(
+        rt.alloc(),
+        &mut files.sce,
+        &mut files.his,
+        &mut files.week,
+        out,
+    )
 }

@@ -1,8 +1,5 @@
 -- How the texts that a sink takes one after another join.
-use Rattle.std.proofs.Common.{◌∷◌, ◌<◌, ◌+◌, length, take, drop, get_or, ◌≡◌, ℕ, List, [], ◌++◌, Bool, true, false, ◌||◌, Ok, Err, refl, sym, ap, ◌∙◌, subst}
-use Rattle.std.proofs.lemmas.List.{take_more, take-append-drop, append-nil}
-use Rattle.std.proofs.lemmas.Grind.{flat_map-append}
-use Rattle.std.specs.List.{flat_map}
+use Rattle.std.proofs.Common.{◌≡◌, ℕ, List, ◌++◌, Bool, true, false, ◌||◌, Ok, Err, refl, sym, ap, ◌∙◌, subst}
 use Rattle.std.specs.Prelude.{Result, is_err, MatchResult, IsErr}
 use Rattle.std.specs.Io.KnownBytes.{append_known}
 use Rattle.rota_core.specs.Ports.{Told}
@@ -17,7 +14,7 @@ pub or_false : (b : Bool) → b || false ≡ b
 or_false true = refl
 or_false false = refl
 
-or_true : (b : Bool) → b || true ≡ true
+pub or_true : (b : Bool) → b || true ≡ true
 or_true true = refl
 or_true false = refl
 
@@ -56,12 +53,6 @@ module _ {W : Type 0} {target : Ghosts W} where
     bytes = record { rest = sink.buffer.items ++ xs; joined = sym (append_known-append (sent_by sink) sink.buffer.items xs) };
   }
 
-  -- a text that failed to go in, of which the whole text begins with it
-  pub takes_stop_in : {old new : Sink W target} {e : PortFault} (d : PortFault) (xs ys whole : List ℕ) → xs ++ ys ≡ whole → Takes old (Err e) xs new → Takes old (Err d) whole new
-  takes_stop_in {old} {new} {e} d xs ys whole joined takes =
-      let P : List ℕ → Type 0 = λ text. Takes old (Err d) text new in
-      subst P joined (takes_stop ys takes)
-
   -- the exit of a `?`: another error of the same text
   pub takes_exit : {old new : Sink W target} {e : PortFault} {xs : List ℕ} (r : Result (Unit {0}) PortFault) → IsErr r → Takes old (Err e) xs new → Takes old r xs new
   takes_exit {old} {new} {e} {xs} (Err d) failed takes = record {
@@ -72,19 +63,3 @@ module _ {W : Type 0} {target : Ghosts W} where
     bytes = takes.bytes;
   }
   takes_exit {old} {new} {e} {xs} (Ok u) failed takes = cc
-
-  -- a loop that puts a text for each item put that of one more
-  pub takes_item : {X : Type 0} {old middle new : Sink W target} {u : Unit {0}} {r : Result (Unit {0}) PortFault} (text_of : X → List ℕ) (items : List X) (i : ℕ) (item d : X) → i < length items → item ≡ get_or items i d
-      → Takes old (Ok u) (flat_map text_of (take i items)) middle → Takes middle r (text_of item) new → Takes old r (flat_map text_of (take (i + 1) items)) new
-  takes_item {X} {old} {middle} {new} {u} {r} text_of items i item d within is_item first second =
-      let one_more : take (i + 1) items ≡ take i items ++ (item ∷ []) = take_more items i d within ∙ ap (λ x. take i items ++ (x ∷ [])) (sym is_item) in
-      let joined : flat_map text_of (take (i + 1) items) ≡ flat_map text_of (take i items) ++ text_of item =
-      ap (flat_map text_of) one_more ∙ flat_map-append text_of (take i items) (item ∷ []) ∙ ap (λ text. flat_map text_of (take i items) ++ text) (append-nil (text_of item)) in
-      let P : List ℕ → Type 0 = λ text. Takes old r text new in
-      subst P (sym joined) (takes_then first second)
-
-  -- a loop that puts a text for each item failed at one
-  pub takes_front : {X : Type 0} {old new : Sink W target} {e : PortFault} {d : PortFault} (text_of : X → List ℕ) (items : List X) (k : ℕ) → Takes old (Err e) (flat_map text_of (take k items)) new → Takes old (Err d) (flat_map text_of items) new
-  takes_front {X} {old} {new} {e} {d} text_of items k takes =
-      takes_stop_in d (flat_map text_of (take k items)) (flat_map text_of (drop k items)) (flat_map text_of items)
-      (sym (flat_map-append text_of (take k items) (drop k items)) ∙ ap (flat_map text_of) (take-append-drop k items)) takes

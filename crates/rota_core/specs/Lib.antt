@@ -1,5 +1,6 @@
 pub mod Below
 pub mod Bits
+pub mod HardRules
 pub mod InstanceTables
 pub mod MemoryPorts
 pub mod Names

@@ -1,30 +1,23 @@
--- The numbers of a roster's cells on a nurse's day, and with one skill.
-use Rattle.std.proofs.Common.{◌≡◌, ℕ, ◌<◌, ◌≤◌, Bool, true, false, cond, refl, sym, ap, ◌∙◌, arith}
-use Rattle.std.specs.List.{count_by}
+-- A nurse has at most one cell a day, so the sums over her day are 0 or 1.
+use Rattle.std.proofs.Common.{◌≡◌, ℕ, ◌<◌, ◌≤◌, Bool, ◌||◌, true, false, cond, [], ◌∷◌, refl, ap, ◌∙◌, arith, sym}
+use Rattle.std.specs.List.{count_by, list_any}
 use Rattle.std.proofs.lemmas.Bool.{true≢false}
-use Rattle.rota_core.specs.declared.values.Cell.{Cell}
 use Rattle.rota_core.specs.Below.{sum_below, count_below}
-use Rattle.rota_core.specs.Week.{Week}
+use Rattle.rota_core.specs.HardRules.{is_on, works}
 use Rattle.rota_core.specs.Roster.{Roster, cell, Has, KeepsOneCell, KeepsSkills}
-use Rattle.rota_items.specs.Cells.{on_cells, work_cells, skill_cells_on, skill_cells}
-use Rattle.rota_items.proofs.SumsBelow.{sum_by-each-is, count_by-each, sum_below-zero, sum_below-one, term-le-sum_below, one-sum_below, found}
+use Rattle.rota_core.specs.Week.{Week}
+use Rattle.rota_core.specs.declared.values.Cell.{Cell}
+use Rattle.rota_items.proofs.SumsBelow.{sum_by-each-is, count_by-each, sum_below-one, found, list_any-each, any_below-same, sum_below-zero, term-le-sum_below, one-sum_below}
+use Rattle.rota_items.specs.Lists.{each_below}
+use Rattle.rota_items.specs.Cells.{on_cells, work_cells, skill_cells}
 
-true-from-count : (b : Bool) → 0 < cond b 1 0 → b ≡ true
+pub true-from-count : (b : Bool) → 0 < cond b 1 0 → b ≡ true
 true-from-count true some = refl
 true-from-count false some = absurd (omega arith)
 
-one-for_true : (b : Bool) → b ≡ true → 0 < cond b 1 0
-one-for_true b is = rw is (omega arith)
-
-zero-for_false : (b : Bool) → (b ≡ true → ⊥) → ◌≡◌ {A = ℕ} (cond b 1 0) 0
-zero-for_false true not_true = absurd (not_true refl)
-zero-for_false false not_true = refl
-
-cond-le : (b : Bool) → cond b 1 0 ≤ 1
+pub cond-le : (b : Bool) → cond b 1 0 ≤ 1
 cond-le true = omega arith
 cond-le false = omega arith
-
--- ---- on a day
 
 -- the number of the nurse's cells on a shift type and on a day
 abbrev pub on_count : Week → Roster → ℕ → ℕ → ℕ → ℕ
@@ -33,7 +26,7 @@ on_count week roster n s d = count_below week.skills (λ k. roster (cell n d s k
 abbrev pub work_count : Week → Roster → ℕ → ℕ → ℕ
 work_count week roster n d = sum_below week.shifts (λ s. on_count week roster n s d)
 
-count-on_cells : (week : Week) (roster : Roster) (n s d : ℕ) →
+pub count-on_cells : (week : Week) (roster : Roster) (n s d : ℕ) →
     count_by roster (on_cells week n s d) ≡ on_count week roster n s d
 count-on_cells week roster n s d = count_by-each roster week.skills (λ k. cell n d s k)
 
@@ -43,7 +36,7 @@ count-work_cells week roster n d =
     sum_by-each-is (λ c. cond (roster c) 1 0) week.shifts (λ s. on_cells week n s d) (λ s. on_count week roster n s d)
     (λ s _. count-on_cells week roster n s d)
 
-has-cell : (week : Week) (roster : Roster) (n d s k : ℕ) →
+pub has-cell : (week : Week) (roster : Roster) (n d s k : ℕ) →
     n < week.nurses → d < 7 → s < week.shifts → k < week.skills → 0 < cond (roster (cell n d s k)) 1 0 →
     Has week roster (cell n d s k)
 has-cell week roster n d s k n_in d_in s_in k_in some = record {
@@ -52,7 +45,7 @@ has-cell week roster n d s k n_in d_in s_in k_in some = record {
 }
 
 module _ (week : Week) (roster : Roster) (one : KeepsOneCell week roster) (n d : ℕ) (n_in : n < week.nurses) (d_in : d < 7) where
-  on_count-le : (s : ℕ) → s < week.shifts → on_count week roster n s d ≤ 1
+  pub on_count-le : (s : ℕ) → s < week.shifts → on_count week roster n s d ≤ 1
   on_count-le s s_in =
       sum_below-one week.skills (λ k. cond (roster (cell n d s k)) 1 0) (λ k _. cond-le (roster (cell n d s k)))
       (λ k l k_in l_in some other.
@@ -72,7 +65,40 @@ module _ (week : Week) (roster : Roster) (one : KeepsOneCell week roster) (n d :
       (one (cell n d s here.0) (cell n d t there.0) (has-cell week roster n d s here.0 n_in d_in s_in here.1 here.2)
       (has-cell week roster n d t there.0 n_in d_in t_in there.1 there.2) refl refl))
 
--- where there is at most one, two cells of the day have the same shift type and skill
+-- ---- the tests are those of the lists of cells
+
+or-false : (b : Bool) → (b || false) ≡ b
+or-false true = refl
+or-false false = refl
+
+pub any-on_cells : (week : Week) (roster : Roster) (n s d : ℕ) →
+    list_any roster (on_cells week n s d) ≡ is_on week roster n s d
+any-on_cells week roster n s d =
+    list_any-each roster week.skills (λ k. cell n d s k ∷ []) ∙
+    any_below-same week.skills (λ k. list_any roster (cell n d s k ∷ [])) (λ k. roster (cell n d s k))
+    (λ k. or-false (roster (cell n d s k)))
+
+pub any-work_cells : (week : Week) (roster : Roster) (n d : ℕ) →
+    list_any roster (work_cells week n d) ≡ works week roster n d
+any-work_cells week roster n d =
+    list_any-each roster week.shifts (λ s. on_cells week n s d) ∙
+    any_below-same week.shifts (λ s. list_any roster (on_cells week n s d)) (λ s. is_on week roster n s d)
+    (λ s. any-on_cells week roster n s d)
+
+-- the same for all days at once
+pub any-on : (week : Week) (roster : Roster) (n s : ℕ) →
+    ◌≡◌ {A = ℕ → Bool} (λ d. list_any roster (on_cells week n s d)) (is_on week roster n s)
+any-on week roster n s = λ i. λ d. any-on_cells week roster n s d i
+
+pub any-works : (week : Week) (roster : Roster) (n : ℕ) →
+    ◌≡◌ {A = ℕ → Bool} (λ d. list_any roster (work_cells week n d)) (works week roster n)
+any-works week roster n = λ i. λ d. any-work_cells week roster n d i
+
+-- ---- two cells of a day, and the cells with a skill
+
+one-for_true : (b : Bool) → b ≡ true → 0 < cond b 1 0
+one-for_true b is = rw is (omega arith)
+
 pub same_cells : (week : Week) (roster : Roster) (n d s k t l : ℕ) → work_count week roster n d ≤ 1 →
     s < week.shifts → k < week.skills → t < week.shifts → l < week.skills →
     roster (cell n d s k) ≡ true → roster (cell n d t l) ≡ true → (s ≡ t) × (k ≡ l)
@@ -90,27 +116,29 @@ same_cells week roster n d s k t l small s_in k_in t_in l_in one other =
           (omega (arith, ap (λ s. at s l) shifts_same)),
     )
 
--- ---- with a skill
+zero-for_false : (b : Bool) → (b ≡ true → ⊥) → ◌≡◌ {A = ℕ} (cond b 1 0) 0
+zero-for_false true not_true = absurd (not_true refl)
+zero-for_false false not_true = refl
 
-unfoldable pub skill_count : Week → Roster → ℕ → ℕ → ℕ
+pub skill_count : Week → Roster → ℕ → ℕ → ℕ
 skill_count week roster n k = sum_below 7 (λ d. count_below week.shifts (λ s. roster (cell n d s k)))
 
 pub count-skill_cells : (week : Week) (roster : Roster) (n k : ℕ) →
     count_by roster (skill_cells week n k) ≡ skill_count week roster n k
 unfolding skill_count
 count-skill_cells week roster n k =
-    sum_by-each-is (λ c. cond (roster c) 1 0) 7 (λ d. skill_cells_on week n k d)
+    sum_by-each-is (λ c. cond (roster c) 1 0) 7 (λ d. each_below week.shifts (λ s. cell n d s k ∷ []))
     (λ d. count_below week.shifts (λ s. roster (cell n d s k)))
     (λ d _. count_by-each roster week.shifts (λ s. cell n d s k))
 
 pub no_skill_cells : (week : Week) (roster : Roster) → KeepsSkills week roster → (n k : ℕ) → n < week.nurses → k < week.skills →
     week.has_skill n k ≡ false → skill_count week roster n k ≡ 0
 unfolding skill_count
-no_skill_cells week roster keeps n k n_in k_in lacks =
+no_skill_cells week roster held n k n_in k_in lacks =
     sum_below-zero 7 (λ d. count_below week.shifts (λ s. roster (cell n d s k))) (λ d d_in.
     sum_below-zero week.shifts (λ s. cond (roster (cell n d s k)) 1 0) (λ s s_in.
     zero-for_false (roster (cell n d s k)) (λ here.
-    true≢false (sym (keeps (cell n d s k)
+    true≢false (sym (held (cell n d s k)
     (record { in_week = record { nurse_in = n_in; day_in = d_in; shift_in = s_in; skill_in = k_in }; in_roster = here })) ∙ lacks))))
 
 pub some_skill_cell : (week : Week) (roster : Roster) (one : Cell) → Has week roster one →

@@ -1,24 +1,39 @@
--- Sums over the numbers below a number, and over lists made by loops.
-use Rattle.std.proofs.Common.{◌≡◌, ℕ, zero, suc, ◌<◌, ◌≤◌, Bool, cond, ◌⊎◌, inl, inr, List, [], ◌∷◌, refl, ap, ◌∙◌, arith, zero-add}
-use Rattle.std.specs.List.{sum_by, count_by}
+-- Sums and tests over the numbers below a number.
+use Rattle.std.proofs.Common.{◌≡◌, ℕ, zero, suc, ◌+◌, ◌*◌, ◌<◌, ◌≤◌, Bool, ◌||◌, true, false, cond, ◌⊎◌, inl, inr, List, [], ◌∷◌, refl, ap, ◌∙◌, arith, zero-add}
+use Rattle.std.specs.Prelude.{if◌then◌else◌}
+use Rattle.std.specs.List.{sum_by, count_by, list_any}
 use Rattle.std.proofs.lemmas.List.Sums.{sum_by-append}
-use Rattle.rota_core.specs.Below.{sum_below, count_below}
+use Rattle.std.proofs.lemmas.List.Folds.{list_any-append}
+use Rattle.rota_core.specs.Below.{sum_below, count_below, any_below}
 use Rattle.rota_items.specs.Lists.{each_below}
 
-sum_below-same : (n : ℕ) (f g : ℕ → ℕ) → ((i : ℕ) → i < n → f i ≡ g i) → sum_below n f ≡ sum_below n g
+pub sum_below-same : (n : ℕ) (f g : ℕ → ℕ) → ((i : ℕ) → i < n → f i ≡ g i) → sum_below n f ≡ sum_below n g
 unfolding sum_below
 sum_below-same zero f g same = refl
 sum_below-same (suc n) f g same =
     omega (arith, sum_below-same n f g (λ i below. same i (omega arith)), same n (omega arith))
+
+pub sum_below-times : (n w : ℕ) (f : ℕ → ℕ) → sum_below n (λ i. w * f i) ≡ w * sum_below n f
+unfolding sum_below
+sum_below-times zero w f = omega arith
+sum_below-times (suc n) w f = omega (arith, sum_below-times n w f)
+
+pub sum_below-plus : (n : ℕ) (f g : ℕ → ℕ) → sum_below n (λ i. f i + g i) ≡ sum_below n f + sum_below n g
+unfolding sum_below
+sum_below-plus zero f g = refl
+sum_below-plus (suc n) f g = omega (arith, sum_below-plus n f g)
+
+pub sum_below-le : (n : ℕ) (f g : ℕ → ℕ) → ((i : ℕ) → i < n → f i ≤ g i) → sum_below n f ≤ sum_below n g
+unfolding sum_below
+sum_below-le zero f g le = omega arith
+sum_below-le (suc n) f g le =
+    omega (arith, sum_below-le n f g (λ i below. le i (omega arith)), le n (omega arith))
 
 pub sum_below-zero : (n : ℕ) (f : ℕ → ℕ) → ((i : ℕ) → i < n → f i ≡ 0) → sum_below n f ≡ 0
 unfolding sum_below
 sum_below-zero zero f none = refl
 sum_below-zero (suc n) f none =
     omega (arith, sum_below-zero n f (λ i below. none i (omega arith)), none n (omega arith))
-
-last_or_before : (i n : ℕ) → i < suc n → (i ≡ n) ⊎ (i < n)
-last_or_before i n below = grind arith
 
 pub term-le-sum_below : (n : ℕ) (f : ℕ → ℕ) (i : ℕ) → i < n → f i ≤ sum_below n f
 unfolding sum_below
@@ -28,8 +43,11 @@ term-le-sum_below (suc n) f i below =
       | inl last ↦ omega (arith, ap f last)
       | inr before ↦ omega (arith, term-le-sum_below n f i before)
     ]
+  where
+    last_or_before : (i n : ℕ) → i < suc n → (i ≡ n) ⊎ (i < n)
+    last_or_before i n below = grind arith
 
-zero_or_more : (n : ℕ) → (n ≡ 0) ⊎ (0 < n)
+pub zero_or_more : (n : ℕ) → (n ≡ 0) ⊎ (0 < n)
 zero_or_more zero = inl refl
 zero_or_more (suc n) = inr (omega arith)
 
@@ -84,10 +102,13 @@ one-sum_below (suc n) f one i j i_below j_below some other =
             | inr j_before ↦ one-sum_below n f (omega arith) i j i_before j_before some other
           ]
     ]
+  where
+    last_or_before : (i n : ℕ) → i < suc n → (i ≡ n) ⊎ (i < n)
+    last_or_before i n below = grind arith
 
 -- ---- lists made by loops
 
-sum_by-each : {X : Type 0} (f : X → ℕ) (n : ℕ) (g : ℕ → List X) →
+pub sum_by-each : {X : Type 0} (f : X → ℕ) (n : ℕ) (g : ℕ → List X) →
     sum_by f (each_below n g) ≡ sum_below n (λ i. sum_by f (g i))
 unfolding each_below sum_below
 sum_by-each f zero g = refl
@@ -97,8 +118,48 @@ pub sum_by-each-is : {X : Type 0} (f : X → ℕ) (n : ℕ) (g : ℕ → List X)
     ((i : ℕ) → i < n → sum_by f (g i) ≡ h i) → sum_by f (each_below n g) ≡ sum_below n h
 sum_by-each-is f n g h each = sum_by-each f n g ∙ sum_below-same n (λ i. sum_by f (g i)) h each
 
+-- and so with a factor
+pub sum_by-each-times : {X : Type 0} (f : X → ℕ) (n w : ℕ) (g : ℕ → List X) (h : ℕ → ℕ) →
+    ((i : ℕ) → i < n → sum_by f (g i) ≡ w * h i) → sum_by f (each_below n g) ≡ w * sum_below n h
+sum_by-each-times f n w g h each = sum_by-each-is f n g (λ i. w * h i) each ∙ sum_below-times n w h
+
+-- and so where a constant is charged besides
+pub with_constant : {X : Type 0} (f : X → ℕ) (n w : ℕ) (g : ℕ → List X) (constant cost : ℕ → ℕ) →
+    ((i : ℕ) → i < n → sum_by f (g i) + w * constant i ≡ w * cost i) →
+    sum_by f (each_below n g) + w * sum_below n constant ≡ w * sum_below n cost
+with_constant f n w g constant cost each =
+    omega (
+      arith,
+      sum_by-each f n g,
+      sum_below-times n w constant,
+      sum_below-times n w cost,
+      sum_below-plus n (λ i. sum_by f (g i)) (λ i. w * constant i),
+      sum_below-same n (λ i. sum_by f (g i) + w * constant i) (λ i. w * cost i) each,
+    )
+
+-- and so in the last week alone
+pub where_last : {X : Type 0} (is_last : Bool) (f : X → ℕ) (n w : ℕ) (g : ℕ → List X) (constant cost : ℕ → ℕ) →
+    ((i : ℕ) → i < n → sum_by f (g i) + w * constant i ≡ w * cost i) →
+    sum_by f (if is_last then each_below n g else []) + (if is_last then w * sum_below n constant else 0) ≡
+    (if is_last then w * sum_below n cost else 0)
+where_last true f n w g constant cost each = with_constant f n w g constant cost each
+where_last false f n w g constant cost each = refl
+
 pub count_by-each : {X : Type 0} (test : X → Bool) (n : ℕ) (x : ℕ → X) →
     count_by test (each_below n (λ i. x i ∷ [])) ≡ count_below n (λ i. test (x i))
 count_by-each test n x =
     sum_by-each-is (λ y. cond (test y) 1 0) n (λ i. x i ∷ []) (λ i. cond (test (x i)) 1 0)
     (λ i _. zero-add (cond (test (x i)) 1 0))
+
+pub any_below-same : (n : ℕ) (p q : ℕ → Bool) → ((i : ℕ) → p i ≡ q i) → any_below n p ≡ any_below n q
+unfolding any_below
+any_below-same zero p q same = refl
+any_below-same (suc n) p q same =
+    ap (λ b. b || p n) (any_below-same n p q same) ∙ ap (λ b. any_below n q || b) (same n)
+
+pub list_any-each : {X : Type 0} (p : X → Bool) (n : ℕ) (g : ℕ → List X) →
+    list_any p (each_below n g) ≡ any_below n (λ i. list_any p (g i))
+unfolding each_below any_below
+list_any-each p zero g = refl
+list_any-each p (suc n) g =
+    list_any-append p (each_below n g) (g n) ∙ ap (λ b. b || list_any p (g n)) (list_any-each p n g)

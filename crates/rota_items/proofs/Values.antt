@@ -1,31 +1,29 @@
--- What sums come to.
-use Rattle.std.proofs.Common.{◌≡◌, ℕ, ◌+◌, Bool, true, false, cond, List, [], ◌∷◌, refl, ap, arith}
-use Rattle.std.specs.Prelude.{ℤ, pos, negsuc, ◌+ℤ◌, ◌-ℤ◌}
+-- The shortages of plain sums.
+use Rattle.std.proofs.Common.{◌≡◌, ℕ, ◌-◌, Bool, true, false, List, arith}
+use Rattle.std.specs.Prelude.{pos, negsuc, ◌-ℤ◌}
 use Rattle.std.specs.List.{count_by}
-use Rattle.std.proofs.lemmas.List.Sums.{sum_by-cons}
 use Rattle.std.proofs.lemmas.Int.{ints}
-use Rattle.rota_core.specs.declared.values.Cell.{Cell}
-use Rattle.rota_core.specs.Week.{Week}
-use Rattle.rota_items.specs.Linear.{Term, times, value_of}
-use Rattle.rota_items.specs.Cells.{cell_number}
-use Rattle.rota_items.specs.WeekModel.{numbered_terms, roster_of}
+use Rattle.rota_items.proofs.PatternItems.{value_of-sum, positive_part_is}
+use Rattle.rota_items.specs.Items.{positive_part}
+use Rattle.rota_items.specs.Linear.{times, value_of}
 
-subtract_step : (x : Bool) (rest : ℤ) (n m : ℕ) → m ≡ cond x 1 0 + n → rest ≡ pos 0 -ℤ pos n →
-    cond x (negsuc 0) (pos 0) +ℤ rest ≡ pos 0 -ℤ pos m
-subtract_step true rest n m sum same = omega (arith, ints)
-subtract_step false rest n m sum same = omega (arith, ints)
+pub value_of-plus : {X : Type 0} (roster : X → Bool) (cells : List X) →
+    value_of roster (times (pos 1) cells) ≡ pos (count_by roster cells)
+value_of-plus roster cells = value_of-sum roster false cells
 
--- minus a sum comes to minus the number of what is true
-pub value_of-minus : {X : Type 0} (assignment : X → Bool) (variables : List X) →
-    value_of assignment (times (negsuc 0) variables) ≡ pos 0 -ℤ pos (count_by assignment variables)
-value_of-minus assignment [] = refl
-value_of-minus assignment (v ∷ vs) =
-    subtract_step (assignment v) (value_of assignment (times (negsuc 0) vs)) (count_by assignment vs)
-    (count_by assignment (v ∷ vs)) (sum_by-cons (λ x. cond (assignment x) 1 0) v vs) (value_of-minus assignment vs)
+pub value_of-minus : {X : Type 0} (roster : X → Bool) (cells : List X) →
+    value_of roster (times (negsuc 0) cells) ≡ pos 0 -ℤ pos (count_by roster cells)
+value_of-minus roster cells = value_of-sum roster true cells
 
--- numbered terms come to what the terms come to over the roster
-pub value_of-numbered : (week : Week) (assignment : ℕ → Bool) (terms : List (Term Cell)) →
-    value_of assignment (numbered_terms week terms) ≡ value_of (roster_of week assignment) terms
-value_of-numbered week assignment [] = refl
-value_of-numbered week assignment (term ∷ terms) =
-    ap (λ z. cond (assignment (cell_number week term.1)) term.0 (pos 0) +ℤ z) (value_of-numbered week assignment terms)
+-- what the sum of the cells lacks of a degree, and by how much it is above one
+pub lacking : {X : Type 0} (roster : X → Bool) (cells : List X) (degree : ℕ) →
+    positive_part (pos degree -ℤ value_of roster (times (pos 1) cells)) ≡ degree - count_by roster cells
+lacking roster cells degree =
+    positive_part_is (pos degree -ℤ value_of roster (times (pos 1) cells)) degree (count_by roster cells)
+    (omega (arith, ints, value_of-plus roster cells))
+
+pub exceeding : {X : Type 0} (roster : X → Bool) (cells : List X) (most : ℕ) →
+    positive_part ((pos 0 -ℤ pos most) -ℤ value_of roster (times (negsuc 0) cells)) ≡ count_by roster cells - most
+exceeding roster cells most =
+    positive_part_is ((pos 0 -ℤ pos most) -ℤ value_of roster (times (negsuc 0) cells)) (count_by roster cells) most
+    (omega (arith, ints, value_of-minus roster cells))

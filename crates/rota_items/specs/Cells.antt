@@ -13,6 +13,14 @@ on_cells week n s d = each_below week.skills (λ k. cell n d s k ∷ [])
 abbrev pub work_cells : Week → ℕ → ℕ → List Cell
 work_cells week n d = each_below week.shifts (λ s. on_cells week n s d)
 
+-- the cells of a nurse
+abbrev pub nurse_cells : Week → ℕ → List Cell
+nurse_cells week n = each_below 7 (λ d. work_cells week n d)
+
+-- the cells of a day's shift type and skill
+abbrev pub demand_cells : Week → ℕ → ℕ → ℕ → List Cell
+demand_cells week d s k = each_below week.nurses (λ n. cell n d s k ∷ [])
+
 -- the cells of a nurse's day that need the skill
 abbrev pub skill_cells_on : Week → ℕ → ℕ → ℕ → List Cell
 skill_cells_on week n k d = each_below week.shifts (λ s. cell n d s k ∷ [])
@@ -38,3 +46,7 @@ cell_count week = 7 * week.nurses * week.shifts * week.skills
 -- the variable that is true in every solution: it follows those of the cells
 abbrev pub unit_number : Week → ℕ
 unit_number week = cell_count week + 1
+
+-- the items' slacks follow the unit variable
+abbrev pub first_slack : Week → ℕ
+first_slack week = unit_number week + 1

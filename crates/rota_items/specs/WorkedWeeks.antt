@@ -1,46 +1,196 @@
--- Weeks of one nurse, with their constraints written out.
-use Rattle.std.specs.Prelude.{◌≡◌, ℕ, ℤ, pos, negsuc, Bool, true, false, List, [], ◌∷◌, map, codes}
-use Rattle.rota_core.specs.ScenarioTables.{ScenarioTables}
-use Rattle.rota_core.specs.Week.{no_span, no_contract, bare_week}
-use Rattle.rota_items.specs.Linear.{Constraint}
-use Rattle.rota_items.specs.WeekModel.{model_of}
+-- Weeks of one nurse with one skill, with their constraints, objectives and penalties written out.
+use Rattle.std.specs.Prelude.{◌≡◌, ℕ, ◌+◌, ℤ, pos, negsuc, Bool, true, false, ◌&&◌, ◌==◌, Some, if◌then◌else◌, List, [], ◌∷◌, ◌++◌, map, drop, take}
+use Rattle.std.specs.List.{range_with_len}
+use Rattle.rota_core.specs.declared.values.Span.{Span}
+use Rattle.rota_core.specs.declared.values.Contract.{Contract}
+use Rattle.rota_core.specs.declared.values.Demand.{Demand}
+use Rattle.rota_core.specs.declared.values.Past.{Past}
+use Rattle.rota_core.specs.Week.{Week, no_demand, no_past}
+use Rattle.rota_core.specs.Roster.{Roster}
+use Rattle.rota_items.specs.Linear.{Term, Constraint}
+use Rattle.rota_items.specs.WeekModel.{model_of, extension_of}
 
--- one nurse, one shift type and one skill, which she has or lacks
-abbrev pub one_nurse : Bool → ScenarioTables
-one_nurse has_skill = record {
-  name = codes "one";
-  weeks = 1;
-  skills = codes "Nurse" ∷ [];
-  shifts = codes "Day" ∷ [];
-  limits = no_span ∷ [];
-  forbidden = false ∷ [];
-  contracts = no_contract ∷ [];
-  nurses = codes "Ann" ∷ [];
-  contract_of = 0 ∷ [];
-  has_skill = has_skill ∷ [];
+-- ---- words for weeks
+
+abbrev pub limits_of : ℕ → ℕ → Span
+limits_of min max = record { min = min; max = max }
+
+abbrev wide : Contract
+wide = record { total = limits_of 1 9; work = limits_of 1 9; off = limits_of 1 9; weekends = 9; complete = false }
+
+-- one shift type, no demand, and limits so wide that they cost nothing
+abbrev pub plain_week : Week
+plain_week = record {
+  nurses = 1;
+  shifts = 1;
+  skills = 1;
+  is_last = false;
+  has_skill = λ n k. true;
+  demand = λ d s k. no_demand;
+  is_forbidden = λ s t. false;
+  limits = λ s. limits_of 1 9;
+  contract = λ n. wide;
+  past = λ n. no_past;
+  requests = λ n d s. 0;
 }
 
-abbrev pub row : ℤ → List ℕ → ℤ → Constraint
-row coefficient variables degree = record { terms = map (λ v. (coefficient, v)) variables; degree = degree }
+abbrev pub with_contract : Contract → Week
+with_contract contract = record plain_week { contract = λ n. contract }
 
--- +1 x8 >= 1, and for each day -1 x >= -1
-abbrev pub unit_and_days : List Constraint → List Constraint
-unit_and_days rest =
-    row (pos 1) (8 ∷ []) (pos 1) ∷
-    row (negsuc 0) (1 ∷ []) (negsuc 0) ∷
-    row (negsuc 0) (2 ∷ []) (negsuc 0) ∷
-    row (negsuc 0) (3 ∷ []) (negsuc 0) ∷
-    row (negsuc 0) (4 ∷ []) (negsuc 0) ∷
-    row (negsuc 0) (5 ∷ []) (negsuc 0) ∷
-    row (negsuc 0) (6 ∷ []) (negsuc 0) ∷
-    row (negsuc 0) (7 ∷ []) (negsuc 0) ∷ rest
+-- so many working days before Monday, on the first shift type
+abbrev pub worked_days : ℕ → Past
+worked_days n = record no_past { assignments = n; last = Some 0; shift_run = n; work_run = n }
 
--- she has the skill
-abbrev pub SkilledNurse : Type 0
-SkilledNurse = (model_of (bare_week (one_nurse true))).constraints ≡ unit_and_days []
+-- working days within these limits
+abbrev pub working_week : Span → Past → Week
+working_week limits past = record (with_contract (record wide { work = limits })) {
+  limits = λ s. limits_of 1 99;
+  past = λ n. past;
+}
 
--- she lacks it: -1 x1 .. -1 x7 >= 0
-abbrev pub UnskilledNurse : Type 0
-UnskilledNurse =
-    (model_of (bare_week (one_nurse false))).constraints ≡
-    unit_and_days (row (negsuc 0) (1 ∷ 2 ∷ 3 ∷ 4 ∷ 5 ∷ 6 ∷ 7 ∷ []) (pos 0) ∷ [])
+abbrev on_Monday : ℕ → ℕ → ℕ → ℕ → ℕ → Demand
+on_Monday minimum optimal d s k =
+    (if d == 0 then record { minimum = minimum; optimal = optimal } else no_demand)
+
+abbrev pub demanding_week : ℕ → ℕ → Week
+demanding_week minimum optimal = record plain_week { demand = on_Monday minimum optimal }
+
+-- the nurse lacks the skill
+abbrev pub unskilled_week : Week
+unskilled_week = record (demanding_week 1 1) { has_skill = λ n k. false }
+
+-- early after night is forbidden, and the last shift was a night
+abbrev pub nights_week : Week
+nights_week = record plain_week {
+  shifts = 2;
+  is_forbidden = λ s t. s == 1 && t == 0;
+  past = λ n. record no_past { assignments = 1; last = Some 1; shift_run = 1; work_run = 1 };
+}
+
+-- two rows ask for a Monday without early, and one for a Monday off
+abbrev pub requests_week : Week
+requests_week = record plain_week {
+  shifts = 2;
+  requests = λ n d s. if d == 0 then (if s == 0 then 3 else 1) else 0;
+}
+
+abbrev totals : Contract
+totals = record wide { total = limits_of 10 15; weekends = 2 }
+
+-- a last week after so many assignments and worked weekends
+abbrev pub last_week : ℕ → ℕ → Week
+last_week assignments weekends = record (with_contract totals) {
+  is_last = true;
+  past = λ n. record no_past { assignments = assignments; weekends = weekends };
+}
+
+abbrev pub closed_shift_week : Week
+closed_shift_week = record plain_week { limits = λ s. limits_of 1 0 }
+
+abbrev pub weekends_week : Week
+weekends_week = with_contract (record wide { complete = true })
+
+abbrev pub days_off_week : Week
+days_off_week = with_contract (record wide { off = limits_of 2 9 })
+
+-- the nurse has all cells of these days, and those of these days on a shift type
+abbrev pub on_days : (ℕ → Bool) → Roster
+on_days has cell = has cell.day
+
+abbrev pub on_Monday_shift : ℕ → Roster
+on_Monday_shift s cell = cell.day == 0 && cell.shift == s
+
+-- ---- words for rows
+
+abbrev plus : ℕ → Term ℕ
+plus v = (pos 1, v)
+
+abbrev minus : ℕ → Term ℕ
+minus v = (negsuc 0, v)
+
+abbrev each : ℤ → List ℕ → List (Term ℕ)
+each coefficient variables = map (λ v. (coefficient, v)) variables
+
+abbrev row : List (Term ℕ) → ℤ → Constraint
+row terms degree = record { terms = terms; degree = degree }
+
+-- the constraints after those of the unit variable and of the days of one nurse on one shift type
+abbrev after_days : Week → List Constraint
+after_days week = drop 8 (model_of week).constraints
+
+-- ---- constraints
+
+abbrev pub OneNurseOneShift : Type 0
+OneNurseOneShift =
+    (model_of plain_week).constraints ≡
+    row (plus 8 ∷ []) (pos 1) ∷ map (λ v. row (minus v ∷ []) (negsuc 0)) (range_with_len 1 7)
+
+abbrev pub DemandNobodyCanMeet : Type 0
+DemandNobodyCanMeet =
+    after_days unskilled_week ≡
+    row (plus 1 ∷ []) (pos 1) ∷ row (each (negsuc 0) (range_with_len 1 7)) (pos 0) ∷ []
+
+abbrev pub SuccessionAfterTheHistory : Type 0
+SuccessionAfterTheHistory =
+    after_days nights_week ≡
+    row (minus 1 ∷ []) (pos 0) ∷
+    map (λ v. row (minus v ∷ minus (v + 1) ∷ []) (negsuc 0)) (2 ∷ 4 ∷ 6 ∷ 8 ∷ 10 ∷ 12 ∷ [])
+
+abbrev pub FewerThanTheOptimum : Type 0
+FewerThanTheOptimum =
+    after_days (demanding_week 1 3) ≡
+    row (plus 1 ∷ []) (pos 1) ∷ row (plus 1 ∷ plus 9 ∷ plus 10 ∷ []) (pos 3) ∷ []
+
+abbrev pub DaysOff : Type 0
+DaysOff =
+    take 2 (after_days days_off_week) ≡
+    row (plus 1 ∷ minus 2 ∷ plus 9 ∷ []) (pos 0) ∷ row (minus 1 ∷ plus 2 ∷ minus 3 ∷ plus 10 ∷ []) (negsuc 0) ∷ []
+
+-- seven windows: from Monday alone to the days from Tuesday on
+abbrev pub RunFarAboveTheMaximum : Type 0
+RunFarAboveTheMaximum =
+    let rows = after_days (working_week (limits_of 1 5) (worked_days 9)) in
+    (take 1 rows ≡ row (minus 1 ∷ plus 9 ∷ []) (pos 0) ∷ []) ×
+    (drop 6 rows ≡ row (each (negsuc 0) (range_with_len 2 6) ++ (plus 15 ∷ [])) (negsuc 4) ∷ [])
+
+abbrev pub CompleteWeekends : Type 0
+CompleteWeekends =
+    after_days weekends_week ≡
+    row (minus 6 ∷ plus 7 ∷ plus 9 ∷ []) (pos 0) ∷ row (plus 6 ∷ minus 7 ∷ plus 10 ∷ []) (pos 0) ∷ []
+
+abbrev pub TotalsAbove : Type 0
+TotalsAbove =
+    after_days (last_week 20 3) ≡
+    row (each (negsuc 0) (range_with_len 1 7) ++ each (pos 1) (range_with_len 9 7)) (pos 0) ∷
+    row (minus 6 ∷ plus 16 ∷ []) (pos 0) ∷
+    row (plus 6 ∷ minus 7 ∷ plus 17 ∷ []) (pos 0) ∷ []
+
+-- ---- objectives
+
+abbrev pub NothingToCharge : Type 0
+NothingToCharge = (model_of plain_week).objective ≡ []
+
+abbrev pub RequestsOnOneCell : Type 0
+RequestsOnOneCell = (model_of requests_week).objective ≡ (pos 30, 1) ∷ (pos 10, 2) ∷ []
+
+abbrev pub TotalsAboveInTheLastWeek : Type 0
+TotalsAboveInTheLastWeek =
+    (model_of (last_week 20 3)).objective ≡
+    (pos 130, 8) ∷ each (pos 20) (range_with_len 9 7) ++ each (pos 30) (range_with_len 16 2)
+
+abbrev pub TotalBelowInTheLastWeek : Type 0
+TotalBelowInTheLastWeek =
+    (model_of (last_week 0 0)).objective ≡ (pos 60, 8) ∷ each (pos 20) (range_with_len 9 7)
+
+-- ---- variables: the cells, the unit variable, and the slacks
+
+abbrev pub VariablesOfTheLastWeek : Type 0
+VariablesOfTheLastWeek = (model_of (last_week 20 3)).variables ≡ 17
+
+-- ---- Monday worked where no day is to be on the shift type: its slack is set, and none of the other days'
+
+abbrev pub ShiftNobodyShouldWork : Type 0
+ShiftNobodyShouldWork =
+    map (extension_of closed_shift_week (on_days (λ d. d == 0))) (range_with_len 1 15) ≡
+    true ∷ false ∷ false ∷ false ∷ false ∷ false ∷ false ∷ true ∷
+    true ∷ false ∷ false ∷ false ∷ false ∷ false ∷ false ∷ []

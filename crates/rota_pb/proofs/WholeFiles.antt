@@ -1,49 +1,67 @@
--- A text that was read whole, or up to a byte more than a file may have.
-use Rattle.std.proofs.Common.{◌≡◌, ℕ, ◌+◌, ◌<◌, ◌≤◌, Bool, List, [], ◌++◌, length, Option, None, Some, refl, sym, subst, ◌∙◌, ap, arith, length-append}
+-- A file that was read whole, or up to a byte more than a file may have.
+use Rattle.std.proofs.Common.{◌≡◌, ℕ, ◌+◌, ◌<◌, ◌≤◌, List, [], ◌++◌, length, Option, None, Some, refl, sym, subst, ◌∙◌, ap, arith, length-append}
 use Rattle.std.specs.Io.KnownBytes.{prepend_known, IsAtEnd}
 use Rattle.std.proofs.lemmas.List.{append-nil}
 use Rattle.rota_core.specs.Ports.{Told}
-use Rattle.rota_core.specs.declared.fault.FileName.TheVariants as names
+use Rattle.rota_core.specs.declared.fault.FileName.{FileName}
 use Rattle.rota_core.specs.declared.fault.FileFault.{FileFault}
 use Rattle.rota_core.specs.declared.fault.FileFault.TheVariants as refusals
-use Rattle.rota_read.specs.declared.fault.Fault.{Fault}
+use Rattle.rota_read.specs.declared.fault.Fault.{Fault as TextFault}
 use Rattle.rota_read.specs.Layout.{Layout}
 use Rattle.rota_read.specs.Reading.{LONGEST}
-use Rattle.rota_read.specs.Files.{HasFault, too_long, misses_slot, goes_on, MissesSlot, GoesOn, IsFaultOf}
-use Rattle.rota_read.specs.Tokens.{tokens}
-use Rattle.rota_read.specs.ScenarioLayout.{scenario}
+use Rattle.rota_read.specs.Files.{HasFault, too_long, misses_slot, goes_on, Spells, IsFaultOf}
+use Rattle.rota_pb.specs.declared.fault.Fault.{Fault}
+use Rattle.rota_pb.specs.declared.fault.Fault.TheVariants.{File, Memory, Write, Read}
 use Rattle.rota_pb.specs.Faults.{FailsCheck, fault_of_file}
-
-module _ {V : Type 0} (layout : Layout V) (text rest : List ℕ) (fault : Fault) where
-  -- where nothing is left, what was read is the whole text
-  whole : (length text < LONGEST + 1 → rest ≡ []) → length text ≤ LONGEST → text ≡ text ++ rest
-  whole at_end short =
-      let none : rest ≡ [] = at_end (omega arith) in
-      sym (ap (λ r. text ++ r) none ∙ append-nil text)
-
-  -- the whole text has the fault of what was read: a longer one is too long as that is
-  pub fault-of_whole : (length text < LONGEST + 1 → rest ≡ []) → HasFault layout text fault → HasFault layout (text ++ rest) fault
-  fault-of_whole at_end (too_long long is) = too_long (omega (arith, length-append text rest)) is
-  fault-of_whole at_end (misses_slot short misses) =
-      let P : List ℕ → Type 0 = λ t. HasFault layout t fault in subst P (whole at_end short) (misses_slot short misses)
-  fault-of_whole at_end (goes_on short goes) =
-      let P : List ℕ → Type 0 = λ t. HasFault layout t fault in subst P (whole at_end short) (goes_on short goes)
+use Rattle.rota_pb.specs.Readers.{Reader}
+use Rattle.rota_pb.specs.WeekFiles.{IsRead}
+use Rattle.rota_pb.specs.WholeRead.{StopsReading}
 
 some_injective : {A : Type 0} (a b : A) → ◌≡◌ {A = Option A} (Some a) (Some b) → a ≡ b
 some_injective a b same = cc
 
-told-fault : (given rest : Told) (text : List ℕ) (fault : Fault) → given ≡ prepend_known text rest →
-    (length text < LONGEST + 1 → IsAtEnd rest) → HasFault scenario text fault →
-    (bytes : List ℕ) → given ≡ Some bytes → HasFault scenario bytes fault
-told-fault given None text fault is at_end has bytes told = let h : ◌≡◌ {A = Told} None (Some bytes) = sym is ∙ told in absurd cc
-told-fault given (Some xs) text fault is at_end has bytes told =
-    let P : List ℕ → Type 0 = λ t. HasFault scenario t fault in
-    subst P (some_injective (text ++ xs) bytes (sym is ∙ told)) (fault-of_whole scenario text xs fault at_end has)
+-- the told bytes are those that were read, and then those that are left
+told_are : (given left : Told) (text bytes : List ℕ) → given ≡ prepend_known text left → given ≡ Some bytes →
+    (rest : List ℕ) × (left ≡ Some rest) × (text ++ rest ≡ bytes)
+told_are given None text bytes is told = let h : ◌≡◌ {A = Told} None (Some bytes) = sym is ∙ told in absurd cc
+told_are given (Some rest) text bytes is told = (rest, refl, some_injective (text ++ rest) bytes (sym is ∙ told))
 
--- why the check of a file fails whose text was read
-pub fails-check : (given rest : Told) (text : List ℕ) (failed_before failed : Bool) (f : FileFault) → given ≡ prepend_known text rest →
-    (length text < LONGEST + 1 → IsAtEnd rest) → failed ≡ failed_before → IsFaultOf names.Scenario scenario text f →
-    FailsCheck given failed_before failed (fault_of_file f)
-fails-check given rest text failed_before failed (refusals.Bad kind file line) is at_end sound is_fault =
-    ((is_fault.0, told-fault given rest text (record { kind = kind; line = line }) is at_end is_fault.1), sound)
-fails-check given rest text failed_before failed refusals.Memory is at_end sound is_fault = sound
+module _ {V : Type 0} (name : FileName) (layout : Layout V) (reader : Reader) (text : List ℕ)
+    (is : reader.given ≡ prepend_known text reader.left) (at_end : length text < LONGEST + 1 → IsAtEnd reader.left)
+    (sound : reader.failed ≡ reader.failed_before) where
+  -- a text that is not too long is the whole file
+  whole : length text ≤ LONGEST → (bytes : List ℕ) → reader.given ≡ Some bytes → text ≡ bytes
+  whole short bytes told =
+      let parts : (rest : List ℕ) × (reader.left ≡ Some rest) × (text ++ rest ≡ bytes) = told_are reader.given reader.left text bytes is told in
+      let none : parts.0 ≡ [] = subst IsAtEnd parts.1 (at_end (omega arith)) in
+      sym (append-nil text) ∙ ap (λ (r : List ℕ). text ++ r) (sym none) ∙ parts.2
+
+  -- the file has the fault of what was read: a longer one is too long as that is
+  fault-of_file : (fault : TextFault) → HasFault layout text fault → (bytes : List ℕ) → reader.given ≡ Some bytes → HasFault layout bytes fault
+  fault-of_file fault (too_long long is_long) bytes told =
+      let parts : (rest : List ℕ) × (reader.left ≡ Some rest) × (text ++ rest ≡ bytes) = told_are reader.given reader.left text bytes is told in
+      subst (λ (b : List ℕ). HasFault layout b fault) parts.2 (too_long (omega (arith, length-append text parts.0)) is_long)
+  fault-of_file fault (misses_slot short misses) bytes told =
+      subst (λ (b : List ℕ). HasFault layout b fault) (whole short bytes told) (misses_slot short misses)
+  fault-of_file fault (goes_on short goes) bytes told =
+      subst (λ (b : List ℕ). HasFault layout b fault) (whole short bytes told) (goes_on short goes)
+
+  -- why the check of a file fails whose text was read
+  pub fails-check : (f : FileFault) → IsFaultOf name layout text f → FailsCheck name layout reader (fault_of_file f)
+  fails-check (refusals.Bad kind file line) is_fault = ((is_fault.0, fault-of_file (record { kind = kind; line = line }) is_fault.1), sound)
+  fails-check refusals.Memory is_fault = sound
+
+  -- the file is read whose text spells a value
+  pub is-read : (value : V) → Spells layout text value → IsRead layout reader value
+  is-read value spells = record {
+    spelled = λ bytes told. subst (λ (b : List ℕ). Spells layout b value) (whole spells.short bytes told) spells;
+    sound = sound;
+  }
+
+-- why the check of a file fails that was not read
+pub stops-check : {V : Type 0} (name : FileName) (layout : Layout V) (reader : Reader) (fault : Fault) →
+    StopsReading (LONGEST + 1) reader.given reader.left reader.failed_before reader.failed fault → FailsCheck name layout reader fault
+stops-check name layout reader (File file) stops = absurd stops
+stops-check name layout reader Memory stops = stops
+stops-check name layout reader Write stops = absurd stops
+stops-check name layout reader Read stops = stops

@@ -1,45 +1,44 @@
 -- What a run that encodes writes.
-use Rattle.std.specs.Prelude.{◌≡◌, ℕ, Bool, true, ◌↔◌, List, Some}
+use Rattle.std.specs.Prelude.{◌≡◌, ℕ, Bool, true, ◌↔◌, List, MatchOption}
 use Rattle.std.specs.Io.KnownBytes.{append_known}
 use Rattle.rota_core.specs.Ports.{Told}
-use Rattle.rota_core.specs.ScenarioTables.{ScenarioTables}
-use Rattle.rota_core.specs.Week.{Week, bare_week}
-use Rattle.rota_core.specs.Roster.{KeepsOneCell, KeepsSkills}
-use Rattle.rota_read.specs.Files.{Spells}
-use Rattle.rota_read.specs.ScenarioLayout.{scenario}
+use Rattle.rota_core.specs.InstanceTables.{InstanceTables, week_of}
+use Rattle.rota_core.specs.Week.{Week}
+use Rattle.rota_core.specs.HardRules.{KeepsHardRules}
 use Rattle.rota_items.specs.Linear.{Model, SatisfiesModel}
 use Rattle.rota_items.specs.Cells.{unit_number}
-use Rattle.rota_items.specs.WeekModel.{model_of, roster_of}
+use Rattle.rota_items.specs.WeekModel.{hard_model_of, hard_rows, roster_of, first_unsatisfied, StandsForFirstBroken}
 use Rattle.opb_text.specs.Begins.{Begins}
 use Rattle.opb_text.specs.ModelText.{SpellsModel}
+use Rattle.rota_pb.specs.Readers.{Reader}
+use Rattle.rota_pb.specs.WeekFiles.{SpellsWeek}
 
--- an assignment satisfies the model exactly where the unit variable is true and its roster keeps H1 and H4
-abbrev pub MeansRules : Week → Model → Type 0
-MeansRules week model =
-    (assignment : ℕ → Bool) → SatisfiesModel assignment model ↔
-    ((assignment (unit_number week) ≡ true) ×
-    KeepsOneCell week (roster_of week assignment) ×
-    KeepsSkills week (roster_of week assignment))
+-- What the model of a week means: an assignment satisfies it exactly where the unit variable is true and its roster keeps the hard
+-- rules; and where the unit variable is true, the first row that it does not satisfy stands for the first rule that its roster breaks.
+pub record MeansHardRules (week : Week) (model : Model) : Type 0 where
+  pub satisfied : (assignment : ℕ → Bool) →
+      SatisfiesModel assignment model ↔
+      ((assignment (unit_number week) ≡ true) × KeepsHardRules week (roster_of week assignment))
+  pub first_broken : (assignment : ℕ → Bool) → assignment (unit_number week) ≡ true →
+      MatchOption (first_unsatisfied assignment (hard_rows week))
+      (KeepsHardRules week (roster_of week assignment))
+      (StandsForFirstBroken week (roster_of week assignment))
 
--- the told bytes spell these tables
-abbrev pub SpellsTold : Told → ScenarioTables → Type 0
-SpellsTold given tables = (bytes : List ℕ) → given ≡ Some bytes → Spells scenario bytes tables
-
--- the text is that of the model of the scenario that the bytes spell, and each model that the text spells means the rules
-pub record IsModelText (given : Told) (text : List ℕ) : Type 0 where
-  pub tables : ScenarioTables
-  pub spelled : SpellsTold given tables
-  pub is_text : SpellsModel text (model_of (bare_week tables))
-  pub means : (model : Model) → SpellsModel text model → MeansRules (bare_week tables) model
+-- the text is that of the model of the week that the files spell, and each model that the text spells means the rules
+pub record IsModelText (sce his wee : Reader) (text : List ℕ) : Type 0 where
+  pub tables : InstanceTables
+  pub spelled : SpellsWeek sce his wee tables
+  pub is_text : SpellsModel text (hard_model_of (week_of tables))
+  pub means : (model : Model) → SpellsModel text model → MeansHardRules (week_of tables) model
 
 -- that text went out whole
-pub record WritesModel (given before after : Told) : Type 0 where
+pub record WritesModel (sce his wee : Reader) (before after : Told) : Type 0 where
   pub text : List ℕ
-  pub is_model : IsModelText given text
+  pub is_model : IsModelText sce his wee text
   pub written : after ≡ append_known before text
 
 -- a beginning of that text went out
-pub record WritesBeginning (given before after : Told) : Type 0 where
+pub record WritesBeginning (sce his wee : Reader) (before after : Told) : Type 0 where
   pub text : List ℕ
-  pub is_model : IsModelText given text
+  pub is_model : IsModelText sce his wee text
   pub begun : Begins after (append_known before text)

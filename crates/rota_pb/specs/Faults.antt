@@ -1,11 +1,14 @@
 -- The faults of a run.
-use Rattle.std.specs.Prelude.{◌≡◌, ℕ, Bool, true, List, Some}
+use Rattle.std.specs.Prelude.{◌≡◌, ℕ, ◌+◌, List, Some}
 use Rattle.rota_core.specs.Ports.{Told}
-use Rattle.rota_core.specs.declared.fault.FileName.TheVariants as names
+use Rattle.rota_core.specs.declared.fault.FileName.{FileName}
 use Rattle.rota_core.specs.declared.fault.FileFault.{FileFault}
 use Rattle.rota_core.specs.declared.fault.FileFault.TheVariants as refusals
+use Rattle.rota_read.specs.Layout.{Layout}
 use Rattle.rota_read.specs.Files.{HasFault}
-use Rattle.rota_read.specs.ScenarioLayout.{scenario}
+use Rattle.rota_read.specs.Reading.{LONGEST}
+use Rattle.rota_pb.specs.Readers.{Reader}
+use Rattle.rota_pb.specs.WholeRead.{FailsWithin}
 use Rattle.rota_pb.specs.declared.fault.Fault.{Fault}
 use Rattle.rota_pb.specs.declared.fault.Fault.TheVariants.{File, Memory, Write, Read}
 
@@ -14,19 +17,20 @@ abbrev pub fault_of_file : FileFault → Fault
 fault_of_file (refusals.Bad kind file line) = File (refusals.Bad kind file line)
 fault_of_file refusals.Memory = Memory
 
--- the told bytes have this fault as a scenario
-abbrev pub IsRefused : Told → FileFault → Type 0
-IsRefused given (refusals.Bad kind file line) =
-    (file ≡ names.Scenario) ×
-    ((bytes : List ℕ) → given ≡ Some bytes → HasFault scenario bytes (record { kind = kind; line = line }))
-IsRefused given refusals.Memory = ⊥
+-- the told bytes have this fault, and it names the file
+abbrev pub IsRefused : {V : Type 0} → FileName → Layout V → Told → FileFault → Type 0
+IsRefused name layout given (refusals.Bad kind file line) =
+    (file ≡ name) ×
+    ((bytes : List ℕ) → given ≡ Some bytes → HasFault layout bytes (record { kind = kind; line = line }))
+IsRefused name layout given refusals.Memory = ⊥
 
--- Why a file is not taken: its bytes have the fault, or memory ran out, and its source did not fail meanwhile; or its source failed.
-abbrev pub FailsCheck : Told → Bool → Bool → Fault → Type 0
-FailsCheck given failed_before failed (File file) = IsRefused given file × (failed ≡ failed_before)
-FailsCheck given failed_before failed Memory = failed ≡ failed_before
-FailsCheck given failed_before failed Read = failed ≡ true
-FailsCheck given failed_before failed Write = ⊥
+-- Why a file is not taken: its bytes have the fault, or memory ran out, and its source did not fail meanwhile; or its source failed
+-- before its end, and before it gave one byte more than a file may have.
+abbrev pub FailsCheck : {V : Type 0} → FileName → Layout V → Reader → Fault → Type 0
+FailsCheck name layout reader (File file) = IsRefused name layout reader.given file × (reader.failed ≡ reader.failed_before)
+FailsCheck name layout reader Memory = reader.failed ≡ reader.failed_before
+FailsCheck name layout reader Read = FailsWithin (LONGEST + 1) reader.given reader.left reader.failed
+FailsCheck name layout reader Write = ⊥
 
 -- a fact for each fault but a failed write
 abbrev pub OnCheck : Fault → Type 0 → Type 0

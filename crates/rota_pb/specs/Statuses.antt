@@ -1,10 +1,12 @@
 -- The exit status of each fault.
 use Rattle.std.specs.Prelude.{ℕ}
+use Rattle.rota_core.specs.declared.fault.FileFault.TheVariants as refusals
 use Rattle.rota_pb.specs.declared.fault.Fault.{Fault}
 use Rattle.rota_pb.specs.declared.fault.Fault.TheVariants.{File, Memory, Write, Read}
 
 abbrev pub exit_status : Fault → ℕ
-exit_status (File file) = 1
+exit_status (File (refusals.Bad kind file line)) = 1
+exit_status (File refusals.Memory) = 4
 exit_status Memory = 4
 exit_status Write = 3
 exit_status Read = 3

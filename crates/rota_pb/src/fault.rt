@@ -45,8 +45,8 @@ pub fn status_of(fault: &Fault) -> u8
     ensures { result ≡ exit_status fault.now }
 {
     match fault {
-        Fault::File(_) => 1,
+        Fault::File(FileFault::Bad { .. }) => 1,
         Fault::Write | Fault::Read => 3,
-        Fault::Memory => 4,
+        Fault::File(FileFault::Memory) | Fault::Memory => 4,
     }
 }

@@ -1,118 +1,142 @@
-//! Runs on worked scenarios, over memory.
+//! Runs on worked weeks, over memory.
+use crate::worked_weeks::{
+    DEMAND_NOBODY_CAN_MEET, ONE_NURSE_ONE_SHIFT, SUCCESSION_AFTER_THE_HISTORY, Worked,
+};
 use crate::{Fault, five_nurses, run_encode, status_of};
-use rota_core::{MemorySource, MemoryTarget, Pace, ToWrite};
+use rota_core::{FileFault, FileName, Kind, MemorySource, MemoryTarget, Pace, ToWrite};
 use std::alloc::{AllocError, Global};
 use std::io;
 use std::io::Write;
 use std::test::Fail;
 
-const SCENARIO: &[u8] = b"SCENARIO = s1
-WEEKS = 2
-SKILLS = 1
-Nurse
-SHIFT_TYPES = 1
-Day (1,9)
-FORBIDDEN_SHIFT_TYPES_SUCCESSIONS
-Day 0
-CONTRACTS = 1
-Full (1,9) (1,9) (1,9) 9 0
-NURSES = 1
-Ann Full 1 Nurse
-";
+const FIVE_NURSES: Worked = Worked {
+    scenario: five_nurses::SCENARIO,
+    history: five_nurses::HISTORY,
+    week: five_nurses::WEEK,
+    model: five_nurses::MODEL,
+};
 
-const MODEL: &[u8] = b"* #variable= 8 #constraint= 8
-+1 x8 >= 1 ;
--1 x1 >= -1 ;
--1 x2 >= -1 ;
--1 x3 >= -1 ;
--1 x4 >= -1 ;
--1 x5 >= -1 ;
--1 x6 >= -1 ;
--1 x7 >= -1 ;
-";
+const ROOM: usize = 16384;
 
-const WITHOUT_SKILL: &[u8] = b"SCENARIO = s1
-WEEKS = 2
-SKILLS = 1
-Nurse
-SHIFT_TYPES = 1
-Day (1,9)
-FORBIDDEN_SHIFT_TYPES_SUCCESSIONS
-Day 0
-CONTRACTS = 1
-Full (1,9) (1,9) (1,9) 9 0
-NURSES = 1
-Ann Full 0
-";
-
-const MODEL_WITHOUT_SKILL: &[u8] = b"* #variable= 8 #constraint= 9
-+1 x8 >= 1 ;
--1 x1 >= -1 ;
--1 x2 >= -1 ;
--1 x3 >= -1 ;
--1 x4 >= -1 ;
--1 x5 >= -1 ;
--1 x6 >= -1 ;
--1 x7 >= -1 ;
--1 x1 -1 x2 -1 x3 -1 x4 -1 x5 -1 x6 -1 x7 >= 0 ;
-";
-
-const ROOM: usize = 8192;
-
-// What a run on the scenario answers, and what the target then is.
+// What a run on the files answers, and what the target then is.
 fn encode(
     alloc: Global,
-    scenario: &[u8],
+    files: Worked,
     pace: Pace,
 ) -> Result<(Result<(), Fault>, MemoryTarget), AllocError> {
-    let mut source = MemorySource::new(scenario, Pace::new(7, None));
+    let mut sce = MemorySource::new(files.scenario, Pace::new(7, None));
+    let mut his = MemorySource::new(files.history, Pace::new(4096, None));
+    let mut week = MemorySource::new(files.week, Pace::new(1, None));
     let mut target = MemoryTarget::new(alloc, ROOM, pace)?;
-    let outcome = run_encode(alloc, &mut source, &mut target);
+    let outcome = run_encode(alloc, &mut sce, &mut his, &mut week, &mut target);
     Ok((outcome, target))
 }
 
 #[test]
-fn worked_scenarios(rt: HostRuntime) -> Result<(), Fail> {
-    let rows = [
-        (SCENARIO, MODEL),
-        (WITHOUT_SKILL, MODEL_WITHOUT_SKILL),
-        (five_nurses::SCENARIO, five_nurses::MODEL),
+fn worked_weeks(rt: HostRuntime) -> Result<(), Fail> {
+    let weeks = [
+        ONE_NURSE_ONE_SHIFT,
+        DEMAND_NOBODY_CAN_MEET,
+        SUCCESSION_AFTER_THE_HISTORY,
+        FIVE_NURSES,
     ];
-    for (scenario, model) in rows {
-        let (outcome, target) = encode(rt.alloc(), scenario, Pace::new(5, None))?;
+    for files in weeks {
+        let (outcome, target) = encode(rt.alloc(), files, Pace::new(5, None))?;
         assert_eq!(rt; outcome, Ok(()));
-        assert_eq!(rt; target.bytes(), model);
-        assert_eq!(rt; target.flushed(), model.len());
+        assert_eq!(rt; target.bytes(), files.model);
+        assert_eq!(rt; target.flushed(), files.model.len());
     }
     Ok(())
 }
 
+fn bad(kind: Kind, file: FileName, line: u32) -> Fault {
+    Fault::File(FileFault::Bad { kind, file, line })
+}
+
 #[test]
-fn empty_scenario(rt: HostRuntime) -> Result<(), Fail> {
-    let (outcome, target) = encode(rt.alloc(), b"", Pace::new(5, None))?;
-    assert_eq!(rt; outcome.map_err(|fault| status_of(&fault)), Err(1));
-    assert_eq!(rt; target.bytes().len(), 0);
+fn file_faults(rt: HostRuntime) -> Result<(), Fail> {
+    let good = ONE_NURSE_ONE_SHIFT;
+    let late = b"HISTORY\n2 s1\nNURSE_HISTORY\nAnn 0 0 None 0 0 0\n";
+    let rows = [
+        (
+            Worked {
+                scenario: b"",
+                ..good
+            },
+            bad(Kind::Ended, FileName::Scenario, 1),
+        ),
+        (
+            Worked {
+                history: b"HISTORY",
+                ..good
+            },
+            bad(Kind::Ended, FileName::History, 1),
+        ),
+        (
+            Worked {
+                week: b"WEEK_DATA s1\n(",
+                ..good
+            },
+            bad(Kind::OtherWord, FileName::Week, 2),
+        ),
+        (
+            Worked {
+                history: late,
+                ..good
+            },
+            bad(Kind::LateWeek, FileName::History, 0),
+        ),
+    ];
+    for (files, fault) in rows {
+        let (outcome, target) = encode(rt.alloc(), files, Pace::new(5, None))?;
+        assert_eq!(rt; outcome, Err(fault));
+        assert_eq!(rt; status_of(&fault), 1);
+        assert_eq!(rt; target.bytes().len(), 0);
+    }
     Ok(())
 }
 
 #[test]
 fn target_fails_at_each_call(rt: HostRuntime) -> Result<(), Fail> {
     for good_calls in 0..142 {
-        let (outcome, target) = encode(rt.alloc(), SCENARIO, Pace::new(1, Some(good_calls)))?;
+        let pace = Pace::new(1, Some(good_calls));
+        let (outcome, target) = encode(rt.alloc(), ONE_NURSE_ONE_SHIFT, pace)?;
         assert_eq!(rt; outcome, Err(Fault::Write));
         assert_eq!(rt; target.bytes().len() as u64, good_calls);
-        assert!(rt; MODEL.starts_with(target.bytes()));
+        assert!(rt; ONE_NURSE_ONE_SHIFT.model.starts_with(target.bytes()));
         assert_eq!(rt; target.flushed(), 0);
     }
     Ok(())
 }
 
+// The outcome where the reader of this file, counted from 0, fails at its first call, and where the
+// scenario is one of these bytes.
+fn outcome_with_failing_reader(
+    alloc: Global,
+    failing: usize,
+    scenario: &[u8],
+) -> Result<Result<(), Fault>, AllocError> {
+    let pace = |file: usize| Pace::new(9, if file == failing { Some(0) } else { None });
+    let mut sce = MemorySource::new(scenario, pace(0));
+    let mut his = MemorySource::new(ONE_NURSE_ONE_SHIFT.history, pace(1));
+    let mut week = MemorySource::new(ONE_NURSE_ONE_SHIFT.week, pace(2));
+    let mut target = MemoryTarget::new(alloc, ROOM, Pace::new(9, Some(0)))?;
+    Ok(run_encode(alloc, &mut sce, &mut his, &mut week, &mut target))
+}
+
 #[test]
-fn source_fails_at_first_call(rt: HostRuntime) -> Result<(), Fail> {
-    let mut source = MemorySource::new(SCENARIO, Pace::new(7, Some(0)));
-    let mut target = MemoryTarget::new(rt.alloc(), ROOM, Pace::new(7, Some(0)))?;
-    let outcome = run_encode(rt.alloc(), &mut source, &mut target);
-    assert_eq!(rt; outcome, Err(Fault::Read));
+fn readers_fail_at_first_call(rt: HostRuntime) -> Result<(), Fail> {
+    for failing in 0..3 {
+        let outcome = outcome_with_failing_reader(
+            rt.alloc(),
+            failing,
+            ONE_NURSE_ONE_SHIFT.scenario,
+        )?;
+        assert_eq!(rt; outcome, Err(Fault::Read));
+    }
+    // the fault of an earlier file comes first
+    let outcome = outcome_with_failing_reader(rt.alloc(), 1, b"SCENA")?;
+    assert_eq!(rt; outcome, Err(bad(Kind::OtherWord, FileName::Scenario, 1)));
     Ok(())
 }
 
@@ -132,9 +156,12 @@ impl Write for TakesNothing {
 
 #[test]
 fn writer_that_takes_nothing(rt: HostRuntime) {
-    let mut source = MemorySource::new(SCENARIO, Pace::new(4096, None));
+    let files = ONE_NURSE_ONE_SHIFT;
+    let mut sce = MemorySource::new(files.scenario, Pace::new(4096, None));
+    let mut his = MemorySource::new(files.history, Pace::new(4096, None));
+    let mut week = MemorySource::new(files.week, Pace::new(4096, None));
     let mut target = ToWrite::new(TakesNothing);
-    let outcome = run_encode(rt.alloc(), &mut source, &mut target);
+    let outcome = run_encode(rt.alloc(), &mut sce, &mut his, &mut week, &mut target);
     assert_eq!(rt; outcome, Err(Fault::Write));
     assert_eq!(rt; outcome.map_err(|fault| status_of(&fault)), Err(3));
 }

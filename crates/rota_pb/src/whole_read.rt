@@ -20,7 +20,7 @@ pub(crate) fn read_within<S: Source>(
     ensures bound { IfOk result (λ text. vec_len text ≤ limit) }
     ensures end { IfOk result (λ text. vec_len text < limit → IsAtEnd (S.left source.new)) }
     ensures sound { OnOk result (S.has_failed source.new ≡ S.has_failed source.old) }
-    ensures fault { IfErr result (StopsReading (S.has_failed source.old) (S.has_failed source.new)) }
+    ensures fault { IfErr result (StopsReading limit (S.left source.old) (S.left source.new) (S.has_failed source.old) (S.has_failed source.new)) }
 {
     let mut text = Vec::new(alloc);
     let mut buffer = [0; PIECE];

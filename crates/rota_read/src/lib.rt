@@ -25,8 +25,6 @@ mod tests;
 mod week;
 // The tables that the rows of a week make.
 mod week_tables;
-#[cfg(test)]
-mod week_tests;
 
 pub use files::{LONGEST, each_text_means_one_scenario, read_scenario};
 pub use history::{each_nurse_has_a_past, each_text_means_one_history, read_history};

@@ -18,6 +18,9 @@ use crate::files::open;
 use rota_core::{Cell, FileFault, FileName, Instance, Kind, Roster};
 use std::alloc::Global;
 
+#[cfg(test)]
+mod tests;
+
 impl<'a> Cursor<'a> {
     #[tactic(auto, unfolding(crate::specs::Layout::known_name, crate::specs::Reading::read))]
     fn assigned_nurse(&mut self, instance: &Instance) -> Result<u16, Stop>

@@ -3,7 +3,6 @@
 ghost use Rattle.std.specs.Prelude.{◌≡◌, ◌<◌, ◌≤◌, ◌*◌, ◌+◌, ◌∷◌, [], codes, length, false, IfOk, IfErr, OnOk};
 ghost use Rattle.std.specs.List.{All};
 ghost use Rattle.std.specs.Option.{ForSome};
-ghost use Rattle.rota_core.specs.Names.{place_of};
 ghost use Rattle.rota_read.specs.Layout.{known_name, none_taken, repeat};
 ghost use Rattle.rota_core.specs.Parts.{week_tables_of};
 ghost use Rattle.rota_core.specs.ScenarioTables.{ScenarioTables};
@@ -22,6 +21,9 @@ use crate::slots::MOST;
 use crate::week_tables::{demands_of, requests_of};
 use rota_core::{Demand, FileFault, FileName, Kind, Scenario, Week, WeekParts};
 use std::alloc::{AllocError, Global};
+
+#[cfg(test)]
+mod tests;
 
 /// A row of requests: the nurse asks for the day off, by a shift type or, where there is none, by
 /// any.

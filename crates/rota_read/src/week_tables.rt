@@ -76,11 +76,11 @@ fn count_row(table: &mut Vec<u16>, nurses: u16, shifts: u8, row: RequestRow)
     ensures sums { (k : ℕ) → slice_index table.new.items k
         ≡ slice_index table.old.items k + (if asks_at shifts k row then 1 else 0) }
 {
-    let day = usize::from(row.nurse) * 7 + usize::from(row.day);
-    let first = day * usize::from(shifts);
+    let shifts = usize::from(shifts);
+    let first = (usize::from(row.nurse) * 7 + usize::from(row.day)) * shifts;
     match row.shift {
         Some(shift) => add_one(table, first + usize::from(shift), 1),
-        None => add_one(table, first, usize::from(shifts)),
+        None => add_one(table, first, shifts),
     }
 }
 

@@ -16,7 +16,7 @@ returns-in-Some-clause-sums c = λ k.
     let row = c.args.row.nurse * 7 + c.args.row.day in
     let lt : c.in-Some.shift < c.args.shifts = c.requires.within.1 c.in-Some.shift c.in-Some.is in
     let asked = ap (λ (shift : Option ℕ). row == k / c.args.shifts && option_map_or (λ s. s == k % c.args.shifts) shift true) c.in-Some.is ∙ one_place row c.args.shifts c.in-Some.shift k lt in
-    let same : (c.from.result * 7 + c.from-2.result) * c.from-3.result + c.from-in-Some.result ≡ row * c.args.shifts + c.in-Some.shift = rw (c.from.ensures, c.from-2.ensures, c.from-3.ensures, c.from-in-Some.ensures) refl in
+    let same : (c.from.result * 7 + c.from-2.result) * c.from-shifts.result + c.from-in-Some.result ≡ row * c.args.shifts + c.in-Some.shift = rw (c.from-shifts.ensures, c.from.ensures, c.from-2.ensures, c.from-in-Some.ensures) refl in
     counted (get_or c.add_one.new.table.items k 0) (get_or c.args.table.now.items k 0) k (row * c.args.shifts + c.in-Some.shift) 1 _ (asks_at c.args.shifts k c.args.row) (c.add_one.ensures.sums k) same asked
 
 -- the row asks for each shift type
@@ -24,6 +24,6 @@ pub returns-in-None-clause-sums : goal.returns-in-None-clause-sums
 returns-in-None-clause-sums c = λ k.
     let row = c.args.row.nurse * 7 + c.args.row.day in
     let asked = ap (λ (shift : Option ℕ). row == k / c.args.shifts && option_map_or (λ s. s == k % c.args.shifts) shift true) c.in-None.is ∙ whole_row row c.args.shifts k c.requires.shifts in
-    let same : (c.from.result * 7 + c.from-2.result) * c.from-3.result ≡ row * c.args.shifts = rw (c.from.ensures, c.from-2.ensures, c.from-3.ensures) refl in
-    let sums = rw c.from-in-None.ensures at (c.add_one-in-None.ensures.sums k) in
+    let same : (c.from.result * 7 + c.from-2.result) * c.args.shifts ≡ row * c.args.shifts = rw (c.from.ensures, c.from-2.ensures) refl in
+    let sums = rw c.from-shifts.ensures at (c.add_one-in-None.ensures.sums k) in
     counted (get_or c.add_one-in-None.new.table.items k 0) (get_or c.args.table.now.items k 0) k (row * c.args.shifts) c.args.shifts _ (asks_at c.args.shifts k c.args.row) sums same asked

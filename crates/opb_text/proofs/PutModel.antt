@@ -1,0 +1,61 @@
+-- What goes into a sink where the first line of a model is put, and then its rows are handed to a taker.
+use Rattle.std.proofs.Common.{ℕ, List, ◌++◌, Bool, true, length, map, Result, Ok, Err, subst}
+use Rattle.std.specs.Prelude.{IsErr}
+use Rattle.std.specs.List.{AllByRecursion}
+use Rattle.rota_core.specs.declared.ports.PortFault.{PortFault}
+use Rattle.rota_core.specs.declared.ports.Target.{Ghosts}
+use Rattle.rota_items.specs.Events.{events}
+use Rattle.rota_items.specs.Linear.{Term, Model}
+use Rattle.rota_items.specs.LinearRow.{LinearRow, linear_constraint}
+use Rattle.rota_items.specs.Takes.{Took, Refused, Takes as TakesEvents}
+use Rattle.opb_text.specs.EventText.{events_text, IsConstraint, objective_rows}
+use Rattle.opb_text.specs.ModelText.{first_line, opb_text}
+use Rattle.opb_text.specs.OpbTaker.{sink_of, in_objective, opb_taker}
+use Rattle.opb_text.specs.Sink.{Takes}
+use Rattle.opb_text.specs.declared.opb_taker.OpbTaker.{OpbTaker}
+use Rattle.opb_text.specs.declared.sink.Sink.{Sink}
+use Rattle.opb_text.proofs.RowTexts.{events_spell_their_model}
+use Rattle.opb_text.proofs.TakenEvents.{took_events_put_text, refused_events_begin_text, events_put_text}
+use Rattle.opb_text.proofs.TakesLemmas.{takes_exit, takes_stop, takes_then}
+
+abbrev pub model_with : ℕ → List (Term ℕ) → List (LinearRow ℕ) → Model
+model_with variables objective rows = record { variables = variables; objective = objective; constraints = map linear_constraint rows }
+
+abbrev objective_part : List (Term ℕ) → Bool → List ℕ
+objective_part objective b = events_text b (events (objective_rows objective))
+
+abbrev rows_part : List (LinearRow ℕ) → Bool → List ℕ
+rows_part rows b = events_text b (events rows)
+
+module _ {W : Type 0} {target : Ghosts W} (variables : ℕ) (objective : List (Term ℕ)) (rows : List (LinearRow ℕ)) (constraints : AllByRecursion IsConstraint rows) where
+  -- the parts, joined, are the text
+  joined : {old new : Sink W target} (r : Result (Unit {0}) PortFault) (before between : Bool) →
+      Takes old r (first_line variables (length rows) ++ objective_part objective before ++ rows_part rows between) new → Takes old r (opb_text (model_with variables objective rows)) new
+  joined {old} {new} r before between takes =
+      subst (λ (text : List ℕ). Takes old r text new) (events_spell_their_model variables objective rows before between constraints) takes
+
+  -- the first line failed
+  pub first_line_failed : {old new : Sink W target} {fault : PortFault} (r : Result (Unit {0}) PortFault) → IsErr r →
+      Takes old (Err fault) (first_line variables (length rows)) new →
+      Takes old r (opb_text (model_with variables objective rows)) new
+  first_line_failed r failed takes =
+      takes_exit r failed (joined _ true true (takes_stop (rows_part rows true) (takes_stop (objective_part objective true) takes)))
+
+  -- the first line was put, and the objective was refused
+  pub objective_failed : {old : Sink W target} {started new : OpbTaker W target} {u : Unit {0}} (r : Result (Unit {0}) PortFault) → IsErr r →
+      Takes old (Ok u) (first_line variables (length rows)) (sink_of started) →
+      Refused opb_taker (events (objective_rows objective)) started new →
+      Takes old r (opb_text (model_with variables objective rows)) (sink_of new)
+  objective_failed {old} {started} r failed line refused =
+      takes_exit r failed
+      (joined (Err record {}) (in_objective started) true (takes_stop (rows_part rows true) (takes_then line (refused_events_begin_text _ refused))))
+
+  -- the first line was put, the objective was taken, and then the rows were handed over
+  pub model_put : {old : Sink W target} (started middle new : OpbTaker W target) {u : Unit {0}} (r : Result (Unit {0}) PortFault) →
+      Takes old (Ok u) (first_line variables (length rows)) (sink_of started) →
+      Took opb_taker (events (objective_rows objective)) started middle →
+      TakesEvents opb_taker (events rows) middle new r →
+      Takes old r (opb_text (model_with variables objective rows)) (sink_of new)
+  model_put started middle new r line took taken =
+      joined r (in_objective started) (in_objective middle)
+      (takes_then (takes_then line (took_events_put_text {u = tt} _ took)) (events_put_text middle new _ r taken))

@@ -1,0 +1,95 @@
+//! A taker of rows that puts their text into a sink.
+ghost use Rattle.std.specs.Prelude.{◌≡◌, [], true, false, OnOk, OnErr, IsErr};
+ghost use Rattle.rota_core.specs.Ports.{told_len};
+ghost use Rattle.opb_text.specs.Begins.{Begins};
+ghost use Rattle.opb_text.specs.ModelText.{first_line};
+
+use crate::event_text::{put_close, put_first_line, put_start, put_term};
+use crate::sink::Sink;
+use rota_core::{PortFault, Target};
+use rota_items::{Counts, Part, Taker};
+
+/// Puts the text of each event of a row into a sink: that of a model, where the first line, its
+/// objective and its constraints are put in this order.
+///
+/// It fails only where the target does. What went out then begins what was put, with the text of the
+/// event at which it failed.
+#[derive(Drop)]
+pub struct OpbTaker<'a, W: Target> {
+    sink: Sink<'a, W>,
+    in_objective: bool,
+}
+
+impl<'a, W: Target> OpbTaker<'a, W> {
+    ghost use Rattle.opb_text.specs.OpbTaker.{in_objective, sink_of};
+    ghost use Rattle.opb_text.specs.Sink.{stands_for, sink_failed, target_of, sent_by, Takes};
+
+    /// A taker whose text goes into the sink. No row of the objective is open.
+    pub fn new(sink: Sink<'a, W>) -> OpbTaker<'a, W>
+        ensures sink { sink_of result ≡ sink.entry }
+        ensures no_objective { in_objective result ≡ false }
+    {
+        OpbTaker {
+            sink,
+            in_objective: false,
+        }
+    }
+
+    /// Puts the first line of a model with these numbers of variables and constraints. It fails only
+    /// where the target does.
+    pub fn first_line(&mut self, counts: Counts) -> Result<(), PortFault>
+        ensures same_row { in_objective self.new ≡ in_objective self.old }
+        ensures takes { Takes (sink_of self.old) result (first_line counts.variables counts.constraints) (sink_of self.new) }
+        ensures for_good { sink_failed (sink_of self.old) ≡ true → IsErr result }
+    {
+        put_first_line(&mut self.sink, counts)
+    }
+
+    /// Finishes the sink: Ok says that all that was put is out and flushed. It fails only where the
+    /// target does.
+    pub fn finish(&mut self) -> Result<(), PortFault>
+        ensures takes { Takes (sink_of self.old) result [] (sink_of self.new) }
+        ensures sent { OnOk result (sent_by (sink_of self.new) ≡ stands_for (sink_of self.old)) }
+        ensures err { OnErr result (Begins (sent_by (sink_of self.new)) (stands_for (sink_of self.old))) }
+        ensures flushed { OnOk result (W.flushed (target_of (sink_of self.new)) ≡ told_len (sent_by (sink_of self.new))) }
+        ensures for_good { sink_failed (sink_of self.old) ≡ true → IsErr result }
+        ensures target_for_good { W.has_failed (target_of (sink_of self.old)) ≡ true → IsErr result }
+    {
+        self.sink.finish()
+    }
+
+    /// The sink, with what was put into it.
+    pub fn into_sink(self) -> Sink<'a, W>
+        ensures { result ≡ sink_of self.entry }
+    {
+        let OpbTaker { sink, .. } = self;
+        sink
+    }
+}
+
+impl<'a, W: Target> Taker for OpbTaker<'a, W> {
+    type Fault = PortFault;
+
+    ghost use Rattle.opb_text.specs.OpbTaker.{Writing, writing, with_event, FailedAt};
+
+    ghost Value = { Writing W };
+
+    ghost value = { writing };
+
+    ghost step = { with_event };
+
+    ghost left = { FailedAt };
+
+    fn start_row(&mut self, part: Part) -> Result<(), PortFault> {
+        self.in_objective = matches!(part, Part::Objective);
+        put_start(&mut self.sink, self.in_objective)
+    }
+
+    fn term(&mut self, coefficient: i64, variable: u32) -> Result<(), PortFault> {
+        put_term(&mut self.sink, coefficient, variable)
+    }
+
+    fn close_row(&mut self, degree: i64) -> Result<(), PortFault> {
+        put_close(&mut self.sink, self.in_objective, degree)
+    }
+}

@@ -1,0 +1,53 @@
+-- The days of a roster, and the rules that it must keep.
+use Rattle.std.specs.Prelude.{◌≡◌, ℕ, ◌+◌, ◌<◌, ◌≤◌, Bool, true, false, not, Some}
+use Rattle.rota_core.specs.declared.rule.Rule.{Rule}
+use Rattle.rota_core.specs.declared.rule.Rule.TheVariants.{H1, H2, H3, H4}
+use Rattle.rota_core.specs.Below.{count_below, any_below}
+use Rattle.rota_core.specs.Week.{Week}
+use Rattle.rota_core.specs.Roster.{Roster, cell, KeepsOneCell, KeepsSkills}
+
+-- whether the nurse is on the shift type that day
+abbrev pub is_on : Week → Roster → ℕ → ℕ → ℕ → Bool
+is_on week roster n s d = any_below week.skills (λ k. roster (cell n d s k))
+
+abbrev pub works : Week → Roster → ℕ → ℕ → Bool
+works week roster n d = any_below week.shifts (λ s. is_on week roster n s d)
+
+abbrev pub is_off : Week → Roster → ℕ → ℕ → Bool
+is_off week roster n d = not (works week roster n d)
+
+-- the number of nurses on a day's shift type with a skill
+abbrev pub nurses_at : Week → Roster → ℕ → ℕ → ℕ → ℕ
+nurses_at week roster d s k = count_below week.nurses (λ n. roster (cell n d s k))
+
+-- H2: each day has the least number of nurses, for each shift type and skill
+abbrev pub KeepsMinimum : Week → Roster → Type 0
+KeepsMinimum week roster =
+    (d s k : ℕ) → d < 7 → s < week.shifts → k < week.skills →
+    (week.demand d s k).minimum ≤ nurses_at week roster d s k
+
+-- H3: no shift type follows one that it may not follow. The last one of the history stands before Monday
+pub record KeepsSuccession (week : Week) (roster : Roster) : Type 0 where
+  pub from_history : (n s t : ℕ) → n < week.nurses → t < week.shifts →
+      (week.past n).last ≡ Some s → is_on week roster n t 0 ≡ true →
+      week.is_forbidden s t ≡ false
+  pub in_week : (n d s t : ℕ) → n < week.nurses → d < 6 → s < week.shifts → t < week.shifts →
+      is_on week roster n s d ≡ true → is_on week roster n t (d + 1) ≡ true →
+      week.is_forbidden s t ≡ false
+
+pub record KeepsHardRules (week : Week) (roster : Roster) : Type 0 where
+  pub one_cell : KeepsOneCell week roster
+  pub minimum : KeepsMinimum week roster
+  pub succession : KeepsSuccession week roster
+  pub skills : KeepsSkills week roster
+
+-- the rule is the first, in their order, that the roster breaks
+abbrev pub FirstBroken : Week → Roster → Rule → Type 0
+FirstBroken week roster H1 = KeepsOneCell week roster → ⊥
+FirstBroken week roster H2 = KeepsOneCell week roster × (KeepsMinimum week roster → ⊥)
+FirstBroken week roster H3 =
+    KeepsOneCell week roster × KeepsMinimum week roster × (KeepsSuccession week roster → ⊥)
+FirstBroken week roster H4 =
+    KeepsOneCell week roster × KeepsMinimum week roster × KeepsSuccession week roster ×
+    (KeepsSkills week roster → ⊥)
+FirstBroken week roster _ = ⊥

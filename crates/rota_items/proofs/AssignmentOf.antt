@@ -1,0 +1,21 @@
+-- The assignment that stands for a roster.
+use Rattle.std.proofs.Common.{◌≡◌, ℕ, ◌<◌, true, refl, ap, arith}
+use Rattle.std.proofs.lemmas.Bool.{lt-ltb, ne_eqb, eq-eqb}
+use Rattle.rota_core.specs.Roster.{Roster, InWeek}
+use Rattle.rota_core.specs.Week.{Week}
+use Rattle.rota_core.specs.declared.values.Cell.{Cell}
+use Rattle.rota_items.specs.Cells.{cell_number, unit_number}
+use Rattle.rota_items.proofs.Numbers.{cell_number-below, cell_of-cell_number}
+use Rattle.rota_items.specs.WeekModel.{assignment_of}
+
+pub assignment_of-cell : (week : Week) (roster : Roster) (one : Cell) → InWeek week one →
+    assignment_of week roster (cell_number week one) ≡ roster one
+assignment_of-cell week roster one inside =
+    let v : ℕ = cell_number week one in
+    let below : v < unit_number week = cell_number-below week one inside in
+    rw (ne_eqb v (unit_number week) (omega arith))
+    (rw (lt-ltb 0 v (omega arith))
+    (rw (lt-ltb v (unit_number week) below) (ap roster (cell_of-cell_number week one inside))))
+
+pub assignment_of-unit : (week : Week) (roster : Roster) → assignment_of week roster (unit_number week) ≡ true
+assignment_of-unit week roster = rw (eq-eqb (unit_number week) (unit_number week) refl) refl

@@ -1,0 +1,333 @@
+-- How what a taker took grows, call by call and loop by loop.
+use Rattle.std.proofs.Common.{◌≡◌, ℕ, zero, suc, ◌+◌, ◌<◌, Bool, true, false, List, [], ◌∷◌, ◌++◌, map, Result, MatchResult, refl, sym, ap, ◌∙◌, subst, inl, inr, arith, append_assoc}
+use Rattle.std.proofs.lemmas.Bool.{cases_lt}
+use Rattle.std.proofs.lemmas.List.{append-nil, map-append}
+use Rattle.std.proofs.lemmas.List.Concat.{flat_map-append}
+use Rattle.std.proofs.lemmas.List.Sums.{fold-append}
+use Rattle.std.proofs.lemmas.Result.{MatchResult-from_err, MatchResult-weaker}
+use Rattle.std.specs.List.{fold, flat_map}
+use Rattle.std.specs.Prelude.{ℤ}
+use Rattle.std.specs.Result.{IsErr}
+use Rattle.rota_core.specs.Week.{Week}
+use Rattle.rota_core.specs.declared.values.Cell.{Cell}
+use Rattle.rota_items.proofs.Loops.{each_below-zero, each_below-more, only_if-holds, only_if-fails}
+use Rattle.rota_items.specs.CellEvents.{cell_term_events, cell_row_events, coefficient_of, sum_events}
+use Rattle.rota_items.specs.Cells.{cell_number}
+use Rattle.rota_items.specs.Events.{Event, start_row, term, close_row, row_events, term_events, events}
+use Rattle.rota_items.specs.Linear.{Term, times}
+use Rattle.rota_items.specs.LinearRow.{LinearRow}
+use Rattle.rota_items.specs.Lists.{each_below, only_if}
+use Rattle.rota_items.specs.Takes.{Took, Refused, Takes}
+use Rattle.rota_items.specs.WeekModel.{numbered_row, numbered_terms}
+use Rattle.rota_items.specs.declared.sums.Sign.{Sign}
+use Rattle.rota_items.specs.declared.takers.Taker.{Ghosts}
+
+-- ---- lists joined below a number
+
+-- the list at i, with the lists before it and what is after it
+record WithinLoop {A : Type 0} (i n : ℕ) (f : ℕ → List A) : Type 0 where
+  after : List A
+  are : each_below n f ≡ each_below i f ++ (f i ++ after)
+
+within-suc : {A : Type 0} (i n : ℕ) (f : ℕ → List A) → WithinLoop i n f → WithinLoop i (suc n) f
+unfolding each_below
+within-suc i n f w = record {
+  after = w.after ++ f n;
+  are = ap (λ xs. xs ++ f n) w.are ∙
+      (append_assoc (each_below i f) (f i ++ w.after) (f n) ∙ ap (λ xs. each_below i f ++ xs) (append_assoc (f i) w.after (f n)));
+}
+
+within-last : {A : Type 0} (n : ℕ) (f : ℕ → List A) → WithinLoop n (suc n) f
+unfolding each_below
+within-last n f = record { after = []; are = ap (λ xs. each_below n f ++ xs) (sym (append-nil (f n))) }
+
+within : {A : Type 0} (i n : ℕ) (f : ℕ → List A) → i < n → WithinLoop i n f
+within i zero f below = absurd (omega arith)
+within {A} i (suc n) f below = elim (cases_lt i n) [
+  | inl before ↦ within-suc i n f (within i n f before)
+  | inr last ↦ let same : n ≡ i = omega arith in subst (λ (m : ℕ). WithinLoop {A = A} m (suc n) f) same (within-last n f)
+]
+
+-- ---- what makes events of a list, element by element
+
+record Joins {A : Type 0} (h : List A → List Event) : Type 0 where
+  none : h [] ≡ []
+  append : (xs ys : List A) → h (xs ++ ys) ≡ h xs ++ h ys
+
+terms_join : (week : Week) → Joins (cell_term_events week)
+unfolding cell_term_events term_events
+terms_join week = record {
+  none = refl;
+  append = λ xs ys.
+      ap (map (λ (t : Term ℕ). term t.0 t.1)) (map-append (λ (t : Term Cell). (t.0, cell_number week t.1)) xs ys) ∙
+      map-append (λ (t : Term ℕ). term t.0 t.1) (numbered_terms week xs) (numbered_terms week ys);
+}
+
+cells_join : (week : Week) (sign : Sign) → Joins (sum_events week sign)
+cells_join week sign = record {
+  none = (terms_join week).none;
+  append = λ xs ys.
+      ap (cell_term_events week) (map-append (λ cell. (coefficient_of sign, cell)) xs ys) ∙
+      (terms_join week).append (times (coefficient_of sign) xs) (times (coefficient_of sign) ys);
+}
+
+rows_join : (week : Week) → Joins (cell_row_events week)
+unfolding cell_row_events events
+rows_join week = record {
+  none = refl;
+  append = λ xs ys.
+      ap events (map-append (numbered_row week) xs ys) ∙
+      flat_map-append row_events (map (numbered_row week) xs) (map (numbered_row week) ys);
+}
+
+events-one : (row : LinearRow ℕ) → events (row ∷ []) ≡ row_events row
+unfolding events
+events-one row = append-nil (row_events row)
+
+events-then : (row : LinearRow ℕ) (week : Week) (rows : List (LinearRow Cell)) →
+    events (row ∷ map (numbered_row week) rows) ≡ events (row ∷ []) ++ cell_row_events week rows
+unfolding events cell_row_events
+events-then row week rows =
+    ap (λ xs. xs ++ flat_map row_events (map (numbered_row week) rows)) (sym (append-nil (row_events row)))
+
+cell_row_events-one : (week : Week) (row : LinearRow Cell) → cell_row_events week (row ∷ []) ≡ row_events (numbered_row week row)
+unfolding cell_row_events events
+cell_row_events-one week row = append-nil (row_events (numbered_row week row))
+
+module _ {S F : Type 0} (T : Ghosts S F) where
+  -- ---- call by call
+
+  pub Took-none : (s : S) → Took T [] s s
+  Took-none s = record { value_is = refl }
+
+  Took-one : (event : Event) (s t : S) → T.value t ≡ T.step (T.value s) event → Took T (event ∷ []) s t
+  Took-one event s t e = record { value_is = e }
+
+  Took-then : (a b : List Event) (s t u : S) → Took T a s t → Took T b t u → Took T (a ++ b) s u
+  Took-then a b s t u p q = record {
+    value_is = q.value_is ∙ (ap (λ v. fold T.step v b) p.value_is ∙ sym (fold-append T.step (T.value s) a b));
+  }
+
+  Refused-one : (event : Event) (s t : S) → T.left (T.value s) event t → Refused T (event ∷ []) s t
+  Refused-one event s t h = record { taken = []; event = event; untold = []; are = refl; leaves = h }
+
+  -- refused among the first events
+  pub Refused-before : (a b : List Event) (s t : S) → Refused T a s t → Refused T (a ++ b) s t
+  Refused-before a b s t p = record {
+    taken = p.taken;
+    event = p.event;
+    untold = p.untold ++ b;
+    are = ap (λ xs. xs ++ b) p.are ∙ append_assoc p.taken (p.event ∷ p.untold) b;
+    leaves = p.leaves;
+  }
+
+  -- refused after the first events
+  Refused-after : (a b : List Event) (s t u : S) → Took T a s t → Refused T b t u → Refused T (a ++ b) s u
+  Refused-after a b s t u p q = record {
+    taken = a ++ q.taken;
+    event = q.event;
+    untold = q.untold;
+    are = ap (λ xs. a ++ xs) q.are ∙ sym (append_assoc a q.taken (q.event ∷ q.untold));
+    leaves = rw (fold-append T.step (T.value s) a q.taken, ← p.value_is) q.leaves;
+  }
+
+  -- the exit of a `?`
+  pub exits : {R : Type 0} (all : List Event) (s t : S) (r : Result R F) → IsErr r → Refused T all s t → Takes T all s t r
+  exits all s t r err refused = MatchResult-from_err r _ _ err (λ _. refused)
+
+  pub Takes-then : {R : Type 0} (a b : List Event) (s t u : S) (r : Result R F) → Took T a s t → Takes T b t u r → Takes T (a ++ b) s u r
+  Takes-then a b s t u r p q =
+      MatchResult-weaker r q (λ _ taken. Took-then a b s t u p taken) (λ _ refused. Refused-after a b s t u p refused)
+
+  -- ---- loop by loop
+
+  module _ {A : Type 0} {h : List A → List Event} (joins : Joins h) where
+    loop_none : (f : ℕ → List A) (s : S) → Took T (h (each_below 0 f)) s s
+    loop_none f s = record { value_is = rw (each_below-zero f, joins.none) refl }
+
+    loop_more : (i : ℕ) (f : ℕ → List A) (s t u : S) → Took T (h (each_below i f)) s t → Took T (h (f i)) t u → Took T (h (each_below (i + 1) f)) s u
+    loop_more i f s t u p q = rw (each_below-more i f, joins.append) (Took-then _ _ s t u p q)
+
+    loop_all : (i n : ℕ) (f : ℕ → List A) (s t : S) → i ≡ n → Took T (h (each_below i f)) s t → Took T (h (each_below n f)) s t
+    loop_all i n f s t e p = rw (← e) p
+
+    loop_refused : (i n : ℕ) (f : ℕ → List A) (s t u : S) → i < n → Took T (h (each_below i f)) s t → Refused T (h (f i)) t u → Refused T (h (each_below n f)) s u
+    loop_refused i n f s t u below p q =
+        let w = within i n f below in
+        rw (w.are, joins.append, joins.append) (Refused-after _ _ s t u p (Refused-before _ _ t u q))
+
+    stop : (xs ys : List A) (s t : S) → Refused T (h xs) s t → Refused T (h (xs ++ ys)) s t
+    stop xs ys s t p = rw joins.append (Refused-before (h xs) (h ys) s t p)
+
+    go_on : (xs ys : List A) (s t u : S) → Took T (h xs) s t → Refused T (h ys) t u → Refused T (h (xs ++ ys)) s u
+    go_on xs ys s t u p q = rw joins.append (Refused-after (h xs) (h ys) s t u p q)
+
+    both : (xs ys : List A) (s t u : S) → Took T (h xs) s t → Took T (h ys) t u → Took T (h (xs ++ ys)) s u
+    both xs ys s t u p q = rw joins.append (Took-then (h xs) (h ys) s t u p q)
+
+  -- a loop over the cells of a sum
+  module _ (week : Week) (sign : Sign) where
+    pub cells_none : (f : ℕ → List Cell) (s : S) → Took T (sum_events week sign (each_below 0 f)) s s
+    cells_none = loop_none (cells_join week sign)
+
+    pub cells_more : (i : ℕ) (f : ℕ → List Cell) (s t u : S) → Took T (sum_events week sign (each_below i f)) s t →
+        Took T (sum_events week sign (f i)) t u → Took T (sum_events week sign (each_below (i + 1) f)) s u
+    cells_more = loop_more (cells_join week sign)
+
+    pub cells_all : (i n : ℕ) (f : ℕ → List Cell) (s t : S) → i ≡ n →
+        Took T (sum_events week sign (each_below i f)) s t → Took T (sum_events week sign (each_below n f)) s t
+    cells_all = loop_all (cells_join week sign)
+
+    pub cells_refused : (i n : ℕ) (f : ℕ → List Cell) (s t u : S) → i < n →
+        Took T (sum_events week sign (each_below i f)) s t → Refused T (sum_events week sign (f i)) t u →
+        Refused T (sum_events week sign (each_below n f)) s u
+    cells_refused = loop_refused (cells_join week sign)
+
+  module _ (week : Week) where
+    -- a loop over rows
+    pub rows_none : (f : ℕ → List (LinearRow Cell)) (s : S) → Took T (cell_row_events week (each_below 0 f)) s s
+    rows_none = loop_none (rows_join week)
+
+    pub rows_more : (i : ℕ) (f : ℕ → List (LinearRow Cell)) (s t u : S) → Took T (cell_row_events week (each_below i f)) s t →
+        Took T (cell_row_events week (f i)) t u → Took T (cell_row_events week (each_below (i + 1) f)) s u
+    rows_more = loop_more (rows_join week)
+
+    pub rows_all : (i n : ℕ) (f : ℕ → List (LinearRow Cell)) (s t : S) → i ≡ n →
+        Took T (cell_row_events week (each_below i f)) s t → Took T (cell_row_events week (each_below n f)) s t
+    rows_all = loop_all (rows_join week)
+
+    pub rows_refused : (i n : ℕ) (f : ℕ → List (LinearRow Cell)) (s t u : S) → i < n →
+        Took T (cell_row_events week (each_below i f)) s t → Refused T (cell_row_events week (f i)) t u →
+        Refused T (cell_row_events week (each_below n f)) s u
+    rows_refused = loop_refused (rows_join week)
+
+    -- rows, then further rows
+    pub rows_stop : (xs ys : List (LinearRow Cell)) (s t : S) → Refused T (cell_row_events week xs) s t →
+        Refused T (cell_row_events week (xs ++ ys)) s t
+    rows_stop = stop (rows_join week)
+
+    pub rows_go_on : (xs ys : List (LinearRow Cell)) (s t u : S) → Took T (cell_row_events week xs) s t →
+        Refused T (cell_row_events week ys) t u → Refused T (cell_row_events week (xs ++ ys)) s u
+    rows_go_on = go_on (rows_join week)
+
+    pub rows_both : (xs ys : List (LinearRow Cell)) (s t u : S) → Took T (cell_row_events week xs) s t →
+        Took T (cell_row_events week ys) t u → Took T (cell_row_events week (xs ++ ys)) s u
+    rows_both = both (rows_join week)
+
+    pub rows_then : {R : Type 0} (xs ys : List (LinearRow Cell)) (s t u : S) (r : Result R F) → Took T (cell_row_events week xs) s t →
+        Takes T (cell_row_events week ys) t u r → Takes T (cell_row_events week (xs ++ ys)) s u r
+    rows_then xs ys s t u r p q =
+        MatchResult-weaker r q (λ _ taken. rows_both xs ys s t u p taken) (λ _ refused. rows_go_on xs ys s t u p refused)
+
+    -- terms, then further terms
+    pub terms_stop : (xs ys : List (Term Cell)) (s t : S) → Refused T (cell_term_events week xs) s t →
+        Refused T (cell_term_events week (xs ++ ys)) s t
+    terms_stop = stop (terms_join week)
+
+    pub terms_go_on : (xs ys : List (Term Cell)) (s t u : S) → Took T (cell_term_events week xs) s t →
+        Refused T (cell_term_events week ys) t u → Refused T (cell_term_events week (xs ++ ys)) s u
+    terms_go_on = go_on (terms_join week)
+
+    pub terms_both : (xs ys : List (Term Cell)) (s t u : S) → Took T (cell_term_events week xs) s t →
+        Took T (cell_term_events week ys) t u → Took T (cell_term_events week (xs ++ ys)) s u
+    terms_both = both (terms_join week)
+
+    -- one cell
+    pub cell_taken : (sign : Sign) (cell : Cell) (variable : ℕ) (s t : S) (r : Result (Unit {0}) F) →
+        variable ≡ cell_number week cell →
+        MatchResult r (λ _. T.value t ≡ T.step (T.value s) (term (coefficient_of sign) variable))
+        (λ _. T.left (T.value s) (term (coefficient_of sign) variable) t) →
+        Takes T (sum_events week sign (cell ∷ [])) s t r
+    unfolding cell_term_events term_events
+    cell_taken sign cell variable s t r same taken =
+        let here = rw same at taken in
+        MatchResult-weaker r here (λ _ e. Took-one _ s t e) (λ _ refused. Refused-one _ s t refused)
+
+    -- ---- where a test holds
+
+    pub row_where : {R : Type 0} (test : Bool) (row : LinearRow Cell) (s t : S) (r : Result R F) → test ≡ true →
+        Takes T (cell_row_events week (row ∷ [])) s t r → Takes T (cell_row_events week (only_if test row)) s t r
+    row_where test row s t r holds taken = rw (only_if-holds test row holds) taken
+
+    pub row_nowhere : (test : Bool) (row : LinearRow Cell) (s : S) → test ≡ false → Took T (cell_row_events week (only_if test row)) s s
+    row_nowhere test row s fails = rw (only_if-fails test row fails, (rows_join week).none) (Took-none s)
+
+    pub no_rows : (s : S) → Took T (cell_row_events week []) s s
+    no_rows s = rw (rows_join week).none (Took-none s)
+
+  -- ---- a row
+
+  module _ (row : LinearRow ℕ) where
+    refused_at_start : (s t : S) → T.left (T.value s) (start_row row.part) t → Refused T (row_events row) s t
+    refused_at_start s t h = Refused-before (start_row row.part ∷ []) _ s t (Refused-one _ s t h)
+
+    refused_at_terms : (s t u : S) → T.value t ≡ T.step (T.value s) (start_row row.part) →
+        Refused T (term_events row.terms) t u → Refused T (row_events row) s u
+    refused_at_terms s t u started refused =
+        Refused-after (start_row row.part ∷ []) _ s t u (Took-one _ s t started)
+        (Refused-before (term_events row.terms) _ t u refused)
+
+    closed : (s t u v : S) (r : Result (Unit {0}) F) → T.value t ≡ T.step (T.value s) (start_row row.part) →
+        Took T (term_events row.terms) t u →
+        MatchResult r (λ _. T.value v ≡ T.step (T.value u) (close_row row.degree)) (λ _. T.left (T.value u) (close_row row.degree) v) →
+        Takes T (row_events row) s v r
+    closed s t u v r started taken closes =
+        Takes-then (start_row row.part ∷ []) _ s t v r (Took-one (start_row row.part) s t started)
+        (Takes-then (term_events row.terms) (close_row row.degree ∷ []) t u v r taken
+        (MatchResult-weaker r closes (λ _ e. Took-one _ u v e) (λ _ refused. Refused-one _ u v refused)))
+
+  -- ---- a row whose terms have their variables
+
+  module _ (row : LinearRow ℕ) where
+    pub row_refused_at_start : (s t : S) → T.left (T.value s) (start_row row.part) t → Refused T (events (row ∷ [])) s t
+    row_refused_at_start s t h = rw (events-one row) (refused_at_start row s t h)
+
+    pub row_refused_at_terms : (s t u : S) → T.value t ≡ T.step (T.value s) (start_row row.part) →
+        Refused T (term_events row.terms) t u → Refused T (events (row ∷ [])) s u
+    row_refused_at_terms s t u started refused = rw (events-one row) (refused_at_terms row s t u started refused)
+
+    pub row_closed : (s t u v : S) (r : Result (Unit {0}) F) → T.value t ≡ T.step (T.value s) (start_row row.part) →
+        Took T (term_events row.terms) t u →
+        MatchResult r (λ _. T.value v ≡ T.step (T.value u) (close_row row.degree)) (λ _. T.left (T.value u) (close_row row.degree) v) →
+        Takes T (events (row ∷ [])) s v r
+    row_closed s t u v r started taken closes = rw (events-one row) (closed row s t u v r started taken closes)
+
+    -- the row, then rows over cells
+    module _ (week : Week) (rows : List (LinearRow Cell)) where
+      pub row_stop : (s t : S) → Refused T (events (row ∷ [])) s t → Refused T (events (row ∷ map (numbered_row week) rows)) s t
+      row_stop s t p = rw (events-then row week rows) (Refused-before _ _ s t p)
+
+      pub row_then : {R : Type 0} (s t u : S) (r : Result R F) → Took T (events (row ∷ [])) s t →
+          Takes T (cell_row_events week rows) t u r → Takes T (events (row ∷ map (numbered_row week) rows)) s u r
+      row_then s t u r p q = rw (events-then row week rows) (Takes-then _ _ s t u r p q)
+
+  pub term_taken : (coefficient : ℤ) (variable : ℕ) (s t : S) → T.value t ≡ T.step (T.value s) (term coefficient variable) →
+      Took T (term_events ((coefficient, variable) ∷ [])) s t
+  unfolding term_events
+  term_taken coefficient variable s t e = Took-one _ s t e
+
+  pub term_refused : (coefficient : ℤ) (variable : ℕ) (s t : S) → T.left (T.value s) (term coefficient variable) t →
+      Refused T (term_events ((coefficient, variable) ∷ [])) s t
+  unfolding term_events
+  term_refused coefficient variable s t h = Refused-one _ s t h
+
+  -- ---- a row over cells
+
+  module _ (week : Week) (row : LinearRow Cell) where
+    pub cell_row_refused_at_start : (s t : S) → T.left (T.value s) (start_row row.part) t →
+        Refused T (cell_row_events week (row ∷ [])) s t
+    cell_row_refused_at_start s t h = rw (cell_row_events-one week row) (refused_at_start (numbered_row week row) s t h)
+
+    pub cell_row_refused_at_terms : (s t u : S) → T.value t ≡ T.step (T.value s) (start_row row.part) →
+        Refused T (cell_term_events week row.terms) t u → Refused T (cell_row_events week (row ∷ [])) s u
+    unfolding cell_term_events
+    cell_row_refused_at_terms s t u started refused =
+        rw (cell_row_events-one week row) (refused_at_terms (numbered_row week row) s t u started refused)
+
+    pub cell_row_closed : (s t u v : S) (r : Result (Unit {0}) F) → T.value t ≡ T.step (T.value s) (start_row row.part) →
+        Took T (cell_term_events week row.terms) t u →
+        MatchResult r (λ _. T.value v ≡ T.step (T.value u) (close_row row.degree)) (λ _. T.left (T.value u) (close_row row.degree) v) →
+        Takes T (cell_row_events week (row ∷ [])) s v r
+    unfolding cell_term_events
+    cell_row_closed s t u v r started taken closes =
+        rw (cell_row_events-one week row) (closed (numbered_row week row) s t u v r started taken closes)

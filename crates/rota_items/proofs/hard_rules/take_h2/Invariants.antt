@@ -1,0 +1,24 @@
+use Rattle.rota_items.specs.HardRows.{h2_rows_at}
+use Rattle.rota_core.specs.InstanceTables.{week_of}
+use Rattle.rota_items.specs.CellEvents.{cell_row_events}
+use Rattle.rota_items.specs.Lists.{each_below}
+use Rattle.rota_items.specs.Takes.{Took}
+use Rattle.rota_items.proofs.hard_rules.take_h2.Given as goal
+
+abbrev pub invariant-loop-day : goal.invariant-loop-day
+invariant-loop-day g l =
+    let w = l.fn in
+    let week = week_of w.instance in
+    Took g.T.Taker (cell_row_events week (each_below l.day (λ d. each_below week.shifts (λ s. each_below week.skills (h2_rows_at week d s))))) w.taker l.taker
+
+abbrev pub invariant-loop-shift : goal.invariant-loop-shift
+invariant-loop-shift g l =
+    let w = l.fn in
+    let week = week_of w.instance in
+    Took g.T.Taker (cell_row_events week (each_below l.shift (λ s. each_below week.skills (h2_rows_at week l.day s)))) l.initial.taker l.taker
+
+abbrev pub invariant-loop-skill : goal.invariant-loop-skill
+invariant-loop-skill g l =
+    let w = l.fn in
+    let week = week_of w.instance in
+    Took g.T.Taker (cell_row_events week (each_below l.skill (h2_rows_at week l.day l.shift))) l.initial.taker l.taker

@@ -1,0 +1,12 @@
+use Rattle.rota_items.specs.HardRows.{h3_rows_of}
+use Rattle.rota_core.specs.InstanceTables.{week_of}
+use Rattle.rota_items.specs.CellEvents.{cell_row_events}
+use Rattle.rota_items.specs.Lists.{each_below}
+use Rattle.rota_items.specs.Takes.{Took}
+use Rattle.rota_items.proofs.hard_rules.take_h3.Given as goal
+
+abbrev pub invariant-loop-nurse : goal.invariant-loop-nurse
+invariant-loop-nurse g l =
+    let w = l.fn in
+    let week = week_of w.instance in
+    Took g.T.Taker (cell_row_events week (each_below l.nurse (h3_rows_of week))) w.taker l.taker

@@ -1,0 +1,5 @@
+use Rattle.rota_items.proofs.PatternDays.{run_items-below}
+use Rattle.rota_items.proofs.run_laws.run_items_stand_below.Goals as goal
+
+pub returns : goal.returns
+returns c = run_items-below

@@ -1,0 +1,48 @@
+-- What a counter makes of the events of rows, and what it is to find in them.
+use Rattle.std.specs.Prelude.{ℕ, ◌+◌, min, max, Bool, true, false, List, [], ◌∷◌, map}
+use Rattle.std.specs.List.{count_by, flat_map}
+use Rattle.rota_items.specs.declared.counting.Counts.{Counts}
+use Rattle.rota_items.specs.declared.part.Part.{Part}
+use Rattle.rota_items.specs.declared.part.Part.TheVariants.{Objective, Hard, Soft}
+use Rattle.rota_items.specs.Events.{Event, start_row, term, close_row}
+use Rattle.rota_items.specs.Linear.{Term}
+use Rattle.rota_items.specs.LinearRow.{LinearRow}
+
+abbrev pub greatest_count : ℕ
+greatest_count = 4294967295
+
+abbrev pub no_counts : Counts
+no_counts = record { variables = 0; constraints = 0 }
+
+abbrev pub one_constraint_more : Counts → Counts
+one_constraint_more counts = record counts { constraints = min (counts.constraints + 1) greatest_count }
+
+-- the counts after one more event
+abbrev pub counted : Counts → Event → Counts
+counted counts (start_row Objective) = counts
+counted counts (start_row (Hard rule)) = one_constraint_more counts
+counted counts (start_row (Soft rule weight)) = one_constraint_more counts
+counted counts (term coefficient variable) = record counts { variables = max counts.variables variable }
+counted counts (close_row degree) = counts
+
+-- what stands for a constraint, and not for the objective
+abbrev pub is_constraint : Part → Bool
+is_constraint Objective = false
+is_constraint (Hard rule) = true
+is_constraint (Soft rule weight) = true
+
+-- the variables of the rows' terms
+abbrev pub variables_in : List (LinearRow ℕ) → List ℕ
+variables_in rows = flat_map (λ (row : LinearRow ℕ). map (λ (term : Term ℕ). term.1) row.terms) rows
+
+-- the greatest of them, 0 where there is none
+abbrev pub greatest : List ℕ → ℕ
+greatest [] = 0
+greatest (n ∷ ns) = max n (greatest ns)
+
+-- the greatest variable of the rows, and how many of them are constraints
+abbrev pub counts_of : List (LinearRow ℕ) → Counts
+counts_of rows = record {
+  variables = greatest (variables_in rows);
+  constraints = min (count_by (λ (row : LinearRow ℕ). is_constraint row.part) rows) greatest_count;
+}

@@ -1,0 +1,11 @@
+//! The limits of an instance's numbers.
+ghost use Rattle.rota_core.specs.InstanceTables.{IsInstance};
+
+use rota_core::Instance;
+
+/// Says to a proof that the instance's numbers are within their limits. It does nothing when it runs.
+pub fn within_limits(instance: &Instance)
+    ensures { IsInstance instance.now }
+{
+    let _nurses = instance.nurses();
+}

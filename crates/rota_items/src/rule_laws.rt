@@ -1,0 +1,99 @@
+//! What the model charges is what the soft rules cost, on rosters that keep the hard rules.
+ghost use Rattle.std.specs.Prelude.{◌≡◌, ◌+◌, ◌≤◌, ◌<◌, ◌^◌, pos, ◌+ℤ◌, All};
+ghost use Rattle.rota_core.specs.declared.rule.Rule.{Rule};
+ghost use Rattle.rota_core.specs.Week.{Week};
+ghost use Rattle.rota_core.specs.Roster.{Roster};
+ghost use Rattle.rota_core.specs.HardRules.{KeepsHardRules};
+ghost use Rattle.rota_items.specs.Linear.{value_of};
+ghost use Rattle.rota_items.specs.Items.{shortage, weighted_shortages};
+ghost use Rattle.rota_items.specs.Penalty.{optimum_cost, consecutive_assignment_cost, consecutive_day_off_cost, request_cost, complete_weekend_cost, assignment_cost, worked_weekend_cost, penalty, rule_cost};
+ghost use Rattle.rota_items.specs.SoftItems.{optimum_items, consecutive_assignment_items, consecutive_day_off_items, complete_weekend_items, assignment_items, worked_weekend_items, soft_items};
+ghost use Rattle.rota_items.specs.Constant.{constant, constant_of_assignments, constant_of_weekends};
+ghost use Rattle.rota_items.specs.Objective.{request_terms};
+ghost use Rattle.rota_items.specs.RuleCharges.{shortages_of, constant_of_rule, cell_terms_of_rule};
+ghost use Rattle.rota_items.specs.Limits.{IsWithinLimits};
+
+/// S1: the items of the optimal numbers charge the nurses that are missing.
+pub fn optimum_items_charge_missing_nurses()
+    ensures { (week : Week) (roster : Roster) →
+        KeepsHardRules week roster →
+        weighted_shortages roster (optimum_items week) ≡ optimum_cost week roster }
+{}
+
+/// S2: the items of the runs on shift types and of working days charge the cost of those runs.
+pub fn run_items_charge_shift_and_work_runs()
+    ensures { (week : Week) (roster : Roster) →
+        KeepsHardRules week roster →
+        weighted_shortages roster (consecutive_assignment_items week) ≡
+        consecutive_assignment_cost week roster }
+{}
+
+/// S3: the items of the runs of days off charge the cost of those runs.
+pub fn run_items_charge_runs_of_days_off()
+    ensures { (week : Week) (roster : Roster) →
+        KeepsHardRules week roster →
+        weighted_shortages roster (consecutive_day_off_items week) ≡
+        consecutive_day_off_cost week roster }
+{}
+
+/// S4: the terms on cells charge the request rows that are not granted.
+pub fn request_terms_charge_requests()
+    ensures { (week : Week) (roster : Roster) →
+        value_of roster (request_terms week) ≡ pos (request_cost week roster) }
+{}
+
+/// S5: the items of complete weekends charge the nurses who work on one of its days alone.
+pub fn weekend_items_charge_broken_weekends()
+    ensures { (week : Week) (roster : Roster) →
+        KeepsHardRules week roster →
+        weighted_shortages roster (complete_weekend_items week) ≡ complete_weekend_cost week roster }
+{}
+
+/// S6: the items of the totals and their part of the constant charge the assignments outside the
+/// limits.
+pub fn assignment_items_charge_totals()
+    ensures { (week : Week) (roster : Roster) →
+        KeepsHardRules week roster →
+        weighted_shortages roster (assignment_items week) + constant_of_assignments week ≡
+        assignment_cost week roster }
+{}
+
+/// S7: the items of worked weekends and their part of the constant charge the weekends above the
+/// greatest number.
+pub fn weekend_items_charge_worked_weekends()
+    ensures { (week : Week) (roster : Roster) →
+        KeepsHardRules week roster →
+        weighted_shortages roster (worked_weekend_items week) + constant_of_weekends week ≡
+        worked_weekend_cost week roster }
+{}
+
+/// The items of a rule, its part of the constant and its terms on cells charge the cost of the rule.
+pub fn items_charge_each_rule_its_cost()
+    ensures { (week : Week) (roster : Roster) (rule : Rule) →
+        KeepsHardRules week roster →
+        pos (shortages_of rule roster (soft_items week) + constant_of_rule week rule) +ℤ
+        value_of roster (cell_terms_of_rule week rule) ≡
+        pos (rule_cost week roster rule) }
+{}
+
+/// The items, the terms on cells and the constant charge the penalty.
+pub fn items_requests_and_constant_charge_penalty()
+    ensures { (week : Week) (roster : Roster) →
+        KeepsHardRules week roster →
+        weighted_shortages roster (soft_items week) + request_cost week roster + constant week ≡
+        penalty week roster }
+{}
+
+/// No item lacks more than its slacks make up for.
+pub fn no_item_lacks_more_than_its_slacks()
+    ensures { (week : Week) (roster : Roster) →
+        KeepsHardRules week roster →
+        All (λ item. shortage roster item ≤ item.slacks) (soft_items week) }
+{}
+
+/// Within the limits a penalty has at most 17 digits.
+pub fn penalty_is_small()
+    ensures { (week : Week) (roster : Roster) →
+        IsWithinLimits week →
+        penalty week roster < 2 ^ 55 }
+{}

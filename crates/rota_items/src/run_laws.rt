@@ -1,0 +1,58 @@
+//! What the items of a property's runs charge.
+ghost use Rattle.std.specs.Prelude.{◌≡◌, ◌++◌, ℕ, pos, ◌*◌, ◌<◌, ◌≤◌, Bool, All};
+ghost use Rattle.rota_core.specs.declared.values.Cell.{Cell};
+ghost use Rattle.rota_core.specs.declared.values.Span.{Span};
+ghost use Rattle.rota_items.specs.Linear.{value_of};
+ghost use Rattle.rota_items.specs.Items.{shortage, weighted_shortages};
+ghost use Rattle.rota_items.specs.RunItems.{Runs, AtMostOneADay, variables_on, has_property, day_items, run_items};
+ghost use Rattle.rota_items.specs.RunPatterns.{DaysFollow, windows, patterns};
+ghost use Rattle.rota_items.specs.Runs.{day_cost, run_cost};
+ghost use Rattle.rota_items.specs.Slacks.{StandBelow, extension, slack_weights};
+
+/// The items of a property's runs charge the cost of the runs.
+pub fn run_items_charge_run_cost()
+    ensures { (runs : Runs Cell) (roster : Cell → Bool) →
+        AtMostOneADay runs.property roster →
+        weighted_shortages roster (run_items runs) ≡
+        runs.weight *
+        run_cost (has_property runs.property roster) runs.history runs.limits }
+{}
+
+/// The items of a day charge what the runs cost on that day.
+pub fn day_items_charge_day_cost()
+    ensures { (runs : Runs Cell) (roster : Cell → Bool) (d : ℕ) →
+        AtMostOneADay runs.property roster →
+        d < 7 →
+        weighted_shortages roster (day_items runs d) ≡
+        runs.weight *
+        day_cost (has_property runs.property roster) runs.history runs.limits d }
+{}
+
+/// No item of a run lacks more than its slacks make up for.
+pub fn run_items_have_enough_slacks()
+    ensures { (runs : Runs Cell) (roster : Cell → Bool) →
+        AtMostOneADay runs.property roster →
+        All (λ item. shortage roster item ≤ item.slacks) (run_items runs) }
+{}
+
+/// The days of each window and each pattern follow one another within the week.
+pub fn pattern_days_follow_one_another()
+    ensures { (history : ℕ) (limits : Span) →
+        All DaysFollow (windows history limits ++ patterns history limits) }
+{}
+
+/// The variables of a property's items are those of its days.
+pub fn run_items_stand_below()
+    ensures { (runs : Runs ℕ) (first : ℕ) →
+        ((d : ℕ) → d < 7 → All (λ v. v < first) (variables_on runs.property d)) →
+        StandBelow first (run_items runs) }
+{}
+
+/// The items of a property's runs hold at the cost of the runs, with the slacks that they need set.
+pub fn extension_costs_the_runs()
+    ensures { (runs : Runs ℕ) (assignment : ℕ → Bool) (first : ℕ) →
+        AtMostOneADay runs.property assignment →
+        ((d : ℕ) → d < 7 → All (λ v. v < first) (variables_on runs.property d)) →
+        value_of (extension assignment first (run_items runs)) (slack_weights first (run_items runs)) ≡
+        pos (runs.weight * run_cost (has_property runs.property assignment) runs.history runs.limits) }
+{}

@@ -1,0 +1,37 @@
+//! What takes the rows of a model, event by event.
+ghost use Rattle.std.specs.Prelude.{◌≡◌, MatchResult, ℤ};
+ghost use Rattle.rota_items.specs.Events.{Event, start_row, term, close_row};
+
+use crate::part::Part;
+
+/// What takes the rows of a model, one event at a time: a row begins, has its terms one by one, and is
+/// closed with its degree.
+///
+/// A taker stands for a value, and an event that it takes is a step of that value. What an event that
+/// it refuses may leave is said by `left`.
+pub trait Taker {
+    type Fault;
+
+    ghost Value: { Type 0 };
+
+    ghost value: { Self → Value };
+
+    ghost step: { Value → Event → Value };
+
+    ghost left: { Value → Event → Self → Type 0 };
+
+    fn start_row(&mut self, part: Part) -> Result<(), Self::Fault>
+        ensures { MatchResult result
+            (λ _. value self.new ≡ step (value self.old) (start_row part))
+            (λ _. left (value self.old) (start_row part) self.new) };
+
+    fn term(&mut self, coefficient: i64, variable: u32) -> Result<(), Self::Fault>
+        ensures { MatchResult result
+            (λ _. value self.new ≡ step (value self.old) (term coefficient variable))
+            (λ _. left (value self.old) (term coefficient variable) self.new) };
+
+    fn close_row(&mut self, degree: i64) -> Result<(), Self::Fault>
+        ensures { MatchResult result
+            (λ _. value self.new ≡ step (value self.old) (close_row degree))
+            (λ _. left (value self.old) (close_row degree) self.new) };
+}
