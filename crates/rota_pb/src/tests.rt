@@ -1,6 +1,7 @@
 //! Runs on worked weeks, over memory.
 use crate::worked_weeks::{
-    DEMAND_NOBODY_CAN_MEET, ONE_NURSE_ONE_SHIFT, SUCCESSION_AFTER_THE_HISTORY, Worked,
+    DEMAND_NOBODY_CAN_MEET, ONE_NURSE_ONE_SHIFT, SCENARIO_WITHOUT_THE_SKILL,
+    SUCCESSION_AFTER_THE_HISTORY, Worked,
 };
 use crate::{Fault, five_nurses, run_encode, status_of};
 use rota_core::{FileFault, FileName, Kind, MemorySource, MemoryTarget, Pace, ToWrite};
@@ -36,6 +37,7 @@ fn encode(
 fn worked_weeks(rt: HostRuntime) -> Result<(), Fail> {
     let weeks = [
         ONE_NURSE_ONE_SHIFT,
+        SCENARIO_WITHOUT_THE_SKILL,
         DEMAND_NOBODY_CAN_MEET,
         SUCCESSION_AFTER_THE_HISTORY,
         FIVE_NURSES,

@@ -45,6 +45,43 @@ SHIFT_OFF_REQUESTS = 0
 ",
 };
 
+pub const SCENARIO_WITHOUT_THE_SKILL: Worked = Worked {
+    scenario: b"SCENARIO = s1
+WEEKS = 2
+SKILLS = 1
+Nurse
+SHIFT_TYPES = 1
+Day (1,9)
+FORBIDDEN_SHIFT_TYPES_SUCCESSIONS
+Day 0
+CONTRACTS = 1
+Full (1,9) (1,9) (1,9) 9 0
+NURSES = 1
+Ann Full 0
+",
+    history: b"HISTORY
+0 s1
+NURSE_HISTORY
+Ann 0 0 None 0 0 0
+",
+    week: b"WEEK_DATA
+s1
+REQUIREMENTS
+SHIFT_OFF_REQUESTS = 0
+",
+    model: b"* #variable= 8 #constraint= 9
++1 x8 >= 1 ;
+-1 x1 >= -1 ;
+-1 x2 >= -1 ;
+-1 x3 >= -1 ;
+-1 x4 >= -1 ;
+-1 x5 >= -1 ;
+-1 x6 >= -1 ;
+-1 x7 >= -1 ;
+-1 x1 -1 x2 -1 x3 -1 x4 -1 x5 -1 x6 -1 x7 >= 0 ;
+",
+};
+
 pub const DEMAND_NOBODY_CAN_MEET: Worked = Worked {
     scenario: b"SCENARIO = s1
 WEEKS = 2
