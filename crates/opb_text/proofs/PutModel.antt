@@ -7,8 +7,9 @@ use Rattle.rota_core.specs.declared.ports.Target.{Ghosts}
 use Rattle.rota_items.specs.Events.{events}
 use Rattle.rota_items.specs.Linear.{Term, Model}
 use Rattle.rota_items.specs.LinearRow.{LinearRow, linear_constraint}
+use Rattle.rota_items.specs.Objective.{objective_rows}
 use Rattle.rota_items.specs.Takes.{Took, Refused, Takes as TakesEvents}
-use Rattle.opb_text.specs.EventText.{events_text, IsConstraint, objective_rows}
+use Rattle.opb_text.specs.EventText.{events_text, IsConstraint}
 use Rattle.opb_text.specs.ModelText.{first_line, opb_text}
 use Rattle.opb_text.specs.OpbTaker.{sink_of, in_objective, opb_taker}
 use Rattle.opb_text.specs.Sink.{Takes}

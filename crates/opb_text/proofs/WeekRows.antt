@@ -30,7 +30,7 @@ rule-rows week =
     (all-h3_rows week IsConstraint record { from_history = λ n s t _ _ _ _. refl; in_week = λ n d s t _ _ _ _ _. refl })
     (all-h4_rows week IsConstraint (λ n k _ _ _. refl))
 
-pub hard_rows-are_constraints : (week : Week) → AllByRecursion IsConstraint (hard_rows week)
+hard_rows-are_constraints : (week : Week) → AllByRecursion IsConstraint (hard_rows week)
 hard_rows-are_constraints week = (refl, numbered-rows week (rule_rows week) (rule-rows week))
 
 pub rows_of-are_constraints : (week : Week) → AllByRecursion IsConstraint (rows_of week)

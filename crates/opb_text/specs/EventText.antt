@@ -6,6 +6,7 @@ use Rattle.rota_items.specs.declared.part.Part.TheVariants.{Objective, Hard, Sof
 use Rattle.rota_items.specs.Events.{Event, start_row, term, close_row, events}
 use Rattle.rota_items.specs.Linear.{Term}
 use Rattle.rota_items.specs.LinearRow.{LinearRow, linear_constraint}
+use Rattle.rota_items.specs.Objective.{objective_rows}
 use Rattle.opb_text.specs.Numeral.{signed_numeral}
 use Rattle.opb_text.specs.ModelText.{term_text, first_line, SpellsModel}
 
@@ -45,11 +46,6 @@ events_text in_objective (event ∷ events) =
 -- the row stands for a constraint
 abbrev pub IsConstraint : {X : Type 0} → LinearRow X → Type 0
 IsConstraint row = is_objective row.part ≡ false
-
--- the objective's row, and none where the objective has no term
-abbrev pub objective_rows : List (Term ℕ) → List (LinearRow ℕ)
-objective_rows [] = []
-objective_rows (first ∷ others) = record { part = Objective; terms = first ∷ others; degree = pos 0 } ∷ []
 
 -- the first line and the texts of the events of the objective's row and of the rows of constraints are the text of the
 -- model

@@ -13,14 +13,14 @@ use Rattle.rota_items.specs.declared.part.Part.TheVariants.{Objective, Hard, Sof
 abbrev pub counts_row : LinearRow ℕ → Bool
 counts_row row = is_constraint row.part
 
-abbrev variables_of : List (Term ℕ) → List ℕ
+abbrev pub variables_of : List (Term ℕ) → List ℕ
 variables_of terms = map (λ (term : Term ℕ). term.1) terms
 
 pub greatest-append : (xs ys : List ℕ) → greatest (xs ++ ys) ≡ max (greatest xs) (greatest ys)
 greatest-append [] ys = omega arith
 greatest-append (x ∷ xs) ys = omega (arith, greatest-append xs ys)
 
-same_counts : (a b m n : ℕ) → a ≡ b → m ≡ n →
+pub same_counts : (a b m n : ℕ) → a ≡ b → m ≡ n →
     ◌≡◌ {A = Counts} (record { variables = a; constraints = m }) (record { variables = b; constraints = n })
 same_counts a b m n e f = rw (e, f) refl
 

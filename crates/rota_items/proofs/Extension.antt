@@ -68,13 +68,13 @@ constant_value false true n test_is unit = omega (arith, ints, ltb-false 0 n tes
 constant_value true false n test_is unit = cc
 constant_value false false n test_is unit = cc
 
-value_of-constant_terms : (week : Week) (assignment : ℕ → Bool) → assignment (unit_number week) ≡ true →
+pub value_of-constant_terms : (week : Week) (assignment : ℕ → Bool) → assignment (unit_number week) ≡ true →
     value_of assignment (constant_terms week) ≡ pos (constant week)
 value_of-constant_terms week assignment unit =
     value_of-only_if assignment (nat_lt 0 (constant week)) (pos (constant week), unit_number week) ∙
     constant_value (nat_lt 0 (constant week)) (assignment (unit_number week)) (constant week) refl unit
 
-value_of-objective : (week : Week) (assignment : ℕ → Bool) → assignment (unit_number week) ≡ true →
+pub value_of-objective : (week : Week) (assignment : ℕ → Bool) → assignment (unit_number week) ≡ true →
     value_of assignment (objective_terms week) ≡
     value_of assignment (numbered_terms week (request_terms week)) +ℤ
     (pos (constant week) +ℤ value_of assignment (slack_weights (first_slack week) (numbered_items week)))
@@ -90,8 +90,8 @@ value_of-objective week assignment unit =
 
 -- ---- an assignment that agrees with a roster
 
-value_of-agree : (one other : Cell → Bool) (P : Cell → Type 0) (terms : List (Term Cell)) →
-    ((c : Cell) → P c → one c ≡ other c) → OnTerms P terms → value_of one terms ≡ value_of other terms
+pub value_of-agree : {X : Type 0} (one other : X → Bool) (P : X → Type 0) (terms : List (Term X)) →
+    ((x : X) → P x → one x ≡ other x) → OnTerms P terms → value_of one terms ≡ value_of other terms
 value_of-agree one other P [] agree all = refl
 value_of-agree one other P (t ∷ ts) agree all =
     ap (λ b. cond b t.0 (pos 0) +ℤ value_of one ts) (agree t.1 all.0) ∙
@@ -99,13 +99,13 @@ value_of-agree one other P (t ∷ ts) agree all =
 
 module _ (week : Week) (assignment : ℕ → Bool) (roster : Roster)
     (agree : (c : Cell) → InWeek week c → assignment (cell_number week c) ≡ roster c) where
-  value_of-of_terms : (terms : List (Term Cell)) → OnTerms (InWeek week) terms →
+  pub value_of-of_terms : (terms : List (Term Cell)) → OnTerms (InWeek week) terms →
       value_of assignment (numbered_terms week terms) ≡ value_of roster terms
   value_of-of_terms terms inside =
       value_of-numbered (cell_number week) assignment terms ∙
       value_of-agree (λ c. assignment (cell_number week c)) roster (InWeek week) terms agree inside
 
-  shortage-of_item : (item : Item Cell) → ItemIn week item →
+  pub shortage-of_item : (item : Item Cell) → ItemIn week item →
       shortage assignment (numbered (cell_number week) item) ≡ shortage roster item
   shortage-of_item item inside =
       ap (λ z. positive_part (item.degree -ℤ z)) (value_of-of_terms item.terms inside)
@@ -144,12 +144,12 @@ module _ (week : Week) where
   abbrev Below : Term ℕ → Type 0
   Below term = term.1 < first_slack week
 
-  terms-below : (terms : List (Term Cell)) → OnTerms (InWeek week) terms → AllByRecursion Below (numbered_terms week terms)
+  pub terms-below : (terms : List (Term Cell)) → OnTerms (InWeek week) terms → AllByRecursion Below (numbered_terms week terms)
   terms-below [] inside = tt
   terms-below (t ∷ ts) inside =
       (omega (arith, cell_number-below week t.1 inside.0), terms-below ts inside.1)
 
-  items-below : (some : List (Item Cell)) → AllByRecursion (ItemIn week) some →
+  pub items-below : (some : List (Item Cell)) → AllByRecursion (ItemIn week) some →
       AllByRecursion (λ (item : Item ℕ). All Below item.terms) (map (numbered (cell_number week)) some)
   items-below [] inside = tt
   items-below (x ∷ xs) inside =
@@ -162,11 +162,11 @@ module _ (week : Week) where
 
 -- ---- the extension
 
-extension-below : (week : Week) (roster : Roster) (v : ℕ) → v < first_slack week →
+pub extension-below : (week : Week) (roster : Roster) (v : ℕ) → v < first_slack week →
     extension_of week roster v ≡ assignment_of week roster v
 extension-below week roster v below = rw (lt-ltb v (first_slack week) below) refl
 
-extension-unit : (week : Week) (roster : Roster) → extension_of week roster (unit_number week) ≡ true
+pub extension-unit : (week : Week) (roster : Roster) → extension_of week roster (unit_number week) ≡ true
 extension-unit week roster =
     extension-below week roster (unit_number week) (omega arith) ∙ assignment_of-unit week roster
 

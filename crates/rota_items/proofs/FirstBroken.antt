@@ -31,7 +31,7 @@ first_failing test (row ∷ rows) = cond (test row) (first_failing test rows) (S
 abbrev pub holds : Roster → LinearRow Cell → Bool
 holds roster row = int_le row.degree (value_of roster row.terms)
 
-le_or_not : (d v : ℤ) → ((int_le d v ≡ true) × (d ≤ℤ v)) ⊎ ((int_le d v ≡ false) × (d ≤ℤ v → ⊥))
+pub le_or_not : (d v : ℤ) → ((int_le d v ≡ true) × (d ≤ℤ v)) ⊎ ((int_le d v ≡ false) × (d ≤ℤ v → ⊥))
 le_or_not d v =
     elim (cases_Bool (int_le d v)) [
       | inl yes_it_is ↦ inl (yes_it_is, grind (arith, ints))

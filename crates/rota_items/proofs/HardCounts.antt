@@ -1,27 +1,23 @@
--- How many rows the hard rules have, and their greatest variable.
-use Rattle.std.proofs.Common.{◌≡◌, ℕ, ◌+◌, ◌*◌, ◌≤◌, min, true, Option, Some, None, List, [], ◌∷◌, ◌++◌, map, length, refl, sym, ap, ◌∙◌, arith}
-use Rattle.std.specs.List.{AllByRecursion, count_by, fold}
+-- How many rows the hard rules have, each a constraint, and the greatest variable of cells.
+use Rattle.std.proofs.Common.{◌≡◌, ℕ, ◌+◌, ◌*◌, ◌≤◌, true, Option, Some, None, List, [], ◌∷◌, ◌++◌, map, length, refl, ap, arith}
+use Rattle.std.specs.List.{AllByRecursion, count_by}
 use Rattle.std.proofs.lemmas.List.{length-append, length-map}
 use Rattle.std.proofs.Math.Nat.{mul-le-mul}
-use Rattle.rota_core.specs.InstanceTables.{IsInstance, InstanceTables, week_of}
 use Rattle.rota_core.specs.Roster.{InWeek}
 use Rattle.rota_core.specs.Week.{Week}
 use Rattle.rota_core.specs.declared.values.Cell.{Cell}
-use Rattle.rota_items.proofs.Counted.{counts_row, one_if, count-more, counted-rows, greatest-append}
+use Rattle.rota_items.proofs.Counted.{counts_row, one_if, count-more}
 use Rattle.rota_items.proofs.Loops.{length-each_below, length-only_if}
 use Rattle.rota_items.proofs.Numbers.{cell_number-below}
 use Rattle.rota_items.proofs.OnRuleRows.{all-h1_rows, all-h2_rows, all-h3_rows, all-h4_rows, all-rule_rows}
 use Rattle.rota_items.proofs.TermsHold.{OnTerms}
-use Rattle.rota_items.proofs.Within.{RowIn, in-rule_rows}
 use Rattle.rota_items.specs.Cells.{unit_number}
-use Rattle.rota_items.specs.Counting.{counted, counts_of, greatest, greatest_count, no_counts, variables_in}
-use Rattle.rota_items.specs.Events.{events}
+use Rattle.rota_items.specs.Counting.{greatest}
 use Rattle.rota_items.specs.HardRows.{h1_rows, h2_rows, h3_Monday_rows, h3_rows, h3_rows_between, h3_rows_of, h4_rows, rule_rows}
 use Rattle.rota_items.specs.Linear.{Term}
-use Rattle.rota_items.specs.LinearRow.{LinearRow, linear_constraint}
+use Rattle.rota_items.specs.LinearRow.{LinearRow}
 use Rattle.rota_items.specs.Lists.{each_below}
-use Rattle.rota_items.specs.WeekModel.{unit_row, numbered_terms, numbered_row, hard_rows, hard_model_of}
-use Rattle.rota_items.specs.declared.counting.Counts.{Counts}
+use Rattle.rota_items.specs.WeekModel.{numbered_terms, numbered_row, hard_rows}
 
 -- ---- how many
 
@@ -54,7 +50,7 @@ module _ (week : Week) where
   length-h4_rows : length (h4_rows week) ≤ week.nurses * (week.skills * 1)
   length-h4_rows = length-each_below _ _ _ (λ n _. length-each_below _ _ _ (λ k _. length-only_if _ _))
 
-  few-hard_rows : week.nurses ≤ 1000 → week.shifts ≤ 16 → week.skills ≤ 16 → length (hard_rows week) ≤ greatest_count
+  pub few-hard_rows : week.nurses ≤ 1000 → week.shifts ≤ 16 → week.skills ≤ 16 → length (hard_rows week) ≤ 1576793
   few-hard_rows few_nurses few_shifts few_skills =
       let demands : week.shifts * week.skills ≤ 16 * 16 = mul-le-mul few_shifts few_skills in
       let pairs : week.shifts * week.shifts ≤ 16 * 16 = mul-le-mul few_shifts few_shifts in
@@ -79,10 +75,10 @@ module _ (week : Week) where
 
   -- ---- each is a constraint
 
-  abbrev IsCounted : LinearRow Cell → Type 0
+  abbrev pub IsCounted : LinearRow Cell → Type 0
   IsCounted row = counts_row (numbered_row week row) ≡ true
 
-  counted-rule_rows : AllByRecursion IsCounted (rule_rows week)
+  pub counted-rule_rows : AllByRecursion IsCounted (rule_rows week)
   counted-rule_rows =
       all-rule_rows week IsCounted
       (all-h1_rows week IsCounted (λ n d _ _. refl))
@@ -93,56 +89,16 @@ module _ (week : Week) where
       }))
       (all-h4_rows week IsCounted (λ n k _ _ _. refl))
 
-  count-rows : (rows : List (LinearRow Cell)) → AllByRecursion IsCounted rows →
+  pub count-rows : (rows : List (LinearRow Cell)) → AllByRecursion IsCounted rows →
       count_by counts_row (map (numbered_row week) rows) ≡ length (map (numbered_row week) rows)
   count-rows [] all = refl
   count-rows (row ∷ rows) all =
       let one : one_if (counts_row (numbered_row week row)) ≡ 1 = ap one_if all.0 in
       omega (arith, one, count-more (numbered_row week row) (map (numbered_row week) rows), count-rows rows all.1)
 
-  count-hard_rows : week.nurses ≤ 1000 → week.shifts ≤ 16 → week.skills ≤ 16 →
-      min (count_by counts_row (hard_rows week)) greatest_count ≡ length (hard_rows week)
-  count-hard_rows few_nurses few_shifts few_skills =
-      omega (
-        arith,
-        few-hard_rows few_nurses few_shifts few_skills,
-        count-more (unit_row (unit_number week)) (map (numbered_row week) (rule_rows week)),
-        count-rows (rule_rows week) counted-rule_rows,
-      )
+  -- ---- the unit variable is above those of the cells
 
-  -- ---- the unit variable is the greatest
-
-  greatest-terms : (terms : List (Term Cell)) → OnTerms (InWeek week) terms →
+  pub greatest-terms : (terms : List (Term Cell)) → OnTerms (InWeek week) terms →
       greatest (map (λ (term : Term ℕ). term.1) (numbered_terms week terms)) ≤ unit_number week
   greatest-terms [] all = omega arith
   greatest-terms (term ∷ terms) all = omega (arith, cell_number-below week term.1 all.0, greatest-terms terms all.1)
-
-  greatest-rows : (rows : List (LinearRow Cell)) → AllByRecursion (RowIn week) rows →
-      greatest (variables_in (map (numbered_row week) rows)) ≤ unit_number week
-  greatest-rows [] all = omega arith
-  greatest-rows (row ∷ rows) all =
-      omega (
-        arith,
-        greatest-append (map (λ (term : Term ℕ). term.1) (numbered_terms week row.terms)) (variables_in (map (numbered_row week) rows)),
-        greatest-terms row.terms all.0,
-        greatest-rows rows all.1,
-      )
-
-  greatest-hard_rows : greatest (variables_in (hard_rows week)) ≡ unit_number week
-  greatest-hard_rows = omega (arith, greatest-rows (rule_rows week) (in-rule_rows week))
-
--- what a counter that took nothing before makes of them
-module _ (t : InstanceTables) (old new : Counts) (none : old ≡ no_counts)
-    (took : new ≡ fold counted old (events (hard_rows (week_of t)))) where
-  counted-hard_rows : new ≡ counts_of (hard_rows (week_of t))
-  counted-hard_rows =
-      took ∙ (ap (λ (k : Counts). fold counted k (events (hard_rows (week_of t)))) none ∙ counted-rows (hard_rows (week_of t)))
-
-  pub hard-variables : new.variables ≡ (hard_model_of (week_of t)).variables
-  hard-variables = ap (λ (k : Counts). k.variables) counted-hard_rows ∙ greatest-hard_rows (week_of t)
-
-  pub hard-constraints : IsInstance t → new.constraints ≡ length (hard_model_of (week_of t)).constraints
-  hard-constraints limits =
-      ap (λ (k : Counts). k.constraints) counted-hard_rows ∙
-      (count-hard_rows (week_of t) limits.scenario.nurses.0.1 limits.scenario.shifts.0.1 limits.scenario.skills.0.1 ∙
-      sym (length-map (hard_rows (week_of t)) linear_constraint))

@@ -27,7 +27,7 @@ value_of-weight assignment w (v ∷ vs) =
     weight_step true rest w n m sum same = omega (arith, ints, ap (λ k. w * k) sum)
     weight_step false rest w n m sum same = omega (arith, ints, ap (λ k. w * k) sum)
 
-positive_part-le : (z : ℤ) (k : ℕ) → z ≤ℤ pos k → positive_part z ≤ k
+pub positive_part-le : (z : ℤ) (k : ℕ) → z ≤ℤ pos k → positive_part z ≤ k
 positive_part-le (pos n) k h = omega (arith, ints)
 positive_part-le (negsuc n) k h = omega arith
 
@@ -35,7 +35,7 @@ le-positive_part : (z : ℤ) (k : ℕ) → positive_part z ≤ k → z ≤ℤ po
 le-positive_part (pos n) k h = omega (arith, ints)
 le-positive_part (negsuc n) k h = omega (arith, ints)
 
-value_of-item_constraint : (assignment : ℕ → Bool) (item : Item ℕ) (first : ℕ) →
+pub value_of-item_constraint : (assignment : ℕ → Bool) (item : Item ℕ) (first : ℕ) →
     value_of assignment (item_constraint item first).terms ≡
     value_of assignment item.terms +ℤ pos (count_by assignment (slack_variables item first))
 value_of-item_constraint assignment item first =
@@ -104,7 +104,7 @@ count_step : (k n : ℕ) → n ≡ k - 1 → cond (ltb 0 k) 1 0 + n ≡ k
 count_step k n same = grind (arith, nat_tests)
 
 -- where exactly the first k of n variables are true, k are
-count-front : (assignment : ℕ → Bool) (first n k : ℕ) → k ≤ n →
+pub count-front : (assignment : ℕ → Bool) (first n k : ℕ) → k ≤ n →
     ((o : ℕ) → o < n → assignment (first + o) ≡ ltb o k) →
     count_by assignment (range_with_len first n) ≡ k
 count-front assignment first zero k within each = omega arith
@@ -141,6 +141,24 @@ shortage-same one other end item agree below =
     (value_of-same one other end item.terms agree
     (recursion_from_All (λ (term : Term ℕ). term.1 < end) item.terms below))
 
+-- the first item's slacks come first, and after them those of the others
+pub needed-first : (assignment : ℕ → Bool) (item : Item ℕ) (items : List (Item ℕ)) (o : ℕ) → o < item.slacks →
+    is_slack_needed assignment (item ∷ items) o ≡ ltb o (shortage assignment item)
+needed-first assignment item items o within = rw (lt-ltb o item.slacks within) refl
+
+pub needed-after : (assignment : ℕ → Bool) (item : Item ℕ) (items : List (Item ℕ)) (o : ℕ) →
+    is_slack_needed assignment (item ∷ items) (item.slacks + o) ≡ is_slack_needed assignment items o
+needed-after assignment item items o =
+    rw (le-ltb (item.slacks + o) item.slacks (omega arith))
+    (let e : item.slacks + o - item.slacks ≡ o = omega arith in ap (is_slack_needed assignment items) e)
+
+-- an extension has the slacks of its items from the first number on
+pub extension-extends : (assignment : ℕ → Bool) (first : ℕ) (items : List (Item ℕ)) →
+    IsExtension (extension assignment first items) assignment first items
+extension-extends assignment first items o =
+    rw (le-ltb (first + o) first (omega arith))
+    (let e : first + o - first ≡ o = omega arith in ap (is_slack_needed assignment items) e)
+
 outcome : (other assignment : ℕ → Bool) (end first : ℕ) (items : List (Item ℕ)) →
     ((v : ℕ) → v < end → other v ≡ assignment v) → IsExtension other assignment first items →
     AllByRecursion (TermsBelow end) items → AllByRecursion (HasEnough assignment) items →
@@ -149,14 +167,14 @@ outcome other assignment end first [] agree extends below enough = (tt, refl)
 outcome other assignment end first (item ∷ items) agree extends below enough =
     let count : count_by other (slack_variables item first) ≡ shortage assignment item =
     count-front other first item.slacks (shortage assignment item) enough.0
-    (λ o within. extends o ∙ first_item o within) in
+    (λ o within. extends o ∙ needed-first assignment item items o within) in
     let same : shortage other item ≡ shortage assignment item =
     shortage-same other assignment end item agree below.0 in
     let rest : Outcome other assignment (first + item.slacks) items =
     outcome other assignment end (first + item.slacks) items agree
     (λ o.
     let further : first + item.slacks + o ≡ first + (item.slacks + o) = omega arith in
-    ap other further ∙ extends (item.slacks + o) ∙ next_items o)
+    ap other further ∙ extends (item.slacks + o) ∙ needed-after assignment item items o)
     below.1 enough.1 in (
       ((item_law other item first).1 (omega arith), rest.0),
       omega (
@@ -170,16 +188,6 @@ outcome other assignment end first (item ∷ items) agree extends below enough =
         rest.1,
       ),
     )
-  where
-    first_item : (o : ℕ) → o < item.slacks →
-        is_slack_needed assignment (item ∷ items) o ≡ ltb o (shortage assignment item)
-    first_item o within = rw (lt-ltb o item.slacks within) refl
-
-    next_items : (o : ℕ) →
-        is_slack_needed assignment (item ∷ items) (item.slacks + o) ≡ is_slack_needed assignment items o
-    next_items o =
-        rw (le-ltb (item.slacks + o) item.slacks (omega arith))
-        (let e : item.slacks + o - item.slacks ≡ o = omega arith in ap (is_slack_needed assignment items) e)
 
 extension-outcome : (assignment : ℕ → Bool) (first : ℕ) (items : List (Item ℕ)) →
     StandBelow first items → All (HasEnough assignment) items →
@@ -187,8 +195,7 @@ extension-outcome : (assignment : ℕ → Bool) (first : ℕ) (items : List (Ite
 extension-outcome assignment first items below enough =
     outcome (extension assignment first items) assignment first first items
     (λ v under. rw (lt-ltb v first under) refl)
-    (λ o. rw (le-ltb (first + o) first (omega arith))
-    (let e : first + o - first ≡ o = omega arith in ap (is_slack_needed assignment items) e))
+    (extension-extends assignment first items)
     (recursion_from_All (TermsBelow first) items below)
     (recursion_from_All (HasEnough assignment) items enough)
 

@@ -1,5 +1,5 @@
 -- How large the objective is under any assignment.
-use Rattle.std.proofs.Common.{◌≡◌, ℕ, zero, suc, ◌+◌, ◌-◌, ◌*◌, ◌≤◌, Bool, ◌&&◌, true, false, cond, List, [], ◌∷◌, ◌++◌, map, length, refl, ap, arith}
+use Rattle.std.proofs.Common.{◌≡◌, ℕ, zero, suc, ◌+◌, ◌*◌, ◌≤◌, Bool, ◌&&◌, true, false, cond, List, [], ◌∷◌, ◌++◌, map, length, refl, ap, arith}
 use Rattle.std.specs.Prelude.{pos, ◌+ℤ◌, ◌≤ℤ◌, nat_lt, nat_le, if◌then◌else◌}
 use Rattle.std.specs.List.{sum_by, count_by, range_with_len}
 use Rattle.std.proofs.lemmas.Int.{ints}
@@ -17,7 +17,7 @@ use Rattle.rota_items.proofs.Requests.{value_of-request_terms, value_of-only_if}
 use Rattle.rota_items.proofs.ListSums.{sum_by-map, sum_by-only_if}
 use Rattle.rota_items.proofs.SumsBelow.{sum_by-each}
 use Rattle.rota_items.specs.Cells.{cell_number, unit_number, first_slack}
-use Rattle.rota_items.specs.Constant.{constant_of_assignments, constant_of_weekends, constant}
+use Rattle.rota_items.specs.Constant.{assignments_outside, weekends_above, constant_of_assignments, constant_of_weekends, constant}
 use Rattle.rota_items.specs.Items.{Item, numbered}
 use Rattle.rota_items.specs.Limits.{IsWithinLimits}
 use Rattle.rota_items.specs.Linear.{value_of, times}
@@ -33,7 +33,7 @@ use Rattle.rota_items.specs.WeekModel.{numbered_terms, numbered_items, objective
 abbrev all_slacks : {X : Type 0} → Item X → ℕ
 all_slacks item = item.weight * item.slacks
 
-length-range : (first n : ℕ) → length (range_with_len first n) ≡ n
+pub length-range : (first n : ℕ) → length (range_with_len first n) ≡ n
 length-range first zero = refl
 length-range first (suc n) = ap suc (length-range (first + 1) n)
 
@@ -57,15 +57,15 @@ slacks-numbered : (number : Cell → ℕ) (some : List (Item Cell)) →
     sum_by all_slacks (map (numbered number) some) ≡ sum_by all_slacks some
 slacks-numbered number some = sum_by-map all_slacks (numbered number) some
 
-each-at_most : {X : Type 0} (f : X → ℕ) (n most m : ℕ) (g : ℕ → List X) → n ≤ most →
+pub each-at_most : {X : Type 0} (f : X → ℕ) (n most m : ℕ) (g : ℕ → List X) → n ≤ most →
     ((i : ℕ) → sum_by f (g i) ≤ m) → sum_by f (each_below n g) ≤ most * m
 each-at_most f n most m g few small =
     omega (arith, sum_by-each f n g, sum_below-at_most n most m (λ i. sum_by f (g i)) few small)
 
-where-at_most : {X : Type 0} (f : X → ℕ) (test : Bool) (x : X) (m : ℕ) → f x ≤ m → sum_by f (only_if test x) ≤ m
+pub where-at_most : {X : Type 0} (f : X → ℕ) (test : Bool) (x : X) (m : ℕ) → f x ≤ m → sum_by f (only_if test x) ≤ m
 where-at_most f test x m small = omega (arith, sum_by-only_if f test x, where_in test (f x))
 
-if-at_most : {X : Type 0} (f : X → ℕ) (test : Bool) (xs : List X) (m : ℕ) → sum_by f xs ≤ m →
+pub if-at_most : {X : Type 0} (f : X → ℕ) (test : Bool) (xs : List X) (m : ℕ) → sum_by f xs ≤ m →
     sum_by f (if test then xs else []) ≤ m
 if-at_most f true xs m small = small
 if-at_most f false xs m small = omega arith
@@ -201,27 +201,29 @@ s7-few w limits =
     (pair-few (weekend_item S7 w n (with_property 5 ∷ []))
     (weekend_item S7 w n (without_property 5 ∷ with_property 6 ∷ [])) (omega arith) (omega arith))))
 
+pub assignments_outside-few : (w : Week) → IsWithinLimits w → (n : ℕ) → assignments_outside w n ≤ 19998
+assignments_outside-few w limits n = omega (arith, limits.totals n, limits.assignments n)
+
 constant_of_assignments-few : (w : Week) → IsWithinLimits w → constant_of_assignments w ≤ 400000000
 constant_of_assignments-few w limits =
     where_last w.is_last _ 400000000
     (omega (
       arith,
-      sum_below-at_most w.nurses 1000 19998
-          (λ n. (still_wanted w n - 7) + ((w.past n).assignments - (w.contract n).total.max)) limits.nurses (λ n.
-          omega (arith, limits.totals n, limits.assignments n)),
+      sum_below-at_most w.nurses 1000 19998 (assignments_outside w) limits.nurses (assignments_outside-few w limits),
     ))
+
+pub weekends_above-few : (w : Week) → IsWithinLimits w → (n : ℕ) → weekends_above w n ≤ 9999
+weekends_above-few w limits n = omega (arith, limits.weekends n)
 
 constant_of_weekends-few : (w : Week) → IsWithinLimits w → constant_of_weekends w ≤ 300000000
 constant_of_weekends-few w limits =
     where_last w.is_last _ 300000000
     (omega (
       arith,
-      sum_below-at_most w.nurses 1000 9999
-          (λ n. (w.past n).weekends - (w.contract n).weekends) limits.nurses (λ n.
-          omega (arith, limits.weekends n)),
+      sum_below-at_most w.nurses 1000 9999 (weekends_above w) limits.nurses (weekends_above-few w limits),
     ))
 
-constant-few : (w : Week) → IsWithinLimits w → constant w ≤ 700000000
+pub constant-few : (w : Week) → IsWithinLimits w → constant w ≤ 700000000
 constant-few w limits = omega (arith, constant_of_assignments-few w limits, constant_of_weekends-few w limits)
 
 items-few : (w : Week) → IsWithinLimits w → sum_by all_slacks (soft_items w) ≤ 400000000000

@@ -1,6 +1,6 @@
 -- Each list of items is of one rule, and so the joined list charges each rule its cost.
 use Rattle.std.proofs.Common.{◌≡◌, ℕ, ◌+◌, ◌*◌, Bool, true, false, cond, List, [], ◌∷◌, ◌++◌, refl, ap, ◌∙◌, arith}
-use Rattle.std.specs.Prelude.{ℤ, pos, ◌+ℤ◌, ◌==◌}
+use Rattle.std.specs.Prelude.{pos, ◌==◌}
 use Rattle.std.specs.List.{AllByRecursion}
 use Rattle.std.proofs.lemmas.List.Sums.{sum_by-cons, sum_by-append}
 use Rattle.std.proofs.lemmas.Int.{ints}
@@ -17,9 +17,8 @@ use Rattle.rota_items.proofs.Requests.{value_of-request_terms}
 use Rattle.rota_items.proofs.RunCosts.{weighted-consecutive_assignment_items, weighted-consecutive_day_off_items}
 use Rattle.rota_items.proofs.Weekends.{weighted-complete_weekend_items, weighted-worked_weekend_items}
 use Rattle.rota_items.specs.Items.{Item, shortage, weighted_shortages}
-use Rattle.rota_items.specs.Linear.{value_of}
 use Rattle.rota_items.specs.Penalty.{rule_cost}
-use Rattle.rota_items.specs.RuleCharges.{rule_number, shortages_of, constant_of_rule, cell_terms_of_rule}
+use Rattle.rota_items.specs.RuleCharges.{rule_number, shortages_of, charged}
 use Rattle.rota_items.specs.RunItems.{Runs, run_items, pattern_items}
 use Rattle.rota_items.specs.RunPatterns.{Pattern, windows, patterns}
 use Rattle.rota_items.specs.SoftItems.{optimum_items, consecutive_assignment_items, consecutive_day_off_items, complete_weekend_items, assignment_items, worked_weekend_items, soft_items, shift_runs, work_runs, off_runs}
@@ -100,11 +99,6 @@ shortages-items week roster rule =
       shortages-of_rule S6 rule roster (assignment_items week) (of-assignments week),
       shortages-of_rule S7 rule roster (worked_weekend_items week) (of-worked_weekends week),
     )
-
-abbrev charged : Week → Roster → Rule → ℤ
-charged week roster rule =
-    pos (shortages_of rule roster (soft_items week) + constant_of_rule week rule) +ℤ
-    value_of roster (cell_terms_of_rule week rule)
 
 pub charged_by_rule : (week : Week) (roster : Roster) (rule : Rule) → KeepsHardRules week roster →
     charged week roster rule ≡ pos (rule_cost week roster rule)

@@ -52,7 +52,7 @@ any-each p (suc n) g i below found =
 
 -- ---- each variable stands in some constraint
 
-abbrev at_variable : ℕ → Term ℕ → Bool
+abbrev pub at_variable : ℕ → Term ℕ → Bool
 at_variable v term = term.1 == v
 
 any-numbered : (week : Week) (v : ℕ) (coefficient : ℤ) (cells : List Cell) →
@@ -151,7 +151,7 @@ each-stands week v some within =
 
 -- ---- no other variable stands in one
 
-rises-end : (first end : ℕ) (terms : List (Term ℕ)) → RisesWithin variable_of first end terms → first ≤ end
+pub rises-end : (first end : ℕ) (terms : List (Term ℕ)) → RisesWithin variable_of first end terms → first ≤ end
 rises-end first end [] rises = rises
 rises-end first end (t ∷ ts) rises = omega (arith, rises.0, rises-end (t.1 + 1) end ts rises.1)
 

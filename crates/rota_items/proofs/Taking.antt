@@ -25,9 +25,9 @@ use Rattle.rota_items.specs.declared.takers.Taker.{Ghosts}
 -- ---- lists joined below a number
 
 -- the list at i, with the lists before it and what is after it
-record WithinLoop {A : Type 0} (i n : ℕ) (f : ℕ → List A) : Type 0 where
-  after : List A
-  are : each_below n f ≡ each_below i f ++ (f i ++ after)
+pub record WithinLoop {A : Type 0} (i n : ℕ) (f : ℕ → List A) : Type 0 where
+  pub after : List A
+  pub are : each_below n f ≡ each_below i f ++ (f i ++ after)
 
 within-suc : {A : Type 0} (i n : ℕ) (f : ℕ → List A) → WithinLoop i n f → WithinLoop i (suc n) f
 unfolding each_below
@@ -41,7 +41,7 @@ within-last : {A : Type 0} (n : ℕ) (f : ℕ → List A) → WithinLoop n (suc 
 unfolding each_below
 within-last n f = record { after = []; are = ap (λ xs. each_below n f ++ xs) (sym (append-nil (f n))) }
 
-within : {A : Type 0} (i n : ℕ) (f : ℕ → List A) → i < n → WithinLoop i n f
+pub within : {A : Type 0} (i n : ℕ) (f : ℕ → List A) → i < n → WithinLoop i n f
 within i zero f below = absurd (omega arith)
 within {A} i (suc n) f below = elim (cases_lt i n) [
   | inl before ↦ within-suc i n f (within i n f before)
@@ -50,11 +50,11 @@ within {A} i (suc n) f below = elim (cases_lt i n) [
 
 -- ---- what makes events of a list, element by element
 
-record Joins {A : Type 0} (h : List A → List Event) : Type 0 where
-  none : h [] ≡ []
-  append : (xs ys : List A) → h (xs ++ ys) ≡ h xs ++ h ys
+pub record Joins {A : Type 0} (h : List A → List Event) : Type 0 where
+  pub none : h [] ≡ []
+  pub append : (xs ys : List A) → h (xs ++ ys) ≡ h xs ++ h ys
 
-terms_join : (week : Week) → Joins (cell_term_events week)
+pub terms_join : (week : Week) → Joins (cell_term_events week)
 unfolding cell_term_events term_events
 terms_join week = record {
   none = refl;
@@ -63,7 +63,7 @@ terms_join week = record {
       map-append (λ (t : Term ℕ). term t.0 t.1) (numbered_terms week xs) (numbered_terms week ys);
 }
 
-cells_join : (week : Week) (sign : Sign) → Joins (sum_events week sign)
+pub cells_join : (week : Week) (sign : Sign) → Joins (sum_events week sign)
 cells_join week sign = record {
   none = (terms_join week).none;
   append = λ xs ys.
@@ -100,15 +100,15 @@ module _ {S F : Type 0} (T : Ghosts S F) where
   pub Took-none : (s : S) → Took T [] s s
   Took-none s = record { value_is = refl }
 
-  Took-one : (event : Event) (s t : S) → T.value t ≡ T.step (T.value s) event → Took T (event ∷ []) s t
+  pub Took-one : (event : Event) (s t : S) → T.value t ≡ T.step (T.value s) event → Took T (event ∷ []) s t
   Took-one event s t e = record { value_is = e }
 
-  Took-then : (a b : List Event) (s t u : S) → Took T a s t → Took T b t u → Took T (a ++ b) s u
+  pub Took-then : (a b : List Event) (s t u : S) → Took T a s t → Took T b t u → Took T (a ++ b) s u
   Took-then a b s t u p q = record {
     value_is = q.value_is ∙ (ap (λ v. fold T.step v b) p.value_is ∙ sym (fold-append T.step (T.value s) a b));
   }
 
-  Refused-one : (event : Event) (s t : S) → T.left (T.value s) event t → Refused T (event ∷ []) s t
+  pub Refused-one : (event : Event) (s t : S) → T.left (T.value s) event t → Refused T (event ∷ []) s t
   Refused-one event s t h = record { taken = []; event = event; untold = []; are = refl; leaves = h }
 
   -- refused among the first events
@@ -122,7 +122,7 @@ module _ {S F : Type 0} (T : Ghosts S F) where
   }
 
   -- refused after the first events
-  Refused-after : (a b : List Event) (s t u : S) → Took T a s t → Refused T b t u → Refused T (a ++ b) s u
+  pub Refused-after : (a b : List Event) (s t u : S) → Took T a s t → Refused T b t u → Refused T (a ++ b) s u
   Refused-after a b s t u p q = record {
     taken = a ++ q.taken;
     event = q.event;
@@ -142,27 +142,27 @@ module _ {S F : Type 0} (T : Ghosts S F) where
   -- ---- loop by loop
 
   module _ {A : Type 0} {h : List A → List Event} (joins : Joins h) where
-    loop_none : (f : ℕ → List A) (s : S) → Took T (h (each_below 0 f)) s s
+    pub loop_none : (f : ℕ → List A) (s : S) → Took T (h (each_below 0 f)) s s
     loop_none f s = record { value_is = rw (each_below-zero f, joins.none) refl }
 
-    loop_more : (i : ℕ) (f : ℕ → List A) (s t u : S) → Took T (h (each_below i f)) s t → Took T (h (f i)) t u → Took T (h (each_below (i + 1) f)) s u
+    pub loop_more : (i : ℕ) (f : ℕ → List A) (s t u : S) → Took T (h (each_below i f)) s t → Took T (h (f i)) t u → Took T (h (each_below (i + 1) f)) s u
     loop_more i f s t u p q = rw (each_below-more i f, joins.append) (Took-then _ _ s t u p q)
 
-    loop_all : (i n : ℕ) (f : ℕ → List A) (s t : S) → i ≡ n → Took T (h (each_below i f)) s t → Took T (h (each_below n f)) s t
+    pub loop_all : (i n : ℕ) (f : ℕ → List A) (s t : S) → i ≡ n → Took T (h (each_below i f)) s t → Took T (h (each_below n f)) s t
     loop_all i n f s t e p = rw (← e) p
 
-    loop_refused : (i n : ℕ) (f : ℕ → List A) (s t u : S) → i < n → Took T (h (each_below i f)) s t → Refused T (h (f i)) t u → Refused T (h (each_below n f)) s u
+    pub loop_refused : (i n : ℕ) (f : ℕ → List A) (s t u : S) → i < n → Took T (h (each_below i f)) s t → Refused T (h (f i)) t u → Refused T (h (each_below n f)) s u
     loop_refused i n f s t u below p q =
         let w = within i n f below in
         rw (w.are, joins.append, joins.append) (Refused-after _ _ s t u p (Refused-before _ _ t u q))
 
-    stop : (xs ys : List A) (s t : S) → Refused T (h xs) s t → Refused T (h (xs ++ ys)) s t
+    pub stop : (xs ys : List A) (s t : S) → Refused T (h xs) s t → Refused T (h (xs ++ ys)) s t
     stop xs ys s t p = rw joins.append (Refused-before (h xs) (h ys) s t p)
 
-    go_on : (xs ys : List A) (s t u : S) → Took T (h xs) s t → Refused T (h ys) t u → Refused T (h (xs ++ ys)) s u
+    pub go_on : (xs ys : List A) (s t u : S) → Took T (h xs) s t → Refused T (h ys) t u → Refused T (h (xs ++ ys)) s u
     go_on xs ys s t u p q = rw joins.append (Refused-after (h xs) (h ys) s t u p q)
 
-    both : (xs ys : List A) (s t u : S) → Took T (h xs) s t → Took T (h ys) t u → Took T (h (xs ++ ys)) s u
+    pub both : (xs ys : List A) (s t u : S) → Took T (h xs) s t → Took T (h ys) t u → Took T (h (xs ++ ys)) s u
     both xs ys s t u p q = rw joins.append (Took-then (h xs) (h ys) s t u p q)
 
   -- a loop over the cells of a sum
@@ -258,16 +258,16 @@ module _ {S F : Type 0} (T : Ghosts S F) where
   -- ---- a row
 
   module _ (row : LinearRow ℕ) where
-    refused_at_start : (s t : S) → T.left (T.value s) (start_row row.part) t → Refused T (row_events row) s t
+    pub refused_at_start : (s t : S) → T.left (T.value s) (start_row row.part) t → Refused T (row_events row) s t
     refused_at_start s t h = Refused-before (start_row row.part ∷ []) _ s t (Refused-one _ s t h)
 
-    refused_at_terms : (s t u : S) → T.value t ≡ T.step (T.value s) (start_row row.part) →
+    pub refused_at_terms : (s t u : S) → T.value t ≡ T.step (T.value s) (start_row row.part) →
         Refused T (term_events row.terms) t u → Refused T (row_events row) s u
     refused_at_terms s t u started refused =
         Refused-after (start_row row.part ∷ []) _ s t u (Took-one _ s t started)
         (Refused-before (term_events row.terms) _ t u refused)
 
-    closed : (s t u v : S) (r : Result (Unit {0}) F) → T.value t ≡ T.step (T.value s) (start_row row.part) →
+    pub closed : (s t u v : S) (r : Result (Unit {0}) F) → T.value t ≡ T.step (T.value s) (start_row row.part) →
         Took T (term_events row.terms) t u →
         MatchResult r (λ _. T.value v ≡ T.step (T.value u) (close_row row.degree)) (λ _. T.left (T.value u) (close_row row.degree) v) →
         Takes T (row_events row) s v r

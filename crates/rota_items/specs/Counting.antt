@@ -1,11 +1,11 @@
 -- What a counter makes of the events of rows, and what it is to find in them.
-use Rattle.std.specs.Prelude.{ℕ, ◌+◌, min, max, Bool, true, false, List, [], ◌∷◌, map}
+use Rattle.std.specs.Prelude.{ℕ, ◌+◌, min, max, Bool, true, false, List, [], ◌∷◌, map, length}
 use Rattle.std.specs.List.{count_by, flat_map}
 use Rattle.rota_items.specs.declared.counting.Counts.{Counts}
 use Rattle.rota_items.specs.declared.part.Part.{Part}
 use Rattle.rota_items.specs.declared.part.Part.TheVariants.{Objective, Hard, Soft}
 use Rattle.rota_items.specs.Events.{Event, start_row, term, close_row}
-use Rattle.rota_items.specs.Linear.{Term}
+use Rattle.rota_items.specs.Linear.{Term, Model}
 use Rattle.rota_items.specs.LinearRow.{LinearRow}
 
 abbrev pub greatest_count : ℕ
@@ -46,3 +46,7 @@ counts_of rows = record {
   variables = greatest (variables_in rows);
   constraints = min (count_by (λ (row : LinearRow ℕ). is_constraint row.part) rows) greatest_count;
 }
+
+-- the numbers of a model's variables and constraints
+abbrev pub counts_of_model : Model → Counts
+counts_of_model model = record { variables = model.variables; constraints = length model.constraints }

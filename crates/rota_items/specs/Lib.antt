@@ -1,10 +1,16 @@
 pub mod CellEvents
 pub mod Cells
+pub mod Coefficients
 pub mod Constant
 pub mod Counting
 pub mod Events
 pub mod HardRows
+pub mod ItemEvents
+pub mod ItemPlaces
+pub mod ItemValues
 pub mod Items
+pub mod Judged
+pub mod Judging
 pub mod Limits
 pub mod Linear
 pub mod LinearRow
@@ -20,5 +26,6 @@ pub mod Slacks
 pub mod SoftItems
 pub mod Standing
 pub mod Takes
+pub mod Verdicts
 pub mod WeekModel
 pub mod WorkedWeeks

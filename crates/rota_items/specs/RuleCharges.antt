@@ -1,15 +1,16 @@
 -- What the model charges, rule by rule.
-use Rattle.std.specs.Prelude.{ℕ, ◌*◌, ◌==◌, if◌then◌else◌, List, []}
+use Rattle.std.specs.Prelude.{ℕ, ◌+◌, ◌*◌, ℤ, pos, ◌+ℤ◌, ◌==◌, if◌then◌else◌, List, [], ◌∷◌}
 use Rattle.std.specs.List.{sum_by}
 use Rattle.rota_core.specs.declared.rule.Rule.{Rule}
 use Rattle.rota_core.specs.declared.rule.Rule.TheVariants.{Unit as UnitRule, H1, H2, H3, H4, S1, S2, S3, S4, S5, S6, S7}
 use Rattle.rota_core.specs.declared.values.Cell.{Cell}
 use Rattle.rota_core.specs.Week.{Week}
 use Rattle.rota_core.specs.Roster.{Roster}
-use Rattle.rota_items.specs.Linear.{Term}
+use Rattle.rota_items.specs.Linear.{Term, value_of}
 use Rattle.rota_items.specs.Items.{Item, shortage}
 use Rattle.rota_items.specs.Constant.{constant_of_assignments, constant_of_weekends}
 use Rattle.rota_items.specs.Objective.{request_terms}
+use Rattle.rota_items.specs.SoftItems.{soft_items}
 
 -- a number of its own for each rule
 abbrev pub rule_number : Rule → ℕ
@@ -43,3 +44,13 @@ constant_of_rule week _ = 0
 abbrev pub cell_terms_of_rule : Week → Rule → List (Term Cell)
 cell_terms_of_rule week S4 = request_terms week
 cell_terms_of_rule week _ = []
+
+-- what the model charges for the rule: its items' weighted shortages, its part of the constant and its terms on cells
+abbrev pub charged : Week → Roster → Rule → ℤ
+charged week roster rule =
+    pos (shortages_of rule roster (soft_items week) + constant_of_rule week rule) +ℤ
+    value_of roster (cell_terms_of_rule week rule)
+
+-- the soft rules, in their order
+abbrev pub soft_rules : List Rule
+soft_rules = S1 ∷ S2 ∷ S3 ∷ S4 ∷ S5 ∷ S6 ∷ S7 ∷ []

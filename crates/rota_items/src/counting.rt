@@ -1,10 +1,13 @@
 //! The numbers of variables and of constraints.
-ghost use Rattle.std.specs.Prelude.{◌≡◌, ℕ, List};
+ghost use Rattle.std.specs.Prelude.{◌≡◌, ◌∷◌, ℕ, List};
 ghost use Rattle.std.specs.List.{fold};
+ghost use Rattle.rota_core.specs.Week.{Week};
 ghost use Rattle.rota_items.specs.declared.counting.Counts.{Counts};
-ghost use Rattle.rota_items.specs.Counting.{counted, counts_of, no_counts};
+ghost use Rattle.rota_items.specs.Counting.{counted, counts_of, counts_of_model, no_counts};
 ghost use Rattle.rota_items.specs.Events.{events};
+ghost use Rattle.rota_items.specs.Limits.{IsWithinLimits};
 ghost use Rattle.rota_items.specs.LinearRow.{LinearRow};
+ghost use Rattle.rota_items.specs.WeekModel.{model_of, objective_row, rows_of};
 
 use crate::part::Part;
 use crate::takers::Taker;
@@ -74,4 +77,16 @@ impl Taker for Counter {
 /// that it took.
 pub fn counter_counts_rows()
     ensures { (rows : List (LinearRow ℕ)) → fold counted no_counts (events rows) ≡ counts_of rows }
+{}
+
+/// Within the limits a counter that took the constraints of a week's model, with the objective before
+/// them or without it, finds the numbers of the model's variables and constraints.
+pub fn counter_counts_models()
+    ensures constraints { (week : Week) →
+        IsWithinLimits week →
+        fold counted no_counts (events (rows_of week)) ≡ counts_of_model (model_of week) }
+    ensures objective_and_constraints { (week : Week) →
+        IsWithinLimits week →
+        fold counted no_counts (events (objective_row week ∷ rows_of week)) ≡
+        counts_of_model (model_of week) }
 {}

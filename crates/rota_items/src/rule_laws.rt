@@ -1,29 +1,44 @@
 //! What the model charges is what the soft rules cost, on rosters that keep the hard rules.
-ghost use Rattle.std.specs.Prelude.{◌≡◌, ◌+◌, ◌≤◌, ◌<◌, ◌^◌, pos, ◌+ℤ◌, All};
+ghost use Rattle.std.specs.Prelude.{◌≡◌, ℕ, ◌+◌, ◌≤◌, ◌<◌, ◌^◌, pos, ◌+ℤ◌, All};
 ghost use Rattle.rota_core.specs.declared.rule.Rule.{Rule};
 ghost use Rattle.rota_core.specs.Week.{Week};
-ghost use Rattle.rota_core.specs.Roster.{Roster};
-ghost use Rattle.rota_core.specs.HardRules.{KeepsHardRules};
+ghost use Rattle.rota_core.specs.Roster.{Roster, KeepsOneCell};
+ghost use Rattle.rota_core.specs.HardRules.{KeepsHardRules, KeepsMinimum};
 ghost use Rattle.rota_items.specs.Linear.{value_of};
 ghost use Rattle.rota_items.specs.Items.{shortage, weighted_shortages};
 ghost use Rattle.rota_items.specs.Penalty.{optimum_cost, consecutive_assignment_cost, consecutive_day_off_cost, request_cost, complete_weekend_cost, assignment_cost, worked_weekend_cost, penalty, rule_cost};
-ghost use Rattle.rota_items.specs.SoftItems.{optimum_items, consecutive_assignment_items, consecutive_day_off_items, complete_weekend_items, assignment_items, worked_weekend_items, soft_items};
+ghost use Rattle.rota_items.specs.RunItems.{AtMostOneADay};
+ghost use Rattle.rota_items.specs.SoftItems.{shift_runs, work_runs, optimum_items, consecutive_assignment_items, consecutive_day_off_items, complete_weekend_items, assignment_items, worked_weekend_items, soft_items};
 ghost use Rattle.rota_items.specs.Constant.{constant, constant_of_assignments, constant_of_weekends};
 ghost use Rattle.rota_items.specs.Objective.{request_terms};
 ghost use Rattle.rota_items.specs.RuleCharges.{shortages_of, constant_of_rule, cell_terms_of_rule};
 ghost use Rattle.rota_items.specs.Limits.{IsWithinLimits};
 
+/// On a roster with one cell a day at most one cell of a nurse's day is on a shift type, and at most one
+/// is on any: the runs of both are of days with one variable that is true at most.
+pub fn one_cell_a_day_is_at_most_one()
+    ensures on_shift { (week : Week) (roster : Roster) (n s : ℕ) →
+        KeepsOneCell week roster →
+        n < week.nurses →
+        s < week.shifts →
+        AtMostOneADay (shift_runs week n s).property roster }
+    ensures at_work { (week : Week) (roster : Roster) (n : ℕ) →
+        KeepsOneCell week roster →
+        n < week.nurses →
+        AtMostOneADay (work_runs week n).property roster }
+{}
+
 /// S1: the items of the optimal numbers charge the nurses that are missing.
 pub fn optimum_items_charge_missing_nurses()
     ensures { (week : Week) (roster : Roster) →
-        KeepsHardRules week roster →
+        KeepsMinimum week roster →
         weighted_shortages roster (optimum_items week) ≡ optimum_cost week roster }
 {}
 
 /// S2: the items of the runs on shift types and of working days charge the cost of those runs.
 pub fn run_items_charge_shift_and_work_runs()
     ensures { (week : Week) (roster : Roster) →
-        KeepsHardRules week roster →
+        KeepsOneCell week roster →
         weighted_shortages roster (consecutive_assignment_items week) ≡
         consecutive_assignment_cost week roster }
 {}
@@ -31,7 +46,7 @@ pub fn run_items_charge_shift_and_work_runs()
 /// S3: the items of the runs of days off charge the cost of those runs.
 pub fn run_items_charge_runs_of_days_off()
     ensures { (week : Week) (roster : Roster) →
-        KeepsHardRules week roster →
+        KeepsOneCell week roster →
         weighted_shortages roster (consecutive_day_off_items week) ≡
         consecutive_day_off_cost week roster }
 {}
@@ -45,7 +60,7 @@ pub fn request_terms_charge_requests()
 /// S5: the items of complete weekends charge the nurses who work on one of its days alone.
 pub fn weekend_items_charge_broken_weekends()
     ensures { (week : Week) (roster : Roster) →
-        KeepsHardRules week roster →
+        KeepsOneCell week roster →
         weighted_shortages roster (complete_weekend_items week) ≡ complete_weekend_cost week roster }
 {}
 
@@ -53,7 +68,7 @@ pub fn weekend_items_charge_broken_weekends()
 /// limits.
 pub fn assignment_items_charge_totals()
     ensures { (week : Week) (roster : Roster) →
-        KeepsHardRules week roster →
+        KeepsOneCell week roster →
         weighted_shortages roster (assignment_items week) + constant_of_assignments week ≡
         assignment_cost week roster }
 {}
@@ -62,7 +77,7 @@ pub fn assignment_items_charge_totals()
 /// greatest number.
 pub fn weekend_items_charge_worked_weekends()
     ensures { (week : Week) (roster : Roster) →
-        KeepsHardRules week roster →
+        KeepsOneCell week roster →
         weighted_shortages roster (worked_weekend_items week) + constant_of_weekends week ≡
         worked_weekend_cost week roster }
 {}

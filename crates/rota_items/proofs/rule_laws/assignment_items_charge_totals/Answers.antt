@@ -2,4 +2,4 @@ use Rattle.rota_items.proofs.Assignments.{weighted-assignment_items}
 use Rattle.rota_items.proofs.rule_laws.assignment_items_charge_totals.Goals as goal
 
 pub returns : goal.returns
-returns c = λ week roster keeps. weighted-assignment_items week roster keeps.one_cell
+returns c = weighted-assignment_items

@@ -2,4 +2,4 @@ use Rattle.rota_items.proofs.Optimum.{weighted-optimum_items}
 use Rattle.rota_items.proofs.rule_laws.optimum_items_charge_missing_nurses.Goals as goal
 
 pub returns : goal.returns
-returns c = λ week roster keeps. weighted-optimum_items week roster keeps.minimum
+returns c = weighted-optimum_items

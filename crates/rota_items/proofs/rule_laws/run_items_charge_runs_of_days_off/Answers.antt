@@ -2,4 +2,4 @@ use Rattle.rota_items.proofs.RunCosts.{weighted-consecutive_day_off_items}
 use Rattle.rota_items.proofs.rule_laws.run_items_charge_runs_of_days_off.Goals as goal
 
 pub returns : goal.returns
-returns c = λ week roster keeps. weighted-consecutive_day_off_items week roster keeps.one_cell
+returns c = weighted-consecutive_day_off_items

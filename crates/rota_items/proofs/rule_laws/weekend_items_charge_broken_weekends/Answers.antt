@@ -2,4 +2,4 @@ use Rattle.rota_items.proofs.Weekends.{weighted-complete_weekend_items}
 use Rattle.rota_items.proofs.rule_laws.weekend_items_charge_broken_weekends.Goals as goal
 
 pub returns : goal.returns
-returns c = λ week roster keeps. weighted-complete_weekend_items week roster keeps.one_cell
+returns c = weighted-complete_weekend_items

@@ -1,5 +1,5 @@
 use Rattle.rota_core.specs.InstanceTables.{week_of}
-use Rattle.rota_pb.proofs.PutModel.{line_failed, no_objective_failed, rows_put}
+use Rattle.rota_pb.proofs.PutModel.{line_failed, terms_failed, rows_put}
 use Rattle.rota_pb.proofs.encoding.put_model.Goals as goal
 
 pub returns-in_err-first_line-clause-takes : goal.returns-in_err-first_line-clause-takes
@@ -9,7 +9,7 @@ returns-in_err-first_line-clause-takes g c =
 
 pub returns-in_err-drive_objective-clause-takes : goal.returns-in_err-drive_objective-clause-takes
 returns-in_err-drive_objective-clause-takes g c =
-    no_objective_failed (week_of c.args.instance.now) _ _ c.counts.ensures.variables c.counts.ensures.constraints _
+    terms_failed (week_of c.args.instance.now) _ _ c.counts.ensures.variables c.counts.ensures.constraints _
     c.from_residual-in_err-drive_objective.ensures.0 c.in_ok-first_line.ensures.takes c.in_err-drive_objective.ensures
 
 pub returns-clause-takes : goal.returns-clause-takes

@@ -1,0 +1,183 @@
+-- What a counter makes of the rows of a week's model.
+use Rattle.std.proofs.Common.{◌≡◌, ℕ, zero, suc, ◌+◌, ◌<◌, ◌≤◌, max, Bool, ◌||◌, true, false, inl, inr, List, [], ◌∷◌, ◌++◌, map, length, refl, sym, ap, ◌∙◌, arith}
+use Rattle.std.specs.Prelude.{ℤ, pos, nat_lt, ◌==◌}
+use Rattle.std.specs.List.{AllByRecursion, count_by, fold, list_any, range_with_len}
+use Rattle.std.proofs.lemmas.Bool.{cases_Bool, eqb-true, true≢false}
+use Rattle.std.proofs.lemmas.List.{length-append, length-map, map-append}
+use Rattle.std.proofs.lemmas.List.Sums.{sum_by-cons, sum_by-append}
+use Rattle.rota_core.specs.Week.{Week}
+use Rattle.rota_items.proofs.Counted.{counts_row, one_if, count-more, counted-rows, greatest-append, same_counts, variables_of}
+use Rattle.rota_items.proofs.HardCounts.{counted-rule_rows, count-rows, greatest-terms}
+use Rattle.rota_items.proofs.ListSums.{sum_by-map}
+use Rattle.rota_items.proofs.RisesWithin.{RisesWithin}
+use Rattle.rota_items.proofs.RisingTerms.{RisesTo, variable_of, rises-to_last}
+use Rattle.rota_items.proofs.SlackBound.{rows-below}
+use Rattle.rota_items.proofs.Standing.{at_variable, rises-end, stands-exactly}
+use Rattle.rota_items.proofs.Within.{in-request_terms}
+use Rattle.rota_items.specs.Cells.{cell_number, first_slack, unit_number}
+use Rattle.rota_items.specs.Constant.{constant}
+use Rattle.rota_items.specs.Counting.{counted, counts_of, counts_of_model, greatest, no_counts, variables_in}
+use Rattle.rota_items.specs.Events.{events}
+use Rattle.rota_items.specs.HardRows.{rule_rows}
+use Rattle.rota_items.specs.Items.{Item, numbered}
+use Rattle.rota_items.specs.Limits.{IsWithinLimits}
+use Rattle.rota_items.specs.Linear.{Term, times}
+use Rattle.rota_items.specs.LinearRow.{LinearRow, linear_constraint}
+use Rattle.rota_items.specs.Lists.{only_if}
+use Rattle.rota_items.specs.Objective.{request_terms, constant_terms}
+use Rattle.rota_items.specs.Slacks.{item_row, item_rows, slack_count, slack_weights}
+use Rattle.rota_items.specs.SoftItems.{soft_items}
+use Rattle.rota_items.specs.Standing.{stands_in}
+use Rattle.rota_items.specs.WeekModel.{numbered_row, numbered_terms, unit_row, hard_rows, numbered_items, rows_of, objective_terms, objective_row, model_of}
+
+-- ---- each row of an item is a constraint
+
+count-item_rows : (first : ℕ) (items : List (Item ℕ)) →
+    count_by counts_row (item_rows first items) ≡ length (item_rows first items)
+count-item_rows first [] = refl
+count-item_rows first (item ∷ items) =
+    omega (
+      arith,
+      count-more (item_row item first) (item_rows (first + item.slacks) items),
+      count-item_rows (first + item.slacks) items,
+    )
+
+count-rows_of : (week : Week) → count_by counts_row (rows_of week) ≡ length (rows_of week)
+count-rows_of week =
+    omega (
+      arith,
+      sum_by-append (λ (row : LinearRow ℕ). one_if (counts_row row)) (hard_rows week) items,
+      length-append (hard_rows week) items,
+      count-more (unit_row (unit_number week)) (map (numbered_row week) (rule_rows week)),
+      count-rows week (rule_rows week) (counted-rule_rows week),
+      count-item_rows (first_slack week) (numbered_items week),
+    )
+  where
+    items : List (LinearRow ℕ)
+    items = item_rows (first_slack week) (numbered_items week)
+
+-- ---- the greatest variable of the constraints is the model's last
+
+greatest-rises : (first end : ℕ) (terms : List (Term ℕ)) → 0 < first → RisesWithin variable_of first end terms →
+    greatest (variables_of terms) < end
+greatest-rises first end [] some rises = omega (arith, rises)
+greatest-rises first end (t ∷ ts) some rises =
+    omega (arith, rises.0, rises-end (t.1 + 1) end ts rises.1, greatest-rises (t.1 + 1) end ts (omega arith) rises.1)
+
+greatest-below : (end : ℕ) → 0 < end → (rows : List (LinearRow ℕ)) →
+    AllByRecursion (RisesTo end) (map linear_constraint rows) → greatest (variables_in rows) < end
+greatest-below end some [] rise = some
+greatest-below end some (row ∷ rows) rise =
+    omega (
+      arith,
+      greatest-append (variables_of row.terms) (variables_in rows),
+      greatest-rises 1 end row.terms (omega arith) rise.0,
+      greatest-below end some rows rise.1,
+    )
+
+greatest-stands : (v : ℕ) (terms : List (Term ℕ)) → list_any (at_variable v) terms ≡ true → v ≤ greatest (variables_of terms)
+greatest-stands v [] stands = absurd (true≢false (sym stands))
+greatest-stands v (t ∷ ts) stands =
+    elim (cases_Bool (t.1 == v)) [
+      | inl here ↦ let same : t.1 ≡ v = eqb-true t.1 v here in omega arith
+      | inr other ↦ omega (arith, greatest-stands v ts (sym (ap (λ b. b || list_any (at_variable v) ts) other) ∙ stands))
+    ]
+
+greatest-stands_in : (v : ℕ) (rows : List (LinearRow ℕ)) → list_any (stands_in v) (map linear_constraint rows) ≡ true →
+    v ≤ greatest (variables_in rows)
+greatest-stands_in v [] stands = absurd (true≢false (sym stands))
+greatest-stands_in v (row ∷ rows) stands =
+    let both = greatest-append (variables_of row.terms) (variables_in rows) in
+    elim (cases_Bool (list_any (at_variable v) row.terms)) [
+      | inl here ↦ omega (arith, both, greatest-stands v row.terms here)
+      | inr other ↦
+          omega (
+            arith,
+            both,
+            greatest-stands_in v rows
+                (sym (ap (λ b. b || list_any (stands_in v) (map linear_constraint rows)) other) ∙ stands),
+          )
+    ]
+
+greatest-rows_of : (week : Week) → greatest (variables_in (rows_of week)) ≡ (model_of week).variables
+greatest-rows_of week =
+    omega (
+      arith,
+      greatest-below ((model_of week).variables + 1) (omega arith) (rows_of week) (rises-to_last week),
+      greatest-stands_in (model_of week).variables (rows_of week)
+          ((stands-exactly week (model_of week).variables).1 (omega arith, omega arith)),
+    )
+
+-- ---- the objective has no greater one
+
+greatest-terms_append : (xs ys : List (Term ℕ)) →
+    greatest (variables_of (xs ++ ys)) ≡ max (greatest (variables_of xs)) (greatest (variables_of ys))
+greatest-terms_append xs ys =
+    ap greatest (map-append (λ (term : Term ℕ). term.1) xs ys) ∙ greatest-append (variables_of xs) (variables_of ys)
+
+greatest-only_if : (test : Bool) (term : Term ℕ) → greatest (variables_of (only_if test term)) ≤ term.1
+unfolding only_if
+greatest-only_if true term = omega arith
+greatest-only_if false term = omega arith
+
+greatest-range : (first count : ℕ) (coefficient : ℤ) → 0 < first →
+    greatest (variables_of (times coefficient (range_with_len first count))) < first + count
+greatest-range first zero coefficient some = omega arith
+greatest-range first (suc count) coefficient some = omega (arith, greatest-range (first + 1) count coefficient (omega arith))
+
+greatest-slacks : (first : ℕ) (items : List (Item ℕ)) → 0 < first →
+    greatest (variables_of (slack_weights first items)) < first + slack_count items
+greatest-slacks first [] some = omega arith
+greatest-slacks first (item ∷ items) some =
+    omega (
+      arith,
+      greatest-terms_append (times (pos item.weight) (range_with_len first item.slacks)) (slack_weights (first + item.slacks) items),
+      greatest-range first item.slacks (pos item.weight) some,
+      greatest-slacks (first + item.slacks) items (omega arith),
+      sum_by-cons (λ (one : Item ℕ). one.slacks) item items,
+    )
+
+greatest-objective : (week : Week) → greatest (variables_of (objective_terms week)) ≤ (model_of week).variables
+greatest-objective week =
+    let requests = numbered_terms week (request_terms week) in
+    let slacks = slack_weights (first_slack week) (numbered_items week) in
+    omega (
+      arith,
+      greatest-terms_append requests (constant_terms week ++ slacks),
+      greatest-terms_append (constant_terms week) slacks,
+      greatest-terms week (request_terms week) (in-request_terms week),
+      greatest-only_if (nat_lt 0 (constant week)) (pos (constant week), unit_number week),
+      greatest-slacks (first_slack week) (numbered_items week) (omega arith),
+      sum_by-map (λ (item : Item ℕ). item.slacks) (numbered (cell_number week)) (soft_items week),
+    )
+
+-- ---- both
+
+module _ (week : Week) (limits : IsWithinLimits week) where
+  counts-constraints : counts_of (rows_of week) ≡ counts_of_model (model_of week)
+  counts-constraints =
+      same_counts _ _ _ _ (greatest-rows_of week)
+      (omega (arith, count-rows_of week, rows-below week limits, length-map (rows_of week) linear_constraint))
+
+  counts-model : counts_of (objective_row week ∷ rows_of week) ≡ counts_of_model (model_of week)
+  counts-model =
+      same_counts _ _ _ _
+      (omega (
+        arith,
+        greatest-append (variables_of (objective_terms week)) (variables_in (rows_of week)),
+        greatest-objective week,
+        greatest-rows_of week,
+      ))
+      (omega (
+        arith,
+        count-more (objective_row week) (rows_of week),
+        count-rows_of week,
+        rows-below week limits,
+        length-map (rows_of week) linear_constraint,
+      ))
+
+  pub counted-constraints : fold counted no_counts (events (rows_of week)) ≡ counts_of_model (model_of week)
+  counted-constraints = counted-rows (rows_of week) ∙ counts-constraints
+
+  pub counted-model : fold counted no_counts (events (objective_row week ∷ rows_of week)) ≡ counts_of_model (model_of week)
+  counted-model = counted-rows (objective_row week ∷ rows_of week) ∙ counts-model

@@ -1,0 +1,55 @@
+-- The numbers of an instance's week are within the limits that the model's numbers are bounded by.
+use Rattle.std.proofs.Common.{ℕ, zero, suc, ◌≤◌, List, [], ◌∷◌, arith}
+use Rattle.std.specs.Prelude.{slice_index_or}
+use Rattle.std.specs.List.{AllByRecursion}
+use Rattle.std.proofs.lemmas.Option.{none-some}
+use Rattle.rota_core.specs.InstanceTables.{InstanceTables, IsInstance, week_of}
+use Rattle.rota_core.specs.ScenarioTables.{AreLimits, IsContract}
+use Rattle.rota_core.specs.Week.{no_span, no_contract, no_demand, no_past}
+use Rattle.rota_core.specs.WeekTables.{IsDemand, IsPast}
+use Rattle.rota_items.specs.Limits.{IsWithinLimits}
+
+-- what holds of each element and of the default holds at any place
+pub AllByRecursion-or_default : {X : Type 0} (P : X → Type 0) (xs : List X) (i : ℕ) (default : X) →
+    AllByRecursion P xs → P default → P (slice_index_or xs i default)
+AllByRecursion-or_default P [] i default all holds = holds
+AllByRecursion-or_default P (x ∷ xs) zero default all holds = all.0
+AllByRecursion-or_default P (x ∷ xs) (suc i) default all holds = AllByRecursion-or_default P xs i default all.1 holds
+
+module _ (t : InstanceTables) (limits : IsInstance t) where
+  pub demand-small : (d s k : ℕ) → IsDemand ((week_of t).demand d s k)
+  demand-small d s k =
+      AllByRecursion-or_default IsDemand t.week.demands _ no_demand limits.week.demands.1 (omega arith, omega arith)
+
+  shift_limits-small : (s : ℕ) → AreLimits ((week_of t).limits s)
+  shift_limits-small s =
+      AllByRecursion-or_default AreLimits t.scenario.limits s no_span limits.scenario.limits.1 (omega arith, omega arith)
+
+  contract-small : (n : ℕ) → IsContract ((week_of t).contract n)
+  contract-small n =
+      AllByRecursion-or_default IsContract t.scenario.contracts _ no_contract limits.scenario.contracts.1
+      ((omega arith, omega arith), (omega arith, omega arith), (omega arith, omega arith), omega arith)
+
+  past-small : (n : ℕ) → IsPast t.history.shifts ((week_of t).past n)
+  past-small n =
+      AllByRecursion-or_default (IsPast t.history.shifts) t.history.past n no_past limits.history.past.1
+      (record { totals = (omega arith, omega arith); last = λ s is. absurd (none-some s is); runs = (omega arith, omega arith, omega arith) })
+
+  requests-small : (n d s : ℕ) → (week_of t).requests n d s ≤ 9999
+  requests-small n d s =
+      AllByRecursion-or_default (λ count. count ≤ 9999) t.week.requests _ 0 limits.week.requests.1 (omega arith)
+
+  pub instance-within_limits : IsWithinLimits (week_of t)
+  instance-within_limits = record {
+    nurses = limits.scenario.nurses.0.1;
+    shifts = limits.scenario.shifts.0.1;
+    skills = limits.scenario.skills.0.1;
+    optimal = λ d s k. (demand-small d s k).1;
+    limits = λ s. (shift_limits-small s).0;
+    work_limits = λ n. (contract-small n).1.0;
+    off_limits = λ n. (contract-small n).2.0;
+    totals = λ n. (contract-small n).0.0;
+    assignments = λ n. (past-small n).totals.0;
+    weekends = λ n. (past-small n).totals.1;
+    requests = requests-small;
+  }

@@ -1,0 +1,94 @@
+-- The terms of an item's slacks, and an item's row.
+use Rattle.std.proofs.Common.{◌≡◌, ℕ, zero, suc, ◌+◌, ◌<◌, List, [], ◌∷◌, ◌++◌, Result, MatchResult, refl, ap, ◌∙◌, arith}
+use Rattle.std.specs.Prelude.{ℤ, pos}
+use Rattle.std.specs.List.{range_with_len}
+use Rattle.std.proofs.lemmas.List.FromFn.{map-range_with_len_more}
+use Rattle.rota_core.specs.Week.{Week}
+use Rattle.rota_core.specs.declared.values.Cell.{Cell}
+use Rattle.rota_items.proofs.ItemEventLists.{term_events-append, item_events-row, item_events-weights}
+use Rattle.rota_items.proofs.Taking.{Joins, Took-then, Refused-before, Refused-after, loop_none, loop_more, loop_refused, refused_at_start, refused_at_terms, closed}
+use Rattle.rota_items.specs.CellEvents.{cell_term_events}
+use Rattle.rota_items.specs.Cells.{cell_number}
+use Rattle.rota_items.specs.Events.{start_row, close_row, term_events}
+use Rattle.rota_items.specs.ItemEvents.{item_events}
+use Rattle.rota_items.specs.Items.{Item, numbered}
+use Rattle.rota_items.specs.Linear.{Term, times}
+use Rattle.rota_items.specs.LinearRow.{LinearRow}
+use Rattle.rota_items.specs.Lists.{each_below}
+use Rattle.rota_items.specs.Slacks.{item_row}
+use Rattle.rota_items.specs.Takes.{Took, Refused, Takes}
+use Rattle.rota_items.specs.declared.part.Part.TheVariants.{Soft}
+use Rattle.rota_items.specs.declared.soft_item.Section.TheVariants.{Rows, Weights}
+use Rattle.rota_items.specs.declared.takers.Taker.{Ghosts}
+
+-- one variable, so far from the first
+abbrev pub slack_term : ℤ → ℕ → ℕ → List (Term ℕ)
+slack_term coefficient first i = (coefficient, first + i) ∷ []
+
+slack_terms-are : (coefficient : ℤ) (first n : ℕ) →
+    times coefficient (range_with_len first n) ≡ each_below n (slack_term coefficient first)
+unfolding each_below
+slack_terms-are coefficient first zero = refl
+slack_terms-are coefficient first (suc n) =
+    (let more : suc n ≡ n + 1 = omega arith in ap (λ m. times coefficient (range_with_len first m)) more) ∙
+    map-range_with_len_more {X = Term ℕ} (λ v. (coefficient, v)) first n (first + n) refl ∙
+    ap (λ xs. xs ++ slack_term coefficient first n) (slack_terms-are coefficient first n)
+
+slacks_join : Joins term_events
+unfolding term_events
+slacks_join = record { none = refl; append = term_events-append }
+
+module _ {S F : Type 0} (T : Ghosts S F) where
+  module _ (coefficient : ℤ) (first : ℕ) where
+    pub slacks_none : (s : S) → Took T (term_events (each_below 0 (slack_term coefficient first))) s s
+    slacks_none s = loop_none T slacks_join (slack_term coefficient first) s
+
+    pub slacks_more : (i : ℕ) (s t u : S) → Took T (term_events (each_below i (slack_term coefficient first))) s t →
+        Took T (term_events (slack_term coefficient first i)) t u → Took T (term_events (each_below (i + 1) (slack_term coefficient first))) s u
+    slacks_more i s t u p q = loop_more T slacks_join i (slack_term coefficient first) s t u p q
+
+    pub slacks_all : (i n : ℕ) (s t : S) → i ≡ n → Took T (term_events (each_below i (slack_term coefficient first))) s t →
+        Took T (term_events (times coefficient (range_with_len first n))) s t
+    slacks_all i n s t e p = rw (slack_terms-are coefficient first n, ← e) p
+
+    pub slacks_refused : (i n : ℕ) (s t u : S) → i < n → Took T (term_events (each_below i (slack_term coefficient first))) s t →
+        Refused T (term_events (slack_term coefficient first i)) t u → Refused T (term_events (times coefficient (range_with_len first n))) s u
+    slacks_refused i n s t u below p q =
+        rw (slack_terms-are coefficient first n) (loop_refused T slacks_join i n (slack_term coefficient first) s t u below p q)
+
+  module _ (week : Week) (first : ℕ) (item : Item Cell) where
+    abbrev row : LinearRow ℕ
+    row = item_row (numbered (cell_number week) item) first
+
+    pub item_refused_at_start : (s t : S) → T.left (T.value s) (start_row (Soft item.rule item.weight)) t →
+        Refused T (item_events Rows week first (item ∷ [])) s t
+    item_refused_at_start s t h = rw (item_events-row week first item) (refused_at_start T row s t h)
+
+    pub item_refused_at_terms : (s t u : S) → T.value t ≡ T.step (T.value s) (start_row (Soft item.rule item.weight)) →
+        Refused T (cell_term_events week item.terms) t u → Refused T (item_events Rows week first (item ∷ [])) s u
+    unfolding cell_term_events
+    item_refused_at_terms s t u started refused =
+        rw (item_events-row week first item)
+        (refused_at_terms T row s t u started (rw term_events-append (Refused-before T _ _ t u refused)))
+
+    pub item_refused_at_slacks : (s t u v : S) → T.value t ≡ T.step (T.value s) (start_row (Soft item.rule item.weight)) →
+        Took T (cell_term_events week item.terms) t u → Refused T (term_events (times (pos 1) (range_with_len first item.slacks))) u v →
+        Refused T (item_events Rows week first (item ∷ [])) s v
+    unfolding cell_term_events
+    item_refused_at_slacks s t u v started taken refused =
+        rw (item_events-row week first item)
+        (refused_at_terms T row s t v started (rw term_events-append (Refused-after T _ _ t u v taken refused)))
+
+    pub item_closed : (s t u v w : S) (r : Result (Unit {0}) F) → T.value t ≡ T.step (T.value s) (start_row (Soft item.rule item.weight)) →
+        Took T (cell_term_events week item.terms) t u → Took T (term_events (times (pos 1) (range_with_len first item.slacks))) u v →
+        MatchResult r (λ _. T.value w ≡ T.step (T.value v) (close_row item.degree)) (λ _. T.left (T.value v) (close_row item.degree) w) →
+        Takes T (item_events Rows week first (item ∷ [])) s w r
+    unfolding cell_term_events
+    item_closed s t u v w r started taken slacks closes =
+        rw (item_events-row week first item)
+        (closed T row s t v w r started (rw term_events-append (Took-then T _ _ t u v taken slacks)) closes)
+
+    pub weights_taken : {R : Type 0} (s t : S) (r : Result R F) →
+        Takes T (term_events (times (pos item.weight) (range_with_len first item.slacks))) s t r →
+        Takes T (item_events Weights week first (item ∷ [])) s t r
+    weights_taken s t r taken = rw (item_events-weights week first item) taken

@@ -1,0 +1,50 @@
+-- Sums that do not reach the greatest number.
+use Rattle.std.proofs.Common.{◌≡◌, ℕ, suc, ◌+◌, ◌^◌, ◌<◌, ◌≤◌, Bool, true, false, List, [], ◌∷◌, ◌++◌, map, refl, ap, arith, w64}
+use Rattle.std.specs.Prelude.{ℤ, pos, negsuc, ◌+ℤ◌, ◌-ℤ◌, ◌≤ℤ◌, neg_ℤ, nat_abs, if◌then◌else◌}
+use Rattle.std.specs.Int.{saturate_signed}
+use Rattle.std.specs.List.{sum_by}
+use Rattle.std.proofs.lemmas.Int.{ints}
+use Rattle.std.proofs.lemmas.List.Sums.{sum_by-cons}
+use Rattle.rota_items.specs.Linear.{Term, value_of}
+
+-- from -m to m
+pub record IsWithin (m : ℕ) (z : ℤ) : Type 0 where
+  pub low : neg_ℤ (pos m) ≤ℤ z
+  pub high : z ≤ℤ pos m
+
+pub saturated : (m : ℕ) (z : ℤ) → m < 2 ^ 63 → IsWithin m z → saturate_signed w64 z ≡ z
+saturated m (pos n) small w = let below : n ≤ m = omega (arith, ints, w.high) in ap pos (omega arith)
+saturated m (negsuc n) small w = let below : suc n ≤ m = omega (arith, ints, w.low) in ap negsuc (omega arith)
+
+pub within-sum : (m n : ℕ) (x y : ℤ) → IsWithin m x → IsWithin n y → IsWithin (m + n) (x +ℤ y)
+within-sum m n x y v w =
+    record { low = omega (arith, ints, v.low, w.low); high = omega (arith, ints, v.high, w.high) }
+
+pub within-more : (m n : ℕ) (z : ℤ) → m ≤ n → IsWithin m z → IsWithin n z
+within-more m n z more w = record { low = omega (arith, ints, w.low); high = omega (arith, ints, w.high) }
+
+pub within-own : (z : ℤ) → IsWithin (nat_abs z) z
+within-own (pos n) = record { low = omega (arith, ints); high = omega (arith, ints) }
+within-own (negsuc n) = record { low = omega (arith, ints); high = omega (arith, ints) }
+
+pub within-zero : (m : ℕ) → IsWithin m (pos 0)
+within-zero m = record { low = omega (arith, ints); high = omega (arith, ints) }
+
+pub within-chosen : (b : Bool) (z : ℤ) → IsWithin (nat_abs z) (if b then z else pos 0)
+within-chosen true z = within-own z
+within-chosen false z = within-zero (nat_abs z)
+
+-- ---- sums of terms
+
+-- the sum of the coefficients without their signs
+abbrev pub spread : {X : Type 0} → List (Term X) → ℕ
+spread {X} terms = sum_by (λ (term : Term X). nat_abs term.0) terms
+
+pub within-value_of : {X : Type 0} (assignment : X → Bool) (terms : List (Term X)) →
+    IsWithin (spread terms) (value_of assignment terms)
+within-value_of assignment [] = within-zero 0
+within-value_of {X} assignment (t ∷ ts) =
+    within-more (nat_abs t.0 + spread ts) (spread (t ∷ ts)) _
+    (omega (arith, sum_by-cons (λ (term : Term X). nat_abs term.0) t ts))
+    (within-sum (nat_abs t.0) (spread ts) (if assignment t.1 then t.0 else pos 0) (value_of assignment ts)
+    (within-chosen (assignment t.1) t.0) (within-value_of assignment ts))

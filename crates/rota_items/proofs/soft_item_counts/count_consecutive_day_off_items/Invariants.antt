@@ -1,0 +1,11 @@
+use Rattle.std.proofs.Common.{length}
+use Rattle.rota_core.specs.InstanceTables.{week_of}
+use Rattle.rota_items.specs.RunItems.{run_items}
+use Rattle.rota_items.specs.SoftItems.{off_runs}
+use Rattle.rota_items.proofs.ListLengths.{AddsUp}
+use Rattle.rota_items.proofs.soft_item_counts.count_consecutive_day_off_items.Given as goal
+
+abbrev pub invariant-loop-nurse : goal.invariant-loop-nurse
+invariant-loop-nurse l =
+    let week = week_of l.fn.instance in
+    AddsUp 0 l.nurse 56 (λ n. length (run_items (off_runs week n))) l.items

@@ -1,0 +1,7 @@
+use Rattle.std.proofs.Common.{refl}
+use Rattle.rota_items.specs.Lists.{only_if}
+use Rattle.rota_items.proofs.weekend_walk.sunday_alone.Goals as goal
+
+pub returns-clause-pattern : goal.returns-clause-pattern
+unfolding only_if
+returns-clause-pattern c = refl

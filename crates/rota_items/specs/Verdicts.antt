@@ -1,0 +1,78 @@
+-- What a judge finds of an assignment and its roster.
+use Rattle.std.specs.Prelude.{◌≡◌, ℕ, zero, suc, ◌+◌, ◌≤◌, pos, Bool, false, if◌then◌else◌, slice_index_or, Option, Some, None, List, [], ◌∷◌, map, sum, MatchOption}
+use Rattle.rota_core.specs.declared.rule.Rule.{Rule}
+use Rattle.rota_core.specs.declared.rule.Rule.TheVariants.{Unit as UnitRule}
+use Rattle.rota_core.specs.Week.{Week}
+use Rattle.rota_core.specs.Roster.{Roster}
+use Rattle.rota_core.specs.HardRules.{KeepsHardRules, FirstBroken}
+use Rattle.rota_items.specs.declared.part.Part.{Part}
+use Rattle.rota_items.specs.declared.part.Part.TheVariants.{Objective, Hard, Soft}
+use Rattle.rota_items.specs.declared.verdicts.Verdict.{Verdict}
+use Rattle.rota_items.specs.Linear.{SatisfiesModel, objective_value}
+use Rattle.rota_items.specs.LinearRow.{LinearRow}
+use Rattle.rota_items.specs.Penalty.{penalty, rule_cost}
+use Rattle.rota_items.specs.RuleCharges.{charged, soft_rules}
+use Rattle.rota_items.specs.WeekModel.{model_of, rows_of, roster_of, extension_of, is_satisfied}
+
+-- the variables whose bit is true, where bit i is that of variable i + 1
+abbrev pub truth_of : List Bool → ℕ → Bool
+truth_of bits zero = false
+truth_of bits (suc place) = slice_index_or bits place false
+
+-- the rule that a constraint stands for
+abbrev pub rule_of_part : Part → Rule
+rule_of_part Objective = UnitRule
+rule_of_part (Hard rule) = rule
+rule_of_part (Soft rule weight) = rule
+
+abbrev pub one_later : Option (ℕ × Rule) → Option (ℕ × Rule)
+one_later None = None
+one_later (Some (number, rule)) = Some (number + 1, rule)
+
+-- the number, from 1, and the rule of the first row that the assignment does not satisfy
+abbrev pub first_unmet : (ℕ → Bool) → List (LinearRow ℕ) → Option (ℕ × Rule)
+first_unmet assignment [] = None
+first_unmet assignment (row ∷ rows) =
+    (if is_satisfied assignment row
+    then one_later (first_unmet assignment rows)
+    else Some (1, rule_of_part row.part))
+
+-- The verdict names the first constraint that the assignment does not satisfy, gives the objective's value, and what
+-- each soft rule is charged on the roster.
+pub record Judges (week : Week) (assignment : ℕ → Bool) (roster : Roster) (verdict : Verdict) : Type 0 where
+  pub unmet : verdict.unmet ≡ first_unmet assignment (rows_of week)
+  pub objective : pos verdict.objective ≡ objective_value assignment (model_of week)
+  pub costs : map pos verdict.costs ≡ map (charged week roster) soft_rules
+
+-- The costs are those of the rules, and sum up to the penalty.
+pub record CostsTheRules (week : Week) (roster : Roster) (verdict : Verdict) : Type 0 where
+  pub costs : verdict.costs ≡ map (rule_cost week roster) soft_rules
+  pub sum_is : sum verdict.costs ≡ penalty week roster
+
+-- The assignment satisfies the model, and its roster keeps the hard rules at a penalty no greater than the objective.
+pub record IsMet (week : Week) (assignment : ℕ → Bool) (verdict : Verdict) : Type 0 where
+  pub satisfies : SatisfiesModel assignment (model_of week)
+  pub keeps : KeepsHardRules week (roster_of week assignment)
+  pub costs_rules : CostsTheRules week (roster_of week assignment) verdict
+  pub enough : penalty week (roster_of week assignment) ≤ verdict.objective
+
+-- No constraint is named exactly where the assignment satisfies the model.
+abbrev pub IsMetOrNot : Week → (ℕ → Bool) → Verdict → Type 0
+IsMetOrNot week assignment verdict =
+    MatchOption verdict.unmet
+    (IsMet week assignment verdict)
+    (λ _. SatisfiesModel assignment (model_of week) → ⊥)
+
+-- The roster keeps the hard rules, and its extension satisfies the model at its penalty.
+pub record Extends (week : Week) (roster : Roster) (verdict : Verdict) : Type 0 where
+  pub keeps : KeepsHardRules week roster
+  pub satisfies : SatisfiesModel (extension_of week roster) (model_of week)
+  pub costs_rules : CostsTheRules week roster verdict
+  pub objective : verdict.objective ≡ penalty week roster
+
+-- A constraint is named exactly where the roster breaks a hard rule, and it stands for the first that it breaks.
+abbrev pub ExtendsOrBreaks : Week → Roster → Verdict → Type 0
+ExtendsOrBreaks week roster verdict =
+    MatchOption verdict.unmet
+    (Extends week roster verdict)
+    (λ unmet. FirstBroken week roster unmet.1)

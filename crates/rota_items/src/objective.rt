@@ -1,0 +1,144 @@
+//! The objective: request rows that cells match, what no roster can avoid, and the slacks with their
+//! weights.
+ghost use Rattle.std.specs.Prelude.{◌≡◌, ◌↔◌, ◌<◌, true, false, Bool, []};
+ghost use Rattle.rota_core.specs.InstanceTables.{week_of};
+ghost use Rattle.rota_items.specs.CellEvents.{cell_term_events};
+ghost use Rattle.rota_items.specs.Events.{events, term_events};
+ghost use Rattle.rota_items.specs.Objective.{constant_terms, objective_rows, request_terms, request_terms_on};
+ghost use Rattle.rota_items.specs.Takes.{Takes};
+ghost use Rattle.rota_items.specs.WeekModel.{objective_terms};
+
+use crate::limits::within_limits;
+use crate::part::Part;
+use crate::soft_walk::take_slack_weights;
+use crate::takers::Taker;
+use crate::unavoidable::constant;
+use crate::variables::{cell_var, unit_var};
+use rota_core::{Cell, Instance};
+
+/// The refusal of a closed taker.
+#[derive(Drop)]
+struct Closed;
+
+/// A taker that refuses each event: what drives it fails exactly where there is an event to hand over.
+#[derive(Drop)]
+struct ClosedTaker;
+
+impl Taker for ClosedTaker {
+    type Fault = Closed;
+
+    ghost Value = { Bool };
+
+    ghost value = { λ _. false };
+
+    ghost step = { λ _ _. true };
+
+    ghost left = { λ _ _ _. Unit };
+
+    fn start_row(&mut self, _part: Part) -> Result<(), Closed> {
+        Err(Closed)
+    }
+
+    fn term(&mut self, _coefficient: i64, _variable: u32) -> Result<(), Closed> {
+        Err(Closed)
+    }
+
+    fn close_row(&mut self, _degree: i64) -> Result<(), Closed> {
+        Err(Closed)
+    }
+}
+
+/// The terms of the request rows that ask for a nurse's day off, by a shift type: 10 for each row, at
+/// each of the day's cells on the shift type.
+fn take_request_terms_on<T: Taker>(
+    instance: &Instance,
+    taker: &mut T,
+    nurse: u16,
+    day: u8,
+    shift: u8,
+) -> Result<(), T::Fault>
+    requires nurse_in { nurse < (week_of instance.now).nurses }
+    requires day_in { day < 7 }
+    requires shift_in { shift < (week_of instance.now).shifts }
+    ensures { let week = week_of instance.now in
+        Takes T.Taker (cell_term_events week (request_terms_on week nurse day shift))
+        taker.old taker.new result }
+{
+    let requests = instance.requests(nurse, day, shift);
+    if requests == 0 {
+        return Ok(());
+    }
+    let weight = 10 * u32::from(requests);
+    for skill in 0..instance.skills() {
+        let cell = Cell {
+            nurse,
+            day,
+            shift,
+            skill,
+        };
+        taker.term(i64::from(weight), cell_var(instance, cell))?;
+    }
+    Ok(())
+}
+
+/// The terms of the request rows, by rising cell.
+fn take_request_terms<T: Taker>(instance: &Instance, taker: &mut T) -> Result<(), T::Fault>
+    ensures { let week = week_of instance.now in
+        Takes T.Taker (cell_term_events week (request_terms week)) taker.old taker.new result }
+{
+    for nurse in 0..instance.nurses() {
+        for day in 0..7 {
+            for shift in 0..instance.shifts() {
+                take_request_terms_on(instance, taker, nurse, day, shift)?;
+            }
+        }
+    }
+    Ok(())
+}
+
+/// The constant, at the unit variable, where it is not 0.
+fn take_constant<T: Taker>(instance: &Instance, taker: &mut T) -> Result<(), T::Fault>
+    ensures { Takes T.Taker (term_events (constant_terms (week_of instance.now)))
+        taker.old taker.new result }
+{
+    within_limits(instance);
+    let constant = constant(instance);
+    if constant == 0 {
+        return Ok(());
+    }
+    taker.term(constant as i64, unit_var(instance))
+}
+
+/// The terms of the objective, by rising variable.
+fn take_terms<T: Taker>(instance: &Instance, taker: &mut T) -> Result<(), T::Fault>
+    ensures { Takes T.Taker (term_events (objective_terms (week_of instance.now)))
+        taker.old taker.new result }
+{
+    take_request_terms(instance, taker)?;
+    take_constant(instance, taker)?;
+    take_slack_weights(instance, taker)
+}
+
+/// Whether the objective has a term. It stops at the first one.
+fn has_term(instance: &Instance) -> bool
+    ensures { (result ≡ false) ↔ (objective_terms (week_of instance.now) ≡ []) }
+{
+    take_terms(instance, &mut ClosedTaker).is_err()
+}
+
+/// Hands the taker the objective, as one row, or nothing where it has no term.
+///
+/// Its terms stand by rising variable: for each request row that a cell matches 10 at the cell; what
+/// no roster can avoid, at the unit variable; and each slack with the weight of its item. The weights
+/// are those of INRC-II. A taker's fault is answered at once, and nothing more is handed to it.
+pub fn drive_objective<T: Taker>(instance: &Instance, taker: &mut T) -> Result<(), T::Fault>
+    ensures { Takes T.Taker (events (objective_rows (objective_terms (week_of instance.now))))
+        taker.old taker.new result }
+{
+    if !has_term(instance) {
+        return Ok(());
+    }
+    taker.start_row(Part::Objective)?;
+    take_terms(instance, taker)?;
+    taker.close_row(0)
+}

@@ -1,0 +1,83 @@
+//! The items of the soft rules as values: what a walk over them hands to a taker.
+
+use crate::sums::Sign;
+use rota_core::{Rule, Span};
+
+/// What of each item a walk hands over: its row, or the weight of each of its slacks.
+#[derive(Clone, Copy)]
+pub enum Section {
+    Rows,
+    Weights,
+}
+
+/// What a nurse's run is made of: days on a shift type, days of work, or days off.
+#[derive(Clone, Copy)]
+pub enum RunKind {
+    Shift(u8),
+    Work,
+    Off,
+}
+
+/// Days of the week, 0 to 6, that are all of a kind: from the first up to the end, which is left out.
+/// Whether the day before them and the day after them must not be of the kind, and the units that such
+/// days cost.
+#[derive(Clone, Copy)]
+pub struct DayPattern {
+    pub first: u8,
+    pub end: u8,
+    pub begins: bool,
+    pub ends: bool,
+    pub units: u16,
+}
+
+/// The terms of an item.
+#[derive(Clone, Copy)]
+pub enum ItemSum {
+    /// The cells of a day's shift type and skill, each with 1.
+    Demand {
+        day: u8,
+        shift: u8,
+        skill: u8,
+    },
+    /// The days of a nurse's pattern: the cells of a day that is to be of the kind with -1, and those
+    /// of another with 1; for days off the other way round.
+    Days {
+        nurse: u16,
+        kind: RunKind,
+        pattern: DayPattern,
+    },
+    /// All cells of a nurse.
+    Total {
+        nurse: u16,
+        sign: Sign,
+    },
+}
+
+/// An item: terms that with so many slacks are to be at least the degree, where each slack costs the
+/// weight.
+#[derive(Clone, Copy)]
+pub struct SoftItem {
+    pub rule: Rule,
+    pub weight: u32,
+    pub slacks: u32,
+    pub sum: ItemSum,
+    pub degree: i64,
+}
+
+/// What of a nurse's days is charged: the rule, the weight of a unit, and the kind of days that a
+/// pattern is to have.
+#[derive(Clone, Copy)]
+pub struct DayCharge {
+    pub rule: Rule,
+    pub weight: u16,
+    pub nurse: u16,
+    pub kind: RunKind,
+}
+
+/// A nurse's runs: how long a run the history left, and how long a run is to be.
+#[derive(Clone, Copy)]
+pub struct NurseRuns {
+    pub charge: DayCharge,
+    pub history: u16,
+    pub limits: Span,
+}
