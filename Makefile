@@ -1,8 +1,8 @@
-# Builds, tries, tests and installs the program. It needs Rattle's command `rt`.
+# Builds, tries, tests, measures and installs the program. It needs Rattle's command `rt`.
 
 PREFIX ?= /usr/local
 
-.PHONY: build example test install clean
+.PHONY: build example test bench install clean
 
 # `rt run` proves the program and all it stands on, and leaves it in its crate.
 build:
@@ -15,7 +15,11 @@ example: build
 	    --week examples/n005w4/WD-n005w4-0.txt
 
 test:
-	rt ci
+	.ci/run
+
+# Seconds, MB/s and memory on made-up weeks: bench/README.md says more.
+bench: build
+	python3 bench/run.py
 
 install: build
 	mkdir -p "$(DESTDIR)$(PREFIX)/bin"

@@ -1,5 +1,5 @@
 -- Why the program ends where the words give no job.
-use Rattle.std.specs.Prelude.{◌≡◌, ◌⊎◌, ⊤}
+use Rattle.std.specs.Prelude.{◌≡◌, ◌⊎◌, ℕ, ⊤}
 use Rattle.clap.specs.Words.{kind_of}
 use Rattle.clap.specs.declared.error.kind.ErrorKind.{ErrorKind}
 use Rattle.clap.specs.declared.error.kind.ErrorKind.TheVariants.{DisplayHelp, DisplayVersion, OutOfMemory}
@@ -8,10 +8,18 @@ use Rattle.inrc2pb.specs.declared.jobs.JobFault.TheVariants.{Words, Missing, Mem
 use Rattle.inrc2pb.specs.declared.stop.Stop.{Stop}
 use Rattle.inrc2pb.specs.declared.stop.Stop.TheVariants as stopped
 use Rattle.rota_pb.specs.declared.fault.Fault.TheVariants as failed
+use Rattle.rota_pb.specs.Statuses.{exit_status}
 
 -- the kinds of what is asked for, and is no mistake
 abbrev pub IsAskedFor : ErrorKind → Type 0
 IsAskedFor kind = (kind ≡ DisplayHelp) ⊎ (kind ≡ DisplayVersion)
+
+-- a mistake in the words that clap does not see
+abbrev pub IsUsage : Stop → Type 0
+IsUsage (stopped.Shown text) = ⊥
+IsUsage (stopped.Words text) = ⊥
+IsUsage (stopped.Usage text) = ⊤
+IsUsage (stopped.Job fault) = ⊥
 
 -- a text that was asked for is shown, and want of memory ends the program as it ends a job
 abbrev pub IsStopOf : JobFault → Stop → Type 0
@@ -19,5 +27,13 @@ IsStopOf (Words error) stop = (IsAskedFor (kind_of error) → stop ≡ stopped.S
     × (kind_of error ≡ OutOfMemory → stop ≡ stopped.Job failed.Memory)
     × ((stop ≡ stopped.Words error) ⊎ (IsAskedFor (kind_of error)
     ⊎ (kind_of error ≡ OutOfMemory)))
-IsStopOf Missing stop = ⊤
+IsStopOf Missing stop = IsUsage stop
 IsStopOf Memory stop = stop ≡ stopped.Job failed.Memory
+
+-- what the program then exits with: 2 for a mistake in the words, a job's fault with its own status, and
+-- 0 for a text that was asked for, or the status of a failed write where it did not go out
+abbrev pub IsStatusOf : Stop → ℕ → Type 0
+IsStatusOf (stopped.Shown text) status = (status ≡ 0) ⊎ (status ≡ exit_status failed.Write)
+IsStatusOf (stopped.Words text) status = status ≡ 2
+IsStatusOf (stopped.Usage text) status = status ≡ 2
+IsStatusOf (stopped.Job fault) status = status ≡ exit_status fault

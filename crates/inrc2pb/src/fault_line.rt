@@ -1,4 +1,6 @@
 //! The line on standard error that tells why a job failed.
+ghost use Rattle.std.specs.Prelude.{◌≡◌};
+
 use rota_core::{FileFault, FileName, Kind};
 use rota_pb::Fault;
 use std::fmt;
@@ -10,7 +12,9 @@ pub struct FaultLine<'a> {
 }
 
 impl<'a> FaultLine<'a> {
-    pub fn of(fault: &'a Fault) -> FaultLine<'a> {
+    pub fn of(fault: &'a Fault) -> FaultLine<'a>
+        ensures { result.fault.now ≡ fault.now }
+    {
         FaultLine { fault }
     }
 }

@@ -1,6 +1,6 @@
 //! The files of a job: those that it reads are opened before it runs, the one that it writes is made at
 //! its first write.
-ghost use Rattle.std.specs.Prelude.{◌≡◌, IfErr};
+ghost use Rattle.std.specs.Prelude.{◌≡◌, None, IfErr};
 ghost use Rattle.rota_pb.specs.declared.fault.Fault.TheVariants.{Read as ReadFailed};
 
 use crate::jobs::Inputs;
@@ -51,7 +51,11 @@ pub struct FileOnFirstWrite<'a, R: Files> {
 }
 
 impl<'a, R: Files> FileOnFirstWrite<'a, R> {
-    pub fn new(rt: &'a R, path: &'a str) -> FileOnFirstWrite<'a, R> {
+    /// The file at the path, which is not made yet.
+    pub fn new(rt: &'a R, path: &'a str) -> FileOnFirstWrite<'a, R>
+        ensures unmade { result.file ≡ None }
+        ensures path { result.path.now ≡ path.now }
+    {
         FileOnFirstWrite {
             rt,
             path,

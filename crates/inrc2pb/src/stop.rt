@@ -1,8 +1,9 @@
 //! Why the program ends before its work is done, and what it then says.
-ghost use Rattle.std.specs.Prelude.{◌≡◌};
-ghost use Rattle.inrc2pb.specs.Stops.{IsStopOf};
+ghost use Rattle.std.specs.Prelude.{◌≡◌, ◌⊎◌};
+ghost use Rattle.inrc2pb.specs.Stops.{IsStatusOf, IsStopOf};
 ghost use Rattle.inrc2pb.specs.declared.stop.Stop.TheVariants.{Job};
-ghost use Rattle.rota_pb.specs.declared.fault.Fault.TheVariants.{Memory};
+ghost use Rattle.rota_pb.specs.Statuses.{exit_status};
+ghost use Rattle.rota_pb.specs.declared.fault.Fault.TheVariants.{Memory, Write};
 
 use crate::fault_line::FaultLine;
 use crate::jobs::JobFault;
@@ -26,7 +27,9 @@ pub enum Stop {
 impl Stop {
     /// Says why on the standard error, or shows the text that was asked for. The answer is what the
     /// program exits with.
-    pub fn report<R: Print + Eprint>(&self, rt: &R) -> u8 {
+    pub fn report<R: Print + Eprint>(&self, rt: &R) -> u8
+        ensures { IsStatusOf self.now result }
+    {
         match self {
             Stop::Shown(text) => show(rt, text),
             Stop::Words(text) => told(rt.eprint(text), 2),
@@ -36,14 +39,18 @@ impl Stop {
     }
 }
 
-fn show<R: Print + Eprint>(rt: &R, text: &clap::Error) -> u8 {
+fn show<R: Print + Eprint>(rt: &R, text: &clap::Error) -> u8
+    ensures { (result ≡ 0) ⊎ (result ≡ exit_status Write) }
+{
     match rt.print(text) {
         Ok(()) => 0,
         Err(_) => report_fault(rt, &Fault::Write),
     }
 }
 
-fn report_fault(rt: &impl Eprint, fault: &Fault) -> u8 {
+fn report_fault(rt: &impl Eprint, fault: &Fault) -> u8
+    ensures { result ≡ exit_status fault.now }
+{
     told(eprintln!(rt; "{}", FaultLine::of(fault)), status_of(fault))
 }
 

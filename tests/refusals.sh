@@ -1,0 +1,126 @@
+#!/usr/bin/env bash
+# Refuses each allocation of the built program in turn, up to the first run that meets no refusal.
+#
+#   tests/refusals.sh
+#
+# A refused run ends as `out of memory` with nothing written. The one exception are growths ahead of
+# need, by std's `collect` and in clap's suggestions: such a run goes on without the room, and ends just
+# as a run with ample memory does. The runs of either kind are counted. The tests of refused memory are
+# refused their allocations in the same way, and pass.
+#
+# It takes the programs that `rt ci` left in their crates. Needs bash, the usual tools of a shell, and a
+# C compiler: $CC, else cc, else the clang of Rattle's kit.
+set -u
+cd "$(dirname "$0")/.." || exit 2
+
+room=$(mktemp -d) || exit 2
+trap 'rm -rf "$room"' EXIT
+
+inrc2pb=crates/inrc2pb/out/inrc2pb
+rota_tests=crates/rota_tests/out/rota_tests_tests
+for program in $inrc2pb $rota_tests; do
+    [ -x "$program" ] || { echo "FAILED: no program at $program: run 'rt ci' first"; exit 2; }
+done
+kit_clang() { echo "$(dirname "$(realpath "$(command -v rt)")")/../toolchain/bin/clang"; }
+compiler=${CC:-$(command -v cc || kit_clang)}
+"$compiler" -O1 -shared -fPIC -o "$room/refuse.so" tests/refused_allocations.c || exit 2
+
+failed=0
+ended_for_memory=0
+went_on=0
+tested=0
+echo 'inrc2pb: out of memory' > "$room/out_of_memory"
+: > "$room/nothing"
+
+# run NUMBER PROGRAM WORDS..: refuses the allocation of this number. Its status goes to $ended.
+run() {
+    local number=$1
+    shift
+    rm -f "$room/opb"
+    REFUSED=$number LD_PRELOAD=$room/refuse.so "$@" \
+        < /dev/null > "$room/out" 2> "$room/err" 9> "$room/refused"
+    ended=$?
+}
+
+# Whether the last run ended for want of memory, with nothing written.
+is_for_memory() {
+    [ $ended = 4 ] && cmp -s "$room/err" "$room/out_of_memory" && cmp -s "$room/out" "$room/nothing" && [ ! -e "$room/opb" ]
+}
+
+# Whether the last run ended as the one with ample memory.
+is_as_ample() {
+    local stream
+    [ $ended = "$ample" ] || return 1
+    for stream in out err opb; do
+        [ -e "$room/$stream" ] || : > "$room/$stream"
+        cmp -s "$room/$stream" "$room/ample_$stream" || return 1
+    done
+}
+
+complain() {
+    echo "FAILED: $what, allocation $number refused: $1 (status $ended: $(head -c 200 "$room/err"))"
+    failed=$((failed + 1))
+}
+
+# sweep WHAT WORDS..: refuses each allocation of the run on these words in turn.
+sweep() {
+    what=$1 number=0
+    shift
+    run 0 $inrc2pb "$@"
+    ample=$ended
+    for stream in out err opb; do
+        [ -e "$room/$stream" ] || : > "$room/$stream"
+        cp "$room/$stream" "$room/ample_$stream"
+    done
+    [ "$ample" != 4 ] || complain 'out of memory without a refusal'
+    while
+        number=$((number + 1))
+        run $number $inrc2pb "$@"
+        [ -s "$room/refused" ]
+    do
+        if is_for_memory; then
+            ended_for_memory=$((ended_for_memory + 1))
+        elif is_as_ample; then
+            went_on=$((went_on + 1))
+        else
+            complain 'neither out of memory nor the run with ample memory'
+        fi
+    done
+    [ $number -gt 1 ] || complain 'no allocation at all'
+    is_as_ample || complain 'not the run with ample memory, without a refusal'
+}
+
+# sweep_test NAME: refuses each allocation of a test in turn. It passes each time.
+sweep_test() {
+    what="test $1" number=0
+    while
+        number=$((number + 1))
+        run $number $rota_tests "$1"
+        [ $ended = 0 ] || complain 'the test failed'
+        [ -s "$room/refused" ]
+    do
+        tested=$((tested + 1))
+    done
+    [ $number -gt 1 ] || complain 'no allocation at all'
+}
+
+data=crates/inrc2pb/data
+small=(encode --sce "$data/scenario.txt" --his "$data/history.txt" --week "$data/week.txt")
+data=examples/n005w4
+five_nurses=(encode --sce "$data/Sc-n005w4.txt" --his "$data/H0-n005w4-0.txt" --week "$data/WD-n005w4-0.txt")
+
+sweep 'one nurse' "${small[@]}"
+cmp -s "$room/out" crates/inrc2pb/stdout || complain 'not the bytes of the model'
+sweep 'one nurse, to a file' "${small[@]}" --opb "$room/opb"
+cmp -s "$room/opb" crates/inrc2pb/stdout || complain 'not the bytes of the model'
+sweep 'five nurses' "${five_nurses[@]}"
+sweep 'no words'
+sweep 'help' --help
+sweep 'the version' --version
+sweep 'a word that is refused' solve
+sweep 'a missing option' encode --sce "$data/Sc-n005w4.txt"
+
+sweep_test refused_memory::memory_comes_before_the_first_write
+
+echo "refusals: $ended_for_memory runs ended for want of memory, $went_on went on without, $tested runs of a test, $failed failed"
+[ $failed = 0 ]

@@ -1,0 +1,148 @@
+#!/usr/bin/env bash
+# Runs the built program on words and on the files of `encode`, and checks its exit status and what it
+# writes where. What is expected stands in docs/formats.md.
+#
+#   tests/usage.sh [PROGRAM..]
+#
+# Without a PROGRAM it takes those that `rt ci` or `make build` left in the program's crate. Needs bash and
+# the usual tools of a shell.
+. "$(dirname "$0")/program_runs.sh"
+
+# The model of the week: 141 bytes.
+cat > "$room/model" <<'END'
+* #variable= 8 #constraint= 8
++1 x8 >= 1 ;
+-1 x1 >= -1 ;
+-1 x2 >= -1 ;
+-1 x3 >= -1 ;
+-1 x4 >= -1 ;
+-1 x5 >= -1 ;
+-1 x6 >= -1 ;
+-1 x7 >= -1 ;
+END
+line version 'inrc2pb 0.1.0'
+line scenario_ends 'inrc2pb: scenario line 10: end of file'
+line scenario_empty 'inrc2pb: scenario line 1: end of file'
+line scenario_long 'inrc2pb: scenario: out of limits'
+line history_word 'inrc2pb: history line 1: another word expected'
+
+asks_for_help() {
+    run 'no words' 2 nothing text
+    for words in --help -h 'encode --help' 'encode -h'; do
+        # shellcheck disable=SC2086
+        run "$words" 0 text nothing $words
+    done
+    for option in --sce --his --week --opb; do
+        grep -q -e "$option <FILE>" "$room/out" || complain "no $option"
+    done
+    run 'the version' 0 version nothing --version
+    out=/dev/full
+    run 'help that cannot be written' 3 nothing write_failed --help
+    run 'a version that cannot be written' 3 nothing write_failed --version
+    out=$room/out
+}
+
+refuses_words() {
+    local not_text
+    run 'an unknown word' 2 nothing text solve
+    run 'help as a word' 2 nothing text help
+    run 'no options' 2 nothing text encode
+    run 'no scenario' 2 nothing text encode --his history.txt --week week.txt
+    run 'no history' 2 nothing text encode --sce scenario.txt --week week.txt
+    run 'no week' 2 nothing text encode --sce scenario.txt --his history.txt
+    run 'an option twice' 2 nothing text "${week[@]}" --sce scenario.txt
+    run 'an output twice' 2 nothing text "${week[@]}" --opb a --opb b
+    is_missing a
+    run 'an option without its value' 2 nothing text "${week[@]}" --opb
+    run 'an unknown option' 2 nothing text "${week[@]}" --random 1
+    run 'a word too many' 2 nothing text "${week[@]}" week.txt
+    not_text=$(printf '\377')
+    run 'a word that is not text' 2 nothing text encode --sce "$not_text" --his history.txt --week week.txt
+    err=/dev/full
+    run 'a refusal that cannot be written' 2 nothing nothing solve
+    err=$room/err
+}
+
+fails_to_read() {
+    local missing=missing.txt
+    run 'no such scenario' 3 nothing read_failed encode --sce $missing --his history.txt --week week.txt
+    run 'no such history' 3 nothing read_failed encode --sce scenario.txt --his $missing --week week.txt
+    run 'no such week' 3 nothing read_failed encode --sce scenario.txt --his history.txt --week $missing
+    run 'a file that does not open comes first' 3 nothing read_failed encode --sce cut.txt --his history.txt --week $missing
+    run 'a path without a name' 3 nothing read_failed encode --sce= --his history.txt --week week.txt
+    run 'a directory as scenario' 3 nothing read_failed encode --sce . --his history.txt --week week.txt
+    run 'a directory as history' 3 nothing read_failed encode --sce scenario.txt --his . --week week.txt
+    run 'a directory as week' 3 nothing read_failed encode --sce scenario.txt --his history.txt --week .
+    run 'a directory after a fault' 1 nothing scenario_ends encode --sce cut.txt --his . --week week.txt
+    err=/dev/full
+    run 'a fault that cannot be told' 3 nothing nothing encode --sce $missing --his history.txt --week week.txt
+    err=$room/err
+}
+
+finds_faults() {
+    run 'an empty scenario' 1 nothing scenario_empty encode --sce nothing --his history.txt --week week.txt
+    run 'a scenario that is cut' 1 nothing scenario_ends encode --sce cut.txt --his history.txt --week week.txt
+    run 'a scenario of the greatest length' 0 model nothing encode --sce longest.txt --his history.txt --week week.txt
+    run 'a scenario that is too long' 1 nothing scenario_long encode --sce too_long.txt --his history.txt --week week.txt
+    run 'another word in the history' 1 nothing history_word encode --sce scenario.txt --his week.txt --week week.txt
+    run 'a week that is too late' 1 nothing week_late encode --sce scenario.txt --his late.txt --week week.txt
+}
+
+writes_the_model() {
+    run 'to standard output' 0 model nothing "${week[@]}"
+    run 'to a file' 0 nothing nothing "${week[@]}" --opb new.opb
+    holds new.opb model
+    cp "$room/longest.txt" "$room/old.opb"
+    run 'over a longer file' 0 nothing nothing "${week[@]}" --opb old.opb
+    holds old.opb model
+    run 'to standard output by name' 0 model nothing "${week[@]}" --opb /dev/stdout
+    in=$room/scenario.txt
+    run 'from standard input' 0 model nothing encode --sce /dev/stdin --his history.txt --week week.txt
+    in=/dev/null
+}
+
+leaves_files_alone() {
+    cp "$room/longest.txt" "$room/kept.opb"
+    run 'a fault beside an older file' 1 nothing scenario_ends encode --sce cut.txt --his history.txt --week week.txt --opb kept.opb
+    holds kept.opb longest.txt
+    run 'a late week beside an older file' 1 nothing week_late encode --sce scenario.txt --his late.txt --week week.txt --opb kept.opb
+    holds kept.opb longest.txt
+    run 'a missing week beside an older file' 3 nothing read_failed encode --sce scenario.txt --his history.txt --week missing.txt --opb kept.opb
+    holds kept.opb longest.txt
+    run 'a fault and no file' 1 nothing week_late encode --sce scenario.txt --his late.txt --week week.txt --opb unmade.opb
+    is_missing unmade.opb
+}
+
+fails_to_write() {
+    run 'a file in no folder' 3 nothing write_failed "${week[@]}" --opb missing/week.opb
+    run 'a folder as output' 3 nothing write_failed "${week[@]}" --opb .
+    run 'an output without a name' 3 nothing write_failed "${week[@]}" --opb=
+    run 'a full device' 3 nothing write_failed "${week[@]}" --opb /dev/full
+    out=/dev/full
+    run 'a full standard output' 3 nothing write_failed "${week[@]}"
+    out=$room/out
+}
+
+# The scenario cut in line 10, and filled up with blanks to so many bytes.
+sed '10s/\(Full (1,\).*/\1/;10q' "$room/scenario.txt" > "$room/cut.txt"
+fill() {
+    cat "$room/scenario.txt"
+    head -c $(($1 - $(wc -c < "$room/scenario.txt"))) /dev/zero | tr '\0' ' '
+}
+fill 4194304 > "$room/longest.txt"
+fill 4194305 > "$room/too_long.txt"
+
+week=(encode --sce scenario.txt --his history.txt --week week.txt)
+
+usage() {
+    rm -f "$room"/*.opb
+    asks_for_help
+    refuses_words
+    fails_to_read
+    finds_faults
+    writes_the_model
+    leaves_files_alone
+    fails_to_write
+}
+
+for_each_program usage "$@"
