@@ -104,6 +104,14 @@ sweep_test() {
     [ $number -gt 1 ] || complain 'no allocation at all'
 }
 
+# makes_no_more WHAT WORDS..: this run makes no more allocations than the run that was swept last.
+makes_no_more() {
+    what=$1
+    shift
+    run $number $inrc2pb "$@"
+    [ ! -s "$room/refused" ] || complain 'more allocations'
+}
+
 data=crates/inrc2pb/data
 small=(encode --sce "$data/scenario.txt" --his "$data/history.txt" --week "$data/week.txt")
 data=examples/n005w4
@@ -120,7 +128,18 @@ sweep 'the version' --version
 sweep 'a word that is refused' solve
 sweep 'a missing option' encode --sce "$data/Sc-n005w4.txt"
 
+solved=(--sce "$data/Sc-n005w4.txt" --his "$data/H0-n005w4-0.txt" --week "$data/WD-n005w4-0.txt")
+sweep 'an answer' decode "${solved[@]}" --answer "$data/answers/sat4j.txt" --sol "$room/opb"
+cp "$room/opb" "$room/roster"
+[ "$ended" = 0 ] || complain 'no solution'
+sweep 'a roster' extend "${solved[@]}" --from "$room/roster"
+sweep 'an empty answer' decode "${solved[@]}" --answer /dev/null --sol "$room/opb"
+(printf c; head -c 10000000 /dev/zero | tr '\0' x) > "$room/long_answer"
+makes_no_more 'an answer of one long line' decode "${solved[@]}" --answer "$room/long_answer" --sol "$room/opb"
+
 sweep_test refused_memory::memory_comes_before_the_first_write
+sweep_test refused_memory_decoding::decoding_wants_memory_before_the_first_write
+sweep_test extending::memory_comes_before_the_extension
 
 echo "refusals: $ended_for_memory runs ended for want of memory, $went_on went on without, $tested runs of a test, $failed failed"
 [ $failed = 0 ]

@@ -26,15 +26,30 @@ line scenario_empty 'inrc2pb: scenario line 1: end of file'
 line scenario_long 'inrc2pb: scenario: out of limits'
 line history_word 'inrc2pb: history line 1: another word expected'
 
+# tells_options SUBCOMMAND OPTION..: its help has a line for each option.
+tells_options() {
+    local subcommand=$1 help option
+    shift
+    for help in --help -h; do
+        run "$subcommand $help" 0 text nothing "$subcommand" "$help"
+        for option; do
+            grep -q -e "^ *$option <FILE>  *[A-Z]" "$room/out" || complain "no line for $option"
+        done
+    done
+}
+
 asks_for_help() {
+    local help subcommand
     run 'no words' 2 nothing text
-    for words in --help -h 'encode --help' 'encode -h'; do
-        # shellcheck disable=SC2086
-        run "$words" 0 text nothing $words
+    for help in --help -h; do
+        run "$help" 0 text nothing "$help"
+        for subcommand in encode decode extend; do
+            grep -q "^ *$subcommand  *[A-Z]" "$room/out" || complain "no line for $subcommand"
+        done
     done
-    for option in --sce --his --week --opb; do
-        grep -q -e "$option <FILE>" "$room/out" || complain "no $option"
-    done
+    tells_options encode --sce --his --week --opb
+    tells_options decode --sce --his --week --sol --answer
+    tells_options extend --sce --his --week --from
     run 'the version' 0 version nothing --version
     out=/dev/full
     run 'help that cannot be written' 3 nothing write_failed --help
@@ -43,10 +58,12 @@ asks_for_help() {
 }
 
 refuses_words() {
-    local not_text
+    local not_text subcommand
     run 'an unknown word' 2 nothing text solve
     run 'help as a word' 2 nothing text help
-    run 'no options' 2 nothing text encode
+    for subcommand in encode decode extend; do
+        run "no options of $subcommand" 2 nothing text $subcommand
+    done
     run 'no scenario' 2 nothing text encode --his history.txt --week week.txt
     run 'no history' 2 nothing text encode --sce scenario.txt --week week.txt
     run 'no week' 2 nothing text encode --sce scenario.txt --his history.txt

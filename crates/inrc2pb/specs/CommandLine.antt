@@ -27,6 +27,13 @@ subcommand_app name own = fold with_rule (new_app name) (input_rules ++ own)
 abbrev pub encode_app : App
 encode_app = subcommand_app (codes "encode") (file_rule (codes "opb") ∷ [])
 
+abbrev pub decode_app : App
+decode_app = subcommand_app (codes "decode")
+    (required_file_rule (codes "sol") ∷ file_rule (codes "answer") ∷ [])
+
+abbrev pub extend_app : App
+extend_app = subcommand_app (codes "extend") (required_file_rule (codes "from") ∷ [])
+
 -- the command before its subcommands: one of them has to be named
 abbrev pub bare_app : App
 bare_app = record (new_app (codes "inrc2pb")) {
@@ -39,7 +46,8 @@ bare_app = record (new_app (codes "inrc2pb")) {
 }
 
 abbrev pub inrc2pb_app : App
-inrc2pb_app = with_subcommand bare_app encode_app.top
+inrc2pb_app =
+    fold with_subcommand bare_app (encode_app.top ∷ decode_app.top ∷ extend_app.top ∷ [])
 
 -- the command is the app, and none of its arguments is global
 abbrev pub IsCommandOf : App → Command → Type 0

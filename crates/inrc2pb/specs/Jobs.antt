@@ -9,7 +9,7 @@ use Rattle.clap.specs.declared.parser.matches.ArgMatches.{ArgMatches}
 use Rattle.inrc2pb.specs.CommandLine.{inrc2pb_app}
 use Rattle.inrc2pb.specs.declared.jobs.Inputs.{Inputs}
 use Rattle.inrc2pb.specs.declared.jobs.Job.{Job}
-use Rattle.inrc2pb.specs.declared.jobs.Job.TheVariants.{Encode}
+use Rattle.inrc2pb.specs.declared.jobs.Job.TheVariants.{Encode, Decode, Extend}
 use Rattle.inrc2pb.specs.declared.jobs.JobFault.{JobFault}
 use Rattle.inrc2pb.specs.declared.jobs.JobFault.TheVariants.{Words, Missing, Memory}
 
@@ -26,7 +26,8 @@ abbrev pub Matched : Type 0
 Matched = Text × List Row
 
 abbrev pub IsSubcommand : Text → Type 0
-IsSubcommand name = name ≡ codes "encode"
+IsSubcommand name =
+    (name ≡ codes "encode") ⊎ ((name ≡ codes "decode") ⊎ (name ≡ codes "extend"))
 
 -- the paths are those of the options, unchanged
 pub record HasInputs (options : List Row) (inputs : Inputs) : Type 0 where
@@ -38,6 +39,11 @@ pub record HasInputs (options : List Row) (inputs : Inputs) : Type 0 where
 abbrev pub IsJobOf : Matched → Job → Type 0
 IsJobOf matched (Encode inputs opb) = (matched.0 ≡ codes "encode") × HasInputs matched.1 inputs
     × (first_of (codes "opb") matched.1 ≡ option_map string_bytes opb)
+IsJobOf matched (Decode inputs sol answer) = (matched.0 ≡ codes "decode")
+    × HasInputs matched.1 inputs × (first_of (codes "sol") matched.1 ≡ Some (string_bytes sol))
+    × (first_of (codes "answer") matched.1 ≡ option_map string_bytes answer)
+IsJobOf matched (Extend inputs from) = (matched.0 ≡ codes "extend") × HasInputs matched.1 inputs
+    × (first_of (codes "from") matched.1 ≡ Some (string_bytes from))
 
 abbrev pub LacksOption : Text → List Row → Type 0
 LacksOption id options = first_of id options ≡ None
@@ -49,6 +55,8 @@ LacksInput options = LacksOption (codes "sce") options ⊎ (LacksOption (codes "
 -- a required path is not there
 abbrev pub LacksPath : Matched → Type 0
 LacksPath matched = LacksInput matched.1
+    ⊎ (((matched.0 ≡ codes "decode") × LacksOption (codes "sol") matched.1)
+    ⊎ ((matched.0 ≡ codes "extend") × LacksOption (codes "from") matched.1))
 
 -- memory ran out, or a path is missing where `lacks` says so
 abbrev pub IsForMemoryOr : Type 0 → JobFault → Type 0

@@ -1,3 +1,4 @@
 pub mod CommandLine
+pub mod FaultLines
 pub mod Jobs
 pub mod Stops

@@ -1,24 +1,28 @@
 //! The command line, as a command of clap.
 ghost use Rattle.std.specs.Prelude.{◌≡◌, [], IfOk, false};
 ghost use Rattle.clap.specs.Words.{rule_of};
-ghost use Rattle.inrc2pb.specs.CommandLine.{IsCommandOf, bare_app, encode_app, file_rule};
-ghost use Rattle.inrc2pb.specs.CommandLine.{inrc2pb_app, required_file_rule, subcommand_app};
+ghost use Rattle.inrc2pb.specs.CommandLine.{IsCommandOf, bare_app, decode_app, encode_app};
+ghost use Rattle.inrc2pb.specs.CommandLine.{extend_app, file_rule, inrc2pb_app};
+ghost use Rattle.inrc2pb.specs.CommandLine.{required_file_rule, subcommand_app};
 
 use clap::{Arg, ArgAction, Command};
 use std::alloc::{AllocError, Global};
 
-/// The whole command: its subcommand has to be named.
+/// The whole command: one of its subcommands has to be named.
 pub fn inrc2pb<'a>(alloc: Global) -> Result<Command<'a>, AllocError>
     ensures { IfOk result (IsCommandOf inrc2pb_app) }
 {
-    bare(alloc)?.subcommand(encode(alloc)?)
+    bare(alloc)?
+        .subcommand(encode(alloc)?)?
+        .subcommand(decode(alloc)?)?
+        .subcommand(extend(alloc)?)
 }
 
 fn bare<'a>(alloc: Global) -> Result<Command<'a>, AllocError>
     ensures { IfOk result (IsCommandOf bare_app) }
 {
     Command::new(alloc, "inrc2pb")
-        .about("Turns one week of an INRC-II nurse roster into a pseudo-Boolean model")
+        .about("Turns one week of an INRC-II nurse roster into a pseudo-Boolean model, and back")
         .version("0.1.0")
         .subcommand_required(true)
         .arg_required_else_help(true)
@@ -33,6 +37,32 @@ fn encode<'a>(alloc: Global) -> Result<Command<'a>, AllocError>
         alloc,
         "opb",
         "Where to write the model [default: standard output]",
+    ))
+}
+
+fn decode<'a>(alloc: Global) -> Result<Command<'a>, AllocError>
+    ensures { IfOk result (IsCommandOf decode_app) }
+{
+    subcommand(
+        alloc,
+        "decode",
+        "Turns a solver's answer into a solution file, and reports what it costs",
+    )?
+    .arg(required_file(alloc, "sol", "Where to write the solution file"))?
+    .arg(file_option(
+        alloc,
+        "answer",
+        "The solver's answer [default: standard input]",
+    ))
+}
+
+fn extend<'a>(alloc: Global) -> Result<Command<'a>, AllocError>
+    ensures { IfOk result (IsCommandOf extend_app) }
+{
+    subcommand(alloc, "extend", "Turns a roster into an answer of a solver")?.arg(required_file(
+        alloc,
+        "from",
+        "The roster, in the form of a solution file",
     ))
 }
 

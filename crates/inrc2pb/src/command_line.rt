@@ -34,6 +34,15 @@ fn job_of(alloc: Global, name: &str, options: &ArgMatches<'_>) -> Result<Job, Jo
             inputs: inputs(alloc, options)?,
             opb: optional_path(alloc, options, "opb")?,
         }),
+        "decode" => Ok(Job::Decode {
+            inputs: inputs(alloc, options)?,
+            sol: required_path(alloc, options, "sol")?,
+            answer: optional_path(alloc, options, "answer")?,
+        }),
+        "extend" => Ok(Job::Extend {
+            inputs: inputs(alloc, options)?,
+            from: required_path(alloc, options, "from")?,
+        }),
         _ => unreachable!(),
     }
 }

@@ -1,8 +1,11 @@
 //! The line on standard error that tells why a job failed.
 ghost use Rattle.std.specs.Prelude.{◌≡◌};
+ghost use Rattle.inrc2pb.specs.FaultLines.{fault_line, file_text, kind_text, rule_text};
+ghost use Rattle.rota_pb.specs.Report.{status_words};
 
-use rota_core::{FileFault, FileName, Kind};
+use rota_core::{FileFault, FileName, Kind, Rule};
 use rota_pb::Fault;
+use solver_text::Status;
 use std::fmt;
 
 /// Shows a fault as the program's line, without its end.
@@ -20,6 +23,8 @@ impl<'a> FaultLine<'a> {
 }
 
 impl fmt::Display for FaultLine<'_> {
+    ghost output = { λ line. fault_line line.fault.now };
+
     fn fmt<W: fmt::Write>(&self, f: &mut fmt::Formatter<W>) -> fmt::Result {
         f.write_str("inrc2pb: ")?;
         match self.fault {
@@ -36,11 +41,19 @@ impl fmt::Display for FaultLine<'_> {
             Fault::File(FileFault::Memory) | Fault::Memory => f.write_str("out of memory"),
             Fault::Write => f.write_str("write failed"),
             Fault::Read => f.write_str("read failed"),
+            Fault::Answer(fault) => write!(f, "answer: {fault}"),
+            Fault::NoRoster(status) => {
+                write!(f, "solver found no roster: {}", status_text(*status))
+            }
+            Fault::Unmet(number) => write!(f, "constraint {number} is not satisfied"),
+            Fault::Breaks(rule) => write!(f, "roster breaks {}", rule_text(*rule)),
         }
     }
 }
 
-fn file_text(file: FileName) -> &'static str {
+fn file_text(file: FileName) -> &'static str
+    ensures { result.now ≡ file_text file }
+{
     match file {
         FileName::Scenario => "scenario",
         FileName::History => "history",
@@ -49,7 +62,9 @@ fn file_text(file: FileName) -> &'static str {
     }
 }
 
-fn kind_text(kind: Kind) -> &'static str {
+fn kind_text(kind: Kind) -> &'static str
+    ensures { result.now ≡ kind_text kind }
+{
     match kind {
         Kind::Ended => "end of file",
         Kind::OtherWord => "another word expected",
@@ -59,5 +74,36 @@ fn kind_text(kind: Kind) -> &'static str {
         Kind::Repeated => "repeated",
         Kind::Trailing => "text after the end",
         Kind::LateWeek => "week not below WEEKS",
+    }
+}
+
+fn status_text(status: Status) -> &'static str
+    ensures { result.now ≡ status_words status }
+{
+    match status {
+        Status::Satisfiable => "SATISFIABLE",
+        Status::Optimum => "OPTIMUM FOUND",
+        Status::Unsatisfiable => "UNSATISFIABLE",
+        Status::Unknown => "UNKNOWN",
+        Status::Unsupported => "UNSUPPORTED",
+    }
+}
+
+fn rule_text(rule: Rule) -> &'static str
+    ensures { result.now ≡ rule_text rule }
+{
+    match rule {
+        Rule::Unit => "unit",
+        Rule::H1 => "H1",
+        Rule::H2 => "H2",
+        Rule::H3 => "H3",
+        Rule::H4 => "H4",
+        Rule::S1 => "S1",
+        Rule::S2 => "S2",
+        Rule::S3 => "S3",
+        Rule::S4 => "S4",
+        Rule::S5 => "S5",
+        Rule::S6 => "S6",
+        Rule::S7 => "S7",
     }
 }

@@ -32,7 +32,11 @@ pub fn open_inputs<R: Files>(rt: &R, inputs: &Inputs) -> Result<OpenInputs<R::Fi
     })
 }
 
-fn open<R: Files>(rt: &R, path: &str) -> Result<FromRead<R::File>, Fault>
+/// Opens an input.
+///
+/// # Errors
+/// One that does not open: the read failed.
+pub fn open<R: Files>(rt: &R, path: &str) -> Result<FromRead<R::File>, Fault>
     ensures { IfErr result (λ fault. fault ≡ ReadFailed) }
 {
     match fs::open(rt, path) {

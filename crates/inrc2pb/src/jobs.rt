@@ -16,7 +16,22 @@ pub struct Inputs {
 #[derive(Debug, Drop)]
 pub enum Job {
     /// Write the model of the week, to standard output where no file is named for it.
-    Encode { inputs: Inputs, opb: Option<String> },
+    Encode {
+        inputs: Inputs,
+        opb: Option<String>,
+    },
+    /// Write the solution file `sol` of a solver's answer, and a report to standard output. The answer is
+    /// read from standard input where no file is named for it.
+    Decode {
+        inputs: Inputs,
+        sol: String,
+        answer: Option<String>,
+    },
+    /// Write to standard output the answer that a solver could give for the roster in the file `from`.
+    Extend {
+        inputs: Inputs,
+        from: String,
+    },
 }
 
 /// Why the words give no job.

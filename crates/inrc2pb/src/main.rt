@@ -1,4 +1,4 @@
-//! One week of an INRC-II nurse roster as a pseudo-Boolean model.
+//! One week of an INRC-II nurse roster as a pseudo-Boolean model, and back.
 #![tactic(auto)]
 
 mod command;
@@ -10,11 +10,11 @@ mod stop;
 #[cfg(test)]
 mod tests;
 
-use crate::files::{FileOnFirstWrite, open_inputs};
+use crate::files::{FileOnFirstWrite, OpenInputs, open, open_inputs};
 use crate::jobs::{Inputs, Job};
 use crate::stop::Stop;
-use rota_core::{Target, ToWrite};
-use rota_pb::{Fault, run_encode};
+use rota_core::{FromRead, Source, Target, ToWrite};
+use rota_pb::{Fault, run_decode, run_encode, run_extend};
 use std::process::ExitCode;
 use std::rt::{Env, Files};
 use std::{env, io};
@@ -26,7 +26,7 @@ fn main(rt: HostRuntime) -> ExitCode {
     }
 }
 
-fn run<R: Env + Files + Print + AllocGlobal>(rt: &R) -> Result<(), Stop> {
+fn run<R: Env + Files + Input + Print + AllocGlobal>(rt: &R) -> Result<(), Stop> {
     let words = arguments(rt)?;
     let words: Vec<&str> = words.iter().map(|word| word.as_str()).collect(rt.alloc())?;
     let job = command_line::job(rt.alloc(), words.as_slice())?;
@@ -42,7 +42,7 @@ fn arguments<R: Env + AllocGlobal>(rt: &R) -> Result<Vec<String>, Stop> {
     }
 }
 
-fn perform<R: Files + Print + AllocGlobal>(rt: &R, job: &Job) -> Result<(), Fault> {
+fn perform<R: Files + Input + Print + AllocGlobal>(rt: &R, job: &Job) -> Result<(), Fault> {
     match job {
         Job::Encode {
             inputs,
@@ -52,6 +52,12 @@ fn perform<R: Files + Print + AllocGlobal>(rt: &R, job: &Job) -> Result<(), Faul
             encode(rt, inputs, &mut ToWrite::new(out))
         }
         Job::Encode { inputs, opb: None } => encode(rt, inputs, &mut ToWrite::new(io::writer(rt))),
+        Job::Decode {
+            inputs,
+            sol,
+            answer,
+        } => decode(rt, inputs, sol.as_str(), answer),
+        Job::Extend { inputs, from } => extend(rt, inputs, from.as_str()),
     }
 }
 
@@ -67,5 +73,52 @@ fn encode<R: Files + AllocGlobal, W: Target>(
         &mut files.his,
         &mut files.week,
         out,
+    )
+}
+
+fn decode<R: Files + Input + Print + AllocGlobal>(
+    rt: &R,
+    inputs: &Inputs,
+    sol: &str,
+    answer: &Option<String>,
+) -> Result<(), Fault> {
+    let mut files = open_inputs(rt, inputs)?;
+    match answer {
+        Some(path) => decode_answer(rt, &mut files, &mut open(rt, path.as_str())?, sol),
+        None => decode_answer(rt, &mut files, &mut FromRead::new(rt.reader()), sol),
+    }
+}
+
+fn decode_answer<R: Files + Print + AllocGlobal, A: Source>(
+    rt: &R,
+    files: &mut OpenInputs<R::File>,
+    answer: &mut A,
+    sol: &str,
+) -> Result<(), Fault> {
+    run_decode(
+        rt.alloc(),
+        &mut files.sce,
+        &mut files.his,
+        &mut files.week,
+        answer,
+        &mut ToWrite::new(FileOnFirstWrite::new(rt, sol)),
+        &mut ToWrite::new(io::writer(rt)),
+    )
+}
+
+fn extend<R: Files + Print + AllocGlobal>(
+    rt: &R,
+    inputs: &Inputs,
+    from: &str,
+) -> Result<(), Fault> {
+    let mut files = open_inputs(rt, inputs)?;
+    let mut given = open(rt, from)?;
+    run_extend(
+        rt.alloc(),
+        &mut files.sce,
+        &mut files.his,
+        &mut files.week,
+        &mut given,
+        &mut ToWrite::new(io::writer(rt)),
     )
 }

@@ -14,7 +14,7 @@ cell_place-lt nurses shifts skills cell n d s k =
     let place = mul-add-lt ((cell.nurse * 7 + cell.day) * shifts + cell.shift) skills cell.skill (shifts * (7 * nurses)) row k in
     omega (arith, place)
 
-same_cell : (one other : Cell) → one.nurse ≡ other.nurse → one.day ≡ other.day → one.shift ≡ other.shift → one.skill ≡ other.skill → one ≡ other
+pub same_cell : (one other : Cell) → one.nurse ≡ other.nurse → one.day ≡ other.day → one.shift ≡ other.shift → one.skill ≡ other.skill → one ≡ other
 same_cell one other n d s k = λ i. record { nurse = n i; day = d i; shift = s i; skill = k i }
 
 -- two cells of one place are the same cell

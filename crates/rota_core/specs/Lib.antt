@@ -2,8 +2,10 @@ pub mod Below
 pub mod Bits
 pub mod HardRules
 pub mod InstanceTables
+pub mod Lists
 pub mod MemoryPorts
 pub mod Names
+pub mod Numeral
 pub mod Parts
 pub mod Ports
 pub mod Roster

@@ -29,6 +29,3 @@ pub use scenario::{Scenario, ScenarioParts};
 pub use std_ports::{FromRead, ToWrite};
 pub use values::{Cell, Contract, Demand, Past, Span};
 pub use week::{Week, WeekParts};
-
-#[cfg(test)]
-mod tests;

@@ -105,6 +105,7 @@ impl MemoryTarget {
     /// An empty target with room for so many bytes.
     pub fn new(alloc: Global, room: usize, pace: Pace) -> Result<MemoryTarget, AllocError>
         ensures empty { IfOk result (λ target. ⟦<MemoryTarget as Target>⟧.sent target ≡ Some []) }
+        ensures unflushed { IfOk result (λ target. ⟦<MemoryTarget as Target>⟧.flushed target ≡ Some 0) }
         ensures sound { IfOk result (λ target. ⟦<MemoryTarget as Target>⟧.has_failed target ≡ false) }
         ensures room { IfOk result (λ target. room_of target ≡ room) }
         ensures pace { IfOk result (λ target. target_pace target ≡ pace) }

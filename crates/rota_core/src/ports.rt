@@ -1,5 +1,5 @@
 //! Where bytes come from and go to.
-ghost use Rattle.std.specs.Prelude.{◌≡◌, ℕ, ◌<◌, ◌≤◌, Bool, ◌||◌, Option, List, length, is_err, true, IsErr, IfOk, OnOk, MatchResult};
+ghost use Rattle.std.specs.Prelude.{◌≡◌, ℕ, ◌<◌, ◌≤◌, Bool, ◌||◌, Option, List, length, is_err, true, IsErr, IfOk, IfErr, OnOk, MatchResult};
 ghost use Rattle.rota_core.specs.Ports.{Told, told_len, LeavesAfterRead, SendsOnWrite};
 
 /// A port failed. It fails from then on.
@@ -37,13 +37,15 @@ pub trait Target {
         ensures bound { IfOk result (λ n. n ≤ length piece.now) }
         ensures progress { IfOk result (λ n. 0 < length piece.now → 0 < n) }
         ensures bytes { SendsOnWrite (sent self.old) result piece.now (sent self.new) }
+        ensures flushed { flushed self.new ≡ flushed self.old }
         ensures failure { has_failed self.new ≡ (has_failed self.old || is_err result) }
         ensures for_good { has_failed self.old ≡ true → IsErr result };
 
-    /// Makes all sent bytes flushed.
+    /// Makes all sent bytes flushed. An error flushes none.
     fn flush(&mut self) -> Result<(), PortFault>
         ensures bytes { sent self.new ≡ sent self.old }
         ensures flushed { OnOk result (flushed self.new ≡ told_len (sent self.new)) }
+        ensures unflushed { IfErr result (λ _. flushed self.new ≡ flushed self.old) }
         ensures failure { has_failed self.new ≡ (has_failed self.old || is_err result) }
         ensures for_good { has_failed self.old ≡ true → IsErr result };
 }

@@ -1,28 +1,24 @@
 -- What a judge finds at the close of the rows of constraints.
-use Rattle.std.proofs.Common.{◌≡◌, ℕ, zero, suc, ◌+◌, ◌*◌, ◌<◌, ◌≤◌, Bool, true, false, ◌&&◌, not, List, [], ◌∷◌, ◌++◌, map, refl, sym, ap, ◌∙◌, arith, min, ltb}
-use Rattle.std.specs.Prelude.{ℤ, pos, negsuc, ◌+ℤ◌, ◌-ℤ◌, ◌≤ℤ◌, int_le, nat_lt, if◌then◌else◌}
-use Rattle.std.specs.List.{AllByRecursion, count_by, range_with_len, sum_by}
+use Rattle.std.proofs.Common.{◌≡◌, ℕ, zero, suc, ◌+◌, ◌<◌, ◌≤◌, Bool, true, false, ◌&&◌, not, List, [], ◌∷◌, refl, sym, ap, ◌∙◌, arith, min, ltb}
+use Rattle.std.specs.Prelude.{ℤ, pos, ◌-ℤ◌, int_le, nat_lt}
+use Rattle.std.specs.List.{AllByRecursion, count_by, range_with_len}
 use Rattle.std.proofs.lemmas.Int.{ints}
 use Rattle.std.proofs.lemmas.Bool.{lt-ltb, le-ltb}
 use Rattle.std.proofs.lemmas.Bool.Decides.{nat_tests}
 use Rattle.rota_core.specs.RosterTables.{RosterTables, set_of}
-use Rattle.rota_core.specs.Roster.{InWeek}
 use Rattle.rota_core.specs.Week.{Week}
-use Rattle.rota_core.specs.declared.values.Cell.{Cell}
-use Rattle.rota_items.specs.Cells.{cell_number, unit_number, first_slack}
+use Rattle.rota_items.specs.Cells.{unit_number, first_slack}
 use Rattle.rota_items.specs.Items.{Item, positive_part, shortage}
-use Rattle.rota_items.specs.Judging.{Evaluated, assigned, extended, assignment_in, roster_in, counts_for}
+use Rattle.rota_items.specs.Judging.{Evaluated, assigned, extended, counts_for}
 use Rattle.rota_items.specs.Linear.{Term, value_of, times}
 use Rattle.rota_items.specs.LinearRow.{LinearRow}
-use Rattle.rota_items.specs.Slacks.{item_row, item_rows, slack_variables, slack_weights}
+use Rattle.rota_items.specs.Slacks.{item_row, slack_variables}
 use Rattle.rota_items.specs.Verdicts.{truth_of}
 use Rattle.rota_items.specs.WeekModel.{assignment_of, extension_of, is_satisfied}
-use Rattle.rota_items.proofs.AssignmentOf.{assignment_of-cell}
 use Rattle.rota_items.proofs.Extension.{extension-below, value_of-agree}
-use Rattle.rota_items.proofs.ItemLaw.{IsExtension, count-front, needed-first, needed-after, value_of-item_constraint, value_of-weight}
+use Rattle.rota_items.proofs.ItemLaw.{IsExtension, count-front, needed-first, needed-after, value_of-item_constraint}
 use Rattle.rota_items.proofs.JudgedRows.{lacks, met, others, used}
 use Rattle.rota_items.proofs.JudgedTerms.{at_cells, at_unit, at_slacks, counted_cell, counted_unit, counted_slack, sums_of, value_of-parts}
-use Rattle.rota_items.proofs.Numbers.{cell_number-below}
 use Rattle.rota_items.proofs.PatternItems.{value_of-append}
 use Rattle.rota_items.proofs.TermsHold.{OnTerms, on-times}
 

@@ -1,12 +1,10 @@
 -- What a judge finds in the constraints of a week's model.
-use Rattle.std.proofs.Common.{◌≡◌, ℕ, ◌+◌, ◌*◌, ◌^◌, ◌<◌, ◌≤◌, Bool, true, false, List, [], ◌∷◌, ◌++◌, map, length, refl, sym, ap, ◌∙◌, arith, min}
-use Rattle.std.specs.Prelude.{ℤ, pos, ◌+ℤ◌, ◌-ℤ◌, ◌≤ℤ◌, nat_abs, nat_lt, ◌==◌, if◌then◌else◌}
+use Rattle.std.proofs.Common.{◌≡◌, ℕ, ◌+◌, ◌*◌, ◌^◌, ◌<◌, ◌≤◌, Bool, true, false, List, [], ◌∷◌, map, length, refl, sym, ap, ◌∙◌, arith, min}
+use Rattle.std.specs.Prelude.{ℤ, pos, ◌-ℤ◌, nat_abs, ◌==◌, if◌then◌else◌}
 use Rattle.std.specs.List.{AllByRecursion, sum_by, range_with_len}
 use Rattle.std.proofs.lemmas.Int.{ints}
-use Rattle.std.proofs.lemmas.List.{length-append, length-map}
 use Rattle.std.proofs.lemmas.List.Sums.{sum_by-cons, sum_by-append}
 use Rattle.std.proofs.lemmas.Nat.{mul-le}
-use Rattle.std.proofs.Math.Nat.{mul-le-mul_left}
 use Rattle.rota_core.specs.Roster.{Roster, InWeek}
 use Rattle.rota_core.specs.RosterTables.{RosterTables, set_of}
 use Rattle.rota_core.specs.Week.{Week}
@@ -16,19 +14,19 @@ use Rattle.rota_items.specs.Cells.{cell_number, unit_number, first_slack}
 use Rattle.rota_items.specs.Counting.{is_constraint}
 use Rattle.rota_items.specs.HardRows.{rule_rows}
 use Rattle.rota_items.specs.Items.{Item, numbered, positive_part, shortage, weighted_shortages}
-use Rattle.rota_items.specs.Judging.{Evaluated, assigned, extended, assignment_in, roster_in, counts_for, charged_late}
+use Rattle.rota_items.specs.Judging.{Evaluated, assigned, extended, assignment_in, roster_in, counts_for}
 use Rattle.rota_items.specs.Limits.{IsWithinLimits}
 use Rattle.rota_items.specs.Linear.{Term, value_of, times}
 use Rattle.rota_items.specs.LinearRow.{LinearRow}
 use Rattle.rota_items.specs.RuleCharges.{rule_number, shortages_of}
 use Rattle.rota_items.specs.Slacks.{item_row, item_rows, slack_variables, slack_weights}
 use Rattle.rota_items.specs.SoftItems.{soft_items}
-use Rattle.rota_items.specs.Verdicts.{truth_of, rule_of_part}
-use Rattle.rota_items.specs.WeekModel.{extension_of, hard_rows, is_satisfied, model_of, numbered_items, numbered_row, numbered_terms, rows_of, unit_row}
+use Rattle.rota_items.specs.Verdicts.{rule_of_part}
+use Rattle.rota_items.specs.WeekModel.{extension_of, hard_rows, is_satisfied, numbered_items, numbered_row, numbered_terms, rows_of, unit_row}
 use Rattle.rota_items.proofs.AssignmentOf.{assignment_of-cell}
 use Rattle.rota_items.proofs.Extension.{shortage-of_item, terms-below}
 use Rattle.rota_items.proofs.ItemLaw.{IsExtension, extension-extends, positive_part-le, value_of-weight}
-use Rattle.rota_items.proofs.JudgedItems.{counts-below, count-needed, ext, extends-after, lacks-item, met-assigned, met-hard, met-item, own, range-from, used-item}
+use Rattle.rota_items.proofs.JudgedItems.{counts-below, count-needed, ext, extends-after, lacks-item, met-assigned, met-hard, met-item, own, used-item}
 use Rattle.rota_items.proofs.JudgedRows.{IsJudged, IsSmall, below-difference, charge, cost, lacks, late, met, used, weight_of}
 use Rattle.rota_items.proofs.ListSums.{sum_by-map}
 use Rattle.rota_items.proofs.Loops.{AllByRecursion-append}
@@ -40,7 +38,6 @@ use Rattle.rota_items.proofs.RisingRows.{RowRises, rises-items, rises-rows}
 use Rattle.rota_items.proofs.SlackBound.{items-few, variables-below}
 use Rattle.rota_items.proofs.SmallItems.{IsMild, IsMildRow, length-rising, mild-items, mild-rows}
 use Rattle.rota_items.proofs.SmallSums.{spread, within-value_of}
-use Rattle.rota_items.proofs.TermsHold.{OnTerms}
 use Rattle.rota_items.proofs.Within.{RowIn, ItemIn, in-rule_rows, in-items}
 
 spread-numbered : (week : Week) (terms : List (Term Cell)) → spread (numbered_terms week terms) ≡ spread terms

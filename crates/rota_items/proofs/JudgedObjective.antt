@@ -1,31 +1,28 @@
 -- What a judge finds in the objective of a week's model.
-use Rattle.std.proofs.Common.{◌≡◌, ℕ, ◌+◌, ◌*◌, ◌^◌, ◌<◌, ◌≤◌, Bool, true, false, List, [], ◌∷◌, ◌++◌, map, replicate, refl, sym, ap, ◌∙◌, arith, min, Option, Some, None}
+use Rattle.std.proofs.Common.{◌≡◌, ℕ, ◌+◌, ◌<◌, ◌≤◌, Bool, true, false, List, [], ◌∷◌, ◌++◌, map, refl, sym, ap, ◌∙◌, arith, min, None}
 use Rattle.std.specs.Prelude.{ℤ, pos, negsuc, ◌+ℤ◌, ◌≤ℤ◌, nat_abs, nat_lt, if◌then◌else◌}
-use Rattle.std.specs.List.{AllByRecursion, fold, sum_by, range_with_len}
+use Rattle.std.specs.List.{AllByRecursion, fold, sum_by}
 use Rattle.std.proofs.lemmas.Int.{ints}
 use Rattle.std.proofs.lemmas.List.Sums.{fold-append, sum_by-cons}
 use Rattle.rota_core.specs.Roster.{InWeek}
-use Rattle.rota_core.specs.RosterTables.{RosterTables}
 use Rattle.rota_core.specs.Week.{Week}
-use Rattle.rota_core.specs.declared.rule.Rule.{Rule}
 use Rattle.rota_core.specs.declared.rule.Rule.TheVariants.{S4}
 use Rattle.rota_core.specs.declared.values.Cell.{Cell}
 use Rattle.rota_items.specs.declared.part.Part.TheVariants.{Objective}
 use Rattle.rota_items.specs.declared.tallies.Tally.{Tally}
-use Rattle.rota_items.specs.Cells.{cell_number, unit_number, first_slack}
+use Rattle.rota_items.specs.Cells.{unit_number, first_slack}
 use Rattle.rota_items.specs.Constant.{constant}
 use Rattle.rota_items.specs.Events.{events, row_events}
 use Rattle.rota_items.specs.Items.{Item, positive_part}
-use Rattle.rota_items.specs.Judging.{Evaluated, assigned, extended, assignment_in, roster_in, counts_for, at_true_slacks, no_tally, tallied, with_cost, closed}
+use Rattle.rota_items.specs.Judging.{Evaluated, assigned, extended, assignment_in, roster_in, counts_for, at_true_slacks, no_tally, tallied, closed}
 use Rattle.rota_items.specs.Limits.{IsWithinLimits}
 use Rattle.rota_items.specs.Linear.{Term, value_of, times}
 use Rattle.rota_items.specs.LinearRow.{LinearRow}
-use Rattle.rota_items.specs.Lists.{only_if}
 use Rattle.rota_items.specs.Objective.{constant_terms, objective_rows, request_terms}
 use Rattle.rota_items.specs.RuleCharges.{soft_rules}
 use Rattle.rota_items.specs.Slacks.{slack_variables, slack_weights}
 use Rattle.rota_items.specs.Verdicts.{truth_of}
-use Rattle.rota_items.specs.WeekModel.{extension_of, numbered_items, numbered_terms, objective_terms, rows_of}
+use Rattle.rota_items.specs.WeekModel.{numbered_items, numbered_terms, objective_terms, rows_of}
 use Rattle.rota_items.proofs.Extension.{value_of-of_terms}
 use Rattle.rota_items.proofs.ItemLaw.{positive_part-le}
 use Rattle.rota_items.proofs.JudgedItems.{cells-of_cells, cells-of_slacks, cells-of_unit, range-from, slacks-of_others, slacks-of_slacks, value_of-ext, value_of-own}

@@ -1,5 +1,5 @@
 -- What a judge makes of rows of constraints.
-use Rattle.std.proofs.Common.{◌≡◌, ℕ, ◌+◌, ◌*◌, ◌^◌, ◌<◌, ◌≤◌, Bool, true, false, List, [], ◌∷◌, ◌++◌, map, length, refl, sym, ap, ◌∙◌, arith, w64, min, Option, Some, None, get_or}
+use Rattle.std.proofs.Common.{◌≡◌, ℕ, ◌+◌, ◌*◌, ◌^◌, ◌<◌, ◌≤◌, Bool, true, false, List, [], ◌∷◌, map, length, refl, sym, ap, ◌∙◌, arith, w64, min, Option, Some, None}
 use Rattle.std.specs.Prelude.{ℤ, pos, negsuc, ◌+ℤ◌, ◌-ℤ◌, ◌≤ℤ◌, neg_ℤ, int_le, ◌==◌, if◌then◌else◌}
 use Rattle.std.specs.Int.{saturate_signed}
 use Rattle.std.specs.Option.{option_or}
@@ -17,10 +17,10 @@ use Rattle.rota_items.specs.declared.part.Part.TheVariants.{Objective, Hard, Sof
 use Rattle.rota_items.specs.declared.tallies.RowSums.{RowSums}
 use Rattle.rota_items.specs.declared.tallies.Tally.{Tally}
 use Rattle.rota_items.specs.Counting.{greatest_count, is_constraint}
-use Rattle.rota_items.specs.Events.{Event, close_row, term_events, row_events, events}
+use Rattle.rota_items.specs.Events.{close_row, term_events, row_events, events}
 use Rattle.rota_items.specs.Items.{positive_part}
-use Rattle.rota_items.specs.Judging.{Evaluated, assigned, extended, added_at, at_true_slacks, charged_late, closed, greatest_sum, is_met, lacking, minus, no_sums, plus, tallied, with_cost}
-use Rattle.rota_items.specs.Linear.{Term, value_of}
+use Rattle.rota_items.specs.Judging.{Evaluated, assigned, extended, at_true_slacks, charged_late, closed, greatest_sum, is_met, lacking, minus, no_sums, plus, tallied, with_cost}
+use Rattle.rota_items.specs.Linear.{Term}
 use Rattle.rota_items.specs.LinearRow.{LinearRow}
 use Rattle.rota_items.specs.RuleCharges.{rule_number, soft_rules}
 use Rattle.rota_items.specs.Verdicts.{first_unmet, one_later, rule_of_part}

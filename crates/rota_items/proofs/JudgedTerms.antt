@@ -1,5 +1,5 @@
 -- What a judge makes of the terms of a row.
-use Rattle.std.proofs.Common.{◌≡◌, ℕ, ◌+◌, ◌^◌, ◌<◌, ◌≤◌, Bool, true, false, ◌&&◌, not, List, [], ◌∷◌, ◌++◌, refl, sym, ap, ◌∙◌, arith}
+use Rattle.std.proofs.Common.{◌≡◌, ℕ, ◌+◌, ◌^◌, ◌<◌, Bool, true, false, ◌&&◌, not, List, [], ◌∷◌, ap, ◌∙◌, arith}
 use Rattle.std.specs.Prelude.{ℤ, pos, ◌+ℤ◌, nat_abs, nat_lt, if◌then◌else◌}
 use Rattle.std.specs.List.{fold}
 use Rattle.std.proofs.lemmas.Int.{ints}
@@ -11,7 +11,7 @@ use Rattle.rota_items.specs.Cells.{unit_number}
 use Rattle.rota_items.specs.Events.{term_events}
 use Rattle.rota_items.specs.Judging.{Evaluated, counts_for, no_sums, plus, tallied, with_term}
 use Rattle.rota_items.specs.Linear.{Term, value_of}
-use Rattle.rota_items.proofs.SmallSums.{IsWithin, saturated, within-sum, within-more, within-chosen, within-own, within-zero, spread}
+use Rattle.rota_items.proofs.SmallSums.{IsWithin, saturated, within-sum, within-chosen, within-own, within-zero, spread}
 
 -- the three places where a term can stand: below the unit variable, above it, or at it
 abbrev pub at_cells : Bool → Bool → Bool → Bool

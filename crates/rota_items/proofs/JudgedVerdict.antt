@@ -1,6 +1,6 @@
 -- A judge that was driven has the verdict of its assignment.
-use Rattle.std.proofs.Common.{◌≡◌, ℕ, ◌+◌, ◌*◌, ◌<◌, ◌≤◌, Bool, true, false, List, [], ◌∷◌, ◌++◌, map, length, refl, sym, ap, subst, ◌∙◌, arith, Option, Some, None}
-use Rattle.std.specs.Prelude.{ℤ, pos, ◌+ℤ◌, ◌≤ℤ◌, ◌==◌, if◌then◌else◌}
+use Rattle.std.proofs.Common.{◌≡◌, ℕ, ◌+◌, ◌*◌, ◌≤◌, Bool, true, false, List, [], ◌∷◌, ◌++◌, map, refl, sym, ap, subst, ◌∙◌, arith, Option, Some, None}
+use Rattle.std.specs.Prelude.{ℤ, pos, ◌≤ℤ◌, ◌==◌, if◌then◌else◌}
 use Rattle.std.specs.Option.{option_or}
 use Rattle.std.specs.List.{fold, sum_by}
 use Rattle.std.proofs.lemmas.Int.{ints}
@@ -11,16 +11,15 @@ use Rattle.rota_core.specs.declared.rule.Rule.{Rule}
 use Rattle.rota_core.specs.declared.rule.Rule.TheVariants.{S1, S2, S3, S4, S5, S6, S7}
 use Rattle.rota_items.specs.declared.tallies.Tally.{Tally}
 use Rattle.rota_items.specs.declared.verdicts.Verdict.{Verdict}
-use Rattle.rota_items.specs.Constant.{constant, constant_of_assignments, constant_of_weekends}
+use Rattle.rota_items.specs.Constant.{constant_of_assignments, constant_of_weekends}
 use Rattle.rota_items.specs.Events.{Event, events}
 use Rattle.rota_items.specs.Items.{positive_part}
 use Rattle.rota_items.specs.Judging.{Evaluated, Judging, assignment_in, roster_in, fresh, judged, no_tally, tallied, WasDriven, with_cost}
 use Rattle.rota_items.specs.Limits.{IsWithinLimits}
 use Rattle.rota_items.specs.Linear.{value_of}
 use Rattle.rota_items.specs.LinearRow.{LinearRow}
-use Rattle.rota_items.specs.Objective.{objective_rows, request_terms}
-use Rattle.rota_items.specs.RuleCharges.{charged, constant_of_rule, rule_number, shortages_of, soft_rules}
-use Rattle.rota_items.specs.SoftItems.{soft_items}
+use Rattle.rota_items.specs.Objective.{objective_rows}
+use Rattle.rota_items.specs.RuleCharges.{charged, rule_number, soft_rules}
 use Rattle.rota_items.specs.Verdicts.{Judges, first_unmet}
 use Rattle.rota_items.specs.WeekModel.{objective_terms, rows_of}
 use Rattle.rota_items.proofs.InstanceLimits.{demand-small, instance-within_limits}
@@ -28,7 +27,7 @@ use Rattle.rota_items.proofs.ItemLaw.{positive_part-le}
 use Rattle.rota_items.proofs.JudgedModel.{charged-rows, costs-rows, judged-rows}
 use Rattle.rota_items.proofs.JudgedObjective.{AfterObjective, found, objective-found, objective-judged, requests-natural, spread-objective}
 use Rattle.rota_items.proofs.JudgedRows.{After, Holds, charge, cost, cost-few, cost-raised, late, later, others, raised, rows-judged, within-others, within-used}
-use Rattle.rota_items.proofs.JudgedTerms.{counted_cell, sums_of}
+use Rattle.rota_items.proofs.JudgedTerms.{counted_cell}
 use Rattle.rota_items.proofs.ObjectiveBound.{constant-few}
 use Rattle.rota_items.proofs.SlackBound.{rows-below}
 use Rattle.rota_items.proofs.SmallSums.{IsWithin, spread, within-sum, within-value_of}

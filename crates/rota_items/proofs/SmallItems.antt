@@ -1,7 +1,7 @@
 -- How large the numbers of the rows are.
-use Rattle.std.proofs.Common.{◌≡◌, ℕ, ◌+◌, ◌*◌, ◌-◌, ◌<◌, ◌≤◌, ◌^◌, Bool, true, false, ◌&&◌, List, [], ◌∷◌, ◌++◌, map, length, refl, ap, arith}
+use Rattle.std.proofs.Common.{◌≡◌, ℕ, ◌+◌, ◌≤◌, Bool, true, false, ◌&&◌, List, [], ◌∷◌, ◌++◌, length, refl, arith}
 use Rattle.std.specs.Prelude.{ℤ, pos, negsuc, ◌-ℤ◌, nat_abs, nat_lt, nat_le, if◌then◌else◌, flat_map, count_by}
-use Rattle.std.specs.List.{sum_by, AllByRecursion}
+use Rattle.std.specs.List.{AllByRecursion}
 use Rattle.std.proofs.lemmas.Int.{ints}
 use Rattle.std.proofs.lemmas.List.{length-append}
 use Rattle.std.proofs.lemmas.List.Sums.{sum_by-cons, sum_by-append}
@@ -18,7 +18,7 @@ use Rattle.rota_items.specs.Items.{Item, positive_part}
 use Rattle.rota_items.specs.Limits.{IsWithinLimits}
 use Rattle.rota_items.specs.Linear.{Term, times}
 use Rattle.rota_items.specs.LinearRow.{LinearRow}
-use Rattle.rota_items.specs.Lists.{each_below, only_if}
+use Rattle.rota_items.specs.Lists.{only_if}
 use Rattle.rota_items.specs.RunItems.{Property, Present, Runs, day_terms, is_plain, variables_on, pattern_item, pattern_items, run_items}
 use Rattle.rota_items.specs.RunPatterns.{PatternDay, with_property, without_property, Pattern, window, windows_on, closed_pattern, closed_patterns_on, edge_pattern, edge_patterns_on, patterns_on, windows, patterns}
 use Rattle.rota_items.specs.SoftItems.{soft_items, shift_runs, work_runs, off_runs, weekend_item, still_allowed}

@@ -1,6 +1,6 @@
 -- What a verdict says of the model and of the rules.
-use Rattle.std.proofs.Common.{◌≡◌, ℕ, ◌+◌, ◌≤◌, Bool, true, false, ◌⊎◌, inl, inr, List, [], ◌∷◌, ◌++◌, map, sum, refl, sym, ap, subst, ◌∙◌, arith, Option, Some, None}
-use Rattle.std.specs.Prelude.{ℤ, pos, ◌+ℤ◌, ◌≤ℤ◌, if◌then◌else◌, MatchOption}
+use Rattle.std.proofs.Common.{◌≡◌, ℕ, ◌+◌, Bool, true, false, inl, inr, List, [], ◌∷◌, ◌++◌, map, sum, refl, sym, ap, subst, ◌∙◌, arith, Option, Some, None}
+use Rattle.std.specs.Prelude.{ℤ, pos, if◌then◌else◌, MatchOption}
 use Rattle.std.specs.List.{AllByRecursion}
 use Rattle.std.proofs.lemmas.Int.{ints}
 use Rattle.std.proofs.lemmas.Option.{none-some}
@@ -9,7 +9,6 @@ use Rattle.rota_core.specs.HardRules.{KeepsHardRules, FirstBroken}
 use Rattle.rota_core.specs.Roster.{Roster}
 use Rattle.rota_core.specs.Week.{Week}
 use Rattle.rota_core.specs.declared.rule.Rule.{Rule}
-use Rattle.rota_core.specs.declared.rule.Rule.TheVariants.{S1, S2, S3, S4, S5, S6, S7}
 use Rattle.rota_items.specs.declared.part.Part.{Part}
 use Rattle.rota_items.specs.declared.part.Part.TheVariants.{Objective, Hard, Soft}
 use Rattle.rota_items.specs.declared.verdicts.Verdict.{Verdict}
@@ -21,7 +20,7 @@ use Rattle.rota_items.specs.RuleCharges.{charged, soft_rules}
 use Rattle.rota_items.specs.Slacks.{item_rows}
 use Rattle.rota_items.specs.Cells.{first_slack}
 use Rattle.rota_items.specs.Verdicts.{CostsTheRules, Extends, ExtendsOrBreaks, IsMet, IsMetOrNot, Judges, first_unmet, one_later, rule_of_part}
-use Rattle.rota_items.specs.WeekModel.{StandsForFirstBroken, extension_of, first_unsatisfied, hard_rows, is_satisfied, model_of, numbered_items, objective_terms, roster_of, rows_of}
+use Rattle.rota_items.specs.WeekModel.{StandsForFirstBroken, extension_of, first_unsatisfied, hard_rows, is_satisfied, model_of, numbered_items, roster_of, rows_of}
 use Rattle.rota_items.proofs.Extension.{extension-first_broken, extension-objective, extension-satisfies, satisfying-keeps, satisfying-objective}
 use Rattle.rota_items.proofs.FirstBroken.{le_or_not}
 use Rattle.rota_items.proofs.RuleCharges.{charged_by_rule}

@@ -1,5 +1,5 @@
 -- What a judge makes of the events of rows.
-use Rattle.std.specs.Prelude.{◌≡◌, ℕ, ◌+◌, ◌*◌, ℤ, pos, ◌+ℤ◌, ◌-ℤ◌, min, Bool, true, false, ◌||◌, nat_lt, int_le, if◌then◌else◌, Option, Some, None, List, ◌++◌, slice_index_or, slice_set, replicate}
+use Rattle.std.specs.Prelude.{◌≡◌, ℕ, ◌+◌, ◌*◌, ℤ, pos, ◌+ℤ◌, ◌-ℤ◌, min, Bool, ◌||◌, nat_lt, int_le, if◌then◌else◌, Some, None, List, ◌++◌, slice_index_or, slice_set, replicate}
 use Rattle.std.specs.List.{fold}
 use Rattle.std.specs.Int.{saturate_signed, w64}
 use Rattle.std.specs.Option.{option_or}
@@ -13,7 +13,6 @@ use Rattle.rota_items.specs.declared.part.Part.{Part}
 use Rattle.rota_items.specs.declared.part.Part.TheVariants.{Objective, Hard, Soft}
 use Rattle.rota_items.specs.declared.tallies.RowSums.{RowSums}
 use Rattle.rota_items.specs.declared.tallies.Tally.{Tally}
-use Rattle.rota_items.specs.declared.verdicts.Verdict.{Verdict}
 use Rattle.rota_items.specs.Cells.{unit_number}
 use Rattle.rota_items.specs.Counting.{greatest_count}
 use Rattle.rota_items.specs.Events.{Event, start_row, term, close_row, events}

@@ -55,14 +55,6 @@ model_of week = record {
   constraints = map linear_constraint (rows_of week);
 }
 
--- the model of the hard rules alone
-abbrev pub hard_model_of : Week → Model
-hard_model_of week = record {
-  variables = unit_number week;
-  objective = [];
-  constraints = hard_constraints week;
-}
-
 -- ---- rosters and assignments
 
 -- the roster that an assignment stands for: the cells whose variable is true

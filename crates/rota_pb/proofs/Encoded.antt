@@ -1,5 +1,5 @@
 -- What the text of a week's model says.
-use Rattle.std.proofs.Common.{◌≡◌, ℕ, Bool, List, refl, sym, subst}
+use Rattle.std.proofs.Common.{◌≡◌, refl, sym, subst}
 use Rattle.std.specs.Io.KnownBytes.{append_known}
 use Rattle.std.proofs.lemmas.List.{map-append}
 use Rattle.std.proofs.lemmas.List.Elements.{All-from_recursion, recursion_from_All}
@@ -17,9 +17,9 @@ use Rattle.rota_items.proofs.Satisfied.{hard_constraints-hold, hard_constraints-
 use Rattle.opb_text.specs.Begins.{Begins}
 use Rattle.opb_text.specs.ModelText.{opb_text, SpellsModel}
 use Rattle.opb_text.proofs.OneModel.{each_text_spells_one_model}
-use Rattle.rota_pb.specs.Encoding.{Extends, Decodes, BeginsWithHardRules, MeansRules, IsModelText, WritesModel, WritesBeginning}
+use Rattle.rota_pb.specs.Encoding.{BeginsWithHardRules, MeansRules, IsModelText, WritesModel, WritesBeginning}
 use Rattle.rota_pb.specs.declared.fault.Fault.{Fault}
-use Rattle.rota_pb.specs.declared.fault.Fault.TheVariants.{File, Memory, Write, Read}
+use Rattle.rota_pb.specs.declared.fault.Fault.TheVariants.{File, Memory, Write, Read, Answer, NoRoster, Unmet, Breaks}
 use Rattle.rota_pb.specs.Faults.{OnCheck, OnWrite}
 use Rattle.rota_pb.specs.Readers.{Reader}
 use Rattle.rota_pb.specs.WeekFiles.{SpellsWeek}
@@ -78,3 +78,7 @@ on_write (File file) holds = tt
 on_write Memory holds = tt
 on_write Write holds = holds
 on_write Read holds = tt
+on_write (Answer fault) holds = tt
+on_write (NoRoster status) holds = tt
+on_write (Unmet number) holds = tt
+on_write (Breaks rule) holds = tt

@@ -11,7 +11,7 @@ use Rattle.rota_read.specs.Layout.{Layout}
 use Rattle.rota_read.specs.Reading.{LONGEST}
 use Rattle.rota_read.specs.Files.{HasFault, too_long, misses_slot, goes_on, Spells, IsFaultOf}
 use Rattle.rota_pb.specs.declared.fault.Fault.{Fault}
-use Rattle.rota_pb.specs.declared.fault.Fault.TheVariants.{File, Memory, Write, Read}
+use Rattle.rota_pb.specs.declared.fault.Fault.TheVariants.{File, Memory, Write, Read, Answer, NoRoster, Unmet, Breaks}
 use Rattle.rota_pb.specs.Faults.{FailsCheck, fault_of_file}
 use Rattle.rota_pb.specs.Readers.{Reader}
 use Rattle.rota_pb.specs.WeekFiles.{IsRead}
@@ -21,7 +21,7 @@ some_injective : {A : Type 0} (a b : A) → ◌≡◌ {A = Option A} (Some a) (S
 some_injective a b same = cc
 
 -- the told bytes are those that were read, and then those that are left
-told_are : (given left : Told) (text bytes : List ℕ) → given ≡ prepend_known text left → given ≡ Some bytes →
+pub told_are : (given left : Told) (text bytes : List ℕ) → given ≡ prepend_known text left → given ≡ Some bytes →
     (rest : List ℕ) × (left ≡ Some rest) × (text ++ rest ≡ bytes)
 told_are given None text bytes is told = let h : ◌≡◌ {A = Told} None (Some bytes) = sym is ∙ told in absurd cc
 told_are given (Some rest) text bytes is told = (rest, refl, some_injective (text ++ rest) bytes (sym is ∙ told))
@@ -65,3 +65,7 @@ stops-check name layout reader (File file) stops = absurd stops
 stops-check name layout reader Memory stops = stops
 stops-check name layout reader Write stops = absurd stops
 stops-check name layout reader Read stops = stops
+stops-check name layout reader (Answer fault) stops = absurd stops
+stops-check name layout reader (NoRoster status) stops = absurd stops
+stops-check name layout reader (Unmet number) stops = absurd stops
+stops-check name layout reader (Breaks rule) stops = absurd stops

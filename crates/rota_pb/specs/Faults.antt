@@ -10,7 +10,7 @@ use Rattle.rota_read.specs.Reading.{LONGEST}
 use Rattle.rota_pb.specs.Readers.{Reader}
 use Rattle.rota_pb.specs.WholeRead.{FailsWithin}
 use Rattle.rota_pb.specs.declared.fault.Fault.{Fault}
-use Rattle.rota_pb.specs.declared.fault.Fault.TheVariants.{File, Memory, Write, Read}
+use Rattle.rota_pb.specs.declared.fault.Fault.TheVariants.{File, Memory, Write, Read, Answer, NoRoster, Unmet, Breaks}
 
 -- what a file's fault is among the faults of a run
 abbrev pub fault_of_file : FileFault → Fault
@@ -31,6 +31,10 @@ FailsCheck name layout reader (File file) = IsRefused name layout reader.given f
 FailsCheck name layout reader Memory = reader.failed ≡ reader.failed_before
 FailsCheck name layout reader Read = FailsWithin (LONGEST + 1) reader.given reader.left reader.failed
 FailsCheck name layout reader Write = ⊥
+FailsCheck name layout reader (Answer fault) = ⊥
+FailsCheck name layout reader (NoRoster status) = ⊥
+FailsCheck name layout reader (Unmet number) = ⊥
+FailsCheck name layout reader (Breaks rule) = ⊥
 
 -- a fact for each fault but a failed write
 abbrev pub OnCheck : Fault → Type 0 → Type 0
@@ -38,6 +42,10 @@ OnCheck Write P = Unit {0}
 OnCheck (File file) P = P
 OnCheck Memory P = P
 OnCheck Read P = P
+OnCheck (Answer fault) P = P
+OnCheck (NoRoster status) P = P
+OnCheck (Unmet number) P = P
+OnCheck (Breaks rule) P = P
 
 -- a fact for a failed write
 abbrev pub OnWrite : Fault → Type 0 → Type 0
@@ -45,3 +53,7 @@ OnWrite Write P = P
 OnWrite (File file) P = Unit {0}
 OnWrite Memory P = Unit {0}
 OnWrite Read P = Unit {0}
+OnWrite (Answer fault) P = Unit {0}
+OnWrite (NoRoster status) P = Unit {0}
+OnWrite (Unmet number) P = Unit {0}
+OnWrite (Breaks rule) P = Unit {0}

@@ -1,6 +1,15 @@
+pub mod AnswerPieces
+pub mod Decoded
+pub mod Decoding
 pub mod Encoding
+pub mod Extending
 pub mod Faults
+pub mod Feeding
 pub mod Readers
+pub mod Report
+pub mod RosterRows
+pub mod SlackTaker
 pub mod Statuses
 pub mod WeekFiles
 pub mod WholeRead
+pub mod Writers

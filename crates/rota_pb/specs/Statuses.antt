@@ -2,7 +2,7 @@
 use Rattle.std.specs.Prelude.{ℕ}
 use Rattle.rota_core.specs.declared.fault.FileFault.TheVariants as refusals
 use Rattle.rota_pb.specs.declared.fault.Fault.{Fault}
-use Rattle.rota_pb.specs.declared.fault.Fault.TheVariants.{File, Memory, Write, Read}
+use Rattle.rota_pb.specs.declared.fault.Fault.TheVariants.{File, Memory, Write, Read, Answer, NoRoster, Unmet, Breaks}
 
 abbrev pub exit_status : Fault → ℕ
 exit_status (File (refusals.Bad kind file line)) = 1
@@ -10,3 +10,7 @@ exit_status (File refusals.Memory) = 4
 exit_status Memory = 4
 exit_status Write = 3
 exit_status Read = 3
+exit_status (Answer fault) = 1
+exit_status (NoRoster status) = 5
+exit_status (Unmet number) = 6
+exit_status (Breaks rule) = 6

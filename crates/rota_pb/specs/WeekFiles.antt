@@ -1,5 +1,5 @@
 -- The three files of a week, checked one after the other.
-use Rattle.std.specs.Prelude.{◌≡◌, ℕ, ◌≤◌, ◌<◌, Bool, List, Some}
+use Rattle.std.specs.Prelude.{◌≡◌, ℕ, ◌≤◌, ◌<◌, List, Some}
 use Rattle.rota_core.specs.Ports.{Told}
 use Rattle.rota_core.specs.ScenarioTables.{ScenarioTables}
 use Rattle.rota_core.specs.WeekTables.{HistoryTables, WeekTables}
@@ -13,7 +13,7 @@ use Rattle.rota_read.specs.ScenarioLayout.{scenario}
 use Rattle.rota_read.specs.HistoryLayout.{history}
 use Rattle.rota_read.specs.WeekLayout.{week}
 use Rattle.rota_pb.specs.declared.fault.Fault.{Fault}
-use Rattle.rota_pb.specs.declared.fault.Fault.TheVariants.{File, Memory}
+use Rattle.rota_pb.specs.declared.fault.Fault.TheVariants.{File}
 use Rattle.rota_pb.specs.Readers.{Reader}
 use Rattle.rota_pb.specs.Faults.{FailsCheck}
 

@@ -2,9 +2,10 @@
 ghost use Rattle.std.specs.Prelude.{◌≡◌};
 ghost use Rattle.rota_pb.specs.Statuses.{exit_status};
 ghost use Rattle.rota_pb.specs.Faults.{fault_of_file};
-ghost use Rattle.rota_pb.specs.declared.fault.Fault.TheVariants.{Memory};
+ghost use Rattle.rota_pb.specs.declared.fault.Fault.TheVariants.{Answer, Memory};
 
-use rota_core::FileFault;
+use rota_core::{FileFault, Rule};
+use solver_text::{AnswerFault, Status};
 use std::alloc::AllocError;
 
 /// Why a run failed.
@@ -18,6 +19,15 @@ pub enum Fault {
     Write,
     /// A reader failed.
     Read,
+    /// A solver's answer is no answer: its first fault.
+    Answer(AnswerFault),
+    /// The solver found no roster: the status of its answer.
+    NoRoster(Status),
+    /// The answer does not satisfy the model: the number, from 1, of the first constraint that it does
+    /// not satisfy.
+    Unmet(u32),
+    /// The roster breaks a hard rule: the first one that it breaks.
+    Breaks(Rule),
 }
 
 impl From<FileFault> for Fault {
@@ -31,6 +41,14 @@ impl From<FileFault> for Fault {
     }
 }
 
+impl From<AnswerFault> for Fault {
+    ghost from_gives = { λ given fault. fault ≡ Answer given };
+
+    fn from(fault: AnswerFault) -> Fault {
+        Fault::Answer(fault)
+    }
+}
+
 impl From<AllocError> for Fault {
     ghost from_gives = { λ _ fault. fault ≡ Memory };
 
@@ -39,14 +57,17 @@ impl From<AllocError> for Fault {
     }
 }
 
-/// The exit status of a program whose run failed: 1 for a file's fault, 3 where a reader or the
-/// writer failed, 4 where memory ran out.
+/// The exit status of a program whose run failed: 1 for a fault of a file or an answer, 3 where a
+/// reader or a writer failed, 4 where memory ran out, 5 where a solver found no roster, 6 where an
+/// answer does not satisfy the model or a roster breaks a hard rule.
 pub fn status_of(fault: &Fault) -> u8
     ensures { result ≡ exit_status fault.now }
 {
     match fault {
-        Fault::File(FileFault::Bad { .. }) => 1,
+        Fault::File(FileFault::Bad { .. }) | Fault::Answer(_) => 1,
         Fault::Write | Fault::Read => 3,
         Fault::File(FileFault::Memory) | Fault::Memory => 4,
+        Fault::NoRoster(_) => 5,
+        Fault::Unmet(_) | Fault::Breaks(_) => 6,
     }
 }

@@ -1,23 +1,21 @@
 -- Each row of requirements takes a pair of a shift type and a skill that had none, so a greater bound on the rows changes nothing.
-use Rattle.std.proofs.Common.{◌≡◌, ℕ, zero, suc, ◌+◌, ◌*◌, ◌<◌, ◌≤◌, Bool, true, false, List, ◌∷◌, Option, Some, None, Result, Ok, Err, length, get_or, is_some, slice_set, unwrap_or, codes, if◌then◌else◌, refl, ap, ◌∙◌, arith}
+use Rattle.std.proofs.Common.{◌≡◌, ℕ, zero, suc, ◌+◌, ◌*◌, ◌<◌, ◌≤◌, Bool, true, false, List, Option, Some, None, Result, Ok, Err, length, get_or, is_some, slice_set, codes, if◌then◌else◌, refl, ap, ◌∙◌, arith}
 use Rattle.std.specs.List.{count_by}
-use Rattle.std.specs.Option.{option_map_or}
 use Rattle.std.proofs.lemmas.List.{length-replicate, length-set}
 use Rattle.std.proofs.lemmas.List.Sums.{count_by-le-length, sum_by-set}
 use Rattle.std.proofs.lemmas.Nat.{mul-add-lt}
 use Rattle.rota_core.specs.ScenarioTables.{ScenarioTables}
-use Rattle.rota_core.specs.Names.{place_of}
 use Rattle.rota_core.specs.declared.values.Demand.{Demand}
-use Rattle.rota_core.specs.declared.fault.Kind.TheVariants as kinds
 use Rattle.rota_read.specs.declared.fault.Fault.{Fault}
 use Rattle.rota_read.specs.Tokens.{Token, Reading}
-use Rattle.rota_read.specs.Layout.{Layout, is_sign_token, known_name, none_taken}
+use Rattle.rota_read.specs.Layout.{Layout}
 use Rattle.rota_read.specs.Reading.{and_then, read}
 use Rattle.rota_read.specs.Files.{Fills}
-use Rattle.rota_read.specs.WeekLayout.{shift_at, shift_or, Requirements, is_listed, requirement, requirement_of, requirement_row, after_row, repeat_until, most_rows, no_requirements, requirement_rows}
+use Rattle.rota_read.specs.WeekLayout.{Requirements, is_listed, requirement, requirement_of, requirement_row, after_row, repeat_until, most_rows, no_requirements, requirement_rows}
 use Rattle.rota_read.specs.WeekBound.{BoundEndsNoRows}
 use Rattle.rota_read.proofs.FileLaws.{fills-read}
-use Rattle.rota_read.proofs.SlotLaws.{known_name-below}
+use Rattle.rota_read.specs.ShiftLayout.{shift_or}
+use Rattle.rota_read.proofs.SlotLaws.{known_name-below, known_name-free, shift_or-below}
 
 -- ---- how many pairs have no row
 
@@ -41,33 +39,6 @@ one_less rows place days lt free =
     let e = sum_by-set as_number rows place (Some days) None lt in
     let one = vacant_at (get_or rows place None) free in
     omega arith
-
-is_free : (b : Bool) (place : Option ℕ) (is_taken : ℕ → Bool) → (if b then Some kinds.OtherWord else option_map_or (λ p. if is_taken p then Some kinds.Repeated else None) place (Some kinds.Unknown)) ≡ None
-    → is_taken (unwrap_or place 0) ≡ false
-is_free true place is_taken h = absurd (cc)
-is_free false None is_taken h = absurd (cc)
-is_free false (Some p) is_taken h = by (is_taken p) h
-  where
-    by : (taken : Bool) → (if taken then Some kinds.Repeated else None) ≡ None → taken ≡ false
-    by true h = absurd (cc)
-    by false h = refl
-
--- a known name is at a place that is not taken
-known_name-free : (names : List (List ℕ)) (is_taken : ℕ → Bool) (front : List Token) (place : ℕ) → Fills (known_name names is_taken) front place → is_taken place ≡ false
-unfolding Fills known_name
-known_name-free names is_taken front place h =
-    let t = h.4.0 in
-    let free = is_free (is_sign_token t.word) (place_of names t.word) is_taken h.4.2 in
-    let same : place ≡ unwrap_or (place_of names t.word) 0 = h.5.1 ∙ ap (λ w. unwrap_or (place_of names w) 0) h.4.3 in
-    rw same free
-
-below_suc : (place shift n : ℕ) → Some shift ≡ shift_at place → place < suc n → shift < n
-below_suc zero shift n e lt = absurd (cc)
-below_suc (suc place) shift n e lt = let same : shift ≡ place = cc in omega arith
-
-shift_or-below : (word : List ℕ) (shifts : List (List ℕ)) (front : List Token) (shift : ℕ) → Fills (shift_or word shifts) front (Some shift) → shift < length shifts
-unfolding Fills shift_or
-shift_or-below word shifts front shift h = below_suc h.0 shift (length shifts) h.5.1 (known_name-below (word ∷ shifts) none_taken h.1 h.0 h.4)
 
 -- a row leaves one pair less without a row
 abbrev OneLess : Requirements → Requirements → Type 0
@@ -93,7 +64,7 @@ requirement_row-takes t rows front next size h = by h.0 h.1 h.4 h.2 h.5
     by None first f second h = absurd (let e : true ≡ false = ap (λ (x : Bool × Requirements). x.0) h.1 in cc)
     by (Some shift) first f second h =
         let e : next ≡ h.0 = ap (λ (x : Bool × Requirements). x.1) h.5.1 in
-        rw e (requirement-takes t.shifts t.skills shift rows h.1 h.0 (shift_or-below (codes "SHIFT_OFF_REQUESTS") t.shifts first shift f) size h.4)
+        rw e (requirement-takes t.shifts t.skills shift rows h.1 h.0 (shift_or-below (codes "SHIFT_OFF_REQUESTS") t.shifts first (Some shift) f shift refl) size h.4)
 
 -- ---- two bounds
 

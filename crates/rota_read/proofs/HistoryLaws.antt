@@ -1,52 +1,21 @@
 -- What a history's text spells is within the limits, and each nurse has her past.
-use Rattle.std.proofs.Common.{◌≡◌, ℕ, zero, suc, ◌+◌, ◌<◌, ◌≤◌, Bool, true, false, List, [], ◌∷◌, ◌++◌, length, codes, map, Option, Some, None, unwrap_or, is_some, cond, get_or, set, replicate, refl, sym, ap, ◌∙◌, subst, arith, if◌then◌else◌}
+use Rattle.std.proofs.Common.{◌≡◌, ℕ, zero, suc, ◌+◌, ◌<◌, ◌≤◌, Bool, false, List, [], ◌∷◌, length, codes, map, Option, Some, None, unwrap_or, is_some, cond, set, replicate, refl, sym, ap, ◌∙◌, subst, arith}
 use Rattle.std.specs.List.{AllByRecursion, count_by}
-use Rattle.std.specs.Option.{ForSome, option_map_or}
 use Rattle.std.proofs.lemmas.List.{length-set, length-map, length-replicate}
 use Rattle.std.proofs.lemmas.List.Sums.{sum_by-cons, sum_by-set, count_by-le-length}
-use Rattle.rota_core.specs.declared.fault.Kind.TheVariants as kinds
 use Rattle.rota_core.specs.declared.values.Past.{Past}
 use Rattle.rota_core.specs.InstanceTables.{HasNumbersOf}
-use Rattle.rota_core.specs.Names.{place_of}
 use Rattle.rota_core.specs.ScenarioTables.{ScenarioTables}
 use Rattle.rota_core.specs.Week.{no_past}
 use Rattle.rota_core.specs.WeekTables.{HistoryTables, IsHistory, IsPast}
 use Rattle.rota_read.specs.Tokens.{Token, tokens}
-use Rattle.rota_read.specs.Layout.{known_name, none_taken, repeat, is_sign_token}
-use Rattle.rota_read.specs.HistoryLayout.{shift_at, last_shift, past, Pasts, has_past, past_row, past_rows, history_heading, history}
+use Rattle.rota_read.specs.Layout.{repeat}
+use Rattle.rota_read.specs.HistoryLayout.{past, Pasts, has_past, past_row, past_rows, history_heading, history}
 use Rattle.rota_read.specs.HistoryRows.{GivesEachPast, HasLimitedNumbers}
 use Rattle.rota_read.specs.Files.{Fills, Spells}
-use Rattle.rota_read.proofs.SlotLaws.{number-within, known_name-below}
-
--- ---- a known name that is not taken
-
-is_free : (b : Bool) (place : Option ℕ) (is_taken : ℕ → Bool) → (if b then Some kinds.OtherWord else option_map_or (λ p. if is_taken p then Some kinds.Repeated else None) place (Some kinds.Unknown)) ≡ None
-    → is_taken (unwrap_or place 0) ≡ false
-is_free true place is_taken h = absurd (cc)
-is_free false None is_taken h = absurd (cc)
-is_free false (Some p) is_taken h = by (is_taken p) h
-  where
-    by : (b : Bool) → (if b then Some kinds.Repeated else None) ≡ None → b ≡ false
-    by true e = absurd (cc)
-    by false e = refl
-
-known_name-free : (names : List (List ℕ)) (is_taken : ℕ → Bool) (front : List Token) (place : ℕ) → Fills (known_name names is_taken) front place → is_taken place ≡ false
-unfolding Fills known_name
-known_name-free names is_taken front place h =
-    let t = h.4.0 in
-    let same : place ≡ unwrap_or (place_of names t.word) 0 = h.5.1 ∙ ap (λ w. unwrap_or (place_of names w) 0) h.4.3 in
-    rw same (is_free (is_sign_token t.word) (place_of names t.word) is_taken h.4.2)
+use Rattle.rota_read.proofs.SlotLaws.{number-within, known_name-below, known_name-free, shift_or-below}
 
 -- ---- one past
-
-below_shifts : (n place : ℕ) → place < suc n → ForSome (shift_at place) (λ s. s < n)
-below_shifts n zero lt s e = absurd (cc)
-below_shifts n (suc shift) lt s e = let same : shift ≡ s = cc in subst (λ k. k < n) same (omega arith)
-
-last_shift-below : (shifts : List (List ℕ)) (front : List Token) (last : Option ℕ) → Fills (last_shift shifts) front last → ForSome last (λ s. s < length shifts)
-unfolding Fills last_shift
-last_shift-below shifts front last h =
-    rw h.5.1 (below_shifts (length shifts) h.0 (known_name-below (codes "None" ∷ shifts) none_taken h.1 h.0 h.4))
 
 past-is_past : (shifts : List (List ℕ)) (front : List Token) (one : Past) → Fills (past shifts) front one → IsPast (length shifts) one
 unfolding Fills past
@@ -59,7 +28,7 @@ past-is_past shifts front one h =
     let off_run = work_run.5 in
     rw off_run.5.1 (record {
       totals = ((number-within 0 9999 h.1 h.0 h.4).1, (number-within 0 9999 weekends.1 weekends.0 weekends.4).1);
-      last = last_shift-below shifts last.1 last.0 last.4;
+      last = shift_or-below (codes "None") shifts last.1 last.0 last.4;
       runs = ((number-within 0 9999 shift_run.1 shift_run.0 shift_run.4).1, (number-within 0 9999 work_run.1 work_run.0 work_run.4).1, (number-within 0 9999 off_run.1 off_run.0 off_run.4).1);
     })
 

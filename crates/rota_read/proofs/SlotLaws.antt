@@ -1,7 +1,7 @@
 -- What a token that fits a slot says.
 use Rattle.std.proofs.Common.{◌≡◌, ℕ, zero, suc, ◌+◌, ◌<◌, ◌≤◌, Bool, true, false, ◌&&◌, List, [], ◌∷◌, ◌++◌, length, Option, Some, None, unwrap_or, nat_le, refl, sym, ap, ◌∙◌, subst, arith, true≢false, if◌then◌else◌}
 use Rattle.std.specs.List.{AllByRecursion}
-use Rattle.std.specs.Option.{option_map_or}
+use Rattle.std.specs.Option.{ForSome, option_map_or}
 use Rattle.std.proofs.lemmas.Bool.Decides.{nat_tests}
 use Rattle.std.proofs.lemmas.List.{length-append}
 use Rattle.std.proofs.lemmas.List.Quantifiers.{position-Some}
@@ -10,7 +10,8 @@ use Rattle.rota_core.specs.Words.{IsWord}
 use Rattle.rota_core.specs.Names.{is_among, place_of}
 use Rattle.rota_core.specs.declared.fault.Kind.TheVariants as kinds
 use Rattle.rota_read.specs.Tokens.{Token}
-use Rattle.rota_read.specs.Layout.{Layout, decimal, is_decimal, is_sign_token, number, any_word, new_name, known_name, repeat}
+use Rattle.rota_read.specs.Layout.{Layout, decimal, is_decimal, is_sign_token, number, any_word, new_name, known_name, none_taken, repeat}
+use Rattle.rota_read.specs.ShiftLayout.{shift_at, shift_or}
 use Rattle.rota_read.specs.Files.{Fills}
 use Rattle.rota_read.proofs.WordLaws.{IsToken}
 
@@ -86,6 +87,34 @@ known_name-below names is_taken front place h =
     let known = is_known (is_sign_token t.word) (place_of names t.word) is_taken h.4.2 in
     let same : place ≡ known.0 = h.5.1 ∙ ap (λ w. unwrap_or (place_of names w) 0) h.4.3 ∙ ap (λ o. unwrap_or o 0) known.1 in
     rw same (position-Some (bytes_eq t.word) names known.0 [] known.1).0
+
+is_free : (b : Bool) (place : Option ℕ) (is_taken : ℕ → Bool) → (if b then Some kinds.OtherWord else option_map_or (λ p. if is_taken p then Some kinds.Repeated else None) place (Some kinds.Unknown)) ≡ None
+    → is_taken (unwrap_or place 0) ≡ false
+is_free true place is_taken h = absurd (cc)
+is_free false None is_taken h = absurd (cc)
+is_free false (Some p) is_taken h = by (is_taken p) h
+  where
+    by : (taken : Bool) → (if taken then Some kinds.Repeated else None) ≡ None → taken ≡ false
+    by true e = absurd (cc)
+    by false e = refl
+
+-- a known name is at a place that is not taken
+pub known_name-free : (names : List (List ℕ)) (is_taken : ℕ → Bool) (front : List Token) (place : ℕ) → Fills (known_name names is_taken) front place → is_taken place ≡ false
+unfolding Fills known_name
+known_name-free names is_taken front place h =
+    let t = h.4.0 in
+    let same : place ≡ unwrap_or (place_of names t.word) 0 = h.5.1 ∙ ap (λ w. unwrap_or (place_of names w) 0) h.4.3 in
+    rw same (is_free (is_sign_token t.word) (place_of names t.word) is_taken h.4.2)
+
+below_shifts : (n place : ℕ) → place < suc n → ForSome (shift_at place) (λ s. s < n)
+below_shifts n zero lt s e = absurd (cc)
+below_shifts n (suc shift) lt s e = let same : shift ≡ s = cc in subst (λ k. k < n) same (omega arith)
+
+-- a shift type that stands in place of the word is one of those that are known
+pub shift_or-below : (word : List ℕ) (shifts : List (List ℕ)) (front : List Token) (shift : Option ℕ) → Fills (shift_or word shifts) front shift → ForSome shift (λ s. s < length shifts)
+unfolding Fills shift_or
+shift_or-below word shifts front shift h =
+    rw h.5.1 (below_shifts (length shifts) h.0 (known_name-below (word ∷ shifts) none_taken h.1 h.0 h.4))
 
 -- what each row keeps holds after all of them
 pub repeat-keeps : {S : Type 0} (row : S → Layout S) (Keeps : ℕ → S → Type 0)

@@ -1,18 +1,15 @@
 -- Reading the rows of a solution.
 use Rattle.std.proofs.Common.{◌≡◌, ℕ, List, [], ◌∷◌, ◌++◌, Result, Ok, Err, IfOk, refl, ap, ◌∙◌, sym}
 use Rattle.rota_core.specs.declared.values.Cell.{Cell}
-use Rattle.rota_core.specs.InstanceTables.{InstanceTables, week_of}
 use Rattle.rota_core.specs.Roster.{cell}
-use Rattle.rota_core.specs.RosterTables.{RosterTables}
 use Rattle.rota_core.specs.ScenarioTables.{ScenarioTables}
-use Rattle.rota_core.specs.Week.{Week}
 use Rattle.rota_read.specs.declared.fault.Fault.{Fault}
 use Rattle.rota_read.specs.declared.fault.Stop.{Stop}
 use Rattle.rota_read.specs.declared.fault.Stop.TheVariants as stops
 use Rattle.rota_read.specs.Tokens.{Reading}
 use Rattle.rota_read.specs.Days.{day_names}
 use Rattle.rota_read.specs.Layout.{known_name, none_taken}
-use Rattle.rota_read.specs.Reading.{and_then, read, Reads, Fails}
+use Rattle.rota_read.specs.Reading.{and_then, read, Reads}
 use Rattle.rota_read.specs.SolutionLayout.{is_one_cell, assignment_row}
 
 module _ (tables : ScenarioTables) (rows : List Cell) (nurse day shift : ℕ) where

@@ -1,27 +1,18 @@
 -- The slots of a history file.
-use Rattle.std.specs.Prelude.{ℕ, zero, suc, Bool, List, ◌∷◌, Option, Some, None, codes, length, map, unwrap_or, is_some, replicate, slice_index_or, slice_set}
+use Rattle.std.specs.Prelude.{ℕ, Bool, List, Option, Some, None, codes, length, map, unwrap_or, is_some, replicate, slice_index_or, slice_set}
 use Rattle.rota_core.specs.declared.values.Past.{Past}
 use Rattle.rota_core.specs.ScenarioTables.{ScenarioTables}
 use Rattle.rota_core.specs.Week.{no_past}
 use Rattle.rota_core.specs.WeekTables.{HistoryTables}
-use Rattle.rota_read.specs.Layout.{Layout, end, ◌>>=◌, exactly, number, any_word, known_name, none_taken, repeat}
+use Rattle.rota_read.specs.ShiftLayout.{shift_or}
+use Rattle.rota_read.specs.Layout.{Layout, end, ◌>>=◌, exactly, number, any_word, known_name, repeat}
 
--- the first name is `None`, and the others are the shift types
-abbrev pub shift_at : ℕ → Option ℕ
-shift_at zero = None
-shift_at (suc shift) = Some shift
-
--- `None` or a shift type
-unfoldable pub last_shift : List (List ℕ) → Layout (Option ℕ)
-last_shift shifts = do
-  place ← known_name (codes "None" ∷ shifts) none_taken
-  end (shift_at place)
-
+-- the totals, the last shift type or `None`, and the runs
 unfoldable pub past : List (List ℕ) → Layout Past
 past shifts = do
   assignments ← number 0 9999
   weekends ← number 0 9999
-  last ← last_shift shifts
+  last ← shift_or (codes "None") shifts
   shift_run ← number 0 9999
   work_run ← number 0 9999
   off_run ← number 0 9999

@@ -7,8 +7,10 @@ pub mod Layout
 pub mod Reading
 pub mod ScenarioLayout
 pub mod ScenarioRows
+pub mod ShiftLayout
 pub mod SolutionLayout
 pub mod SolutionRows
+pub mod SolutionText
 pub mod Tokens
 pub mod WeekBound
 pub mod WeekLayout

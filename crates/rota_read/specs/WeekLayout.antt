@@ -10,17 +10,7 @@ use Rattle.rota_read.specs.declared.week.RequestRow.{RequestRow}
 use Rattle.rota_read.specs.Layout.{Layout, end, ◌>>=◌, exactly, number, any_word, known_name, none_taken, repeat}
 use Rattle.rota_read.specs.Days.{day_names}
 use Rattle.rota_read.specs.ScenarioLayout.{pair}
-
--- the first name is the word, and the others are the shift types
-abbrev pub shift_at : ℕ → Option ℕ
-shift_at zero = None
-shift_at (suc shift) = Some shift
-
--- a shift type, or none where the word stands, even if a shift type is called so
-unfoldable pub shift_or : List ℕ → List (List ℕ) → Layout (Option ℕ)
-shift_or word shifts = do
-  place ← known_name (word ∷ shifts) none_taken
-  end (shift_at place)
+use Rattle.rota_read.specs.ShiftLayout.{shift_or}
 
 -- a minimum and an optimal number
 unfoldable pub demand : Layout Demand

@@ -5,6 +5,7 @@ ghost use Rattle.rota_core.specs.Names.{place_of};
 ghost use Rattle.rota_read.specs.Days.{day_names};
 ghost use Rattle.rota_read.specs.Layout.{known_name, none_taken};
 ghost use Rattle.rota_read.specs.Reading.{read, Reads};
+ghost use Rattle.rota_read.specs.SolutionText.{name_at};
 
 use crate::cursor::Cursor;
 use crate::fault::Stop;
@@ -38,5 +39,21 @@ fn day_named(word: &[u8]) -> Option<u8>
         b"Sat" => Some(5),
         b"Sun" => Some(6),
         _ => None,
+    }
+}
+
+/// The name of a day in the files, `Mon` for 0 to `Sun` for 6.
+pub fn day_name(day: u8) -> &'static [u8]
+    requires { day < 7 }
+    ensures { result.now ≡ name_at day_names day }
+{
+    match day {
+        0 => b"Mon",
+        1 => b"Tue",
+        2 => b"Wed",
+        3 => b"Thu",
+        4 => b"Fri",
+        5 => b"Sat",
+        _ => b"Sun",
     }
 }

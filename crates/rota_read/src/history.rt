@@ -8,7 +8,7 @@ ghost use Rattle.rota_core.specs.InstanceTables.{HasNumbersOf};
 ghost use Rattle.rota_core.specs.ScenarioTables.{ScenarioTables};
 ghost use Rattle.rota_core.specs.declared.fault.FileName.TheVariants as files;
 ghost use Rattle.rota_read.specs.Files.{Spells, IsFaultOf, OneMeaning};
-ghost use Rattle.rota_read.specs.HistoryLayout.{shift_at, last_shift, past, has_past, past_row, past_rows, history_heading, history};
+ghost use Rattle.rota_read.specs.HistoryLayout.{past, has_past, past_row, past_rows, history_heading, history};
 ghost use Rattle.rota_read.specs.HistoryRows.{GivesEachPast, HasLimitedNumbers};
 ghost use Rattle.rota_read.specs.Layout.{known_name, repeat};
 ghost use Rattle.rota_read.specs.Reading.{read, Reads, read_file, ReadsFile};
@@ -18,9 +18,6 @@ use crate::fault::Stop;
 use crate::files::open;
 use rota_core::{FileFault, FileName, History, HistoryParts, Kind, Past, Scenario};
 use std::alloc::{AllocError, Global};
-
-#[cfg(test)]
-mod tests;
 
 /// What a nurse has behind her who never worked.
 const NO_PAST: Past = Past {
@@ -37,16 +34,6 @@ fn has_row(pasts: &[Option<Past>], nurse: u16) -> bool
     ensures { result ≡ has_past pasts.now nurse }
 {
     pasts[usize::from(nurse)].is_some()
-}
-
-/// The shift type of the word, or `None` of it for the word `None`.
-fn last_of(scenario: &Scenario, word: &[u8]) -> Option<Option<u8>>
-    ensures { result ≡ option_map shift_at (place_of (codes "None" ∷ scenario.now.shifts) word.now) }
-{
-    if word == b"None".as_slice() {
-        return Some(None);
-    }
-    scenario.find_shift(word).map(Some)
 }
 
 impl<'a> Cursor<'a> {
@@ -70,28 +57,13 @@ impl<'a> Cursor<'a> {
         Ok(nurse)
     }
 
-    /// `None` or a shift type.
-    #[tactic(auto, unfolding(crate::specs::HistoryLayout::last_shift, crate::specs::Layout::known_name, crate::specs::Reading::read))]
-    fn last_shift(&mut self, scenario: &Scenario) -> Result<Option<u8>, Stop>
-        ensures { Reads (λ s. s) result self.new (read (last_shift scenario.now.shifts) self.old) }
-    {
-        let token = self.token()?;
-        if token.is_sign() {
-            return Err(token.fault(Kind::OtherWord));
-        }
-        match last_of(scenario, token.word) {
-            Some(last) => Ok(last),
-            None => Err(token.fault(Kind::Unknown)),
-        }
-    }
-
     #[tactic(auto, unfolding(crate::specs::HistoryLayout::past, crate::specs::Reading::read))]
     fn past(&mut self, scenario: &Scenario) -> Result<Past, Stop>
         ensures { Reads (λ p. p) result self.new (read (past scenario.now.shifts) self.old) }
     {
         let assignments = self.number(0, 9999)?;
         let weekends = self.number(0, 9999)?;
-        let last = self.last_shift(scenario)?;
+        let last = self.shift_or(b"None", scenario)?;
         let shift_run = self.number(0, 9999)?;
         let work_run = self.number(0, 9999)?;
         let off_run = self.number(0, 9999)?;
@@ -184,10 +156,11 @@ fn no_rows(alloc: Global, count: u16) -> Result<Vec<Option<Past>>, AllocError>
 fn each_past(alloc: Global, pasts: &[Option<Past>]) -> Result<Vec<Past>, AllocError>
     ensures { IfOk result (λ v. v.items ≡ map (λ past. unwrap_or past no_past) pasts.now) }
 {
-    pasts
-        .iter()
-        .map(|past| past.unwrap_or(NO_PAST))
-        .collect(alloc)
+    let mut each = Vec::with_capacity(alloc, pasts.len())?;
+    for past in pasts {
+        each.push(past.unwrap_or(NO_PAST))?;
+    }
+    Ok(each)
 }
 
 /// The rows of a history, from the whole text.

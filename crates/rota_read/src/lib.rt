@@ -19,14 +19,13 @@ mod scenario;
 mod slots;
 // The rows of a solution file.
 mod solution;
-#[cfg(test)]
-mod tests;
 // The sections of a week's file.
 mod week;
 // The tables that the rows of a week make.
 mod week_tables;
 
+pub use days::day_name;
 pub use files::{LONGEST, each_text_means_one_scenario, read_scenario};
 pub use history::{each_nurse_has_a_past, each_text_means_one_history, read_history};
-pub use solution::{each_text_means_one_solution, read_solution};
+pub use solution::{each_roster_has_its_text, each_text_means_one_solution, read_solution};
 pub use week::{each_text_means_one_week, no_requirement_is_cut_off, read_week};

@@ -10,6 +10,7 @@ ghost use Rattle.rota_read.specs.Files.{IsFaultOf, OneMeaning};
 ghost use Rattle.rota_read.specs.Layout.{known_name, none_taken, repeat};
 ghost use Rattle.rota_read.specs.Reading.{read, Reads, read_file};
 ghost use Rattle.rota_read.specs.SolutionLayout.{is_one_cell, assignment_row, solution_heading, solution};
+ghost use Rattle.rota_read.specs.SolutionText.{EachRosterHasItsText};
 ghost use Rattle.rota_read.specs.SolutionRows.{HasCells, SpellsRoster, ReadsRoster, ReadsRosterFile};
 
 use crate::cursor::Cursor;
@@ -17,9 +18,6 @@ use crate::fault::Stop;
 use crate::files::open;
 use rota_core::{Cell, FileFault, FileName, Instance, Kind, Roster};
 use std::alloc::Global;
-
-#[cfg(test)]
-mod tests;
 
 impl<'a> Cursor<'a> {
     #[tactic(auto, unfolding(crate::specs::Layout::known_name, crate::specs::Reading::read))]
@@ -179,4 +177,10 @@ pub fn read_solution(alloc: Global, instance: &Instance, text: &[u8]) -> Result<
 /// never both.
 pub fn each_text_means_one_solution()
     ensures { (tables : ScenarioTables) → OneMeaning (solution tables) }
+{}
+
+/// A law: for each instance, the solution file of a roster with at most one cell for each nurse and
+/// day spells that roster, where it has at most 4,194,304 bytes.
+pub fn each_roster_has_its_text()
+    ensures { EachRosterHasItsText }
 {}

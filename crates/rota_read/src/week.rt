@@ -12,7 +12,7 @@ ghost use Rattle.rota_read.specs.Files.{Spells, IsFaultOf, OneMeaning};
 ghost use Rattle.rota_read.specs.Reading.{read, read_file, Reads, ReadsFile};
 ghost use Rattle.rota_read.specs.WeekBound.{BoundEndsNoRows};
 ghost use Rattle.rota_read.specs.WeekRows.{IsRequest, AreWithin};
-ghost use Rattle.rota_read.specs.WeekLayout.{shift_or, demand, demands_of_days, is_listed, requirement, requirement_row, most_rows, no_requirements, requirement_rows, request_row, requirements_part, requests_part, week};
+ghost use Rattle.rota_read.specs.WeekLayout.{demand, demands_of_days, is_listed, requirement, requirement_row, most_rows, no_requirements, requirement_rows, request_row, requirements_part, requests_part, week};
 
 use crate::cursor::Cursor;
 use crate::fault::Stop;
@@ -21,9 +21,6 @@ use crate::slots::MOST;
 use crate::week_tables::{demands_of, requests_of};
 use rota_core::{Demand, FileFault, FileName, Kind, Scenario, Week, WeekParts};
 use std::alloc::{AllocError, Global};
-
-#[cfg(test)]
-mod tests;
 
 /// A row of requests: the nurse asks for the day off, by a shift type or, where there is none, by
 /// any.
@@ -35,25 +32,6 @@ pub struct RequestRow {
 }
 
 impl<'a> Cursor<'a> {
-    /// A shift type, or `None` where the word stands.
-    #[tactic(auto, unfolding(crate::specs::WeekLayout::shift_or, crate::specs::Layout::known_name, crate::specs::Reading::read))]
-    fn shift_or(&mut self, word: &[u8], scenario: &Scenario) -> Result<Option<u8>, Stop>
-        ensures read { Reads (λ s. s) result self.new (read (shift_or word.now scenario.now.shifts) self.old) }
-        ensures below { IfOk result (λ s. ForSome s (λ n. n < length scenario.now.shifts)) }
-    {
-        let token = self.token()?;
-        if token.is_sign() {
-            return Err(token.fault(Kind::OtherWord));
-        }
-        if token.word == word {
-            return Ok(None);
-        }
-        let Some(shift) = scenario.find_shift(token.word) else {
-            return Err(token.fault(Kind::Unknown));
-        };
-        Ok(Some(shift))
-    }
-
     /// A minimum and an optimal number.
     #[tactic(auto, unfolding(crate::specs::WeekLayout::demand, crate::specs::Reading::read))]
     fn demand(&mut self) -> Result<Demand, Stop>

@@ -25,23 +25,9 @@ use std::test::Fail;
 
 const ROOM: usize = 65536;
 
-// What a run on the files answers, and what the target then is.
-fn encode(
-    alloc: Global,
-    files: Worked,
-    pace: Pace,
-) -> Result<(Result<(), Fault>, MemoryTarget), AllocError> {
-    let mut sce = MemorySource::new(files.scenario, Pace::new(7, None));
-    let mut his = MemorySource::new(files.history, Pace::new(4096, None));
-    let mut week = MemorySource::new(files.week, Pace::new(1, None));
-    let mut target = MemoryTarget::new(alloc, ROOM, pace)?;
-    let outcome = run_encode(alloc, &mut sce, &mut his, &mut week, &mut target);
-    Ok((outcome, target))
-}
-
-#[test]
-fn worked_weeks(rt: HostRuntime) -> Result<(), Fail> {
-    let weeks = [
+/// Weeks whose models are small enough to be written out.
+pub fn written_weeks() -> [Worked; 18] {
+    [
         ONE_NURSE_ONE_SHIFT,
         SCENARIO_WITHOUT_THE_SKILL,
         DEMAND_NOBODY_CAN_MEET,
@@ -60,8 +46,26 @@ fn worked_weeks(rt: HostRuntime) -> Result<(), Fail> {
         DAYS_OFF_BELOW_THEIR_MINIMUM,
         DAYS_OFF_ABOVE_THEIR_MAXIMUM,
         COMPLETE_WEEKENDS,
-    ];
-    for files in weeks {
+    ]
+}
+
+// What a run on the files answers, and what the target then is.
+fn encode(
+    alloc: Global,
+    files: Worked,
+    pace: Pace,
+) -> Result<(Result<(), Fault>, MemoryTarget), AllocError> {
+    let mut sce = MemorySource::new(files.scenario, Pace::new(7, None));
+    let mut his = MemorySource::new(files.history, Pace::new(4096, None));
+    let mut week = MemorySource::new(files.week, Pace::new(1, None));
+    let mut target = MemoryTarget::new(alloc, ROOM, pace)?;
+    let outcome = run_encode(alloc, &mut sce, &mut his, &mut week, &mut target);
+    Ok((outcome, target))
+}
+
+#[test]
+fn worked_weeks(rt: HostRuntime) -> Result<(), Fail> {
+    for files in written_weeks() {
         let (outcome, target) = encode(rt.alloc(), files, Pace::new(5, None))?;
         assert_eq!(rt; outcome, Ok(()));
         assert_eq!(rt; target.bytes(), files.model);

@@ -4,9 +4,19 @@
 #[cfg(test)]
 mod cells;
 #[cfg(test)]
+mod counted_models;
+#[cfg(test)]
+mod cut_files;
+#[cfg(test)]
+mod decoded_weeks;
+#[cfg(test)]
+mod decoding_runs;
+#[cfg(test)]
 mod encoded_weeks;
 #[cfg(test)]
 mod events;
+#[cfg(test)]
+mod extending;
 #[cfg(test)]
 mod five_nurses;
 #[cfg(test)]
@@ -14,11 +24,37 @@ mod five_nurses_hard_rows;
 #[cfg(test)]
 mod five_nurses_soft_rows;
 #[cfg(test)]
+mod five_nurses_tables;
+#[cfg(test)]
 mod greatest_week;
+#[cfg(test)]
+mod history_texts;
+#[cfg(test)]
+mod judged_rosters;
+#[cfg(test)]
+mod ports;
 #[cfg(test)]
 mod refused_memory;
 #[cfg(test)]
+mod refused_memory_decoding;
+#[cfg(test)]
+mod refused_tables;
+#[cfg(test)]
+mod scenario_texts;
+#[cfg(test)]
+mod solution_texts;
+#[cfg(test)]
+mod solved_week;
+#[cfg(test)]
+mod solver_answers;
+#[cfg(test)]
+mod solver_text_tests;
+#[cfg(test)]
+mod tables;
+#[cfg(test)]
 mod week_files;
+#[cfg(test)]
+mod week_texts;
 #[cfg(test)]
 mod worked_runs;
 #[cfg(test)]

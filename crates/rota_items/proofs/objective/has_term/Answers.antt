@@ -1,4 +1,3 @@
-use Rattle.std.proofs.Common.{◌≡◌, ◌↔◌, [], false}
 use Rattle.std.proofs.lemmas.Result.{MatchResult-weaker}
 use Rattle.rota_core.specs.InstanceTables.{week_of}
 use Rattle.rota_items.proofs.ObjectiveTaking.{none_taken, some_refused, told_by_refusal}

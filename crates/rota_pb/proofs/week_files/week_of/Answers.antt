@@ -3,7 +3,7 @@ use Rattle.std.proofs.lemmas.Result.{err_from_is_err_and}
 use Rattle.rota_core.specs.declared.fault.FileName.TheVariants as names
 use Rattle.rota_read.specs.WeekLayout.{week}
 use Rattle.rota_pb.specs.Readers.{reader_of}
-use Rattle.rota_pb.proofs.WholeFiles.{fails-check, is-read, stops-check}
+use Rattle.rota_pb.proofs.WholeFiles.{fails-check, stops-check}
 use Rattle.rota_pb.proofs.week_files.week_of.Goals as goal
 
 pub returns-in_err-text-clause-fault : goal.returns-in_err-text-clause-fault

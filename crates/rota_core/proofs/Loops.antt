@@ -1,0 +1,87 @@
+-- Lists made by loops.
+use Rattle.std.proofs.Common.{◌≡◌, ℕ, zero, suc, ◌+◌, ◌*◌, ◌<◌, ◌≤◌, Bool, true, false, ◌⊎◌, inl, inr, List, [], ◌∷◌, ◌++◌, length, refl, sym, subst, arith, add-one}
+use Rattle.std.specs.List.{AllByRecursion}
+use Rattle.std.proofs.lemmas.List.{length-append}
+use Rattle.std.proofs.lemmas.Bool.{true≢false}
+use Rattle.rota_core.specs.Lists.{each_below, only_if}
+
+pub each_below-zero : {A : Type 0} (f : ℕ → List A) → each_below 0 f ≡ []
+unfolding each_below
+each_below-zero f = refl
+
+pub each_below-more : {A : Type 0} (n : ℕ) (f : ℕ → List A) → each_below (n + 1) f ≡ each_below n f ++ f n
+unfolding each_below
+each_below-more n f = rw add-one refl
+
+pub only_if-holds : {A : Type 0} (test : Bool) (x : A) → test ≡ true → only_if test x ≡ x ∷ []
+unfolding only_if
+only_if-holds true x e = refl
+only_if-holds false x e = cc
+
+pub only_if-fails : {A : Type 0} (test : Bool) (x : A) → test ≡ false → only_if test x ≡ []
+unfolding only_if
+only_if-fails true x e = cc
+only_if-fails false x e = refl
+
+-- ---- how long
+
+pub length-each_below : {A : Type 0} (n most : ℕ) (f : ℕ → List A) → ((i : ℕ) → i < n → length (f i) ≤ most) →
+    length (each_below n f) ≤ n * most
+unfolding each_below
+length-each_below zero most f few = omega arith
+length-each_below (suc n) most f few =
+    let before = length-each_below n most f (λ i below. few i (omega arith)) in
+    let last = few n (omega arith) in
+    omega (arith, length-append (each_below n f) (f n))
+
+pub length-only_if : {A : Type 0} (test : Bool) (x : A) → length (only_if test x) ≤ 1
+unfolding only_if
+length-only_if true x = omega arith
+length-only_if false x = omega arith
+
+-- ---- what holds of each element
+
+pub AllByRecursion-append : {X : Type 0} (P : X → Type 0) (xs ys : List X) →
+    AllByRecursion P xs → AllByRecursion P ys → AllByRecursion P (xs ++ ys)
+AllByRecursion-append P [] ys all_xs all_ys = all_ys
+AllByRecursion-append P (x ∷ xs) ys all_xs all_ys = (all_xs.0, AllByRecursion-append P xs ys all_xs.1 all_ys)
+
+pub AllByRecursion-back : {X : Type 0} (P : X → Type 0) (xs ys : List X) → AllByRecursion P (xs ++ ys) →
+    AllByRecursion P xs × AllByRecursion P ys
+AllByRecursion-back P [] ys all = (tt, all)
+AllByRecursion-back P (x ∷ xs) ys all =
+    let rest : AllByRecursion P xs × AllByRecursion P ys = AllByRecursion-back P xs ys all.1 in
+    ((all.0, rest.0), rest.1)
+
+pub AllByRecursion-each_below : {X : Type 0} (P : X → Type 0) (n : ℕ) (f : ℕ → List X) →
+    ((i : ℕ) → i < n → AllByRecursion P (f i)) → AllByRecursion P (each_below n f)
+unfolding each_below
+AllByRecursion-each_below P zero f each = tt
+AllByRecursion-each_below P (suc n) f each =
+    AllByRecursion-append P (each_below n f) (f n)
+    (AllByRecursion-each_below P n f (λ i below. each i (omega arith))) (each n (omega arith))
+
+pub AllByRecursion-at : {X : Type 0} (P : X → Type 0) (n : ℕ) (f : ℕ → List X) →
+    AllByRecursion P (each_below n f) → (i : ℕ) → i < n → AllByRecursion P (f i)
+unfolding each_below
+AllByRecursion-at P zero f all i below = absurd (omega arith)
+AllByRecursion-at P (suc n) f all i below =
+    elim (last_or_before i n below) [
+      | inl last ↦ subst (λ j. AllByRecursion P (f j)) (sym last) (AllByRecursion-back P (each_below n f) (f n) all).1
+      | inr before ↦ AllByRecursion-at P n f (AllByRecursion-back P (each_below n f) (f n) all).0 i before
+    ]
+  where
+    last_or_before : (i n : ℕ) → i < suc n → (i ≡ n) ⊎ (i < n)
+    last_or_before i n below = grind arith
+
+-- an element that stands where a test holds
+pub AllByRecursion-only_if : {X : Type 0} (P : X → Type 0) (test : Bool) (x : X) → (test ≡ true → P x) →
+    AllByRecursion P (only_if test x)
+unfolding only_if
+AllByRecursion-only_if P true x holds = (holds refl, tt)
+AllByRecursion-only_if P false x holds = tt
+
+pub holds-where : {X : Type 0} (P : X → Type 0) (test : Bool) (x : X) → AllByRecursion P (only_if test x) → test ≡ true → P x
+unfolding only_if
+holds-where P true x all test_is = all.0
+holds-where P false x all test_is = absurd (true≢false (sym test_is))

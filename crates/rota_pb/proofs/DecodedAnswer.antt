@@ -1,0 +1,60 @@
+-- What an answer decodes to.
+use Rattle.std.proofs.Common.{◌≡◌, ℕ, ◌+◌, ◌≤◌, pos, Bool, false, List, [], ◌∷◌, map, refl, sym, ◌∙◌, subst, add-one}
+use Rattle.std.specs.Prelude.{sum, slice_index_or}
+use Rattle.rota_core.specs.Week.{Week}
+use Rattle.rota_core.specs.declared.values.Cell.{Cell}
+use Rattle.rota_core.specs.Roster.{InWeek}
+use Rattle.rota_core.specs.RosterTables.{RosterTables, HasShapeOf, cell_place, set_of}
+use Rattle.rota_items.specs.Linear.{objective_value}
+use Rattle.rota_items.specs.Penalty.{penalty}
+use Rattle.rota_items.specs.RuleCharges.{soft_rules}
+use Rattle.rota_items.specs.Verdicts.{IsMet, truth_of}
+use Rattle.rota_items.specs.WeekModel.{model_of, roster_of}
+use Rattle.rota_items.specs.declared.verdicts.Verdict.{Verdict}
+use Rattle.solver_text.specs.Answers.{Meaning}
+use Rattle.rota_pb.specs.Decoded.{FindsRoster, IsDecoded}
+use Rattle.rota_pb.proofs.SameCells.{keeps-alike, penalty-alike, rule_cost-alike}
+
+map-alike : {X Y : Type 0} (f g : X → Y) → ((x : X) → f x ≡ g x) → (xs : List X) → map f xs ≡ map g xs
+map-alike f g same [] = refl
+map-alike f g same (x ∷ xs) = rw (same x, map-alike f g same xs) refl
+
+truth_behind : (bits : List Bool) (place : ℕ) → truth_of bits (place + 1) ≡ slice_index_or bits place false
+truth_behind bits place = rw add-one refl
+
+module _ (week : Week) (meaning : Meaning) (verdict : Verdict) (roster : RosterTables) (total : ℕ)
+    (finds : FindsRoster meaning.status) (met : IsMet week (truth_of meaning.truths) verdict)
+    (objective : pos verdict.objective ≡ objective_value (truth_of meaning.truths) (model_of week))
+    (shape : HasShapeOf week roster)
+    (cells : (cell : Cell) → InWeek week cell →
+    set_of roster cell ≡ slice_index_or meaning.truths (cell_place week.shifts week.skills cell) false)
+    (is_total : total ≡ sum verdict.costs) where
+  same : (cell : Cell) → InWeek week cell → roster_of week (truth_of meaning.truths) cell ≡ set_of roster cell
+  same cell in_week = truth_behind meaning.truths (cell_place week.shifts week.skills cell) ∙ sym (cells cell in_week)
+
+  of_roster : total ≡ penalty week (set_of roster)
+  of_roster = is_total ∙ met.costs_rules.sum_is ∙ penalty-alike week _ _ same
+
+  -- an assignment that satisfies the model is decoded
+  pub is_decoded : IsDecoded week meaning (record {
+    roster = roster;
+    objective = verdict.objective;
+    costs = verdict.costs;
+    penalty = total;
+    status = meaning.status;
+    last_o = meaning.last_o;
+  })
+  is_decoded = record {
+    finds = finds;
+    satisfies = met.satisfies;
+    shape = shape;
+    cells = λ cell in_week. sym (same cell in_week);
+    keeps = keeps-alike week _ _ same met.keeps;
+    objective = objective;
+    costs = met.costs_rules.costs ∙ map-alike _ _ (rule_cost-alike week _ _ same) soft_rules;
+    sum_of_costs = is_total;
+    penalty_is = of_roster;
+    enough = subst (λ n. n ≤ verdict.objective) (sym (is_total ∙ met.costs_rules.sum_is)) met.enough;
+    same_status = refl;
+    same_last_o = refl;
+  }

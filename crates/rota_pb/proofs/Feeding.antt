@@ -1,0 +1,130 @@
+-- The pieces of an answer, joined.
+use Rattle.std.proofs.Common.{◌≡◌, ℕ, ◌+◌, ◌<◌, List, [], ◌++◌, length, Result, Ok, Err, None, Some, refl, sym, ap, ◌∙◌, subst, arith, length-append, append_assoc}
+use Rattle.std.specs.Io.KnownBytes.{prepend_known, IsAtEnd}
+use Rattle.std.proofs.lemmas.List.{append-nil}
+use Rattle.rota_core.specs.Ports.{Told}
+use Rattle.solver_text.specs.declared.answer.Answer.{Answer as AnswerState}
+use Rattle.solver_text.specs.declared.outcome.AnswerFault.{AnswerFault}
+use Rattle.solver_text.specs.declared.outcome.Solved.{Solved}
+use Rattle.solver_text.specs.Answers.{judge_all, outcome}
+use Rattle.solver_text.specs.Lines.{cut}
+use Rattle.solver_text.specs.States.{LeadsTo, Ends, fault_within, meaning_of}
+use Rattle.solver_text.proofs.StayLaws.{fault-stays}
+use Rattle.rota_pb.specs.declared.fault.Fault.{Fault}
+use Rattle.rota_pb.specs.declared.fault.Fault.TheVariants.{File, Memory, Write, Read, Answer, NoRoster, Unmet, Breaks}
+use Rattle.rota_pb.specs.AnswerPieces.{FailsAnswer, IsSolved}
+use Rattle.rota_pb.specs.Feeding.{HasTaken, HasTakenAll, FaultTaken, StopsTaking}
+use Rattle.rota_pb.specs.Readers.{Reader}
+use Rattle.rota_pb.proofs.WholeFiles.{told_are}
+
+prepend_known-append : (xs ys : List ℕ) (told : Told) → prepend_known (xs ++ ys) told ≡ prepend_known xs (prepend_known ys told)
+prepend_known-append xs ys None = refl
+prepend_known-append xs ys (Some bytes) = ap Some (append_assoc xs ys bytes)
+
+prepend_known-nil : (told : Told) → told ≡ prepend_known [] told
+prepend_known-nil None = refl
+prepend_known-nil (Some bytes) = refl
+
+no_fault_yet : (variables : ℕ) → fault_within variables [] ≡ Ok tt
+unfolding judge_all cut
+no_fault_yet variables = refl
+
+-- nothing was taken yet
+pub taken_nothing : (given : Told) (answer : AnswerState) → HasTaken given given answer answer 0
+taken_nothing given answer = record {
+  taken = [];
+  front = prepend_known-nil given;
+  leads = λ variables leads. leads;
+  unjudged = λ variables leads. no_fault_yet variables;
+  long = omega arith;
+}
+
+module _ (given before left : Told) (old middle new : AnswerState) (pieces : ℕ) (piece : List ℕ)
+    (result : Result (Unit {0}) AnswerFault) (so_far : HasTaken given before old middle pieces)
+    (next : before ≡ prepend_known piece left)
+    (judged : (variables : ℕ) (text : List ℕ) → LeadsTo variables text middle → result ≡ fault_within variables (text ++ piece)) where
+  front-more : given ≡ prepend_known (so_far.taken ++ piece) left
+  front-more =
+      so_far.front ∙ ap (λ (told : Told). prepend_known so_far.taken told) next ∙ sym (prepend_known-append so_far.taken piece left)
+
+  -- one piece more was taken
+  pub taken_more : (u : Unit {0}) → result ≡ Ok u → 0 < length piece →
+      ((variables : ℕ) (text : List ℕ) → LeadsTo variables text middle → LeadsTo variables (text ++ piece) new) →
+      HasTaken given left old new (pieces + 1)
+  taken_more u is some leads = record {
+    taken = so_far.taken ++ piece;
+    front = front-more;
+    leads = λ variables from. leads variables so_far.taken (so_far.leads variables from);
+    unjudged = λ variables from. sym (judged variables so_far.taken (so_far.leads variables from)) ∙ is;
+    long = let before = so_far.long in omega (arith, before, some, length-append so_far.taken piece);
+  }
+
+  -- a fault was judged in one piece more
+  pub fault_taken : (reader : Reader) (fault : AnswerFault) → result ≡ Err fault → reader.given ≡ given → reader.left ≡ left →
+      reader.failed ≡ reader.failed_before → FaultTaken reader old fault
+  fault_taken reader fault is given_is left_is sound = record {
+    taken = so_far.taken ++ piece;
+    front = given_is ∙ front-more ∙ ap (λ (told : Told). prepend_known (so_far.taken ++ piece) told) (sym left_is);
+    judged = λ variables from. sym (judged variables so_far.taken (so_far.leads variables from)) ∙ is;
+    sound = sound;
+  }
+
+-- ---- the answer that the pieces give
+
+-- the bytes that were taken up to the end are all bytes
+all_taken : (reader : Reader) (taken bytes : List ℕ) → reader.given ≡ prepend_known taken reader.left → IsAtEnd reader.left →
+    reader.given ≡ Some bytes → taken ≡ bytes
+all_taken reader taken bytes front at_end told =
+    let parts : (rest : List ℕ) × (reader.left ≡ Some rest) × (taken ++ rest ≡ bytes) = told_are reader.given reader.left taken bytes front told in
+    let none : parts.0 ≡ [] = subst IsAtEnd parts.1 at_end in
+    sym (append-nil taken) ∙ ap (λ (rest : List ℕ). taken ++ rest) (sym none) ∙ parts.2
+
+module _ (variables : ℕ) (reader : Reader) (old : AnswerState) (from : LeadsTo variables [] old) where
+  -- why not all bytes were taken is why the answer is not taken
+  pub fails_answer : (fault : Fault) → StopsTaking reader old fault → FailsAnswer variables reader fault
+  fails_answer (Answer fault) stops = (
+    λ bytes told.
+        let parts : (rest : List ℕ) × (reader.left ≡ Some rest) × (stops.taken ++ rest ≡ bytes) =
+        told_are reader.given reader.left stops.taken bytes stops.front told in
+        subst (λ (text : List ℕ). outcome variables text ≡ Err fault) parts.2
+        (fault-stays.whole variables stops.taken parts.0 fault from.few (stops.judged variables from)),
+    stops.sound,
+  )
+  fails_answer Read stops = record {
+    taken = stops.taken;
+    front = stops.front;
+    unjudged = stops.unjudged variables from;
+    no_end = stops.no_end;
+  }
+  fails_answer (File file) stops = absurd stops
+  fails_answer Memory stops = absurd stops
+  fails_answer Write stops = absurd stops
+  fails_answer (NoRoster status) stops = absurd stops
+  fails_answer (Unmet number) stops = absurd stops
+  fails_answer (Breaks rule) stops = absurd stops
+
+  module _ (new : AnswerState) (all : HasTakenAll reader old new) where
+    -- the fault at the end
+    pub fails_at_end : (fault : AnswerFault) →
+        ((text : List ℕ) → LeadsTo variables text new → Ends (Err fault) (outcome variables text)) →
+        FailsAnswer variables reader (Answer fault)
+    fails_at_end fault ends = (
+      λ bytes told.
+          subst (λ (text : List ℕ). outcome variables text ≡ Err fault) (all_taken reader all.taken bytes all.front all.at_end told)
+          (ends all.taken (all.leads variables from)),
+      all.sound,
+    )
+
+    pub is_solved : (solved : Solved) →
+        ((text : List ℕ) → LeadsTo variables text new → Ends (Ok solved) (outcome variables text)) →
+        ((text : List ℕ) → LeadsTo variables text new → length solved.bits ≡ variables) →
+        IsSolved variables reader solved
+    is_solved solved ends bits = record {
+      answered = record {
+        means = λ bytes told.
+            subst (λ (text : List ℕ). outcome variables text ≡ Ok (meaning_of solved))
+            (all_taken reader all.taken bytes all.front all.at_end told) (ends all.taken (all.leads variables from));
+        sound = all.sound;
+      };
+      bits = bits all.taken (all.leads variables from);
+    }

@@ -1,0 +1,88 @@
+-- Texts that go into a sink in a loop.
+use Rattle.std.proofs.Common.{◌≡◌, ℕ, ◌+◌, ◌<◌, List, [], ◌++◌, None, Some, zero, suc, Result, Ok, Err, refl, sym, ap, ◌∙◌, subst, inl, inr, arith, append_assoc, add-one}
+use Rattle.std.specs.Prelude.{IsErr}
+use Rattle.std.specs.Io.KnownBytes.{append_known}
+use Rattle.std.proofs.lemmas.Bool.{cases_lt}
+use Rattle.std.proofs.lemmas.List.{append-nil}
+use Rattle.std.proofs.lemmas.List.Concat.{flat_map-append}
+use Rattle.rota_core.specs.declared.ports.PortFault.{PortFault}
+use Rattle.rota_core.specs.declared.ports.Target.{Ghosts}
+use Rattle.rota_core.specs.InstanceTables.{InstanceTables}
+use Rattle.rota_core.specs.Lists.{each_below}
+use Rattle.rota_core.specs.Ports.{Told}
+use Rattle.opb_text.specs.declared.sink.Sink.{Sink}
+use Rattle.opb_text.specs.Sink.{Takes, stands_for, sink_failed, target_of}
+use Rattle.opb_text.proofs.TakesLemmas.{or_false, takes_exit, takes_stop, takes_then}
+use Rattle.rota_items.proofs.Loops.{each_below-zero, each_below-more}
+use Rattle.rota_read.specs.SolutionText.{assignment_text}
+use Rattle.rota_pb.specs.RosterRows.{rows_text}
+
+-- the list at i begins what is left of all lists behind those before it
+record WithinLoop {A : Type 0} (i n : ℕ) (f : ℕ → List A) : Type 0 where
+  after : List A
+  are : each_below n f ≡ each_below (i + 1) f ++ after
+
+within-longer : {A : Type 0} (i n : ℕ) (f : ℕ → List A) → WithinLoop i n f → WithinLoop i (suc n) f
+unfolding each_below
+within-longer i n f w = record {
+  after = w.after ++ f n;
+  are = ap (λ xs. xs ++ f n) w.are ∙ append_assoc (each_below (i + 1) f) w.after (f n);
+}
+
+within-last : {A : Type 0} (n : ℕ) (f : ℕ → List A) → WithinLoop n (suc n) f
+within-last n f = record { after = []; are = rw add-one (sym (append-nil (each_below (suc n) f))) }
+
+within : {A : Type 0} (i n : ℕ) (f : ℕ → List A) → i < n → WithinLoop i n f
+within i zero f below = absurd (omega arith)
+within {A} i (suc n) f below = elim (cases_lt i n) [
+  | inl before ↦ within-longer i n f (within i n f before)
+  | inr last ↦ let same : n ≡ i = omega arith in subst (λ (m : ℕ). WithinLoop {A = A} m (suc n) f) same (within-last n f)
+]
+
+-- a text made of a list, element by element
+pub record Joins {A : Type 0} (text : List A → List ℕ) : Type 0 where
+  pub none : text [] ≡ []
+  pub append : (xs ys : List A) → text (xs ++ ys) ≡ text xs ++ text ys
+
+pub bytes_join : Joins (λ (bytes : List ℕ). bytes)
+bytes_join = record { none = refl; append = λ xs ys. refl }
+
+pub rows_join : (tables : InstanceTables) → Joins (rows_text tables)
+rows_join tables = record {
+  none = refl;
+  append = λ xs ys. flat_map-append (assignment_text tables.scenario) xs ys;
+}
+
+module _ {W : Type 0} {target : Ghosts W} where
+  -- nothing is put
+  pub takes_nothing : (sink : Sink W target) → Takes sink (Ok tt) [] sink
+  takes_nothing sink = record {
+    same_target = refl;
+    failure = sym (or_false (sink_failed sink));
+    target_failure = sym (or_false (target.has_failed (target_of sink)));
+    silent = λ _. refl;
+    bytes = sym (append_known-nil (stands_for sink));
+  }
+    where
+      append_known-nil : (told : Told) → append_known told [] ≡ told
+      append_known-nil None = refl
+      append_known-nil (Some bytes) = ap Some (append-nil bytes)
+
+  module _ {A : Type 0} {text : List A → List ℕ} (joins : Joins text) where
+    pub loop_none : (f : ℕ → List A) (sink : Sink W target) → Takes sink (Ok tt) (text (each_below 0 f)) sink
+    loop_none f sink = rw (each_below-zero f, joins.none) (takes_nothing sink)
+
+    pub loop_more : (i : ℕ) (f : ℕ → List A) {old middle new : Sink W target} {u : Unit {0}} {r : Result (Unit {0}) PortFault} →
+        Takes old (Ok u) (text (each_below i f)) middle → Takes middle r (text (f i)) new → Takes old r (text (each_below (i + 1) f)) new
+    loop_more i f first second = rw (each_below-more i f, joins.append) (takes_then first second)
+
+    pub loop_all : (i n : ℕ) (f : ℕ → List A) {old new : Sink W target} {r : Result (Unit {0}) PortFault} → i ≡ n →
+        Takes old r (text (each_below i f)) new → Takes old r (text (each_below n f)) new
+    loop_all i n f same takes = rw (← same) takes
+
+    pub loop_exit : (i n : ℕ) (f : ℕ → List A) {old middle new : Sink W target} {u : Unit {0}} {e : PortFault} (r : Result (Unit {0}) PortFault) →
+        IsErr r → i < n → Takes old (Ok u) (text (each_below i f)) middle → Takes middle (Err e) (text (f i)) new →
+        Takes old r (text (each_below n f)) new
+    loop_exit i n f r failed below first second =
+        let w = within i n f below in
+        takes_exit r failed (rw (w.are, joins.append) (takes_stop (text w.after) (loop_more i f first second)))

@@ -1,0 +1,60 @@
+-- What an answer says of a week: its roster with what it costs, or why it has none.
+use Rattle.std.specs.Prelude.{◌≡◌, ℕ, ◌≤◌, pos, Bool, map, sum, Some}
+use Rattle.rota_core.specs.Week.{Week}
+use Rattle.rota_core.specs.declared.rule.Rule.{Rule}
+use Rattle.rota_core.specs.declared.values.Cell.{Cell}
+use Rattle.rota_core.specs.Roster.{InWeek}
+use Rattle.rota_core.specs.RosterTables.{HasShapeOf, set_of}
+use Rattle.rota_core.specs.HardRules.{KeepsHardRules}
+use Rattle.rota_items.specs.Linear.{SatisfiesModel, objective_value}
+use Rattle.rota_items.specs.Penalty.{penalty, rule_cost}
+use Rattle.rota_items.specs.RuleCharges.{soft_rules}
+use Rattle.rota_items.specs.Verdicts.{first_unmet, truth_of}
+use Rattle.rota_items.specs.WeekModel.{model_of, rows_of, roster_of}
+use Rattle.solver_text.specs.declared.outcome.Status.{Status}
+use Rattle.solver_text.specs.declared.outcome.Status.TheVariants.{Satisfiable, Optimum, Unsatisfiable, Unknown, Unsupported}
+use Rattle.solver_text.specs.Answers.{Meaning}
+use Rattle.rota_pb.specs.declared.decoded.Decoded.{Decoded}
+use Rattle.rota_pb.specs.declared.fault.Fault.{Fault}
+use Rattle.rota_pb.specs.declared.fault.Fault.TheVariants.{File, Memory, Write, Read, Answer, NoRoster, Unmet, Breaks}
+
+-- the statuses of an answer that gives an assignment
+abbrev pub FindsRoster : Status → Type 0
+FindsRoster Satisfiable = Unit {0}
+FindsRoster Optimum = Unit {0}
+FindsRoster Unsatisfiable = ⊥
+FindsRoster Unknown = ⊥
+FindsRoster Unsupported = ⊥
+
+-- The variables that the answer makes true satisfy the model of the week. The roster has exactly the cells whose variable is true, keeps the
+-- hard rules, and costs the penalty, which is at most the objective.
+pub record IsDecoded (week : Week) (meaning : Meaning) (decoded : Decoded) : Type 0 where
+  pub finds : FindsRoster meaning.status
+  pub satisfies : SatisfiesModel (truth_of meaning.truths) (model_of week)
+  pub shape : HasShapeOf week decoded.roster
+  pub cells : (cell : Cell) → InWeek week cell → set_of decoded.roster cell ≡ roster_of week (truth_of meaning.truths) cell
+  pub keeps : KeepsHardRules week (set_of decoded.roster)
+  pub objective : pos decoded.objective ≡ objective_value (truth_of meaning.truths) (model_of week)
+  pub costs : decoded.costs ≡ map (rule_cost week (set_of decoded.roster)) soft_rules
+  pub sum_of_costs : decoded.penalty ≡ sum decoded.costs
+  pub penalty_is : decoded.penalty ≡ penalty week (set_of decoded.roster)
+  pub enough : decoded.penalty ≤ decoded.objective
+  pub same_status : decoded.status ≡ meaning.status
+  pub same_last_o : decoded.last_o ≡ meaning.last_o
+
+-- the constraint with this number, from 1, is the first of the model that the assignment does not satisfy
+pub record IsFirstUnmet (week : Week) (assignment : ℕ → Bool) (number : ℕ) : Type 0 where
+  pub rule : Rule
+  pub first : first_unmet assignment (rows_of week) ≡ Some (number, rule)
+  pub unsatisfied : SatisfiesModel assignment (model_of week) → ⊥
+
+-- Why an answer has no roster: its status says so, or its assignment does not satisfy the model.
+abbrev pub LacksRoster : Week → Meaning → Fault → Type 0
+LacksRoster week meaning (NoRoster status) = (status ≡ meaning.status) × (FindsRoster meaning.status → ⊥)
+LacksRoster week meaning (Unmet number) = FindsRoster meaning.status × IsFirstUnmet week (truth_of meaning.truths) number
+LacksRoster week meaning (File file) = ⊥
+LacksRoster week meaning Memory = ⊥
+LacksRoster week meaning Write = ⊥
+LacksRoster week meaning Read = ⊥
+LacksRoster week meaning (Answer fault) = ⊥
+LacksRoster week meaning (Breaks rule) = ⊥

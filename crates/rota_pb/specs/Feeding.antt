@@ -1,0 +1,52 @@
+-- What feeding an answer with a reader's pieces does.
+use Rattle.std.specs.Prelude.{◌≡◌, ℕ, ◌≤◌, List, [], length, Ok, Err}
+use Rattle.std.specs.Io.KnownBytes.{prepend_known, IsAtEnd}
+use Rattle.rota_core.specs.Ports.{Told}
+use Rattle.solver_text.specs.declared.answer.Answer.{Answer as AnswerState}
+use Rattle.solver_text.specs.declared.outcome.AnswerFault.{AnswerFault}
+use Rattle.solver_text.specs.States.{LeadsTo, fault_within}
+use Rattle.rota_pb.specs.declared.fault.Fault.{Fault}
+use Rattle.rota_pb.specs.declared.fault.Fault.TheVariants.{File, Memory, Write, Read, Answer, NoRoster, Unmet, Breaks}
+use Rattle.rota_pb.specs.AnswerPieces.{LacksEnd}
+use Rattle.rota_pb.specs.Readers.{Reader}
+
+-- Bytes were taken in so many pieces, each of which had some. They lead from no text to the answer, and no fault was judged in them.
+pub record HasTaken (given left : Told) (old new : AnswerState) (pieces : ℕ) : Type 0 where
+  pub taken : List ℕ
+  pub front : given ≡ prepend_known taken left
+  pub leads : (variables : ℕ) → LeadsTo variables [] old → LeadsTo variables taken new
+  pub unjudged : (variables : ℕ) → LeadsTo variables [] old → fault_within variables taken ≡ Ok tt
+  pub long : pieces ≤ length taken
+
+-- all bytes were taken
+pub record HasTakenAll (reader : Reader) (old new : AnswerState) : Type 0 where
+  pub taken : List ℕ
+  pub front : reader.given ≡ prepend_known taken reader.left
+  pub at_end : IsAtEnd reader.left
+  pub leads : (variables : ℕ) → LeadsTo variables [] old → LeadsTo variables taken new
+  pub sound : reader.failed ≡ reader.failed_before
+
+-- a fault was judged in the bytes that were taken, which follow no text
+pub record FaultTaken (reader : Reader) (old : AnswerState) (fault : AnswerFault) : Type 0 where
+  pub taken : List ℕ
+  pub front : reader.given ≡ prepend_known taken reader.left
+  pub judged : (variables : ℕ) → LeadsTo variables [] old → fault_within variables taken ≡ Err fault
+  pub sound : reader.failed ≡ reader.failed_before
+
+-- no end came after the bytes that were taken, which follow no text, and no fault was judged in them
+pub record NoEndTaken (reader : Reader) (old : AnswerState) : Type 0 where
+  pub taken : List ℕ
+  pub front : reader.given ≡ prepend_known taken reader.left
+  pub unjudged : (variables : ℕ) → LeadsTo variables [] old → fault_within variables taken ≡ Ok tt
+  pub no_end : LacksEnd reader taken
+
+-- why not all bytes were taken
+abbrev pub StopsTaking : Reader → AnswerState → Fault → Type 0
+StopsTaking reader old (Answer fault) = FaultTaken reader old fault
+StopsTaking reader old Read = NoEndTaken reader old
+StopsTaking reader old (File file) = ⊥
+StopsTaking reader old Memory = ⊥
+StopsTaking reader old Write = ⊥
+StopsTaking reader old (NoRoster status) = ⊥
+StopsTaking reader old (Unmet number) = ⊥
+StopsTaking reader old (Breaks rule) = ⊥

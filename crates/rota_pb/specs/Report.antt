@@ -1,0 +1,42 @@
+-- The report on a decoded answer.
+use Rattle.std.specs.Prelude.{ℕ, ◌+◌, ℤ, List, [], ◌++◌, codes, Option, Some, None, slice_index_or}
+use Rattle.rota_core.specs.Lists.{each_below}
+use Rattle.rota_core.specs.Numeral.{numeral, signed_numeral}
+use Rattle.rota_read.specs.SolutionText.{spaced, ended}
+use Rattle.solver_text.specs.declared.outcome.Status.{Status}
+use Rattle.solver_text.specs.declared.outcome.Status.TheVariants.{Satisfiable, Optimum, Unsatisfiable, Unknown, Unsupported}
+use Rattle.rota_pb.specs.declared.decoded.Decoded.{Decoded}
+
+-- the words of an answer's status
+abbrev pub status_words : Status → List ℕ
+status_words Satisfiable = codes "SATISFIABLE"
+status_words Optimum = codes "OPTIMUM FOUND"
+status_words Unsatisfiable = codes "UNSATISFIABLE"
+status_words Unknown = codes "UNKNOWN"
+status_words Unsupported = codes "UNSUPPORTED"
+
+-- a line of a number
+abbrev pub number_line : List ℕ → ℕ → List ℕ
+number_line name number = ended (spaced name (numeral number))
+
+-- the line of the soft rule with this number, from 1
+abbrev pub cost_line : ℕ → ℕ → List ℕ
+cost_line number cost = number_line (codes "S" ++ numeral number) cost
+
+-- the lines of S1 to S7
+unfoldable pub cost_lines : List ℕ → List ℕ
+cost_lines costs = each_below 7 (λ place. cost_line (place + 1) (slice_index_or costs place 0))
+
+-- no line where the answer had no o line
+abbrev pub last_o_line : Option ℤ → List ℕ
+last_o_line None = []
+last_o_line (Some value) = ended (spaced (codes "last o") (signed_numeral value))
+
+-- the whole report
+abbrev pub report_text : Decoded → List ℕ
+report_text decoded =
+    ended (spaced (codes "status") (status_words decoded.status))
+    ++ number_line (codes "objective") decoded.objective
+    ++ number_line (codes "penalty") decoded.penalty
+    ++ cost_lines decoded.costs
+    ++ last_o_line decoded.last_o

@@ -1,0 +1,44 @@
+//! A solver's answer, read in pieces.
+ghost use Rattle.std.specs.Prelude.{IfOk, IfErr, OnOk};
+ghost use Rattle.rota_pb.specs.AnswerPieces.{FailsAnswer, IsSolved};
+ghost use Rattle.rota_pb.specs.Feeding.{HasTakenAll, StopsTaking};
+ghost use Rattle.rota_pb.specs.Readers.{reader_of};
+
+use crate::fault::Fault;
+use rota_core::Source;
+use solver_text::{Answer, Solved};
+use std::alloc::Global;
+
+const PIECE: usize = 4096;
+
+// Feeds the answer with what the source has, to its end.
+fn feed_all<A: Source>(source: &mut A, answer: &mut Answer) -> Result<(), Fault>
+    ensures taken { OnOk result (HasTakenAll (reader_of A.Source source.old source.new) answer.old answer.new) }
+    ensures fault { IfErr result (StopsTaking (reader_of A.Source source.old source.new) answer.old) }
+{
+    let mut buffer = [0; PIECE];
+    for _ in 0..u64::MAX {
+        let Ok(count) = source.read(&mut buffer) else {
+            return Err(Fault::Read);
+        };
+        if count == 0 {
+            return Ok(());
+        }
+        answer.feed(&buffer[..count])?;
+    }
+    Err(Fault::Read)
+}
+
+// The answer that the source gives, for so many variables.
+pub(crate) fn read_answer<A: Source>(
+    alloc: Global,
+    variables: u32,
+    source: &mut A,
+) -> Result<Solved, Fault>
+    ensures solved { IfOk result (IsSolved variables (reader_of A.Source source.old source.new)) }
+    ensures fault { IfErr result (FailsAnswer variables (reader_of A.Source source.old source.new)) }
+{
+    let mut answer = Answer::new(alloc, variables)?;
+    feed_all(source, &mut answer)?;
+    Ok(answer.finish()?)
+}

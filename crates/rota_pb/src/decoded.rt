@@ -1,0 +1,62 @@
+//! The roster that an answer gives, with what it costs.
+ghost use Rattle.std.specs.Prelude.{◌≡◌, IfOk, IfErr, length};
+ghost use Rattle.rota_core.specs.InstanceTables.{week_of};
+ghost use Rattle.rota_items.specs.WeekModel.{model_of};
+ghost use Rattle.solver_text.specs.States.{meaning_of};
+ghost use Rattle.rota_pb.specs.Decoded.{IsDecoded, LacksRoster};
+
+use crate::fault::Fault;
+use rota_core::{Instance, Roster};
+use rota_items::judge_bits;
+use solver_text::{Solved, Status};
+
+/// The roster of an answer that satisfies the model, and what the roster costs.
+#[derive(Drop)]
+pub struct Decoded {
+    /// The cells whose variable is true. The roster keeps H1 to H4.
+    pub roster: Roster,
+    /// The value of the model's objective under the answer, at least the penalty.
+    pub objective: u64,
+    /// What the soft rules S1 to S7 of INRC-II charge for the roster, with their weights.
+    pub costs: [u64; 7],
+    /// The sum of the costs.
+    pub penalty: u64,
+    /// The status that the answer named: `Satisfiable` or `Optimum`.
+    pub status: Status,
+    /// The value of the answer's last `o` line, where it had one. It is not compared with anything.
+    pub last_o: Option<i64>,
+}
+
+/// The roster of the answer: the cells whose variable is true. Takes no memory: the answer's bits
+/// become the roster.
+///
+/// Errors: `NoRoster` where the answer's status is neither `Satisfiable` nor `Optimum`; else `Unmet`
+/// with the first constraint of the model that the answer does not satisfy, where there is one. The
+/// bits are dropped then.
+pub fn decode(instance: &Instance, solved: Solved) -> Result<Decoded, Fault>
+    requires bits { length solved.bits ≡ (model_of (week_of instance.now)).variables }
+    ensures decoded { IfOk result (IsDecoded (week_of instance.now) (meaning_of solved)) }
+    ensures fault { IfErr result (LacksRoster (week_of instance.now) (meaning_of solved)) }
+{
+    let Solved {
+        status,
+        last_o,
+        bits,
+    } = solved;
+    if !matches!(status, Status::Satisfiable | Status::Optimum) {
+        return Err(Fault::NoRoster(status));
+    }
+    let verdict = judge_bits(instance, &bits);
+    if let Some((number, _)) = verdict.unmet {
+        return Err(Fault::Unmet(number));
+    }
+    let penalty = verdict.costs.iter().sum();
+    Ok(Decoded {
+        roster: Roster::of_bits(bits, instance),
+        objective: verdict.objective,
+        costs: verdict.costs,
+        penalty,
+        status,
+        last_o,
+    })
+}

@@ -1,0 +1,64 @@
+//! The run that turns a solver's answer into a solution file and a report.
+ghost use Rattle.std.specs.Prelude.{◌≡◌, IfErr, OnOk};
+ghost use Rattle.rota_pb.specs.Faults.{OnCheck, OnWrite};
+ghost use Rattle.rota_pb.specs.Readers.{reader_of};
+ghost use Rattle.rota_pb.specs.Writers.{writer_of};
+ghost use Rattle.rota_pb.specs.Decoding.{StopsDecoding, WritesPart, WritesSolution};
+
+use crate::answer_pieces::read_answer;
+use crate::decoded::decode;
+use crate::fault::Fault;
+use crate::report::write_report;
+use crate::week_files::read_instance;
+use crate::written_solution::write_solution;
+use rota_core::{Source, Target};
+use rota_items::counts;
+use std::alloc::Global;
+
+/// Reads the three files of a week and a solver's answer to the week's model, each to its end, and
+/// writes the solution file of the answer's roster to `sol` and then a report to `report`.
+///
+/// The answer is read in pieces of 4096 bytes and not kept; it may be of any length that comes in less
+/// than 2^64 - 1 pieces.
+///
+/// Errors, in this order: `File` with the first fault of the first file that has one, or `LateWeek`
+/// after all three; `Answer` with the answer's first fault; `NoRoster` where its status is neither
+/// `Satisfiable` nor `Optimum`; `Unmet` with the first constraint that it does not satisfy. `Read`
+/// where a reader failed, or the answer had no end, before a fault was found in what had been read;
+/// `Memory` where there was none for a file, or for the answer's bits before it is read. Later readers
+/// are not touched then, and no writer is called. `Write` where a writer failed: what it got begins its
+/// text, and `report` gets nothing before the whole solution is out and flushed.
+pub fn run_decode<S: Source, H: Source, K: Source, A: Source, W: Target, R: Target>(
+    alloc: Global,
+    sce: &mut S,
+    his: &mut H,
+    week: &mut K,
+    answer: &mut A,
+    sol: &mut W,
+    report: &mut R,
+) -> Result<(), Fault>
+    // the solution file of the answer's roster went out whole, and then the report
+    ensures ok { OnOk result (WritesSolution
+        (reader_of S.Source sce.old sce.new) (reader_of H.Source his.old his.new) (reader_of K.Source week.old week.new)
+        (reader_of A.Source answer.old answer.new)
+        (writer_of W.Target sol.old sol.new) (writer_of R.Target report.old report.new)) }
+
+    // what came before the first write
+    ensures check { IfErr result (λ fault. OnCheck fault (StopsDecoding
+        (reader_of S.Source sce.old sce.new) (reader_of H.Source his.old his.new) (reader_of K.Source week.old week.new)
+        (reader_of A.Source answer.old answer.new)
+        fault)) }
+    ensures untouched { IfErr result (λ fault. OnCheck fault ((sol.new ≡ sol.old) × (report.new ≡ report.old))) }
+
+    // a failed write
+    ensures begun { IfErr result (λ fault. OnWrite fault (WritesPart
+        (reader_of S.Source sce.old sce.new) (reader_of H.Source his.old his.new) (reader_of K.Source week.old week.new)
+        (reader_of A.Source answer.old answer.new)
+        (writer_of W.Target sol.old sol.new) (writer_of R.Target report.old report.new))) }
+{
+    let instance = read_instance(alloc, sce, his, week)?;
+    let solved = read_answer(alloc, counts(&instance).variables, answer)?;
+    let decoded = decode(&instance, solved)?;
+    write_solution(&instance, &decoded.roster, sol)?;
+    write_report(&decoded, report)
+}

@@ -1,0 +1,8 @@
+//! What the answer of a roster's extension says.
+ghost use Rattle.rota_pb.specs.Extending.{ExtensionIsReadBack};
+
+/// The answer that is written for a roster that keeps the hard rules is read as `SATISFIABLE`, with the
+/// roster's penalty and the values of its extension, whose roster is the same one.
+pub fn extension_is_read_back()
+    ensures { ExtensionIsReadBack }
+{}

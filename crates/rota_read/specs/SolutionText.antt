@@ -1,0 +1,62 @@
+-- The text of a roster: the solution file that is written for it.
+use Rattle.std.specs.Prelude.{ℕ, ◌≤◌, List, [], ◌∷◌, ◌++◌, codes, length, slice_get, unwrap_or}
+use Rattle.std.specs.List.{flat_map}
+use Rattle.rota_core.specs.declared.values.Cell.{Cell}
+use Rattle.rota_core.specs.InstanceTables.{InstanceTables, IsInstance, week_of}
+use Rattle.rota_core.specs.Lists.{each_below, only_if}
+use Rattle.rota_core.specs.Numeral.{numeral}
+use Rattle.rota_core.specs.Roster.{Roster, KeepsOneCell, cell}
+use Rattle.rota_core.specs.RosterTables.{RosterTables, HasShapeOf, set_of}
+use Rattle.rota_core.specs.ScenarioTables.{ScenarioTables}
+use Rattle.rota_core.specs.Week.{Week}
+use Rattle.rota_read.specs.Days.{day_names}
+use Rattle.rota_read.specs.Reading.{LONGEST}
+use Rattle.rota_read.specs.SolutionRows.{SpellsRoster}
+
+-- the cells of the roster in the week, by rising number of their variables
+unfoldable pub cells_of : Week → Roster → List Cell
+cells_of week roster =
+    each_below week.nurses (λ n. each_below 7 (λ d. each_below week.shifts (λ s. each_below week.skills (λ k.
+    only_if (roster (cell n d s k)) (cell n d s k)))))
+
+abbrev pub name_at : List (List ℕ) → ℕ → List ℕ
+name_at names place = unwrap_or (slice_get names place) []
+
+-- two words on a line, with one blank between
+abbrev pub spaced : List ℕ → List ℕ → List ℕ
+spaced one other = one ++ 32 ∷ other
+
+-- a line with its line feed
+abbrev pub ended : List ℕ → List ℕ
+ended line = line ++ 10 ∷ []
+
+-- the lines before the assignments, of which there are so many
+unfoldable pub heading_text : InstanceTables → ℕ → List ℕ
+heading_text tables count =
+    ended (codes "SOLUTION")
+    ++ ended (spaced (numeral tables.history.week) tables.scenario.name)
+    ++ ended []
+    ++ ended (codes "ASSIGNMENTS = " ++ numeral count)
+
+-- the line of an assignment: nurse, day, shift type and skill
+unfoldable pub assignment_text : ScenarioTables → Cell → List ℕ
+assignment_text tables one =
+    ended (
+    spaced (name_at tables.nurses one.nurse)
+    (spaced (name_at day_names one.day) (spaced (name_at tables.shifts one.shift) (name_at tables.skills one.skill)))
+    )
+
+-- the solution file of these cells
+unfoldable pub text_of_cells : InstanceTables → List Cell → List ℕ
+text_of_cells tables cells = heading_text tables (length cells) ++ flat_map (assignment_text tables.scenario) cells
+
+-- the solution file of a roster
+abbrev pub solution_text : InstanceTables → Roster → List ℕ
+solution_text tables roster = text_of_cells tables (cells_of (week_of tables) roster)
+
+-- The text of a roster spells that roster, where each nurse has at most one cell a day and the text is not too long to be read.
+abbrev pub EachRosterHasItsText : Type 0
+EachRosterHasItsText =
+    (tables : InstanceTables) (roster : RosterTables) → IsInstance tables → HasShapeOf (week_of tables) roster →
+    KeepsOneCell (week_of tables) (set_of roster) → length (solution_text tables (set_of roster)) ≤ LONGEST →
+    SpellsRoster tables (solution_text tables (set_of roster)) roster

@@ -1,0 +1,13 @@
+pub mod AnswerRows
+pub mod CutLaws
+pub mod JudgeLaws
+pub mod NumeralWords
+pub mod LineLaws
+pub mod ReadBack
+pub mod ReadLaws
+pub mod ReadLines
+pub mod StayLaws
+pub mod TextLaws
+pub mod TruthLaws
+pub mod WordLaws
+pub mod WrittenLiterals

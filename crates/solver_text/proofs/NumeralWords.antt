@@ -1,0 +1,146 @@
+-- Numerals as words: digits without blanks, which spell their number.
+use Rattle.std.proofs.Common.{◌≡◌, ℕ, zero, suc, ◌+◌, ◌*◌, ◌/◌, ◌%◌, ◌^◌, ◌<◌, ◌≤◌, Bool, true, false, List, [], ◌∷◌, ◌++◌, Option, Some, None, length, length-append, refl, ap, ◌∙◌, arith, inl, inr, pos}
+use Rattle.std.specs.Prelude.{All}
+use Rattle.std.specs.Char.{is_ascii_digit}
+use Rattle.std.specs.Option.{option_map_or}
+use Rattle.std.proofs.lemmas.Bool.{cases_lt, lt-ltb, le-ltb, le-leb, ne_eqb}
+use Rattle.std.proofs.lemmas.List.Elements.{All-nil, All-cons}
+use Rattle.std.proofs.lemmas.List.Sums.{fold-append}
+use Rattle.opb_text.specs.Numeral.{numeral, numeral_within}
+use Rattle.opb_text.proofs.Numerals.{AreDigits, digits-numeral}
+use Rattle.solver_text.specs.Lines.{is_blank, is_line_feed, has_bytes}
+use Rattle.solver_text.specs.Answers.{Literal, with_digit, decimal, is_decimal, magnitude_of, positive_of, number_of, variable_of, literal_of}
+use Rattle.solver_text.specs.AnswerText.{literal_word}
+
+numeral_short : (k n : ℕ) → n < 10 → numeral_within (suc k) n ≡ (48 + n) ∷ []
+numeral_short k n small = rw (lt-ltb n 10 small) refl
+
+numeral_long : (k n : ℕ) → 10 ≤ n → numeral_within (suc k) n ≡ numeral_within k (n / 10) ++ (48 + n % 10) ∷ []
+numeral_long k n large = rw (le-ltb n 10 large) refl
+
+last_digit : (digits : List ℕ) (d : ℕ) → decimal (digits ++ (48 + d) ∷ []) ≡ 10 * decimal digits + d
+last_digit digits d = fold-append with_digit 0 digits ((48 + d) ∷ []) ∙ omega arith
+
+decimal-numeral_within : (k n : ℕ) → n < k → decimal (numeral_within k n) ≡ n
+decimal-numeral_within zero n below = absurd (omega arith)
+decimal-numeral_within (suc k) n below =
+    elim (cases_lt n 10) [
+      | inl small ↦ rw (numeral_short k n small) (omega arith)
+      | inr large ↦
+          let front : decimal (numeral_within k (n / 10)) ≡ n / 10 = decimal-numeral_within k (n / 10) (omega arith) in
+          rw (numeral_long k n large) (last_digit (numeral_within k (n / 10)) (n % 10) ∙ omega (arith, front))
+    ]
+
+-- the digits of a numeral spell its number
+pub decimal-numeral : (n : ℕ) → decimal (numeral n) ≡ n
+unfolding numeral
+decimal-numeral n = decimal-numeral_within (suc n) n (omega arith)
+
+length-numeral_within : (k m n : ℕ) → n < 10 ^ suc m → length (numeral_within k n) ≤ suc m
+length-numeral_within zero m n below = omega arith
+length-numeral_within (suc k) zero n below = rw (numeral_short k n (omega arith)) (omega arith)
+length-numeral_within (suc k) (suc m) n below =
+    elim (cases_lt n 10) [
+      | inl small ↦ rw (numeral_short k n small) (omega arith)
+      | inr large ↦
+          let front : length (numeral_within k (n / 10)) ≤ suc m = length-numeral_within k m (n / 10) (omega arith) in
+          rw (numeral_long k n large, length-append (numeral_within k (n / 10)) ((48 + n % 10) ∷ [])) (omega (arith, front))
+    ]
+
+-- a number below 10 ^ 18 has at most 18 digits
+pub length-numeral : (n : ℕ) → n < 10 ^ 18 → length (numeral n) ≤ 18
+unfolding numeral
+length-numeral n below = length-numeral_within (suc n) 17 n below
+
+some_digit : (k n : ℕ) → 0 < length (numeral_within (suc k) n)
+some_digit k n =
+    elim (cases_lt n 10) [
+      | inl small ↦ rw (numeral_short k n small) (omega arith)
+      | inr large ↦ rw (numeral_long k n large, length-append (numeral_within k (n / 10)) ((48 + n % 10) ∷ [])) (omega arith)
+    ]
+
+pub numeral-has_digits : (n : ℕ) → 0 < length (numeral n)
+unfolding numeral
+numeral-has_digits n = some_digit n n
+
+digit-decimal : (b : ℕ) → 48 ≤ b → b < 58 → is_ascii_digit b ≡ true
+digit-decimal b low high = rw (le-leb 48 b low, le-leb b 57 (omega arith)) refl
+
+digits-decimal : (digits : List ℕ) → AreDigits digits → is_decimal digits ≡ true
+digits-decimal [] these = refl
+digits-decimal (b ∷ digits) these = rw (digit-decimal b these.0 these.1) (digits-decimal digits these.2)
+
+pub is_decimal-numeral : (n : ℕ) → is_decimal (numeral n) ≡ true
+is_decimal-numeral n = digits-decimal (numeral n) (digits-numeral n)
+
+-- neither blank nor line feed
+abbrev pub IsWordByte : ℕ → Type 0
+IsWordByte b = (is_blank b ≡ false) × (is_line_feed b ≡ false)
+
+pub word_byte : (b : ℕ) → 33 ≤ b → IsWordByte b
+word_byte b high =
+    (rw (ne_eqb b 32 (λ e. omega arith), ne_eqb b 9 (λ e. omega arith), ne_eqb b 13 (λ e. omega arith)) refl, ne_eqb b 10 (λ e. omega arith))
+
+-- bytes that are a word of a line
+pub record IsWord (word : List ℕ) : Type 0 where
+  pub some : has_bytes word ≡ true
+  pub bytes : All IsWordByte word
+
+digits-word_bytes : (digits : List ℕ) → AreDigits digits → All IsWordByte digits
+digits-word_bytes [] these = All-nil IsWordByte
+digits-word_bytes (b ∷ digits) these = All-cons IsWordByte b digits (word_byte b (omega (arith, these.0))) (digits-word_bytes digits these.2)
+
+numeral-word_bytes : (n : ℕ) → All IsWordByte (numeral n)
+numeral-word_bytes n = digits-word_bytes (numeral n) (digits-numeral n)
+
+has_some_bytes : (word : List ℕ) → 0 < length word → has_bytes word ≡ true
+has_some_bytes [] some = absurd (omega arith)
+has_some_bytes (b ∷ word) some = refl
+
+pub numeral-is_word : (n : ℕ) → IsWord (numeral n)
+numeral-is_word n = record { some = has_some_bytes (numeral n) (numeral-has_digits n); bytes = numeral-word_bytes n }
+
+pub literal-is_word : (variable : ℕ) (truth : Bool) → IsWord (literal_word variable truth)
+literal-is_word variable true =
+    record { some = refl; bytes = All-cons IsWordByte 120 (numeral variable) (word_byte 120 (omega arith)) (numeral-word_bytes variable) }
+literal-is_word variable false =
+    record {
+      some = refl;
+      bytes =
+          All-cons IsWordByte 45 (120 ∷ numeral variable) (word_byte 45 (omega arith))
+          (All-cons IsWordByte 120 (numeral variable) (word_byte 120 (omega arith)) (numeral-word_bytes variable));
+    }
+
+-- digits that name the variable
+variable-digits : (positive : Bool) (digits : List ℕ) → 0 < length digits → is_decimal digits ≡ true → variable_of positive digits ≡ Some (record { positive = positive; variable = decimal digits })
+variable-digits positive [] some e = absurd (omega arith)
+variable-digits positive (b ∷ digits) some e = rw e refl
+
+abbrev literal_of_variable : Bool → ℕ → Option Literal
+literal_of_variable positive n = Some (record { positive = positive; variable = n })
+
+variable-numeral : (positive : Bool) (n : ℕ) → variable_of positive (numeral n) ≡ literal_of_variable positive n
+variable-numeral positive n =
+    variable-digits positive (numeral n) (numeral-has_digits n) (is_decimal-numeral n)
+    ∙ ap (λ (m : ℕ). literal_of_variable positive m) (decimal-numeral n)
+
+-- a literal's word names the literal
+pub literal_of-literal_word : (variable : ℕ) (truth : Bool) → literal_of (literal_word variable truth) ≡ Some (record { positive = truth; variable = variable })
+literal_of-literal_word variable true = variable-numeral true variable
+literal_of-literal_word variable false = variable-numeral false variable
+
+magnitude-digits : (digits : List ℕ) → 0 < length digits → length digits ≤ 18 → is_decimal digits ≡ true → magnitude_of digits ≡ Some (decimal digits)
+magnitude-digits digits some short e = rw (e, lt-ltb 0 (length digits) some, le-leb (length digits) 18 short) refl
+
+-- digits without a sign spell a number that is not negative
+unsigned-digits : (digits : List ℕ) → AreDigits digits → 0 < length digits → number_of digits ≡ positive_of digits
+unsigned-digits [] these some = absurd (omega arith)
+unsigned-digits (b ∷ digits) these some =
+    rw (ne_eqb b 45 (λ e. omega (arith, these.0)), ne_eqb b 43 (λ e. omega (arith, these.0))) refl
+
+-- a numeral of at most 18 digits spells its number
+pub number_of-numeral : (n : ℕ) → n < 10 ^ 18 → number_of (numeral n) ≡ Some (pos n)
+number_of-numeral n small =
+    unsigned-digits (numeral n) (digits-numeral n) (numeral-has_digits n)
+    ∙ ap (λ (m : Option ℕ). option_map_or (λ d. Some (pos d)) m None)
+    (magnitude-digits (numeral n) (numeral-has_digits n) (length-numeral n small) (is_decimal-numeral n) ∙ ap Some (decimal-numeral n))

@@ -1,0 +1,51 @@
+-- What a writer of an answer stands for, and what each of its calls puts.
+use Rattle.std.specs.Prelude.{◌≡◌, ℕ, ◌+◌, ◌%◌, ◌==◌, Bool, List, [], ◌∷◌, ◌++◌, length, codes, if◌then◌else◌}
+use Rattle.rota_core.specs.declared.ports.Target.{Ghosts}
+use Rattle.opb_text.specs.declared.sink.Sink.{Sink}
+use Rattle.solver_text.specs.AnswerText.{behind_blank, literal_word, answer_head, answer_text}
+use Rattle.solver_text.specs.declared.answer_writer.Phase.{Phase}
+use Rattle.solver_text.specs.declared.answer_writer.AnswerWriter.{AnswerWriter}
+
+module _ {W : Type 0} {target : Ghosts W} where
+  -- the sink that the text goes to
+  abbrev pub sink_of : AnswerWriter W target → Sink W target
+  sink_of writer = writer.sink
+
+  -- whether the head of the answer was put, and its end
+  abbrev pub phase_of : AnswerWriter W target → Phase
+  phase_of writer = writer.phase
+
+  -- the number of literals that were put
+  abbrev pub literals_of : AnswerWriter W target → ℕ
+  literals_of writer = writer.literals
+
+-- a row is full after so many literals
+abbrev pub is_full_row : ℕ → Bool
+is_full_row n = n % 10 == 0
+
+-- what stands before the literal after so many literals
+abbrev pub row_start : ℕ → List ℕ
+row_start n = if is_full_row n then codes "v" else []
+
+-- what stands after so many literals, where the row is full
+abbrev pub row_end : ℕ → List ℕ
+row_end n = if is_full_row n then codes "\n" else []
+
+-- what the value of the next variable puts after so many literals
+abbrev pub literal_text : ℕ → Bool → List ℕ
+literal_text n truth = row_start n ++ behind_blank (literal_word (n + 1) truth) ++ row_end (n + 1)
+
+-- what the values of the next variables put after so many literals
+abbrev pub literals_text : ℕ → List Bool → List ℕ
+literals_text n [] = []
+literals_text n (truth ∷ truths) = literal_text n truth ++ literals_text (n + 1) truths
+
+-- what the end of the answer puts after so many literals: the end of a row that is not full
+abbrev pub end_text : ℕ → List ℕ
+end_text n = if is_full_row n then [] else codes "\n"
+
+-- the head, the texts of the literals and the end are the answer's text
+abbrev pub WritesAnswerText : Type 0
+WritesAnswerText =
+    (objective : ℕ) (truths : List Bool) →
+    answer_head objective ++ literals_text 0 truths ++ end_text (length truths) ≡ answer_text objective truths

@@ -1,0 +1,7 @@
+pub mod Answers
+pub mod AnswerText
+pub mod AnswerWriter
+pub mod AnswerLaws
+pub mod Lines
+pub mod Places
+pub mod States

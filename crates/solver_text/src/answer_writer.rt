@@ -1,0 +1,170 @@
+//! A writer of the answer that a solver would give.
+ghost use Rattle.std.specs.Prelude.{◌≡◌, ◌+◌, ◌-◌, ◌^◌, min, true, OnOk, OnErr, IsErr};
+ghost use Rattle.std.specs.Io.KnownBytes.{append_known};
+ghost use Rattle.rota_core.specs.Ports.{told_len};
+ghost use Rattle.opb_text.specs.Begins.{Begins};
+ghost use Rattle.opb_text.specs.Sink.{stands_for, sink_failed, target_of, sent_by, Takes};
+ghost use Rattle.opb_text.specs.Numeral.{numeral};
+ghost use Rattle.solver_text.specs.AnswerText.{answer_head, behind_blank, literal_word};
+ghost use Rattle.solver_text.specs.AnswerWriter.{literal_text, row_start, row_end, end_text};
+
+use opb_text::Sink;
+use rota_core::{PortFault, Target};
+
+/// What a writer has put so far: nothing, the head and some literals, or the whole answer.
+#[derive(Clone, Copy)]
+enum Phase {
+    New,
+    Started,
+    Finished,
+}
+
+/// Puts an answer's text into a sink, in the output format of the Pseudo-Boolean Competition (Roussel
+/// and Manquinho): an `o` line with the objective's value, the line `s SATISFIABLE`, and `v` lines with
+/// the literals of the variables 1, 2, .. in turn, ten a line, the last line with the rest.
+///
+/// `start` is called first and once, then `literal` for each variable, and `finish` last and once. It
+/// fails only where the target does. What went out then begins what was put, with the text of the call
+/// that failed.
+#[derive(Drop)]
+pub struct AnswerWriter<'a, W: Target> {
+    sink: Sink<'a, W>,
+    phase: Phase,
+    literals: u32,
+}
+
+fn put_natural<W: Target>(sink: &mut Sink<W>, number: u64) -> Result<(), PortFault>
+    ensures { Takes sink.old result (numeral number) sink.new }
+{
+    sink.number(number as i128)
+}
+
+// Puts the letter of a line of values, where a line begins after so many literals.
+fn put_row_start<W: Target>(sink: &mut Sink<W>, literals: u32) -> Result<(), PortFault>
+    ensures takes { Takes sink.old result (row_start literals) sink.new }
+    ensures for_good { sink_failed sink.old ≡ true → IsErr result }
+{
+    let text: &[u8] = if literals % 10 == 0 { b"v" } else { b"" };
+    sink.put(text)
+}
+
+// Puts the end of a line of values, where it is full after so many literals.
+fn put_row_end<W: Target>(sink: &mut Sink<W>, literals: u64) -> Result<(), PortFault>
+    ensures { Takes sink.old result (row_end literals) sink.new }
+{
+    let text: &[u8] = if literals % 10 == 0 { b"\n" } else { b"" };
+    sink.put(text)
+}
+
+// Puts a blank and the variable's literal.
+fn put_word<W: Target>(sink: &mut Sink<W>, variable: u64, positive: bool) -> Result<(), PortFault>
+    ensures { Takes sink.old result (behind_blank (literal_word variable positive)) sink.new }
+{
+    let letter: &[u8] = if positive { b" x" } else { b" -x" };
+    sink.put(letter)?;
+    put_natural(sink, variable)
+}
+
+// Puts the literal of the next variable after so many literals.
+fn put_literal<W: Target>(
+    sink: &mut Sink<W>,
+    literals: u32,
+    positive: bool,
+) -> Result<(), PortFault>
+    ensures takes { Takes sink.old result (literal_text literals positive) sink.new }
+    ensures for_good { sink_failed sink.old ≡ true → IsErr result }
+{
+    let variable = u64::from(literals) + 1;
+    put_row_start(sink, literals)?;
+    put_word(sink, variable, positive)?;
+    put_row_end(sink, variable)
+}
+
+// Puts the lines before the values.
+fn put_head<W: Target>(sink: &mut Sink<W>, objective: u64) -> Result<(), PortFault>
+    ensures takes { Takes sink.old result (answer_head objective) sink.new }
+    ensures for_good { sink_failed sink.old ≡ true → IsErr result }
+{
+    sink.put(b"o ")?;
+    put_natural(sink, objective)?;
+    sink.put(b"\ns SATISFIABLE\n")
+}
+
+// Puts the end of the last line of values, where it is not full.
+fn put_end<W: Target>(sink: &mut Sink<W>, literals: u32) -> Result<(), PortFault>
+    ensures takes { Takes sink.old result (end_text literals) sink.new }
+    ensures for_good { sink_failed sink.old ≡ true → IsErr result }
+{
+    let text: &[u8] = if literals % 10 == 0 { b"" } else { b"\n" };
+    sink.put(text)
+}
+
+impl<'a, W: Target> AnswerWriter<'a, W> {
+    ghost use Rattle.solver_text.specs.AnswerWriter.{sink_of, phase_of, literals_of};
+
+    /// A writer whose text goes into the sink. Nothing is put yet.
+    pub fn new(sink: Sink<'a, W>) -> AnswerWriter<'a, W>
+        ensures sink { sink_of result ≡ sink.entry }
+        ensures phase { phase_of result ≡ Phase.New }
+        ensures literals { literals_of result ≡ 0 }
+    {
+        AnswerWriter {
+            sink,
+            phase: Phase::New,
+            literals: 0,
+        }
+    }
+
+    /// Puts the objective's value and the status. It fails only where the target does.
+    pub fn start(&mut self, objective: u64) -> Result<(), PortFault>
+        requires { phase_of self.old ≡ Phase.New }
+        ensures phase { phase_of self.new ≡ Phase.Started }
+        ensures literals { literals_of self.new ≡ 0 }
+        ensures takes { Takes (sink_of self.old) result (answer_head objective) (sink_of self.new) }
+        ensures for_good { sink_failed (sink_of self.old) ≡ true → IsErr result }
+    {
+        self.phase = Phase::Started;
+        self.literals = 0;
+        put_head(&mut self.sink, objective)
+    }
+
+    /// Puts the literal of the next variable, positive where it is true. The number of literals counts
+    /// up to 4,294,967,295 and stays there. It fails only where the target does.
+    pub fn literal(&mut self, positive: bool) -> Result<(), PortFault>
+        requires { phase_of self.old ≡ Phase.Started }
+        ensures phase { phase_of self.new ≡ Phase.Started }
+        ensures literals { literals_of self.new ≡ min (literals_of self.old + 1) (2 ^ 32 - 1) }
+        ensures takes { Takes (sink_of self.old) result (literal_text (literals_of self.old) positive) (sink_of self.new) }
+        ensures for_good { sink_failed (sink_of self.old) ≡ true → IsErr result }
+    {
+        let literals = self.literals;
+        self.literals = literals.saturating_add(1);
+        put_literal(&mut self.sink, literals, positive)
+    }
+
+    /// Ends the text and finishes the sink: Ok says that all that was put is out and flushed. It fails
+    /// only where the target does.
+    pub fn finish(&mut self) -> Result<(), PortFault>
+        requires { phase_of self.old ≡ Phase.Started }
+        ensures phase { phase_of self.new ≡ Phase.Finished }
+        ensures literals { literals_of self.new ≡ literals_of self.old }
+        ensures takes { Takes (sink_of self.old) result (end_text (literals_of self.old)) (sink_of self.new) }
+        ensures sent { OnOk result (sent_by (sink_of self.new) ≡ append_known (stands_for (sink_of self.old)) (end_text (literals_of self.old))) }
+        ensures err { OnErr result (Begins (sent_by (sink_of self.new)) (append_known (stands_for (sink_of self.old)) (end_text (literals_of self.old)))) }
+        ensures flushed { OnOk result (W.flushed (target_of (sink_of self.new)) ≡ told_len (sent_by (sink_of self.new))) }
+        ensures for_good { sink_failed (sink_of self.old) ≡ true → IsErr result }
+        ensures target_for_good { W.has_failed (target_of (sink_of self.old)) ≡ true → IsErr result }
+    {
+        self.phase = Phase::Finished;
+        put_end(&mut self.sink, self.literals)?;
+        self.sink.finish()
+    }
+
+    /// The sink, with what was put into it.
+    pub fn into_sink(self) -> Sink<'a, W>
+        ensures { result ≡ sink_of self.entry }
+    {
+        let AnswerWriter { sink, .. } = self;
+        sink
+    }
+}

@@ -1,0 +1,50 @@
+//! What a solver's answer says, and the faults of its text.
+
+use rota_core::Bits;
+use thiserror::Error;
+
+/// The status that an `s` line names.
+#[derive(Clone, Copy, Debug, PartialEq, Eq)]
+pub enum Status {
+    /// `SATISFIABLE`: the assignment satisfies all constraints.
+    Satisfiable,
+    /// `OPTIMUM FOUND`: it does, and no other one that does has a lower objective.
+    Optimum,
+    Unsatisfiable,
+    Unknown,
+    Unsupported,
+}
+
+/// Why a text is no answer.
+#[derive(Clone, Copy, Debug, PartialEq, Eq, Error)]
+pub enum AnswerFault {
+    /// No `s` line, or a second one.
+    #[error("no status line or a second one")]
+    Statuses,
+    /// An `s` line that names no status.
+    #[error("unknown status")]
+    StatusText,
+    /// A word of a `v` line that is no literal.
+    #[error("bad literal")]
+    Literal,
+    /// A literal of variable 0, or of one above the number of variables.
+    #[error("variable out of range")]
+    Range,
+    /// A literal whose variable had the other value before.
+    #[error("variable with both values")]
+    BothValues,
+    /// An `o` line without one number of at most 18 digits.
+    #[error("bad o value")]
+    Objective,
+}
+
+/// What a whole answer says.
+#[derive(Drop)]
+pub struct Solved {
+    /// The status of the `s` line.
+    pub status: Status,
+    /// The value of the last `o` line, where there was one: what the solver claims.
+    pub last_o: Option<i64>,
+    /// A truth value a variable, variable 1 first: true exactly where a positive literal of it was read.
+    pub bits: Bits,
+}
