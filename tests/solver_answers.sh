@@ -1,7 +1,7 @@
 #!/usr/bin/env bash
 # Decodes the answers that real solvers gave for the week of examples/n005w4. Each is a roster whose
 # objective and penalty are 320, the least ones, as two solvers proved. What `decode` writes as a solution
-# is read again by `extend`.
+# goes back through `extend` and `decode`, with the same costs and the same solution.
 #
 #   tests/solver_answers.sh [PROGRAM..]
 #
@@ -33,8 +33,15 @@ solver_answers() {
         run "$answer" 0 text nothing decode "${files[@]}" --sol solution
         check_report
         in=/dev/null
+        cp "$room/out" "$room/report"
+        cp "$room/solution" "$room/first_solution"
         run "$answer, extended" 0 text nothing extend "${files[@]}" --from solution
         [ "$(head -n 2 "$room/out")" = "$(printf 'o 320\ns SATISFIABLE')" ] || complain "$(head -n 2 "$room/out")"
+        cp "$room/out" "$room/extended"
+        in=$room/extended
+        run "$answer, decoded again" 0 text nothing decode "${files[@]}" --sol solution
+        [ "$(grep '^[pS]' "$room/out")" = "$(grep '^[pS]' "$room/report")" ] || complain 'other costs'
+        holds solution first_solution
     done
 }
 
