@@ -48,6 +48,7 @@ impl<'a, W: Target> OpbTaker<'a, W> {
     /// Finishes the sink: Ok says that all that was put is out and flushed. It fails only where the
     /// target does.
     pub fn finish(&mut self) -> Result<(), PortFault>
+        ensures same_row { in_objective self.new ≡ in_objective self.old }
         ensures takes { Takes (sink_of self.old) result [] (sink_of self.new) }
         ensures sent { OnOk result (sent_by (sink_of self.new) ≡ stands_for (sink_of self.old)) }
         ensures err { OnErr result (Begins (sent_by (sink_of self.new)) (stands_for (sink_of self.old))) }
