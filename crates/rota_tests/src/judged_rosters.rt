@@ -2,6 +2,8 @@
 //!
 //! The costs were made from the rules by a program written apart from this product, which counts runs day by
 //! day and knows no window, pattern, slack or constant.
+//! The rosters may break hard rules. S1 is charged as the model does: only where the optimal number is above
+//! the least, so that missing nurses of other demands are left to H2.
 use crate::five_nurses;
 use crate::week_files::{WeekFiles, instance_of};
 use rota_items::judge_roster;
