@@ -64,7 +64,7 @@ complain() {
 
 # sweep WHAT WORDS..: refuses each allocation of the run on these words in turn.
 sweep() {
-    what=$1 number=0
+    what=$1 number=0 went_on_before=$went_on
     shift
     run 0 $inrc2pb "$@"
     ample=$ended
@@ -88,6 +88,12 @@ sweep() {
     done
     [ $number -gt 1 ] || complain 'no allocation at all'
     is_as_ample || complain 'not the run with ample memory, without a refusal'
+}
+
+# Of the run swept last two refusals alone went on: those of the lists of words that `main` makes. Each refusal in
+# `job`, a reader or an engine ended it.
+only_words_went_on() {
+    [ $((went_on - went_on_before)) = 2 ] || complain "$((went_on - went_on_before)) refusals went on, not 2"
 }
 
 # sweep_test NAME: refuses each allocation of a test in turn. It passes each time.
@@ -118,10 +124,13 @@ data=examples/n005w4
 five_nurses=(encode --sce "$data/Sc-n005w4.txt" --his "$data/H0-n005w4-0.txt" --week "$data/WD-n005w4-0.txt")
 
 sweep 'one nurse' "${small[@]}"
+only_words_went_on
 cmp -s "$room/out" crates/inrc2pb/stdout || complain 'not the bytes of the model'
 sweep 'one nurse, to a file' "${small[@]}" --opb "$room/opb"
+only_words_went_on
 cmp -s "$room/opb" crates/inrc2pb/stdout || complain 'not the bytes of the model'
 sweep 'five nurses' "${five_nurses[@]}"
+only_words_went_on
 sweep 'no words'
 sweep 'help' --help
 sweep 'the version' --version
@@ -130,9 +139,11 @@ sweep 'a missing option' encode --sce "$data/Sc-n005w4.txt"
 
 solved=(--sce "$data/Sc-n005w4.txt" --his "$data/H0-n005w4-0.txt" --week "$data/WD-n005w4-0.txt")
 sweep 'an answer' decode "${solved[@]}" --answer "$data/answers/sat4j.txt" --sol "$room/opb"
+only_words_went_on
 cp "$room/opb" "$room/roster"
 [ "$ended" = 0 ] || complain 'no solution'
 sweep 'a roster' extend "${solved[@]}" --from "$room/roster"
+only_words_went_on
 sweep 'an empty answer' decode "${solved[@]}" --answer /dev/null --sol "$room/opb"
 (printf c; head -c 10000000 /dev/zero | tr '\0' x) > "$room/long_answer"
 makes_no_more 'an answer of one long line' decode "${solved[@]}" --answer "$room/long_answer" --sol "$room/opb"
