@@ -16,6 +16,7 @@ use Rattle.rota_items.proofs.Standing.{at_variable, rises-end, stands-exactly}
 use Rattle.rota_items.proofs.Within.{in-request_terms}
 use Rattle.rota_items.specs.Cells.{cell_number, first_slack, unit_number}
 use Rattle.rota_items.specs.Constant.{constant}
+use Rattle.rota_items.specs.declared.part.Part.TheVariants.{Objective}
 use Rattle.rota_items.specs.Counting.{counted, counts_of, counts_of_model, greatest, no_counts, variables_in}
 use Rattle.rota_items.specs.Events.{events}
 use Rattle.rota_items.specs.HardRows.{rule_rows}
@@ -24,11 +25,11 @@ use Rattle.rota_items.specs.Limits.{IsWithinLimits}
 use Rattle.rota_items.specs.Linear.{Term, times}
 use Rattle.rota_items.specs.LinearRow.{LinearRow, linear_constraint}
 use Rattle.rota_items.specs.Lists.{only_if}
-use Rattle.rota_items.specs.Objective.{request_terms, constant_terms}
+use Rattle.rota_items.specs.Objective.{request_terms, constant_terms, objective_rows}
 use Rattle.rota_items.specs.Slacks.{item_row, item_rows, slack_count, slack_weights}
 use Rattle.rota_items.specs.SoftItems.{soft_items}
 use Rattle.rota_items.specs.Standing.{stands_in}
-use Rattle.rota_items.specs.WeekModel.{numbered_row, numbered_terms, unit_row, hard_rows, numbered_items, rows_of, objective_terms, objective_row, model_of}
+use Rattle.rota_items.specs.WeekModel.{numbered_row, numbered_terms, unit_row, hard_rows, numbered_items, rows_of, objective_terms, model_of}
 
 -- ---- each row of an item is a constraint
 
@@ -159,18 +160,20 @@ module _ (week : Week) (limits : IsWithinLimits week) where
       same_counts _ _ _ _ (greatest-rows_of week)
       (omega (arith, count-rows_of week, rows-below week limits, length-map (rows_of week) linear_constraint))
 
-  counts-model : counts_of (objective_row week ∷ rows_of week) ≡ counts_of_model (model_of week)
-  counts-model =
+  counts-objective : (terms : List (Term ℕ)) → greatest (variables_of terms) ≤ (model_of week).variables →
+      counts_of (objective_rows terms ++ rows_of week) ≡ counts_of_model (model_of week)
+  counts-objective [] below = counts-constraints
+  counts-objective (first ∷ others) below =
+      let row : LinearRow ℕ = record { part = Objective; terms = first ∷ others; degree = pos 0 } in
       same_counts _ _ _ _
       (omega (
         arith,
-        greatest-append (variables_of (objective_terms week)) (variables_in (rows_of week)),
-        greatest-objective week,
+        greatest-append (variables_of (first ∷ others)) (variables_in (rows_of week)),
         greatest-rows_of week,
       ))
       (omega (
         arith,
-        count-more (objective_row week) (rows_of week),
+        count-more row (rows_of week),
         count-rows_of week,
         rows-below week limits,
         length-map (rows_of week) linear_constraint,
@@ -179,5 +182,9 @@ module _ (week : Week) (limits : IsWithinLimits week) where
   pub counted-constraints : fold counted no_counts (events (rows_of week)) ≡ counts_of_model (model_of week)
   counted-constraints = counted-rows (rows_of week) ∙ counts-constraints
 
-  pub counted-model : fold counted no_counts (events (objective_row week ∷ rows_of week)) ≡ counts_of_model (model_of week)
-  counted-model = counted-rows (objective_row week ∷ rows_of week) ∙ counts-model
+  pub counted-model :
+      fold counted no_counts (events (objective_rows (objective_terms week) ++ rows_of week)) ≡
+      counts_of_model (model_of week)
+  counted-model =
+      counted-rows (objective_rows (objective_terms week) ++ rows_of week) ∙
+      counts-objective (objective_terms week) (greatest-objective week)

@@ -45,9 +45,6 @@ objective_terms week =
     numbered_terms week (request_terms week) ++
     (constant_terms week ++ slack_weights (first_slack week) (numbered_items week))
 
-abbrev pub objective_row : Week → LinearRow ℕ
-objective_row week = record { part = Objective; terms = objective_terms week; degree = pos 0 }
-
 abbrev pub model_of : Week → Model
 model_of week = record {
   variables = unit_number week + slack_count (soft_items week);

@@ -1,5 +1,5 @@
 //! The numbers of variables and of constraints.
-ghost use Rattle.std.specs.Prelude.{◌≡◌, ◌∷◌, ℕ, List};
+ghost use Rattle.std.specs.Prelude.{◌++◌, ◌≡◌, ℕ, List};
 ghost use Rattle.std.specs.List.{fold};
 ghost use Rattle.rota_core.specs.Week.{Week};
 ghost use Rattle.rota_items.specs.declared.counting.Counts.{Counts};
@@ -7,7 +7,8 @@ ghost use Rattle.rota_items.specs.Counting.{counted, counts_of, counts_of_model,
 ghost use Rattle.rota_items.specs.Events.{events};
 ghost use Rattle.rota_items.specs.Limits.{IsWithinLimits};
 ghost use Rattle.rota_items.specs.LinearRow.{LinearRow};
-ghost use Rattle.rota_items.specs.WeekModel.{model_of, objective_row, rows_of};
+ghost use Rattle.rota_items.specs.Objective.{objective_rows};
+ghost use Rattle.rota_items.specs.WeekModel.{model_of, objective_terms, rows_of};
 
 use crate::part::Part;
 use crate::takers::Taker;
@@ -79,14 +80,15 @@ pub fn counter_counts_rows()
     ensures { (rows : List (LinearRow ℕ)) → fold counted no_counts (events rows) ≡ counts_of rows }
 {}
 
-/// Within the limits a counter that took the constraints of a week's model, with the objective before
-/// them or without it, finds the numbers of the model's variables and constraints.
+/// Within the limits a counter that took the constraints of a week's model finds the numbers of the
+/// model's variables and constraints, and so does one that took the objective's row, if there is one,
+/// before them.
 pub fn counter_counts_models()
     ensures constraints { (week : Week) →
         IsWithinLimits week →
         fold counted no_counts (events (rows_of week)) ≡ counts_of_model (model_of week) }
     ensures objective_and_constraints { (week : Week) →
         IsWithinLimits week →
-        fold counted no_counts (events (objective_row week ∷ rows_of week)) ≡
+        fold counted no_counts (events (objective_rows (objective_terms week) ++ rows_of week)) ≡
         counts_of_model (model_of week) }
 {}
