@@ -3,7 +3,7 @@ use Rattle.std.proofs.Common.{◌≡◌, ℕ, ◌+◌, ◌*◌, ◌<◌, Bool, t
 use Rattle.std.proofs.lemmas.List.{get_or-take, get_or-set_same, get_or-set_other}
 use Rattle.std.proofs.lemmas.Nat.{mul-add-lt, same_from_place}
 use Rattle.rota_core.specs.declared.values.Cell.{Cell}
-use Rattle.rota_core.specs.RosterTables.{RosterTables, InShape, AddsCell, HoldsRoster, cell_place, place_count, roster_of, set_of}
+use Rattle.rota_core.specs.RosterTables.{RosterTables, InShape, AddsCell, HoldsRoster, cell_place, place_count, roster_tables, set_of}
 
 -- a cell within the numbers has a place
 pub cell_place-lt : (nurses shifts skills : ℕ) (cell : Cell) → cell.nurse < nurses → cell.day < 7 → cell.shift < shifts → cell.skill < skills
@@ -28,14 +28,14 @@ same_from_cell_place shifts skills one other d s k d' s' k' same =
 
 -- a cell of a roster has a place among its truth values
 pub cell_place-in : (nurses shifts skills : ℕ) (bits : List Bool) (t : RosterTables) (cell : Cell) → HoldsRoster nurses shifts skills bits
-    → roster_of nurses shifts skills bits ≡ t → InShape t cell → cell_place shifts skills cell < length bits
+    → roster_tables nurses shifts skills bits ≡ t → InShape t cell → cell_place shifts skills cell < length bits
 cell_place-in nurses shifts skills bits t cell holds seen in_t =
     let h = subst (λ u. InShape u cell) (sym seen) in_t in
     omega (arith, holds.enough, cell_place-lt nurses shifts skills cell h.nurse_in h.day_in h.shift_in h.skill_in)
 
 -- a roster's set, read from its truth values
 pub set_of-seen : (nurses shifts skills : ℕ) (bits : List Bool) (t : RosterTables) (cell : Cell)
-    → roster_of nurses shifts skills bits ≡ t → InShape t cell → get_or bits (cell_place shifts skills cell) false ≡ set_of t cell
+    → roster_tables nurses shifts skills bits ≡ t → InShape t cell → get_or bits (cell_place shifts skills cell) false ≡ set_of t cell
 set_of-seen nurses shifts skills bits t cell seen in_t =
     let h = subst (λ u. InShape u cell) (sym seen) in_t in
     sym (get_or-take (place_count nurses shifts skills) bits (cell_place shifts skills cell) false
@@ -44,8 +44,8 @@ set_of-seen nurses shifts skills bits t cell seen in_t =
 
 -- one more truth value is one more cell
 pub AddsCell-set : (nurses shifts skills : ℕ) (bits : List Bool) (t : RosterTables) (cell : Cell) → HoldsRoster nurses shifts skills bits
-    → roster_of nurses shifts skills bits ≡ t → InShape t cell
-    → AddsCell t (roster_of nurses shifts skills (set bits (cell_place shifts skills cell) true)) cell
+    → roster_tables nurses shifts skills bits ≡ t → InShape t cell
+    → AddsCell t (roster_tables nurses shifts skills (set bits (cell_place shifts skills cell) true)) cell
 AddsCell-set nurses shifts skills bits t cell holds seen in_t =
     let h = subst (λ u. InShape u cell) (sym seen) in_t in
     let place = cell_place shifts skills cell in

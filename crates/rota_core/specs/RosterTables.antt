@@ -58,8 +58,8 @@ pub record AddsCell (old new : RosterTables) (cell : Cell) : Type 0 where
   pub others_stay : (other : Cell) → InShape old other → other ≢ cell → set_of new other ≡ set_of old other
 
 -- the tables of truth values for so many nurses, shift types and skills, of which there may be more
-abbrev pub roster_of : ℕ → ℕ → ℕ → List Bool → RosterTables
-roster_of nurses shifts skills bits = record {
+abbrev pub roster_tables : ℕ → ℕ → ℕ → List Bool → RosterTables
+roster_tables nurses shifts skills bits = record {
   nurses = nurses;
   shifts = shifts;
   skills = skills;

@@ -20,11 +20,11 @@ pub struct Roster {
 }
 
 impl Model for Roster {
-    ghost use Rattle.rota_core.specs.RosterTables.{RosterTables, roster_of, HoldsRoster};
+    ghost use Rattle.rota_core.specs.RosterTables.{RosterTables, roster_tables, HoldsRoster};
 
     ghost Value = { RosterTables };
 
-    ghost view = { λ r. roster_of r.nurses r.shifts r.skills r.bits };
+    ghost view = { λ r. roster_tables r.nurses r.shifts r.skills r.bits };
 
     ghost invariant = { λ r. HoldsRoster r.nurses r.shifts r.skills r.bits };
 }
