@@ -3,8 +3,9 @@ use Rattle.std.specs.Prelude.{◌≡◌, ℕ, ◌+◌, ◌<◌, ◌≤◌, Bool,
 use Rattle.rota_core.specs.declared.rule.Rule.{Rule}
 use Rattle.rota_core.specs.declared.rule.Rule.TheVariants.{H1, H2, H3, H4}
 use Rattle.rota_core.specs.Below.{count_below, any_below}
+use Rattle.rota_core.specs.declared.values.Cell.{Cell}
 use Rattle.rota_core.specs.Week.{Week}
-use Rattle.rota_core.specs.Roster.{Roster, cell, KeepsOneCell, KeepsSkills}
+use Rattle.rota_core.specs.Roster.{Roster, Has, cell}
 
 -- whether the nurse is on the shift type that day
 abbrev pub is_on : Week → Roster → ℕ → ℕ → ℕ → Bool
@@ -20,6 +21,12 @@ is_off week roster n d = not (works week roster n d)
 abbrev pub nurses_at : Week → Roster → ℕ → ℕ → ℕ → ℕ
 nurses_at week roster d s k = count_below week.nurses (λ n. roster (cell n d s k))
 
+-- H1: two cells of one nurse and day are the same cell
+abbrev pub KeepsOneCell : Week → Roster → Type 0
+KeepsOneCell week roster =
+    (one other : Cell) → Has week roster one → Has week roster other →
+    one.nurse ≡ other.nurse → one.day ≡ other.day → one ≡ other
+
 -- H2: each day has the least number of nurses, for each shift type and skill
 abbrev pub KeepsMinimum : Week → Roster → Type 0
 KeepsMinimum week roster =
@@ -34,6 +41,11 @@ pub record KeepsSuccession (week : Week) (roster : Roster) : Type 0 where
   pub in_week : (n d s t : ℕ) → n < week.nurses → d < 6 → s < week.shifts → t < week.shifts →
       is_on week roster n s d ≡ true → is_on week roster n t (d + 1) ≡ true →
       week.is_forbidden s t ≡ false
+
+-- H4: the nurse of each cell has its skill
+abbrev pub KeepsSkills : Week → Roster → Type 0
+KeepsSkills week roster =
+    (one : Cell) → Has week roster one → week.has_skill one.nurse one.skill ≡ true
 
 pub record KeepsHardRules (week : Week) (roster : Roster) : Type 0 where
   pub one_cell : KeepsOneCell week roster

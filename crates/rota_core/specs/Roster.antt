@@ -1,4 +1,4 @@
--- Rosters, and the rules that they must keep.
+-- Rosters, and the cells that they have.
 use Rattle.std.specs.Prelude.{◌≡◌, ℕ, ◌<◌, Bool, true}
 use Rattle.rota_core.specs.declared.values.Cell.{Cell}
 use Rattle.rota_core.specs.Week.{Week}
@@ -21,14 +21,3 @@ pub record InWeek (week : Week) (cell : Cell) : Type 0 where
 pub record Has (week : Week) (roster : Roster) (cell : Cell) : Type 0 where
   pub in_week : InWeek week cell
   pub in_roster : roster cell ≡ true
-
--- H1: two cells of one nurse and day are the same cell
-abbrev pub KeepsOneCell : Week → Roster → Type 0
-KeepsOneCell week roster =
-    (one other : Cell) → Has week roster one → Has week roster other →
-    one.nurse ≡ other.nurse → one.day ≡ other.day → one ≡ other
-
--- H4: the nurse of each cell has its skill
-abbrev pub KeepsSkills : Week → Roster → Type 0
-KeepsSkills week roster =
-    (one : Cell) → Has week roster one → week.has_skill one.nurse one.skill ≡ true

@@ -5,7 +5,8 @@ use Rattle.std.specs.List.{sum_by, count_by}
 use Rattle.std.proofs.lemmas.List.Sums.{sum_by-append}
 use Rattle.std.proofs.lemmas.Bool.{ltb-false}
 use Rattle.rota_core.specs.Below.{sum_below}
-use Rattle.rota_core.specs.Roster.{Roster, KeepsOneCell}
+use Rattle.rota_core.specs.Roster.{Roster}
+use Rattle.rota_core.specs.HardRules.{KeepsOneCell}
 use Rattle.rota_core.specs.Week.{Week}
 use Rattle.rota_core.specs.declared.values.Cell.{Cell}
 use Rattle.rota_items.proofs.CellCounts.{work_count, work_count-le, count-work_cells}

@@ -3,8 +3,8 @@ use Rattle.std.proofs.Common.{◌≡◌, ℕ, ◌<◌, ◌≤◌, Bool, ◌||◌
 use Rattle.std.specs.List.{count_by, list_any}
 use Rattle.std.proofs.lemmas.Bool.{true≢false}
 use Rattle.rota_core.specs.Below.{sum_below, count_below}
-use Rattle.rota_core.specs.HardRules.{is_on, works}
-use Rattle.rota_core.specs.Roster.{Roster, cell, Has, KeepsOneCell, KeepsSkills}
+use Rattle.rota_core.specs.HardRules.{KeepsOneCell, KeepsSkills, is_on, works}
+use Rattle.rota_core.specs.Roster.{Roster, cell, Has}
 use Rattle.rota_core.specs.Week.{Week}
 use Rattle.rota_core.specs.declared.values.Cell.{Cell}
 use Rattle.rota_items.proofs.SumsBelow.{sum_by-each-is, count_by-each, sum_below-one, found, list_any-each, any_below-same, sum_below-zero, term-le-sum_below, one-sum_below}

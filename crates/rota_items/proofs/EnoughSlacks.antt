@@ -2,8 +2,8 @@
 use Rattle.std.proofs.Common.{◌≡◌, ℕ, ◌<◌, ◌≤◌, Bool, cond, List, [], ◌∷◌, arith}
 use Rattle.std.specs.List.{AllByRecursion}
 use Rattle.std.proofs.lemmas.List.Elements.{recursion_from_All}
-use Rattle.rota_core.specs.HardRules.{KeepsHardRules}
-use Rattle.rota_core.specs.Roster.{Roster, KeepsOneCell}
+use Rattle.rota_core.specs.HardRules.{KeepsOneCell, KeepsHardRules}
+use Rattle.rota_core.specs.Roster.{Roster}
 use Rattle.rota_core.specs.Week.{Week}
 use Rattle.rota_core.specs.declared.rule.Rule.{Rule}
 use Rattle.rota_core.specs.declared.rule.Rule.TheVariants.{S5, S7}

@@ -4,8 +4,8 @@ use Rattle.std.specs.Prelude.{ℤ, pos, ◌+ℤ◌, ◌≤ℤ◌, int_le, MatchO
 use Rattle.std.specs.List.{AllByRecursion}
 use Rattle.std.proofs.lemmas.Int.{ints}
 use Rattle.std.proofs.lemmas.Bool.{cases_Bool}
-use Rattle.rota_core.specs.HardRules.{KeepsHardRules, KeepsMinimum, KeepsSuccession, FirstBroken}
-use Rattle.rota_core.specs.Roster.{Roster, KeepsOneCell}
+use Rattle.rota_core.specs.HardRules.{KeepsOneCell, KeepsHardRules, KeepsMinimum, KeepsSuccession, FirstBroken}
+use Rattle.rota_core.specs.Roster.{Roster}
 use Rattle.rota_core.specs.Week.{Week}
 use Rattle.rota_core.specs.declared.rule.Rule.{Rule}
 use Rattle.rota_core.specs.declared.rule.Rule.TheVariants.{Unit as UnitRule, H1, H2, H3, H4}

@@ -4,8 +4,8 @@ use Rattle.std.specs.Prelude.{pos, negsuc, ◌-ℤ◌, nat_lt, ◌≤ℤ◌}
 use Rattle.std.specs.List.{AllByRecursion}
 use Rattle.std.proofs.lemmas.Int.{ints}
 use Rattle.std.proofs.lemmas.Bool.{cases_Bool, ltb-false, true≢false}
-use Rattle.rota_core.specs.HardRules.{is_on, nurses_at, KeepsMinimum, KeepsSuccession}
-use Rattle.rota_core.specs.Roster.{Roster, cell, KeepsOneCell, KeepsSkills}
+use Rattle.rota_core.specs.HardRules.{KeepsOneCell, KeepsSkills, is_on, nurses_at, KeepsMinimum, KeepsSuccession}
+use Rattle.rota_core.specs.Roster.{Roster, cell}
 use Rattle.rota_core.specs.Week.{Week}
 use Rattle.rota_core.specs.declared.values.Cell.{Cell}
 use Rattle.rota_items.proofs.CellCounts.{on_count, work_count, count-on_cells, count-work_cells, on_count-le, work_count-le, any-on_cells, same_cells, skill_count, count-skill_cells, no_skill_cells, some_skill_cell}

@@ -3,8 +3,8 @@ use Rattle.std.proofs.Common.{◌≡◌, ℕ, ◌+◌, ◌*◌, ◌<◌, Bool, n
 use Rattle.std.specs.List.{list_any}
 use Rattle.std.proofs.lemmas.List.Sums.{sum_by-append}
 use Rattle.rota_core.specs.Below.{sum_below}
-use Rattle.rota_core.specs.HardRules.{is_off}
-use Rattle.rota_core.specs.Roster.{Roster, KeepsOneCell}
+use Rattle.rota_core.specs.HardRules.{KeepsOneCell, is_off}
+use Rattle.rota_core.specs.Roster.{Roster}
 use Rattle.rota_core.specs.Week.{Week}
 use Rattle.rota_core.specs.declared.values.Cell.{Cell}
 use Rattle.rota_core.specs.declared.values.Span.{Span}

@@ -4,8 +4,8 @@ use Rattle.std.specs.Prelude.{nat_le, if◌then◌else◌}
 use Rattle.std.specs.List.{count_by}
 use Rattle.std.proofs.lemmas.List.Sums.{sum_by-cons}
 use Rattle.std.proofs.lemmas.Bool.{leb-true, leb-false}
-use Rattle.rota_core.specs.HardRules.{works}
-use Rattle.rota_core.specs.Roster.{Roster, KeepsOneCell}
+use Rattle.rota_core.specs.HardRules.{KeepsOneCell, works}
+use Rattle.rota_core.specs.Roster.{Roster}
 use Rattle.rota_core.specs.Week.{Week}
 use Rattle.rota_core.specs.declared.rule.Rule.{Rule}
 use Rattle.rota_core.specs.declared.rule.Rule.TheVariants.{S5, S7}

@@ -2,8 +2,8 @@
 ghost use Rattle.std.specs.Prelude.{◌≡◌, ℕ, ◌+◌, ◌≤◌, ◌<◌, ◌^◌, pos, ◌+ℤ◌, All};
 ghost use Rattle.rota_core.specs.declared.rule.Rule.{Rule};
 ghost use Rattle.rota_core.specs.Week.{Week};
-ghost use Rattle.rota_core.specs.Roster.{Roster, KeepsOneCell};
-ghost use Rattle.rota_core.specs.HardRules.{KeepsHardRules, KeepsMinimum};
+ghost use Rattle.rota_core.specs.Roster.{Roster};
+ghost use Rattle.rota_core.specs.HardRules.{KeepsOneCell, KeepsHardRules, KeepsMinimum};
 ghost use Rattle.rota_items.specs.Linear.{value_of};
 ghost use Rattle.rota_items.specs.Items.{shortage, weighted_shortages};
 ghost use Rattle.rota_items.specs.Penalty.{optimum_cost, consecutive_assignment_cost, consecutive_day_off_cost, request_cost, complete_weekend_cost, assignment_cost, worked_weekend_cost, penalty, rule_cost};

@@ -5,7 +5,8 @@ use Rattle.std.proofs.lemmas.Bool.{or_parts, or_from, false_from_ne_true, true_f
 use Rattle.std.proofs.lemmas.Bool.Decides.{nat_tests}
 use Rattle.rota_core.specs.declared.values.Cell.{Cell}
 use Rattle.rota_core.specs.Lists.{each_below, only_if}
-use Rattle.rota_core.specs.Roster.{Roster, InWeek, Has, KeepsOneCell, cell}
+use Rattle.rota_core.specs.Roster.{Roster, InWeek, Has, cell}
+use Rattle.rota_core.specs.HardRules.{KeepsOneCell}
 use Rattle.rota_core.specs.RosterTables.{cell_place}
 use Rattle.rota_core.specs.Week.{Week}
 use Rattle.rota_core.proofs.Loops.{AllByRecursion-each_below, AllByRecursion-at, AllByRecursion-only_if, holds-where, length-each_below}

@@ -8,7 +8,8 @@ use Rattle.std.proofs.lemmas.List.{append-nil}
 use Rattle.rota_core.specs.declared.values.Cell.{Cell}
 use Rattle.rota_core.specs.InstanceTables.{InstanceTables, IsInstance, week_of}
 use Rattle.rota_core.specs.Numeral.{numeral}
-use Rattle.rota_core.specs.Roster.{InWeek, KeepsOneCell, cell}
+use Rattle.rota_core.specs.Roster.{InWeek, cell}
+use Rattle.rota_core.specs.HardRules.{KeepsOneCell}
 use Rattle.rota_core.specs.RosterTables.{RosterTables, HasShapeOf, cell_place, set_of}
 use Rattle.rota_core.specs.ScenarioTables.{ScenarioTables, IsShiftName, AreDistinct}
 use Rattle.rota_core.specs.Words.{IsWord}

@@ -5,7 +5,8 @@ use Rattle.rota_core.specs.declared.values.Cell.{Cell}
 use Rattle.rota_core.specs.InstanceTables.{InstanceTables, IsInstance, week_of}
 use Rattle.rota_core.specs.Lists.{each_below, only_if}
 use Rattle.rota_core.specs.Numeral.{numeral}
-use Rattle.rota_core.specs.Roster.{Roster, KeepsOneCell, cell}
+use Rattle.rota_core.specs.Roster.{Roster, cell}
+use Rattle.rota_core.specs.HardRules.{KeepsOneCell}
 use Rattle.rota_core.specs.RosterTables.{RosterTables, HasShapeOf, set_of}
 use Rattle.rota_core.specs.ScenarioTables.{ScenarioTables}
 use Rattle.rota_core.specs.Week.{Week}
