@@ -3,6 +3,7 @@ use Rattle.std.specs.Prelude.{ℕ, ◌+◌, ◌-◌, ◌*◌, ◌/◌, ◌%◌, 
 use Rattle.rota_core.specs.declared.values.Cell.{Cell}
 use Rattle.rota_core.specs.Week.{Week}
 use Rattle.rota_core.specs.Roster.{cell}
+use Rattle.rota_core.specs.RosterTables.{cell_place}
 use Rattle.rota_items.specs.Lists.{each_below}
 
 -- the cells of a nurse's day on a shift type
@@ -31,8 +32,7 @@ skill_cells week n k = each_below 7 (λ d. skill_cells_on week n k d)
 
 -- the variable that is true where the cell is in the roster
 abbrev pub cell_number : Week → Cell → ℕ
-cell_number week cell =
-    ((cell.nurse * 7 + cell.day) * week.shifts + cell.shift) * week.skills + cell.skill + 1
+cell_number week cell = cell_place week.shifts week.skills cell + 1
 
 abbrev pub cell_of_number : Week → ℕ → Cell
 cell_of_number week v =
