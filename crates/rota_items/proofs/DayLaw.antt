@@ -40,7 +40,7 @@ pub units-window : (has : ℕ → Bool) (history maximum d : ℕ) → maximum < 
     units_of has (window maximum d) ≡ cond (is_over has history maximum d) 1 0
 units-window has history maximum d there =
     let first : ℕ = d - maximum in
-    let at_Monday : first ≡ 0 → run_length_before has history first ≡ history =
+    let at_monday : first ≡ 0 → run_length_before has history first ≡ history =
     λ e. ap (run_length_before has history) e in
     rw (matches-days_with has first (d + 1))
     (elim (run_after has history first (d + 1 - first) (suc d) (omega arith))
@@ -152,8 +152,8 @@ pub matches-edge : (has : ℕ → Bool) (history minimum d : ℕ) →
 matches-edge has history minimum d =
     list_all-append (matches_day has) (days_with 0 d) (without_property d ∷ []) ∙
     ap (λ b. b && (not (has d) && true)) (matches-days_with has 0 d) ∙
-    (let from_Monday : d - 0 ≡ d = omega arith in
-    ap (λ n. list_all has (range_with_len 0 n) && (not (has d) && true)) from_Monday)
+    (let from_monday : d - 0 ≡ d = omega arith in
+    ap (λ n. list_all has (range_with_len 0 n) && (not (has d) && true)) from_monday)
 
 -- what the patterns of a day charge, where the run fills the week so far
 filled : (h d l m : ℕ) → l ≡ h + d →

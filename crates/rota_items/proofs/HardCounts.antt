@@ -13,7 +13,7 @@ use Rattle.rota_items.proofs.OnRuleRows.{all-h1_rows, all-h2_rows, all-h3_rows, 
 use Rattle.rota_items.proofs.TermsHold.{OnTerms}
 use Rattle.rota_items.specs.Cells.{unit_number}
 use Rattle.rota_items.specs.Counting.{greatest}
-use Rattle.rota_items.specs.HardRows.{h1_rows, h2_rows, h3_Monday_rows, h3_rows, h3_rows_between, h3_rows_of, h4_rows, rule_rows}
+use Rattle.rota_items.specs.HardRows.{h1_rows, h2_rows, h3_monday_rows, h3_rows, h3_rows_between, h3_rows_of, h4_rows, rule_rows}
 use Rattle.rota_items.specs.Linear.{Term}
 use Rattle.rota_items.specs.LinearRow.{LinearRow}
 use Rattle.rota_items.specs.Lists.{each_below}
@@ -29,9 +29,9 @@ module _ (week : Week) where
   length-h2_rows =
       length-each_below _ _ _ (λ d _. length-each_below _ _ _ (λ s _. length-each_below _ _ _ (λ k _. length-only_if _ _)))
 
-  length-Monday_rows : (n : ℕ) (last : Option ℕ) → length (h3_Monday_rows week n last) ≤ week.shifts * 1
-  length-Monday_rows n None = omega arith
-  length-Monday_rows n (Some s) = length-each_below _ _ _ (λ t _. length-only_if _ _)
+  length-monday_rows : (n : ℕ) (last : Option ℕ) → length (h3_monday_rows week n last) ≤ week.shifts * 1
+  length-monday_rows n None = omega arith
+  length-monday_rows n (Some s) = length-each_below _ _ _ (λ t _. length-only_if _ _)
 
   length-h3_rows_of : (n : ℕ) → length (h3_rows_of week n) ≤ week.shifts * 1 + 6 * (week.shifts * (week.shifts * 1))
   length-h3_rows_of n =
@@ -40,8 +40,8 @@ module _ (week : Week) where
       omega (
         arith,
         later,
-        length-Monday_rows n (week.past n).last,
-        length-append (h3_Monday_rows week n (week.past n).last) (each_below 6 (h3_rows_between week n)),
+        length-monday_rows n (week.past n).last,
+        length-append (h3_monday_rows week n (week.past n).last) (each_below 6 (h3_rows_between week n)),
       )
 
   length-h3_rows : length (h3_rows week) ≤ week.nurses * (week.shifts * 1 + 6 * (week.shifts * (week.shifts * 1)))

@@ -15,7 +15,7 @@ use Rattle.rota_items.proofs.PatternItems.{value_of-append, any_or_none}
 use Rattle.rota_items.proofs.SumsBelow.{count_by-each}
 use Rattle.rota_items.proofs.Values.{value_of-plus, value_of-minus}
 use Rattle.rota_items.specs.Cells.{on_cells, work_cells, demand_cells, skill_cells}
-use Rattle.rota_items.specs.HardRows.{h1_row, h1_rows, h2_row, h2_rows, h3_Monday_row, h3_Monday_rows, h3_row, h3_rows_between, h3_rows, h4_row, h4_rows, h2_rows_at, h3_rows_of, h4_rows_at}
+use Rattle.rota_items.specs.HardRows.{h1_row, h1_rows, h2_row, h2_rows, h3_monday_row, h3_monday_rows, h3_row, h3_rows_between, h3_rows, h4_row, h4_rows, h2_rows_at, h3_rows_of, h4_rows_at}
 use Rattle.rota_items.specs.Linear.{times, value_of}
 use Rattle.rota_items.specs.LinearRow.{LinearRow}
 use Rattle.rota_items.specs.Lists.{each_below, only_if}
@@ -118,14 +118,14 @@ on-count week roster n s d on =
       | inr absent ↦ absurd (true≢false (sym on ∙ absent.0))
     ]
 
-h3_Monday-holds : (week : Week) (roster : Roster) (n t : ℕ) → on_count week roster n t 0 ≡ 0 →
-    Holds roster (h3_Monday_row week n t)
-h3_Monday-holds week roster n t none =
+h3_monday-holds : (week : Week) (roster : Roster) (n t : ℕ) → on_count week roster n t 0 ≡ 0 →
+    Holds roster (h3_monday_row week n t)
+h3_monday-holds week roster n t none =
     omega (arith, ints, value_of-minus roster (on_cells week n t 0), count-on_cells week roster n t 0)
 
-h3_Monday-means : (week : Week) (roster : Roster) (n t : ℕ) → Holds roster (h3_Monday_row week n t) →
+h3_monday-means : (week : Week) (roster : Roster) (n t : ℕ) → Holds roster (h3_monday_row week n t) →
     on_count week roster n t 0 ≡ 0
-h3_Monday-means week roster n t holds =
+h3_monday-means week roster n t holds =
     omega (arith, ints, holds, value_of-minus roster (on_cells week n t 0), count-on_cells week roster n t 0)
 
 value_of-h3_row : (week : Week) (roster : Roster) (n d s t : ℕ) →
@@ -150,32 +150,32 @@ h3-means : (week : Week) (roster : Roster) (n d s t : ℕ) → Holds roster (h3_
     on_count week roster n s d + on_count week roster n t (d + 1) ≤ 1
 h3-means week roster n d s t holds = omega (arith, ints, holds, value_of-h3_row week roster n d s t)
 
-abbrev Monday_rows : Week → ℕ → ℕ → ℕ → List (LinearRow Cell)
-Monday_rows week n last t = only_if (week.is_forbidden last t) (h3_Monday_row week n t)
+abbrev monday_rows : Week → ℕ → ℕ → ℕ → List (LinearRow Cell)
+monday_rows week n last t = only_if (week.is_forbidden last t) (h3_monday_row week n t)
 
 abbrev succession_rows : Week → ℕ → ℕ → ℕ → ℕ → List (LinearRow Cell)
 succession_rows week n d s t = only_if (week.is_forbidden s t) (h3_row week n d s t)
 
-Monday-holds : (week : Week) (roster : Roster) → KeepsSuccession week roster →
+monday-holds : (week : Week) (roster : Roster) → KeepsSuccession week roster →
     (n s t : ℕ) → n < week.nurses → t < week.shifts → (week.past n).last ≡ Some s → week.is_forbidden s t ≡ true →
-    Holds roster (h3_Monday_row week n t)
-Monday-holds week roster kept n s t n_in t_in last_is forbidden =
+    Holds roster (h3_monday_row week n t)
+monday-holds week roster kept n s t n_in t_in last_is forbidden =
     elim (on-by_count week roster n t 0) [
       | inl on ↦ absurd (true≢false (sym forbidden ∙ kept.from_history n s t n_in t_in last_is on.0))
-      | inr off ↦ h3_Monday-holds week roster n t off.1
+      | inr off ↦ h3_monday-holds week roster n t off.1
     ]
 
-Monday-means : (week : Week) (roster : Roster) (n s t : ℕ) → t < week.shifts →
-    AllHold roster (h3_Monday_rows week n (Some s)) → is_on week roster n t 0 ≡ true → week.is_forbidden s t ≡ false
-Monday-means week roster n s t t_in all on =
+monday-means : (week : Week) (roster : Roster) (n s t : ℕ) → t < week.shifts →
+    AllHold roster (h3_monday_rows week n (Some s)) → is_on week roster n t 0 ≡ true → week.is_forbidden s t ≡ false
+monday-means week roster n s t t_in all on =
     elim (cases_Bool (week.is_forbidden s t)) [
       | inl forbidden ↦
           absurd (omega (
             arith,
             on-count week roster n t 0 on,
-            h3_Monday-means week roster n t
-                (holds-where (Holds roster) (week.is_forbidden s t) (h3_Monday_row week n t)
-                (AllByRecursion-at (Holds roster) week.shifts (Monday_rows week n s) all t t_in) forbidden),
+            h3_monday-means week roster n t
+                (holds-where (Holds roster) (week.is_forbidden s t) (h3_monday_row week n t)
+                (AllByRecursion-at (Holds roster) week.shifts (monday_rows week n s) all t t_in) forbidden),
           ))
       | inr allowed ↦ allowed
     ]
@@ -218,12 +218,12 @@ pub h3_rows-hold : (week : Week) (roster : Roster) → KeepsOneCell week roster 
     AllHold roster (h3_rows week)
 h3_rows-hold week roster one kept =
     all-h3_rows week (Holds roster)
-    (record { from_history = Monday-holds week roster kept; in_week = between-holds week roster one kept })
+    (record { from_history = monday-holds week roster kept; in_week = between-holds week roster one kept })
 
 pub h3_rows-mean : (week : Week) (roster : Roster) → AllHold roster (h3_rows week) → KeepsSuccession week roster
 h3_rows-mean week roster all = record {
   from_history = λ n s t n_in t_in last_is on.
-      Monday-means week roster n s t t_in
+      monday-means week roster n s t t_in
       (rw last_is at (parts n n_in).0) on;
   in_week = λ n d s t n_in d_in s_in t_in first second.
       between-means week roster n d s t s_in t_in
@@ -231,10 +231,10 @@ h3_rows-mean week roster all = record {
 }
   where
     parts : (n : ℕ) → n < week.nurses →
-        AllHold roster (h3_Monday_rows week n (week.past n).last) ×
+        AllHold roster (h3_monday_rows week n (week.past n).last) ×
         AllHold roster (each_below 6 (h3_rows_between week n))
     parts n n_in =
-        AllByRecursion-back (Holds roster) (h3_Monday_rows week n (week.past n).last)
+        AllByRecursion-back (Holds roster) (h3_monday_rows week n (week.past n).last)
         (each_below 6 (h3_rows_between week n))
         (AllByRecursion-at (Holds roster) week.nurses (h3_rows_of week) all n n_in)
 

@@ -39,14 +39,14 @@ h2_rows week =
 -- ---- no shift type after one that it may not follow
 
 -- not t on Monday, after the history's last shift
-abbrev pub h3_Monday_row : Week → ℕ → ℕ → LinearRow Cell
-h3_Monday_row week n t =
+abbrev pub h3_monday_row : Week → ℕ → ℕ → LinearRow Cell
+h3_monday_row week n t =
     record { part = Hard H3; terms = times (negsuc 0) (on_cells week n t 0); degree = pos 0 }
 
-abbrev pub h3_Monday_rows : Week → ℕ → Option ℕ → List (LinearRow Cell)
-h3_Monday_rows week n None = []
-h3_Monday_rows week n (Some last) =
-    each_below week.shifts (λ t. only_if (week.is_forbidden last t) (h3_Monday_row week n t))
+abbrev pub h3_monday_rows : Week → ℕ → Option ℕ → List (LinearRow Cell)
+h3_monday_rows week n None = []
+h3_monday_rows week n (Some last) =
+    each_below week.shifts (λ t. only_if (week.is_forbidden last t) (h3_monday_row week n t))
 
 -- not s on day d and t on the next day
 abbrev pub h3_row : Week → ℕ → ℕ → ℕ → ℕ → LinearRow Cell
@@ -62,7 +62,7 @@ h3_rows_between week n d =
     only_if (week.is_forbidden s t) (h3_row week n d s t)))
 
 abbrev pub h3_rows_of : Week → ℕ → List (LinearRow Cell)
-h3_rows_of week n = h3_Monday_rows week n (week.past n).last ++ each_below 6 (h3_rows_between week n)
+h3_rows_of week n = h3_monday_rows week n (week.past n).last ++ each_below 6 (h3_rows_between week n)
 
 abbrev pub h3_rows : Week → List (LinearRow Cell)
 h3_rows week = each_below week.nurses (h3_rows_of week)

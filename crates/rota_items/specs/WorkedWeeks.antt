@@ -48,12 +48,12 @@ working_week limits past = record (with_contract (record wide { work = limits })
   past = λ n. past;
 }
 
-abbrev on_Monday : ℕ → ℕ → ℕ → ℕ → ℕ → Demand
-on_Monday minimum optimal d s k =
+abbrev on_monday : ℕ → ℕ → ℕ → ℕ → ℕ → Demand
+on_monday minimum optimal d s k =
     (if d == 0 then record { minimum = minimum; optimal = optimal } else no_demand)
 
 abbrev pub demanding_week : ℕ → ℕ → Week
-demanding_week minimum optimal = record plain_week { demand = on_Monday minimum optimal }
+demanding_week minimum optimal = record plain_week { demand = on_monday minimum optimal }
 
 -- the nurse lacks the skill
 abbrev pub unskilled_week : Week
@@ -97,8 +97,8 @@ days_off_week = with_contract (record wide { off = limits_of 2 9 })
 abbrev pub on_days : (ℕ → Bool) → Roster
 on_days has cell = has cell.day
 
-abbrev pub on_Monday_shift : ℕ → Roster
-on_Monday_shift s cell = cell.day == 0 && cell.shift == s
+abbrev pub on_monday_shift : ℕ → Roster
+on_monday_shift s cell = cell.day == 0 && cell.shift == s
 
 -- ---- words for rows
 

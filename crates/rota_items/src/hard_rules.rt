@@ -4,7 +4,7 @@ ghost use Rattle.rota_core.specs.InstanceTables.{week_of};
 ghost use Rattle.rota_items.specs.CellEvents.{cell_row_events};
 ghost use Rattle.rota_items.specs.Events.{events};
 ghost use Rattle.rota_items.specs.Cells.{unit_number};
-ghost use Rattle.rota_items.specs.HardRows.{h1_row, h1_rows, h2_rows, h2_rows_at, h3_Monday_row, h3_Monday_rows, h3_row, h3_rows, h3_rows_between, h3_rows_of, h4_rows, h4_rows_at};
+ghost use Rattle.rota_items.specs.HardRows.{h1_row, h1_rows, h2_rows, h2_rows_at, h3_monday_row, h3_monday_rows, h3_row, h3_rows, h3_rows_between, h3_rows_of, h4_rows, h4_rows_at};
 ghost use Rattle.rota_items.specs.Lists.{only_if};
 ghost use Rattle.rota_items.specs.Takes.{Takes};
 ghost use Rattle.rota_items.specs.WeekModel.{unit_row};
@@ -96,7 +96,7 @@ pub fn take_h2<T: Taker>(instance: &Instance, taker: &mut T) -> Result<(), T::Fa
 }
 
 /// Not the shift type on Monday, where it may not follow the last one of the history.
-fn take_h3_Monday_row<T: Taker>(
+fn take_h3_monday_row<T: Taker>(
     instance: &Instance,
     taker: &mut T,
     nurse: u16,
@@ -108,7 +108,7 @@ fn take_h3_Monday_row<T: Taker>(
     requires shift_in { shift < (week_of instance.now).shifts }
     ensures { let week = week_of instance.now in
         Takes T.Taker
-        (cell_row_events week (only_if (week.is_forbidden last shift) (h3_Monday_row week nurse shift)))
+        (cell_row_events week (only_if (week.is_forbidden last shift) (h3_monday_row week nurse shift)))
         taker.old taker.new result }
 {
     if !instance.forbidden(last, shift) {
@@ -129,20 +129,20 @@ fn take_h3_after<T: Taker>(
     requires nurse_in { nurse < (week_of instance.now).nurses }
     requires last_in { last < (week_of instance.now).shifts }
     ensures { let week = week_of instance.now in
-        Takes T.Taker (cell_row_events week (h3_Monday_rows week nurse (Some last)))
+        Takes T.Taker (cell_row_events week (h3_monday_rows week nurse (Some last)))
         taker.old taker.new result }
 {
     for shift in 0..instance.shifts() {
-        take_h3_Monday_row(instance, taker, nurse, last, shift)?;
+        take_h3_monday_row(instance, taker, nurse, last, shift)?;
     }
     Ok(())
 }
 
 /// The shift types that a nurse may not have on Monday, where she worked on the Sunday before.
-fn take_h3_Monday<T: Taker>(instance: &Instance, taker: &mut T, nurse: u16) -> Result<(), T::Fault>
+fn take_h3_monday<T: Taker>(instance: &Instance, taker: &mut T, nurse: u16) -> Result<(), T::Fault>
     requires nurse_in { nurse < (week_of instance.now).nurses }
     ensures { let week = week_of instance.now in
-        Takes T.Taker (cell_row_events week (h3_Monday_rows week nurse (week.past nurse).last))
+        Takes T.Taker (cell_row_events week (h3_monday_rows week nurse (week.past nurse).last))
         taker.old taker.new result }
 {
     within_limits(instance);
@@ -209,7 +209,7 @@ fn take_h3_of_nurse<T: Taker>(
     ensures { let week = week_of instance.now in
         Takes T.Taker (cell_row_events week (h3_rows_of week nurse)) taker.old taker.new result }
 {
-    take_h3_Monday(instance, taker, nurse)?;
+    take_h3_monday(instance, taker, nurse)?;
     for day in 0..6 {
         take_h3_between(instance, taker, nurse, day)?;
     }

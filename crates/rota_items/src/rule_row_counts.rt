@@ -1,7 +1,7 @@
 //! How many rows mean the hard rules.
 ghost use Rattle.std.specs.Prelude.{◌≡◌, ◌<◌, ◌≤◌, ◌+◌, ◌*◌, ℕ, Some, length};
 ghost use Rattle.rota_core.specs.InstanceTables.{week_of};
-ghost use Rattle.rota_items.specs.HardRows.{h1_rows, h2_rows, h2_rows_at, h3_Monday_row, h3_Monday_rows, h3_row, h3_rows, h3_rows_between, h4_rows, h4_rows_at, rule_rows};
+ghost use Rattle.rota_items.specs.HardRows.{h1_rows, h2_rows, h2_rows_at, h3_monday_row, h3_monday_rows, h3_row, h3_rows, h3_rows_between, h4_rows, h4_rows_at, rule_rows};
 ghost use Rattle.rota_items.specs.Lists.{only_if};
 
 use crate::limits::within_limits;
@@ -51,8 +51,8 @@ fn count_forbidden(instance: &Instance, first: u8, second: u8) -> u32
     ensures few { result ≤ 1 }
     ensures in_week { let week = week_of instance.now in
         (n d : ℕ) → result ≡ length (only_if (week.is_forbidden first second) (h3_row week n d first second)) }
-    ensures on_Monday { let week = week_of instance.now in
-        (n : ℕ) → result ≡ length (only_if (week.is_forbidden first second) (h3_Monday_row week n second)) }
+    ensures on_monday { let week = week_of instance.now in
+        (n : ℕ) → result ≡ length (only_if (week.is_forbidden first second) (h3_monday_row week n second)) }
 {
     u32::from(instance.forbidden(first, second))
 }
@@ -75,7 +75,7 @@ fn count_successions(instance: &Instance) -> u32
 fn count_after(instance: &Instance, last: u8) -> u32
     requires { last < (week_of instance.now).shifts }
     ensures few { result ≤ 16 }
-    ensures number { (n : ℕ) → result ≡ length (h3_Monday_rows (week_of instance.now) n (Some last)) }
+    ensures number { (n : ℕ) → result ≡ length (h3_monday_rows (week_of instance.now) n (Some last)) }
 {
     let mut rows = 0;
     for shift in 0..instance.shifts() {
@@ -85,11 +85,11 @@ fn count_after(instance: &Instance, last: u8) -> u32
 }
 
 /// The number of shift types that the nurse may not have on Monday.
-fn count_h3_Monday(instance: &Instance, nurse: u16) -> u32
+fn count_h3_monday(instance: &Instance, nurse: u16) -> u32
     requires { nurse < (week_of instance.now).nurses }
     ensures few { result ≤ 16 }
     ensures number { let week = week_of instance.now in
-        result ≡ length (h3_Monday_rows week nurse (week.past nurse).last) }
+        result ≡ length (h3_monday_rows week nurse (week.past nurse).last) }
 {
     within_limits(instance);
     match instance.past(nurse).last {
@@ -106,7 +106,7 @@ fn count_h3(instance: &Instance) -> u32
     let in_week = 6 * count_successions(instance);
     let mut rows = 0;
     for nurse in 0..instance.nurses() {
-        rows += count_h3_Monday(instance, nurse) + in_week;
+        rows += count_h3_monday(instance, nurse) + in_week;
     }
     rows
 }

@@ -3,7 +3,7 @@ ghost use Rattle.std.specs.Prelude.{◌≡◌, true, false, ◌||◌, ◌==◌};
 ghost use Rattle.rota_core.specs.Week.{no_past};
 ghost use Rattle.rota_items.specs.Penalty.{penalty};
 ghost use Rattle.rota_items.specs.WorkedWeeks.{CompleteWeekends, DaysOff, DemandNobodyCanMeet, FewerThanTheOptimum, NothingToCharge, OneNurseOneShift, RunFarAboveTheMaximum, RequestsOnOneCell, ShiftNobodyShouldWork, SuccessionAfterTheHistory, TotalBelowInTheLastWeek, TotalsAbove, TotalsAboveInTheLastWeek, VariablesOfTheLastWeek};
-ghost use Rattle.rota_items.specs.WorkedWeeks.{closed_shift_week, demanding_week, last_week, on_Monday_shift, on_days, requests_week, weekends_week, limits_of, worked_days, working_week};
+ghost use Rattle.rota_items.specs.WorkedWeeks.{closed_shift_week, demanding_week, last_week, on_monday_shift, on_days, requests_week, weekends_week, limits_of, worked_days, working_week};
 
 /// The constraints of small weeks of one nurse.
 pub fn worked_weeks_have_their_constraints()
@@ -38,8 +38,8 @@ pub fn worked_rosters_have_their_penalties()
     ensures short_run_in_the_history { penalty (working_week (limits_of 3 9) (worked_days 1)) (on_days (λ d. false)) ≡ 60 }
     ensures shift_nobody_should_work { penalty closed_shift_week (on_days (λ d. d == 0)) ≡ 15 }
     ensures minimum_longer_than_the_week { penalty (working_week (limits_of 9 9) no_past) (on_days (λ d. d == 0 || d == 6)) ≡ 240 }
-    ensures three_rows_on_one_cell { penalty requests_week (on_Monday_shift 0) ≡ 30 }
-    ensures one_request_charged { penalty requests_week (on_Monday_shift 1) ≡ 10 }
+    ensures three_rows_on_one_cell { penalty requests_week (on_monday_shift 0) ≡ 30 }
+    ensures one_request_charged { penalty requests_week (on_monday_shift 1) ≡ 10 }
     ensures fewer_than_the_optimum { penalty (demanding_week 1 3) (on_days (λ d. d == 0)) ≡ 60 }
     ensures saturday_alone { penalty weekends_week (on_days (λ d. d == 5)) ≡ 30 }
     ensures totals_above_in_the_last_week { penalty (last_week 20 3) (on_days (λ d. true)) ≡ 300 }

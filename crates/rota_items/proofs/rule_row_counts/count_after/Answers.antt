@@ -7,7 +7,7 @@ loop-shift-init c = λ n. adds-none _ _ _
 
 pub loop-shift-preserved : goal.loop-shift-preserved
 loop-shift-preserved c = λ n.
-    adds-more _ _ _ _ _ _ (c.loop-shift.invariant n) (c.count_forbidden-rows.ensures.on_Monday n) c.count_forbidden-rows.ensures.few
+    adds-more _ _ _ _ _ _ (c.loop-shift.invariant n) (c.count_forbidden-rows.ensures.on_monday n) c.count_forbidden-rows.ensures.few
 
 pub overflow_add-rows : goal.overflow_add-rows
 overflow_add-rows c = omega (arith, (c.loop-shift.invariant 0).few)

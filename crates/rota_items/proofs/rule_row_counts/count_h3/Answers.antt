@@ -1,6 +1,6 @@
 use Rattle.std.proofs.Common.{◌≡◌, ◌*◌, length, length-append, sym, arith}
 use Rattle.rota_core.specs.InstanceTables.{week_of}
-use Rattle.rota_items.specs.HardRows.{h3_Monday_rows, h3_rows_between}
+use Rattle.rota_items.specs.HardRows.{h3_monday_rows, h3_rows_between}
 use Rattle.rota_items.specs.Lists.{each_below}
 use Rattle.rota_items.proofs.ListLengths.{adds-none, adds-more, added-length, length-each-is}
 use Rattle.rota_items.proofs.rule_row_counts.count_h3.Goals as goal
@@ -18,8 +18,8 @@ loop-nurse-preserved c =
     (omega (
       arith,
       later,
-      c.count_h3_Monday.ensures.number,
-      length-append (h3_Monday_rows week nurse (week.past nurse).last) (each_below 6 (h3_rows_between week nurse)),
+      c.count_h3_monday.ensures.number,
+      length-append (h3_monday_rows week nurse (week.past nurse).last) (each_below 6 (h3_rows_between week nurse)),
     ))
     (omega arith)
 

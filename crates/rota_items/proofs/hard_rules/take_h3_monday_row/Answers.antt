@@ -1,6 +1,6 @@
 use Rattle.std.proofs.Common.{rules}
 use Rattle.rota_items.proofs.Taking.{exits, cell_row_refused_at_start, cell_row_refused_at_terms, cell_row_closed, row_where, row_nowhere}
-use Rattle.rota_items.proofs.hard_rules.take_h3_Monday_row.Goals as goal
+use Rattle.rota_items.proofs.hard_rules.take_h3_monday_row.Goals as goal
 
 pub returns-in_err-start_row : goal.returns-in_err-start_row
 returns-in_err-start_row g c =
