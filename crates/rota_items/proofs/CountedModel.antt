@@ -8,7 +8,7 @@ use Rattle.std.proofs.lemmas.List.Sums.{sum_by-cons, sum_by-append}
 use Rattle.rota_core.specs.Week.{Week}
 use Rattle.rota_items.proofs.Counted.{counts_row, one_if, count-more, counted-rows, greatest-append, same_counts, variables_of}
 use Rattle.rota_items.proofs.HardCounts.{counted-rule_rows, count-rows, greatest-terms}
-use Rattle.rota_items.proofs.ListSums.{sum_by-map}
+use Rattle.rota_items.proofs.ItemEventLists.{slack_count-numbered}
 use Rattle.rota_items.proofs.RisesWithin.{RisesWithin}
 use Rattle.rota_items.proofs.RisingTerms.{RisesTo, variable_of, rises-to_last}
 use Rattle.rota_items.proofs.SlackBound.{rows-below}
@@ -20,7 +20,7 @@ use Rattle.rota_items.specs.declared.part.Part.TheVariants.{Objective}
 use Rattle.rota_items.specs.Counting.{counted, counts_of, counts_of_model, greatest, no_counts, variables_in}
 use Rattle.rota_items.specs.Events.{events}
 use Rattle.rota_items.specs.HardRows.{rule_rows}
-use Rattle.rota_items.specs.Items.{Item, numbered}
+use Rattle.rota_items.specs.Items.{Item}
 use Rattle.rota_items.specs.Limits.{IsWithinLimits}
 use Rattle.rota_items.specs.Linear.{Term, times}
 use Rattle.rota_items.specs.LinearRow.{LinearRow, linear_constraint}
@@ -149,7 +149,7 @@ greatest-objective week =
       greatest-terms week (request_terms week) (in-request_terms week),
       greatest-only_if (nat_lt 0 (constant week)) (pos (constant week), unit_number week),
       greatest-slacks (first_slack week) (numbered_items week) (omega arith),
-      sum_by-map (λ (item : Item ℕ). item.slacks) (numbered (cell_number week)) (soft_items week),
+      slack_count-numbered (cell_number week) (soft_items week),
     )
 
 -- ---- both

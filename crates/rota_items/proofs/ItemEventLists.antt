@@ -6,6 +6,7 @@ use Rattle.std.proofs.lemmas.List.Concat.{flat_map-append}
 use Rattle.std.proofs.lemmas.List.Sums.{sum_by-cons, sum_by-append}
 use Rattle.rota_core.specs.Week.{Week}
 use Rattle.rota_core.specs.declared.values.Cell.{Cell}
+use Rattle.rota_items.proofs.ListSums.{sum_by-map}
 use Rattle.rota_items.proofs.Loops.{each_below-zero, each_below-more, only_if-holds, only_if-fails}
 use Rattle.rota_items.proofs.Taking.{within}
 use Rattle.rota_items.specs.Cells.{cell_number}
@@ -27,6 +28,10 @@ slack_count-cons item items = sum_by-cons (λ i. i.slacks) item items
 
 pub slack_count-append : {X : Type 0} (xs ys : List (Item X)) → slack_count (xs ++ ys) ≡ slack_count xs + slack_count ys
 slack_count-append xs ys = sum_by-append (λ item. item.slacks) xs ys
+
+pub slack_count-numbered : (number : Cell → ℕ) (items : List (Item Cell)) →
+    slack_count (map (numbered number) items) ≡ slack_count items
+slack_count-numbered number items = sum_by-map (λ (item : Item ℕ). item.slacks) (numbered number) items
 
 pub slack_count-none : {X : Type 0} (f : ℕ → List (Item X)) → slack_count (each_below 0 f) ≡ 0
 slack_count-none f = rw (each_below-zero f) refl
@@ -68,17 +73,6 @@ slack_weights-append first (x ∷ xs) ys =
     (slack_weights-append (first + x.slacks) xs ys ∙
     ap (λ n. slack_weights (first + x.slacks) xs ++ slack_weights n ys) same) ∙
     sym (append_assoc here (slack_weights (first + x.slacks) xs) (slack_weights (first + slack_count (x ∷ xs)) ys))
-
-slack_count-numbered : (number : Cell → ℕ) (items : List (Item Cell)) →
-    slack_count (map (numbered number) items) ≡ slack_count items
-slack_count-numbered number [] = refl
-slack_count-numbered number (x ∷ xs) =
-    omega (
-      arith,
-      slack_count-cons x xs,
-      slack_count-cons (numbered number x) (map (numbered number) xs),
-      slack_count-numbered number xs,
-    )
 
 pub events-append : (xs ys : List (LinearRow ℕ)) → events (xs ++ ys) ≡ events xs ++ events ys
 unfolding events

@@ -40,7 +40,7 @@ use Rattle.rota_items.proofs.SmallItems.{IsMild, IsMildRow, length-rising, mild-
 use Rattle.rota_items.proofs.SmallSums.{spread, within-value_of}
 use Rattle.rota_items.proofs.Within.{RowIn, ItemIn, in-rule_rows, in-items}
 
-spread-numbered : (week : Week) (terms : List (Term Cell)) → spread (numbered_terms week terms) ≡ spread terms
+pub spread-numbered : (week : Week) (terms : List (Term Cell)) → spread (numbered_terms week terms) ≡ spread terms
 spread-numbered week terms =
     sum_by-map (λ (term : Term ℕ). nat_abs term.0) (λ (term : Term Cell). (term.0, cell_number week term.1)) terms
 

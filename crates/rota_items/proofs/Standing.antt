@@ -13,10 +13,10 @@ use Rattle.rota_items.proofs.ModelParts.{hard_constraint, numbered_constraints, 
 use Rattle.rota_items.proofs.Numbers.{cell_of_number-in, cell_number-of}
 use Rattle.rota_items.proofs.RisesWithin.{RisesWithin}
 use Rattle.rota_items.proofs.RisingTerms.{RisesTo, variable_of, rises-to_last}
-use Rattle.rota_items.proofs.ListSums.{sum_by-map}
+use Rattle.rota_items.proofs.ItemEventLists.{slack_count-numbered}
 use Rattle.rota_items.specs.Cells.{on_cells, work_cells, cell_number, cell_of_number, unit_number, first_slack}
 use Rattle.rota_items.specs.HardRows.{h1_row, h1_rows, h1_rows_of, h2_rows, h3_rows, h4_rows, rule_rows}
-use Rattle.rota_items.specs.Items.{Item, numbered}
+use Rattle.rota_items.specs.Items.{Item}
 use Rattle.rota_items.specs.Linear.{Term, Constraint, times}
 use Rattle.rota_items.specs.LinearRow.{LinearRow, linear_constraint}
 use Rattle.rota_items.specs.Lists.{each_below}
@@ -147,7 +147,7 @@ each-stands week v some within =
     unit = record { terms = (pos 1, unit_number week) ∷ []; degree = pos 1 }
 
     slacks : slack_count (numbered_items week) ≡ slack_count (soft_items week)
-    slacks = sum_by-map (λ (item : Item ℕ). item.slacks) (numbered (cell_number week)) (soft_items week)
+    slacks = slack_count-numbered (cell_number week) (soft_items week)
 
 -- ---- no other variable stands in one
 

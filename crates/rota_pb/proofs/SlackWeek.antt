@@ -1,6 +1,6 @@
 -- What a taker of slacks puts for all rows of a week's model, and what that makes of the values of its variables.
 use Rattle.std.proofs.Common.{◌≡◌, ℕ, ◌+◌, ◌-◌, ◌^◌, ◌<◌, Bool, true, false, List, [], ◌∷◌, ◌++◌, map, length, Result, Ok, Err, refl, sym, ap, ◌∙◌, arith}
-use Rattle.std.specs.Prelude.{nat_abs, OnOk}
+use Rattle.std.specs.Prelude.{OnOk}
 use Rattle.std.specs.List.{AllByRecursion, fold}
 use Rattle.std.proofs.lemmas.List.Concat.{flat_map-append}
 use Rattle.std.proofs.lemmas.Bool.{lt-ltb, le-ltb}
@@ -16,20 +16,19 @@ use Rattle.rota_items.specs.Events.{row_events, events}
 use Rattle.rota_items.specs.HardRows.{rule_rows}
 use Rattle.rota_items.specs.Items.{Item, numbered}
 use Rattle.rota_items.specs.Limits.{IsWithinLimits}
-use Rattle.rota_items.specs.Linear.{Term}
 use Rattle.rota_items.specs.LinearRow.{LinearRow}
 use Rattle.rota_items.specs.Slacks.{item_rows, slack_count, is_slack_needed}
 use Rattle.rota_items.specs.SoftItems.{soft_items}
 use Rattle.rota_items.specs.Takes.{Takes as TakesEvents}
-use Rattle.rota_items.specs.WeekModel.{assignment_of, extension_of, hard_rows, model_of, numbered_items, numbered_row, numbered_terms, rows_of}
+use Rattle.rota_items.specs.WeekModel.{assignment_of, extension_of, hard_rows, model_of, numbered_items, numbered_row, rows_of}
 use Rattle.rota_items.proofs.Extension.{terms-below}
-use Rattle.rota_items.proofs.ListSums.{sum_by-map}
+use Rattle.rota_items.proofs.ItemEventLists.{slack_count-numbered}
+use Rattle.rota_items.proofs.JudgedModel.{spread-numbered}
 use Rattle.rota_items.proofs.OnRuleRows.{all-h1_rows, all-h2_rows, all-h3_rows, all-h4_rows, all-rule_rows}
 use Rattle.rota_items.proofs.RisingCells.{ItemRises, at as at_cell}
 use Rattle.rota_items.proofs.RisingRows.{rises-items}
 use Rattle.rota_items.proofs.SlackBound.{variables-below, slack_end-below}
 use Rattle.rota_items.proofs.SmallItems.{IsMild, length-rising, mild-items}
-use Rattle.rota_items.proofs.SmallSums.{spread}
 use Rattle.rota_items.proofs.Within.{ItemIn, in-items}
 use Rattle.solver_text.specs.AnswerText.{answer_head}
 use Rattle.solver_text.specs.AnswerWriter.{literals_text, end_text}
@@ -61,10 +60,6 @@ module _ (week : Week) where
             (all-h4_rows week P (λ n k _ _ _. refl))),
       )
 
-  spread-numbered : (terms : List (Term Cell)) → spread (numbered_terms week terms) ≡ spread terms
-  spread-numbered terms =
-      sum_by-map (λ (term : Term ℕ). nat_abs term.0) (λ (term : Term Cell). (term.0, cell_number week term.1)) terms
-
   modest-items : unit_number week < 2 ^ 25 → (some : List (Item Cell)) → AllByRecursion (ItemRises week) some → AllByRecursion (ItemIn week) some →
       AllByRecursion IsMild some → AllByRecursion (IsModest week) (map (numbered (cell_number week)) some)
   modest-items few [] rise inside mild = tt
@@ -74,7 +69,7 @@ module _ (week : Week) where
       few = omega (
         arith,
         few,
-        spread-numbered item.terms,
+        spread-numbered week item.terms,
         mild.0.units,
         length-rising (at_cell week) 1 (unit_number week) item.terms rise.0,
       );
@@ -89,9 +84,6 @@ module _ (week : Week) where
 
   numbered-modest : IsWithinLimits week → AllByRecursion (IsModest week) (numbered_items week)
   numbered-modest limits = modest-items (few_before_slacks limits) (soft_items week) (rises-items week) (in-items week) (mild-items week limits)
-
-  slack_count-numbered : slack_count (numbered_items week) ≡ slack_count (soft_items week)
-  slack_count-numbered = sum_by-map (λ (item : Item ℕ). item.slacks) (numbered (cell_number week)) (soft_items week)
 
   events-parts : events (rows_of week) ≡ events (hard_rows week) ++ events (item_rows (first_slack week) (numbered_items week))
   unfolding events
@@ -120,13 +112,13 @@ module _ (progress : Progress) (limits : IsWithinLimits (week_of progress.tables
   pub week-text : events_text progress (events (rows_of week_here)) ≡ values_text progress.literals (slack_count (soft_items week_here)) needed
   week-text =
       ap (λ (p : Progress). events_text p (events (rows_of week_here))) begins ∙ week-puts.text ∙
-      ap (λ (count : ℕ). values_text progress.literals count needed) (slack_count-numbered week_here)
+      ap (λ (count : ℕ). values_text progress.literals count needed) (slack_count-numbered (cell_number week_here) (soft_items week_here))
 
   pub week-after : fold progress_after progress (events (rows_of week_here)) ≡
       at progress.tables progress.roster week-puts.left (literals_after progress.literals (slack_count (soft_items week_here)))
   week-after =
       ap (λ (p : Progress). fold progress_after p (events (rows_of week_here))) begins ∙ week-puts.after ∙
-      ap (λ (count : ℕ). at progress.tables progress.roster week-puts.left (literals_after progress.literals count)) (slack_count-numbered week_here)
+      ap (λ (count : ℕ). at progress.tables progress.roster week-puts.left (literals_after progress.literals count)) (slack_count-numbered (cell_number week_here) (soft_items week_here))
 
 module _ {W : Type 0} {target : Ghosts W} where
   -- a taker that took all rows put so many literals more, and still puts slacks
