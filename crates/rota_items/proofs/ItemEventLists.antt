@@ -1,5 +1,5 @@
 -- The events of items, one list after another.
-use Rattle.std.proofs.Common.{◌≡◌, ℕ, ◌+◌, ◌<◌, ◌≤◌, Bool, true, false, List, [], ◌∷◌, ◌++◌, map, refl, sym, ap, ◌∙◌, arith, add-zero, append_assoc}
+use Rattle.std.proofs.Common.{◌≡◌, ℕ, ◌+◌, ◌<◌, ◌≤◌, Bool, true, List, [], ◌∷◌, ◌++◌, map, refl, sym, ap, ◌∙◌, arith, add-zero, append_assoc}
 use Rattle.std.specs.Prelude.{pos}
 use Rattle.std.proofs.lemmas.List.{map-append, append-nil}
 use Rattle.std.proofs.lemmas.List.Concat.{flat_map-append}
@@ -7,7 +7,7 @@ use Rattle.std.proofs.lemmas.List.Sums.{sum_by-cons, sum_by-append}
 use Rattle.rota_core.specs.Week.{Week}
 use Rattle.rota_core.specs.declared.values.Cell.{Cell}
 use Rattle.rota_items.proofs.ListSums.{sum_by-map}
-use Rattle.rota_items.proofs.Loops.{each_below-zero, each_below-more, only_if-holds, only_if-fails}
+use Rattle.rota_items.proofs.Loops.{only_if-holds}
 use Rattle.rota_items.proofs.Taking.{within}
 use Rattle.rota_items.specs.Cells.{cell_number}
 use Rattle.rota_items.specs.Events.{term, row_events, term_events, events}
@@ -33,13 +33,6 @@ pub slack_count-numbered : (number : Cell → ℕ) (items : List (Item Cell)) �
     slack_count (map (numbered number) items) ≡ slack_count items
 slack_count-numbered number items = sum_by-map (λ (item : Item ℕ). item.slacks) (numbered number) items
 
-pub slack_count-none : {X : Type 0} (f : ℕ → List (Item X)) → slack_count (each_below 0 f) ≡ 0
-slack_count-none f = rw (each_below-zero f) refl
-
-pub slack_count-more : {X : Type 0} (i : ℕ) (f : ℕ → List (Item X)) →
-    slack_count (each_below (i + 1) f) ≡ slack_count (each_below i f) + slack_count (f i)
-slack_count-more i f = rw (each_below-more i f) (slack_count-append (each_below i f) (f i))
-
 pub slack_count-within : {X : Type 0} (i n : ℕ) (f : ℕ → List (Item X)) → i < n →
     slack_count (each_below i f) + slack_count (f i) ≤ slack_count (each_below n f)
 slack_count-within i n f below =
@@ -48,9 +41,6 @@ slack_count-within i n f below =
 
 pub slack_count-where : {X : Type 0} (test : Bool) (item : Item X) → test ≡ true → slack_count (only_if test item) ≡ item.slacks
 slack_count-where test item holds = rw (only_if-holds test item holds) (omega (arith, slack_count-cons item []))
-
-pub slack_count-nowhere : {X : Type 0} (test : Bool) (item : Item X) → test ≡ false → slack_count (only_if test item) ≡ 0
-slack_count-nowhere test item fails = rw (only_if-fails test item fails) refl
 
 -- ---- rows and weights
 

@@ -109,12 +109,6 @@ module _ (week : Week) (evaluated : Evaluated) where
       value_of-agree (counted_cell week evaluated) counts (λ v. v < unit) terms
       (λ v before. (below_unit (counts v) v unit before).0) below
 
-  pub unit-of_cells : (terms : List (Term ℕ)) → OnTerms (λ v. v < unit) terms →
-      value_of (counted_unit week evaluated) terms ≡ pos 0
-  unit-of_cells terms below =
-      value_of-agree (counted_unit week evaluated) (λ v. false) (λ v. v < unit) terms
-      (λ v before. (below_unit (counts v) v unit before).1) below ∙ value_of-none terms
-
   pub cells-of_unit : (terms : List (Term ℕ)) → OnTerms (λ v. v ≡ unit) terms →
       value_of (counted_cell week evaluated) terms ≡ pos 0
   cells-of_unit terms at =

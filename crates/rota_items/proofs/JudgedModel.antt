@@ -60,10 +60,6 @@ all_of_both : {X : Type 0} (P Q R : X → Type 0) (xs : List X) → ((x : X) →
 all_of_both P Q R [] both ps qs = tt
 all_of_both P Q R (x ∷ xs) both ps qs = (both x ps.0 qs.0, all_of_both P Q R xs both ps.1 qs.1)
 
-sum-none : {X : Type 0} (f : X → ℕ) (xs : List X) → AllByRecursion (λ x. f x ≡ 0) xs → sum_by f xs ≡ 0
-sum-none f [] none = refl
-sum-none f (x ∷ xs) none = omega (arith, sum_by-cons f x xs, none.0, sum-none f xs none.1)
-
 sum-at_most : {X : Type 0} (f : X → ℕ) (m : ℕ) (xs : List X) → AllByRecursion (λ x. f x ≤ m) xs → sum_by f xs ≤ length xs * m
 sum-at_most f m [] small = omega arith
 sum-at_most f m (x ∷ xs) small = omega (arith, sum_by-cons f x xs, small.0, sum-at_most f m xs small.1)

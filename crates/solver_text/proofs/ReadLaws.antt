@@ -86,9 +86,6 @@ failed_as : (answer : Answer) (state : Result (Facts × Place) AnswerFault) (fau
 failed_as answer (Ok state) fault e h = absurd (none≢some (sym h.0 ∙ e))
 failed_as answer (Err other) fault e h = cc
 
-abbrev MOST_VARIABLES : ℕ
-MOST_VARIABLES = 2 ^ 32
-
 within_most : (variables : ℕ) → variables < 2 ^ 32 → variables < MOST
 within_most variables few = omega arith
 
