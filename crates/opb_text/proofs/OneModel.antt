@@ -3,10 +3,10 @@ use Rattle.std.proofs.Common.{◌≡◌, ℕ, suc, ◌<◌, ◌≤◌, ℤ, pos,
 use Rattle.std.specs.Prelude.{codes}
 use Rattle.std.proofs.lemmas.List.{append_cancel_left}
 use Rattle.std.specs.List.{flat_map}
-use Rattle.opb_text.specs.Numeral.{numeral, signed_numeral}
+use Rattle.rota_core.specs.Numeral.{numeral, signed_numeral}
 use Rattle.opb_text.specs.ModelText.{coefficient_text, term_text, terms_text, constraint_line, objective_line, first_line, opb_text, EachTextSpellsOneModel}
 use Rattle.rota_items.specs.Linear.{Term, Constraint, Model}
-use Rattle.opb_text.proofs.Numerals.{AreDigits, digits-numeral, numeral_injective}
+use Rattle.rota_core.proofs.NumeralLemmas.{AreDigits, digits-numeral, numeral_injective}
 
 -- the byte is no digit
 abbrev IsOther : ℕ → Type 0

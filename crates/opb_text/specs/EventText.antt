@@ -1,5 +1,5 @@
 -- The text of the events of rows.
-use Rattle.std.specs.Prelude.{◌≡◌, ℕ, ℤ, pos, Bool, true, false, List, [], ◌∷◌, ◌++◌, length, map, codes}
+use Rattle.std.specs.Prelude.{◌≡◌, ℕ, ℤ, Bool, true, false, List, [], ◌∷◌, ◌++◌, length, map, codes}
 use Rattle.std.specs.List.{AllByRecursion}
 use Rattle.rota_items.specs.declared.part.Part.{Part}
 use Rattle.rota_items.specs.declared.part.Part.TheVariants.{Objective, Hard, Soft}
@@ -7,7 +7,7 @@ use Rattle.rota_items.specs.Events.{Event, start_row, term, close_row, events}
 use Rattle.rota_items.specs.Linear.{Term}
 use Rattle.rota_items.specs.LinearRow.{LinearRow, linear_constraint}
 use Rattle.rota_items.specs.Objective.{objective_rows}
-use Rattle.opb_text.specs.Numeral.{signed_numeral}
+use Rattle.rota_core.specs.Numeral.{signed_numeral}
 use Rattle.opb_text.specs.ModelText.{term_text, first_line, SpellsModel}
 
 abbrev pub is_objective : Part → Bool

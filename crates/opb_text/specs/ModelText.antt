@@ -1,7 +1,7 @@
 -- The text of a pseudo-Boolean model in the linear format of the Pseudo-Boolean Competition.
 use Rattle.std.specs.Prelude.{◌≡◌, ℕ, ℤ, pos, negsuc, List, [], ◌∷◌, ◌++◌, length, codes}
 use Rattle.std.specs.List.{flat_map}
-use Rattle.opb_text.specs.Numeral.{numeral, signed_numeral}
+use Rattle.rota_core.specs.Numeral.{numeral, signed_numeral}
 use Rattle.rota_items.specs.Linear.{Term, Constraint, Model}
 
 -- a sign in any case, and the digits

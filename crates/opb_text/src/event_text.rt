@@ -1,6 +1,6 @@
 //! The text of an event of a row, in the linear format of the Pseudo-Boolean Competition.
 ghost use Rattle.std.specs.Prelude.{◌≡◌, true, false, IsErr};
-ghost use Rattle.opb_text.specs.Numeral.{numeral, signed_numeral};
+ghost use Rattle.rota_core.specs.Numeral.{numeral, signed_numeral};
 ghost use Rattle.opb_text.specs.ModelText.{coefficient_text, term_text, first_line};
 ghost use Rattle.opb_text.specs.EventText.{start_text, close_text};
 ghost use Rattle.opb_text.specs.Sink.{Takes, sink_failed};

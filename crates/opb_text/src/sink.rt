@@ -1,6 +1,6 @@
 //! A buffer of fixed size before a target.
 ghost use Rattle.std.specs.Prelude.{◌||◌, is_err, ◌≡◌, true, false, [], OnOk, OnErr, IsErr};
-ghost use Rattle.opb_text.specs.Numeral.{signed_numeral};
+ghost use Rattle.rota_core.specs.Numeral.{signed_numeral};
 ghost use Rattle.std.specs.Io.KnownBytes.{append_known};
 ghost use Rattle.opb_text.specs.Begins.{Begins};
 ghost use Rattle.rota_core.specs.Ports.{told_len};

@@ -6,12 +6,12 @@ use Rattle.std.proofs.lemmas.Bool.{and_parts, or_parts, not-true}
 use Rattle.std.proofs.lemmas.Bool.Decides.{nat_tests}
 use Rattle.std.proofs.lemmas.List.{append-nil}
 use Rattle.rota_core.specs.Names.{place_of}
-use Rattle.rota_core.specs.Numeral.{numeral}
+use Rattle.rota_core.specs.Numeral.{numeral, decimal}
 use Rattle.rota_core.specs.Words.{is_blank, is_sign, is_word_byte, IsWord}
 use Rattle.rota_read.specs.Tokens.{Token, tokens_from, lengthen, line_after}
-use Rattle.rota_read.specs.Layout.{Slot, wants_exactly, wants_number, wants_word, wants_known, Layout, end, slot, ◌>>=◌, misfit, is_sign_token, decimal, exactly, number, any_word, known_name}
+use Rattle.rota_read.specs.Layout.{Slot, wants_exactly, wants_number, wants_word, wants_known, Layout, end, slot, ◌>>=◌, misfit, is_sign_token, exactly, number, any_word, known_name}
 use Rattle.rota_read.specs.Files.{Fills}
-use Rattle.rota_read.proofs.NumeralLemmas.{is_decimal-numeral, decimal-numeral, IsWord-numeral}
+use Rattle.rota_core.proofs.NumeralLemmas.{is_decimal-numeral, decimal-numeral, IsWord-numeral}
 use Rattle.rota_read.proofs.TokenLemmas.{tokens_from-sign, one_blank, one_longer, last_byte}
 
 -- The piece, at the front of any bytes, is a number of tokens that fill the layout with the value.

@@ -1,10 +1,10 @@
 -- A file as a list of slots, which its tokens fill in order.
-use Rattle.std.specs.Prelude.{◌==◌, ℕ, zero, suc, ◌+◌, ◌-◌, ◌*◌, Bool, false, ◌&&◌, List, [], ◌∷◌, Option, Some, None, unwrap_or, nat_le, if◌then◌else◌, fold}
-use Rattle.std.specs.List.{list_all, list_any}
+use Rattle.std.specs.Prelude.{◌==◌, ℕ, zero, suc, Bool, false, ◌&&◌, List, [], ◌∷◌, Option, Some, None, unwrap_or, nat_le, if◌then◌else◌}
+use Rattle.std.specs.List.{list_any}
 use Rattle.std.specs.Option.{option_map_or}
 use Rattle.rota_core.specs.Names.{is_among, place_of}
-use Rattle.std.specs.Char.{is_ascii_digit}
 use Rattle.std.specs.Str.{bytes_eq}
+use Rattle.rota_core.specs.Numeral.{is_decimal, decimal}
 use Rattle.rota_core.specs.Words.{is_sign}
 use Rattle.rota_core.specs.declared.fault.Kind.{Kind}
 use Rattle.rota_core.specs.declared.fault.Kind.TheVariants as kinds
@@ -20,13 +20,6 @@ pub data Slot : Type 0 where
   wants_new : List (List ℕ) → Slot
   -- one of these names, at a place that is not taken
   wants_known : List (List ℕ) → (ℕ → Bool) → Slot
-
-abbrev pub is_decimal : List ℕ → Bool
-is_decimal word = list_all is_ascii_digit word
-
--- the number that decimal digits stand for
-abbrev pub decimal : List ℕ → ℕ
-decimal word = fold (λ n b. 10 * n + (b - 48)) 0 word
 
 -- whether a token is a sign
 abbrev pub is_sign_token : List ℕ → Bool

@@ -2,7 +2,8 @@
 
 ghost use Rattle.std.specs.Prelude.{◌≡◌, ◌==◌, false, IfOk, ◌<◌, ◌≤◌, ◌∷◌, [], min, length, Some, None, MatchResult, if◌then◌else◌};
 ghost use Rattle.rota_core.specs.declared.fault.Kind.TheVariants.{Ended};
-ghost use Rattle.rota_read.specs.Layout.{exactly, number, any_word, new_name, known_name, is_decimal, decimal, is_sign_token, is_one_of};
+ghost use Rattle.rota_core.specs.Numeral.{is_decimal, decimal};
+ghost use Rattle.rota_read.specs.Layout.{exactly, number, any_word, new_name, known_name, is_sign_token, is_one_of};
 ghost use Rattle.rota_read.specs.Reading.{read, Reads, at_end, ReadsFile};
 ghost use Rattle.rota_core.specs.Names.{bytes_of, is_among};
 

@@ -1,77 +1,30 @@
 -- Numerals as words: digits without blanks, which spell their number.
-use Rattle.std.proofs.Common.{◌≡◌, ℕ, zero, suc, ◌+◌, ◌*◌, ◌/◌, ◌%◌, ◌^◌, ◌<◌, ◌≤◌, Bool, true, false, List, [], ◌∷◌, ◌++◌, Option, Some, None, length, length-append, refl, ap, ◌∙◌, arith, inl, inr, pos}
+use Rattle.std.proofs.Common.{◌≡◌, ℕ, zero, suc, ◌+◌, ◌/◌, ◌%◌, ◌^◌, ◌<◌, ◌≤◌, Bool, true, false, List, [], ◌∷◌, Option, Some, None, length, length-append, refl, ap, ◌∙◌, arith, inl, inr, pos}
 use Rattle.std.specs.Prelude.{All}
-use Rattle.std.specs.Char.{is_ascii_digit}
 use Rattle.std.specs.Option.{option_map_or}
-use Rattle.std.proofs.lemmas.Bool.{cases_lt, lt-ltb, le-ltb, le-leb, ne_eqb}
+use Rattle.std.proofs.lemmas.Bool.{cases_lt, lt-ltb, le-leb, ne_eqb}
 use Rattle.std.proofs.lemmas.List.Elements.{All-nil, All-cons}
-use Rattle.std.proofs.lemmas.List.Sums.{fold-append}
-use Rattle.opb_text.specs.Numeral.{numeral, numeral_within}
-use Rattle.opb_text.proofs.Numerals.{AreDigits, digits-numeral}
+use Rattle.rota_core.specs.Numeral.{numeral, numeral_within, decimal, is_decimal}
+use Rattle.rota_core.proofs.NumeralLemmas.{AreDigits, decimal-numeral, digits-numeral, is_decimal-numeral, numeral-has_digits, numeral_steps}
 use Rattle.solver_text.specs.Lines.{is_blank, is_line_feed, has_bytes}
-use Rattle.solver_text.specs.Answers.{Literal, with_digit, decimal, is_decimal, magnitude_of, positive_of, number_of, variable_of, literal_of}
+use Rattle.solver_text.specs.Answers.{Literal, magnitude_of, positive_of, number_of, variable_of, literal_of}
 use Rattle.solver_text.specs.AnswerText.{literal_word}
-
-numeral_short : (k n : ℕ) → n < 10 → numeral_within (suc k) n ≡ (48 + n) ∷ []
-numeral_short k n small = rw (lt-ltb n 10 small) refl
-
-numeral_long : (k n : ℕ) → 10 ≤ n → numeral_within (suc k) n ≡ numeral_within k (n / 10) ++ (48 + n % 10) ∷ []
-numeral_long k n large = rw (le-ltb n 10 large) refl
-
-last_digit : (digits : List ℕ) (d : ℕ) → decimal (digits ++ (48 + d) ∷ []) ≡ 10 * decimal digits + d
-last_digit digits d = fold-append with_digit 0 digits ((48 + d) ∷ []) ∙ omega arith
-
-decimal-numeral_within : (k n : ℕ) → n < k → decimal (numeral_within k n) ≡ n
-decimal-numeral_within zero n below = absurd (omega arith)
-decimal-numeral_within (suc k) n below =
-    elim (cases_lt n 10) [
-      | inl small ↦ rw (numeral_short k n small) (omega arith)
-      | inr large ↦
-          let front : decimal (numeral_within k (n / 10)) ≡ n / 10 = decimal-numeral_within k (n / 10) (omega arith) in
-          rw (numeral_long k n large) (last_digit (numeral_within k (n / 10)) (n % 10) ∙ omega (arith, front))
-    ]
-
--- the digits of a numeral spell its number
-pub decimal-numeral : (n : ℕ) → decimal (numeral n) ≡ n
-unfolding numeral
-decimal-numeral n = decimal-numeral_within (suc n) n (omega arith)
 
 length-numeral_within : (k m n : ℕ) → n < 10 ^ suc m → length (numeral_within k n) ≤ suc m
 length-numeral_within zero m n below = omega arith
-length-numeral_within (suc k) zero n below = rw (numeral_short k n (omega arith)) (omega arith)
+length-numeral_within (suc k) zero n below = rw (numeral_steps.one k n (omega arith)) (omega arith)
 length-numeral_within (suc k) (suc m) n below =
     elim (cases_lt n 10) [
-      | inl small ↦ rw (numeral_short k n small) (omega arith)
+      | inl small ↦ rw (numeral_steps.one k n small) (omega arith)
       | inr large ↦
           let front : length (numeral_within k (n / 10)) ≤ suc m = length-numeral_within k m (n / 10) (omega arith) in
-          rw (numeral_long k n large, length-append (numeral_within k (n / 10)) ((48 + n % 10) ∷ [])) (omega (arith, front))
+          rw (numeral_steps.more k n large, length-append (numeral_within k (n / 10)) ((48 + n % 10) ∷ [])) (omega (arith, front))
     ]
 
 -- a number below 10 ^ 18 has at most 18 digits
 pub length-numeral : (n : ℕ) → n < 10 ^ 18 → length (numeral n) ≤ 18
 unfolding numeral
 length-numeral n below = length-numeral_within (suc n) 17 n below
-
-some_digit : (k n : ℕ) → 0 < length (numeral_within (suc k) n)
-some_digit k n =
-    elim (cases_lt n 10) [
-      | inl small ↦ rw (numeral_short k n small) (omega arith)
-      | inr large ↦ rw (numeral_long k n large, length-append (numeral_within k (n / 10)) ((48 + n % 10) ∷ [])) (omega arith)
-    ]
-
-pub numeral-has_digits : (n : ℕ) → 0 < length (numeral n)
-unfolding numeral
-numeral-has_digits n = some_digit n n
-
-digit-decimal : (b : ℕ) → 48 ≤ b → b < 58 → is_ascii_digit b ≡ true
-digit-decimal b low high = rw (le-leb 48 b low, le-leb b 57 (omega arith)) refl
-
-digits-decimal : (digits : List ℕ) → AreDigits digits → is_decimal digits ≡ true
-digits-decimal [] these = refl
-digits-decimal (b ∷ digits) these = rw (digit-decimal b these.0 these.1) (digits-decimal digits these.2)
-
-pub is_decimal-numeral : (n : ℕ) → is_decimal (numeral n) ≡ true
-is_decimal-numeral n = digits-decimal (numeral n) (digits-numeral n)
 
 -- neither blank nor line feed
 abbrev pub IsWordByte : ℕ → Type 0

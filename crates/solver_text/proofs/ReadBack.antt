@@ -7,7 +7,7 @@ use Rattle.std.proofs.Math.Seq.{get_or-append_seam, set-append_seam}
 use Rattle.std.proofs.lemmas.Bool.{ne_eqb, le-ltb}
 use Rattle.std.proofs.lemmas.List.{map-append, length-replicate}
 use Rattle.std.proofs.lemmas.List.Elements.{All-nil, All-cons}
-use Rattle.opb_text.specs.Numeral.{numeral}
+use Rattle.rota_core.specs.Numeral.{numeral}
 use Rattle.solver_text.specs.AnswerLaws.{WrittenAnswerIsRead}
 use Rattle.solver_text.specs.AnswerText.{literal_word, literal_words, rows_of_ten, value_line, answer_head, answer_text}
 use Rattle.solver_text.specs.Answers.{Facts, Meaning, Judgement, of_status, of_objective, of_literal, Literal, judgements_of_line, judgements, judge, judge_all, judge_literal, judge_variable, see_variable, and_then, at_end, no_facts}

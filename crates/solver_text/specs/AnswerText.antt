@@ -2,7 +2,7 @@
 -- Pseudo-Boolean Competition.
 use Rattle.std.specs.Prelude.{ℕ, zero, suc, ◌+◌, Bool, true, false, List, [], ◌∷◌, ◌++◌, length, take, drop, codes}
 use Rattle.std.specs.List.{flat_map}
-use Rattle.opb_text.specs.Numeral.{numeral}
+use Rattle.rota_core.specs.Numeral.{numeral}
 
 -- the literal of the variable with its value
 abbrev pub literal_word : ℕ → Bool → List ℕ

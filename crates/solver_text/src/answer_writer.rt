@@ -4,7 +4,7 @@ ghost use Rattle.std.specs.Io.KnownBytes.{append_known};
 ghost use Rattle.rota_core.specs.Ports.{told_len};
 ghost use Rattle.opb_text.specs.Begins.{Begins};
 ghost use Rattle.opb_text.specs.Sink.{stands_for, sink_failed, target_of, sent_by, Takes};
-ghost use Rattle.opb_text.specs.Numeral.{numeral};
+ghost use Rattle.rota_core.specs.Numeral.{numeral};
 ghost use Rattle.solver_text.specs.AnswerText.{answer_head, behind_blank, literal_word};
 ghost use Rattle.solver_text.specs.AnswerWriter.{literal_text, row_start, row_end, end_text};
 

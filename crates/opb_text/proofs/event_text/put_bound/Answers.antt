@@ -3,7 +3,7 @@ use mir.Val.{SFits}
 use Rattle.std.proofs.Common.{rules}
 use Rattle.std.proofs.lemmas.Int.{to_z-of_z}
 use Rattle.std.specs.Prelude.{codes}
-use Rattle.opb_text.specs.Numeral.{signed_numeral}
+use Rattle.rota_core.specs.Numeral.{signed_numeral}
 use Rattle.opb_text.proofs.TakesLemmas.{takes_exit, takes_stop, takes_then}
 use Rattle.opb_text.proofs.event_text.put_bound.Goals as goal
 

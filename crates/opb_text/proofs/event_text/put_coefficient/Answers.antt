@@ -1,6 +1,6 @@
 use Rattle.std.proofs.Common.{◌≡◌, ◌++◌, ℤ, pos, negsuc, ◌≤ℤ◌, refl, arith}
 use Rattle.std.specs.Prelude.{codes}
-use Rattle.opb_text.specs.Numeral.{signed_numeral}
+use Rattle.rota_core.specs.Numeral.{signed_numeral}
 use Rattle.std.proofs.lemmas.Int.{ints}
 use Rattle.opb_text.specs.ModelText.{coefficient_text}
 use Rattle.opb_text.proofs.TakesLemmas.{takes_exit, takes_stop}

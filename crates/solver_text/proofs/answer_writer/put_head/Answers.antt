@@ -1,5 +1,5 @@
 use Rattle.std.specs.Prelude.{codes}
-use Rattle.opb_text.specs.Numeral.{numeral}
+use Rattle.rota_core.specs.Numeral.{numeral}
 use Rattle.opb_text.proofs.TakesLemmas.{takes_exit, takes_stop, takes_then}
 use Rattle.solver_text.proofs.answer_writer.put_head.Goals as goal
 

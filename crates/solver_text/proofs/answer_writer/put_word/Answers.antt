@@ -1,4 +1,4 @@
-use Rattle.opb_text.specs.Numeral.{numeral}
+use Rattle.rota_core.specs.Numeral.{numeral}
 use Rattle.opb_text.proofs.TakesLemmas.{takes_exit, takes_stop, takes_then}
 use Rattle.solver_text.proofs.answer_writer.put_word.Goals as goal
 use Rattle.solver_text.proofs.answer_writer.put_word.Goals.{then-positive, else-positive}

@@ -4,7 +4,8 @@ use Rattle.std.proofs.lemmas.Int.{to_z_pos}
 use Rattle.std.proofs.lemmas.List.{take_all}
 use Rattle.std.proofs.lemmas.Bool.{lt-ltb, le-leb}
 use Rattle.std.specs.Option.{option_map_or}
-use Rattle.solver_text.specs.Answers.{magnitude_of, decimal, is_decimal}
+use Rattle.rota_core.specs.Numeral.{decimal, is_decimal}
+use Rattle.solver_text.specs.Answers.{magnitude_of}
 use Rattle.solver_text.proofs.place.magnitude.Goals as goal
 
 below : (n i : ℕ) → n < 10 ^ i → i < 18 → n < 10 ^ 17

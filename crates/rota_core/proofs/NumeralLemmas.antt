@@ -1,0 +1,113 @@
+-- A numeral is digits alone that tell its number. It is a word, and what the standard library writes.
+use Rattle.std.proofs.Common.{◌≡◌, ℕ, zero, suc, ◌+◌, ◌-◌, ◌*◌, ◌/◌, ◌%◌, ◌^◌, ◌<◌, ◌≤◌, ℤ, pos, negsuc, true, List, [], ◌∷◌, ◌++◌, length, length-append, inl, inr, refl, sym, ap, ◌∙◌, arith, rules}
+use Rattle.std.specs.Char.{is_ascii_digit}
+use Rattle.std.specs.Fmt.{decimal as std_decimal, signed_decimal}
+use Rattle.std.specs.List.{list_all}
+use lib.Signed.{mag}
+use Rattle.std.proofs.lemmas.Bool.{cases_lt, and_parts, and_from, le-leb}
+use Rattle.std.proofs.lemmas.Bool.Decides.{nat_tests}
+use Rattle.std.proofs.lemmas.Fmt.{AppendsLastDigit, decimal_from_appends_wide, length-decimal-le_wide}
+use Rattle.std.proofs.lemmas.List.Sums.{fold-append}
+use Rattle.rota_core.specs.Numeral.{numeral, numeral_within, signed_numeral, is_decimal, with_digit, decimal}
+use Rattle.rota_core.specs.Words.{is_word_byte, IsWord}
+
+pub numeral_steps : AppendsLastDigit numeral_within
+numeral_steps = search rules
+
+-- ---- digits alone
+
+-- the bytes are digits
+abbrev pub AreDigits : List ℕ → Type 0
+AreDigits [] = Unit {0}
+AreDigits (b ∷ bs) = (48 ≤ b) × (b < 58) × AreDigits bs
+
+AreDigits-append : (xs ys : List ℕ) → AreDigits xs → AreDigits ys → AreDigits (xs ++ ys)
+AreDigits-append [] ys p q = q
+AreDigits-append (x ∷ xs) ys p q = (p.0, p.1, AreDigits-append xs ys p.2 q)
+
+digits-within : (k n : ℕ) → AreDigits (numeral_within k n)
+digits-within zero n = tt
+digits-within (suc k) n =
+    elim (cases_lt n 10) [
+      | inl small ↦ rw (numeral_steps.one k n small) (omega arith, omega arith, tt)
+      | inr large ↦
+          rw (numeral_steps.more k n large) (AreDigits-append _ _ (digits-within k (n / 10)) (omega arith, omega arith, tt))
+    ]
+
+pub digits-numeral : (n : ℕ) → AreDigits (numeral n)
+unfolding numeral
+digits-numeral n = digits-within (suc n) n
+
+digit-decimal : (b : ℕ) → 48 ≤ b → b < 58 → is_ascii_digit b ≡ true
+digit-decimal b low high = rw (le-leb 48 b low, le-leb b 57 (omega arith)) refl
+
+digits-decimal : (digits : List ℕ) → AreDigits digits → is_decimal digits ≡ true
+digits-decimal [] these = refl
+digits-decimal (b ∷ digits) these = rw (digit-decimal b these.0 these.1) (digits-decimal digits these.2)
+
+pub is_decimal-numeral : (n : ℕ) → is_decimal (numeral n) ≡ true
+is_decimal-numeral n = digits-decimal (numeral n) (digits-numeral n)
+
+some_digit : (k n : ℕ) → 0 < length (numeral_within (suc k) n)
+some_digit k n =
+    elim (cases_lt n 10) [
+      | inl small ↦ rw (numeral_steps.one k n small) (omega arith)
+      | inr large ↦
+          rw (numeral_steps.more k n large, length-append (numeral_within k (n / 10)) ((48 + n % 10) ∷ [])) (omega arith)
+    ]
+
+pub numeral-has_digits : (n : ℕ) → 0 < length (numeral n)
+unfolding numeral
+numeral-has_digits n = some_digit n n
+
+-- ---- their number
+
+last_digit : (digits : List ℕ) (d : ℕ) → decimal (digits ++ (48 + d) ∷ []) ≡ 10 * decimal digits + d
+last_digit digits d = fold-append with_digit 0 digits ((48 + d) ∷ []) ∙ omega arith
+
+decimal-within : (k n : ℕ) → n < k → decimal (numeral_within k n) ≡ n
+decimal-within zero n below = absurd (omega arith)
+decimal-within (suc k) n below =
+    elim (cases_lt n 10) [
+      | inl small ↦ rw (numeral_steps.one k n small) (omega arith)
+      | inr large ↦
+          let front : decimal (numeral_within k (n / 10)) ≡ n / 10 = decimal-within k (n / 10) (omega arith) in
+          rw (numeral_steps.more k n large) (last_digit (numeral_within k (n / 10)) (n % 10) ∙ omega (arith, front))
+    ]
+
+-- the digits of a numeral spell its number
+pub decimal-numeral : (n : ℕ) → decimal (numeral n) ≡ n
+unfolding numeral
+decimal-numeral n = decimal-within (suc n) n (omega arith)
+
+pub numeral_injective : (m n : ℕ) → numeral m ≡ numeral n → m ≡ n
+numeral_injective m n same = sym (decimal-numeral m) ∙ ap decimal same ∙ decimal-numeral n
+
+-- ---- as a word
+
+digit_is_word_byte : (b : ℕ) → is_ascii_digit b ≡ true → is_word_byte b ≡ true
+digit_is_word_byte b digit = grind (arith, nat_tests)
+
+digits_are_word_bytes : (digits : List ℕ) → is_decimal digits ≡ true → list_all is_word_byte digits ≡ true
+digits_are_word_bytes [] all = refl
+digits_are_word_bytes (b ∷ bs) all =
+    let parts = and_parts (is_ascii_digit b) (list_all is_ascii_digit bs) all in
+    and_from (is_word_byte b) (list_all is_word_byte bs) (digit_is_word_byte b parts.0) (digits_are_word_bytes bs parts.1)
+
+pub IsWord-numeral : (n : ℕ) → IsWord (numeral n)
+IsWord-numeral n = (numeral-has_digits n, digits_are_word_bytes (numeral n) (is_decimal-numeral n))
+
+-- ---- as the standard library writes it
+
+below_power : (n : ℕ) → n < 10 ^ suc n
+below_power zero = omega arith
+below_power (suc n) = let less : n < 10 ^ suc n = below_power n in omega arith
+
+numeral_is : (n : ℕ) → n < 10 ^ 64 → std_decimal n ≡ numeral n
+unfolding numeral
+numeral_is n small =
+    sym (decimal_from_appends_wide numeral_within numeral_steps (suc n) n small (length-decimal-le_wide (suc n) n (omega arith) (below_power n) small))
+
+pub signed_numeral_is : (z : ℤ) → mag z < 2 ^ 127 → signed_decimal z ≡ signed_numeral z
+signed_numeral_is (pos n) small = numeral_is n (omega arith)
+signed_numeral_is (negsuc n) small = ap (λ digits. 45 ∷ digits) (numeral_is (suc n) (omega arith))
