@@ -8,13 +8,13 @@ use Rattle.rota_core.specs.Ports.{Told}
 use Rattle.rota_core.specs.declared.ports.PortFault.{PortFault}
 use Rattle.rota_core.specs.declared.ports.Target.{Ghosts}
 use Rattle.rota_items.specs.Events.{Event}
-use Rattle.rota_items.specs.Takes.{Took, Refused, Takes as TakesEvents}
+use Rattle.rota_items.specs.Takes.{Took, Refused, Takes}
 use Rattle.opb_text.specs.EventText.{event_text, events_text, objective_after}
 use Rattle.opb_text.specs.Begins.{Begins}
 use Rattle.opb_text.specs.OpbTaker.{Writing, with_event, writing, sink_of, in_objective, FailedAt, opb_taker}
-use Rattle.opb_text.specs.Sink.{Takes, stands_for, sent_by, sink_failed, target_of}
+use Rattle.opb_text.specs.Sink.{PutsText, stands_for, sent_by, sink_failed, target_of}
 use Rattle.opb_text.specs.declared.opb_taker.OpbTaker.{OpbTaker}
-use Rattle.opb_text.proofs.TakesLemmas.{or_false, or_true}
+use Rattle.opb_text.proofs.PutsTextLemmas.{or_false, or_true}
 use Rattle.opb_text.proofs.Told.{append_known-append, Begins-longer}
 
 append_known-nil : (told : Told) → append_known told [] ≡ told
@@ -58,7 +58,7 @@ module _ {W : Type 0} {target : Ghosts W} where
   -- events that were taken put their text
   pub took_events_put_text : {old new : OpbTaker W target} {u : Unit {0}} (events : List Event) →
       Took opb_taker events old new →
-      Takes (sink_of old) (Ok u) (events_text (in_objective old) events) (sink_of new)
+      PutsText (sink_of old) (Ok u) (events_text (in_objective old) events) (sink_of new)
   took_events_put_text {old} {new} events took =
       let is : writing new ≡ with_events (writing old) events = took.value_is ∙ fold-with_event (writing old) events in
       let failed_is : sink_failed (sink_of new) ≡ sink_failed (sink_of old) = ap (λ (w : Writing W). w.has_failed) is in
@@ -76,7 +76,7 @@ module _ {W : Type 0} {target : Ghosts W} where
   -- a refusal leaves a sink that failed, and what was sent begins the text of the events
   pub refused_events_begin_text : {old new : OpbTaker W target} {fault : PortFault} (events : List Event) →
       Refused opb_taker events old new →
-      Takes (sink_of old) (Err fault) (events_text (in_objective old) events) (sink_of new)
+      PutsText (sink_of old) (Err fault) (events_text (in_objective old) events) (sink_of new)
   refused_events_begin_text {old} {new} events refused =
       let b = in_objective old in
       let middle = fold objective_after b refused.taken in
@@ -104,7 +104,7 @@ module _ {W : Type 0} {target : Ghosts W} where
 
   -- what a taker took of these events went into its sink as a text does
   pub events_put_text : (old new : OpbTaker W target) (events : List Event) (r : Result (Unit {0}) PortFault) →
-      TakesEvents opb_taker events old new r →
-      Takes (sink_of old) r (events_text (in_objective old) events) (sink_of new)
+      Takes opb_taker events old new r →
+      PutsText (sink_of old) r (events_text (in_objective old) events) (sink_of new)
   events_put_text old new events (Ok u) took = took_events_put_text events took
   events_put_text old new events (Err fault) refused = refused_events_begin_text events refused

@@ -30,7 +30,7 @@ module _ {W : Type 0} {target : Ghosts W} where
 
   -- new is old with the text put into it. At an error the target failed, and what was sent is a beginning of the text.
   -- A sink that had failed leaves its target as it is.
-  pub record Takes (old : Sink W target) (result : Result (Unit {0}) PortFault) (text : List ℕ) (new : Sink W target) : Type 0 where
+  pub record PutsText (old : Sink W target) (result : Result (Unit {0}) PortFault) (text : List ℕ) (new : Sink W target) : Type 0 where
     pub same_target : new.target.ghost_name ≡ old.target.ghost_name
     pub failure : sink_failed new ≡ (sink_failed old || is_err result)
     pub target_failure : target.has_failed (target_of new) ≡ (target.has_failed (target_of old) || is_err result)

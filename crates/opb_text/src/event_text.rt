@@ -3,20 +3,20 @@ ghost use Rattle.std.specs.Prelude.{◌≡◌, true, false, IsErr};
 ghost use Rattle.rota_core.specs.Numeral.{numeral, signed_numeral};
 ghost use Rattle.opb_text.specs.ModelText.{coefficient_text, term_text, first_line};
 ghost use Rattle.opb_text.specs.EventText.{start_text, close_text};
-ghost use Rattle.opb_text.specs.Sink.{Takes, sink_failed};
+ghost use Rattle.opb_text.specs.Sink.{PutsText, sink_failed};
 
 use crate::sink::Sink;
 use rota_core::{PortFault, Target};
 use rota_items::Counts;
 
 fn put_natural<W: Target>(sink: &mut Sink<W>, number: u32) -> Result<(), PortFault>
-    ensures { Takes sink.old result (numeral number) sink.new }
+    ensures { PutsText sink.old result (numeral number) sink.new }
 {
     sink.number(number as i128)
 }
 
 fn put_coefficient<W: Target>(sink: &mut Sink<W>, coefficient: i64) -> Result<(), PortFault>
-    ensures { Takes sink.old result (coefficient_text coefficient) sink.new }
+    ensures { PutsText sink.old result (coefficient_text coefficient) sink.new }
 {
     if coefficient < 0 {
         return sink.number(coefficient as i128);
@@ -31,7 +31,7 @@ pub fn put_term<W: Target>(
     coefficient: i64,
     variable: u32,
 ) -> Result<(), PortFault>
-    ensures { Takes sink.old result (term_text (coefficient, variable)) sink.new }
+    ensures { PutsText sink.old result (term_text (coefficient, variable)) sink.new }
 {
     put_coefficient(sink, coefficient)?;
     sink.put(b" x")?;
@@ -41,20 +41,20 @@ pub fn put_term<W: Target>(
 
 // Puts what stands before the terms of a row.
 pub fn put_start<W: Target>(sink: &mut Sink<W>, in_objective: bool) -> Result<(), PortFault>
-    ensures { Takes sink.old result (start_text in_objective) sink.new }
+    ensures { PutsText sink.old result (start_text in_objective) sink.new }
 {
     let text: &[u8] = if in_objective { b"min: " } else { b"" };
     sink.put(text)
 }
 
 fn put_degree<W: Target>(sink: &mut Sink<W>, degree: i64) -> Result<(), PortFault>
-    ensures { Takes sink.old result (signed_numeral degree) sink.new }
+    ensures { PutsText sink.old result (signed_numeral degree) sink.new }
 {
     sink.number(degree as i128)
 }
 
 fn put_bound<W: Target>(sink: &mut Sink<W>, degree: i64) -> Result<(), PortFault>
-    ensures { Takes sink.old result (close_text false degree) sink.new }
+    ensures { PutsText sink.old result (close_text false degree) sink.new }
 {
     sink.put(b">= ")?;
     put_degree(sink, degree)?;
@@ -67,7 +67,7 @@ pub fn put_close<W: Target>(
     in_objective: bool,
     degree: i64,
 ) -> Result<(), PortFault>
-    ensures { Takes sink.old result (close_text in_objective degree) sink.new }
+    ensures { PutsText sink.old result (close_text in_objective degree) sink.new }
 {
     if in_objective {
         return sink.put(b";\n");
@@ -77,7 +77,7 @@ pub fn put_close<W: Target>(
 
 // Puts the numbers of the variables and of the constraints.
 pub fn put_first_line<W: Target>(sink: &mut Sink<W>, counts: Counts) -> Result<(), PortFault>
-    ensures takes { Takes sink.old result (first_line counts.variables counts.constraints) sink.new }
+    ensures takes { PutsText sink.old result (first_line counts.variables counts.constraints) sink.new }
     ensures for_good { sink_failed sink.old ≡ true → IsErr result }
 {
     sink.put(b"* #variable= ")?;

@@ -22,7 +22,7 @@ pub struct OpbTaker<'a, W: Target> {
 
 impl<'a, W: Target> OpbTaker<'a, W> {
     ghost use Rattle.opb_text.specs.OpbTaker.{in_objective, sink_of};
-    ghost use Rattle.opb_text.specs.Sink.{stands_for, sink_failed, target_of, sent_by, Takes};
+    ghost use Rattle.opb_text.specs.Sink.{stands_for, sink_failed, target_of, sent_by, PutsText};
 
     /// A taker whose text goes into the sink. No row of the objective is open.
     pub fn new(sink: Sink<'a, W>) -> OpbTaker<'a, W>
@@ -39,7 +39,7 @@ impl<'a, W: Target> OpbTaker<'a, W> {
     /// where the target does.
     pub fn first_line(&mut self, counts: Counts) -> Result<(), PortFault>
         ensures same_row { in_objective self.new ≡ in_objective self.old }
-        ensures takes { Takes (sink_of self.old) result (first_line counts.variables counts.constraints) (sink_of self.new) }
+        ensures takes { PutsText (sink_of self.old) result (first_line counts.variables counts.constraints) (sink_of self.new) }
         ensures for_good { sink_failed (sink_of self.old) ≡ true → IsErr result }
     {
         put_first_line(&mut self.sink, counts)
@@ -49,7 +49,7 @@ impl<'a, W: Target> OpbTaker<'a, W> {
     /// target does.
     pub fn finish(&mut self) -> Result<(), PortFault>
         ensures same_row { in_objective self.new ≡ in_objective self.old }
-        ensures takes { Takes (sink_of self.old) result [] (sink_of self.new) }
+        ensures takes { PutsText (sink_of self.old) result [] (sink_of self.new) }
         ensures sent { OnOk result (sent_by (sink_of self.new) ≡ stands_for (sink_of self.old)) }
         ensures err { OnErr result (Begins (sent_by (sink_of self.new)) (stands_for (sink_of self.old))) }
         ensures flushed { OnOk result (W.flushed (target_of (sink_of self.new)) ≡ told_len (sent_by (sink_of self.new))) }

@@ -22,7 +22,7 @@ pub struct Sink<'a, W: Target> {
 }
 
 impl<'a, W: Target> Sink<'a, W> {
-    ghost use Rattle.opb_text.specs.Sink.{stands_for, sink_failed, target_name, target_of, sent_by, Takes};
+    ghost use Rattle.opb_text.specs.Sink.{stands_for, sink_failed, target_name, target_of, sent_by, PutsText};
 
     /// A sink over the target, which stands for what the target was sent.
     pub fn new(target: &'a mut W) -> Sink<'a, W>
@@ -41,7 +41,7 @@ impl<'a, W: Target> Sink<'a, W> {
     /// Appends the piece. It fails only where the target does.
     #[inline]
     pub fn put(&mut self, piece: &[u8]) -> Result<(), PortFault>
-        ensures takes { Takes self.old result piece.now self.new }
+        ensures takes { PutsText self.old result piece.now self.new }
         ensures for_good { sink_failed self.old ≡ true → IsErr result }
     {
         if self.failed {
@@ -57,7 +57,7 @@ impl<'a, W: Target> Sink<'a, W> {
     /// otherwise. It fails only where the target does.
     #[inline]
     pub fn number(&mut self, number: i128) -> Result<(), PortFault>
-        ensures takes { Takes self.old result (signed_numeral number) self.new }
+        ensures takes { PutsText self.old result (signed_numeral number) self.new }
         ensures for_good { sink_failed self.old ≡ true → IsErr result }
     {
         let mut digits = Buffer::new();
@@ -67,7 +67,7 @@ impl<'a, W: Target> Sink<'a, W> {
     /// Sends what is still in the buffer, and makes all sent bytes flushed. Ok says that all that was
     /// put is out. It fails only where the target does.
     pub fn finish(&mut self) -> Result<(), PortFault>
-        ensures takes { Takes self.old result [] self.new }
+        ensures takes { PutsText self.old result [] self.new }
         ensures sent { OnOk result (sent_by self.new ≡ stands_for self.old) }
         ensures err { OnErr result (Begins (sent_by self.new) (stands_for self.old)) }
         ensures flushed { OnOk result (W.flushed (target_of self.new) ≡ told_len (sent_by self.new)) }
@@ -88,7 +88,7 @@ impl<'a, W: Target> Sink<'a, W> {
     #[inline(never)]
     fn put_past_buffer(&mut self, piece: &[u8]) -> Result<(), PortFault>
         requires { sink_failed self.old ≡ false }
-        ensures { Takes self.old result piece.now self.new }
+        ensures { PutsText self.old result piece.now self.new }
     {
         self.send_buffer()?;
         if self.buffer.try_extend_from_slice(piece).is_ok() {
@@ -102,7 +102,7 @@ impl<'a, W: Target> Sink<'a, W> {
     // Sends what is in the buffer.
     fn send_buffer(&mut self) -> Result<(), PortFault>
         requires { sink_failed self.old ≡ false }
-        ensures takes { Takes self.old result [] self.new }
+        ensures takes { PutsText self.old result [] self.new }
         ensures empty { OnOk result (self.new.buffer.items ≡ []) }
         ensures err { OnErr result (Begins (sent_by self.new) (stands_for self.old)) }
     {

@@ -8,11 +8,11 @@ use Rattle.rota_core.specs.declared.ports.Target.{Ghosts}
 use Rattle.rota_items.specs.Events.{events}
 use Rattle.rota_items.specs.LinearRow.{linear_constraint}
 use Rattle.rota_items.specs.Objective.{objective_rows}
-use Rattle.rota_items.specs.Takes.{Took, Refused, Takes as TakesEvents}
+use Rattle.rota_items.specs.Takes.{Took, Refused, Takes}
 use Rattle.rota_items.specs.WeekModel.{model_of, objective_terms, rows_of}
 use Rattle.opb_text.specs.ModelText.{first_line, opb_text}
 use Rattle.opb_text.specs.OpbTaker.{sink_of, opb_taker}
-use Rattle.opb_text.specs.Sink.{Takes}
+use Rattle.opb_text.specs.Sink.{PutsText}
 use Rattle.opb_text.specs.declared.opb_taker.OpbTaker.{OpbTaker}
 use Rattle.opb_text.specs.declared.sink.Sink.{Sink}
 use Rattle.opb_text.proofs.PutModel.{first_line_failed, objective_failed, model_put}
@@ -27,27 +27,27 @@ line week variables count variables_are count_is =
 
 module _ {W : Type 0} {target : Ghosts W} (week : Week) (variables count : ℕ)
     (variables_are : variables ≡ (model_of week).variables) (count_is : count ≡ length (model_of week).constraints) where
-  line_put : {old new : Sink W target} (r : Result (Unit {0}) PortFault) → Takes old r (first_line variables count) new →
-      Takes old r (first_line (model_of week).variables (length (rows_of week))) new
-  line_put {old} {new} r takes = subst (λ (text : List ℕ). Takes old r text new) (line week variables count variables_are count_is) takes
+  line_put : {old new : Sink W target} (r : Result (Unit {0}) PortFault) → PutsText old r (first_line variables count) new →
+      PutsText old r (first_line (model_of week).variables (length (rows_of week))) new
+  line_put {old} {new} r takes = subst (λ (text : List ℕ). PutsText old r text new) (line week variables count variables_are count_is) takes
 
   pub line_failed : {old new : Sink W target} {fault : PortFault} (r : Result (Unit {0}) PortFault) → IsErr r →
-      Takes old (Err fault) (first_line variables count) new → Takes old r (opb_text (model_of week)) new
+      PutsText old (Err fault) (first_line variables count) new → PutsText old r (opb_text (model_of week)) new
   line_failed {fault = fault} r failed takes =
       first_line_failed (model_of week).variables (objective_terms week) (rows_of week) (rows_of-are_constraints week) r failed
       (line_put (Err fault) takes)
 
   pub terms_failed : {old : Sink W target} {started new : OpbTaker W target} {u : Unit {0}} (r : Result (Unit {0}) PortFault) → IsErr r →
-      Takes old (Ok u) (first_line variables count) (sink_of started) →
-      Refused opb_taker (events (objective_rows (objective_terms week))) started new → Takes old r (opb_text (model_of week)) (sink_of new)
+      PutsText old (Ok u) (first_line variables count) (sink_of started) →
+      Refused opb_taker (events (objective_rows (objective_terms week))) started new → PutsText old r (opb_text (model_of week)) (sink_of new)
   terms_failed {u = u} r failed takes refused =
       objective_failed (model_of week).variables (objective_terms week) (rows_of week) (rows_of-are_constraints week) r failed
       (line_put (Ok u) takes) refused
 
   pub rows_put : {old : Sink W target} (started middle new : OpbTaker W target) {u : Unit {0}} (r : Result (Unit {0}) PortFault) →
-      Takes old (Ok u) (first_line variables count) (sink_of started) →
+      PutsText old (Ok u) (first_line variables count) (sink_of started) →
       Took opb_taker (events (objective_rows (objective_terms week))) started middle →
-      TakesEvents opb_taker (events (rows_of week)) middle new r → Takes old r (opb_text (model_of week)) (sink_of new)
+      Takes opb_taker (events (rows_of week)) middle new r → PutsText old r (opb_text (model_of week)) (sink_of new)
   rows_put started middle new {u} r takes took taken =
       model_put (model_of week).variables (objective_terms week) (rows_of week) (rows_of-are_constraints week) started middle new r
       (line_put (Ok u) takes) took taken

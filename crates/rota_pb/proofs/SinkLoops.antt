@@ -11,8 +11,8 @@ use Rattle.rota_core.specs.InstanceTables.{InstanceTables}
 use Rattle.rota_core.specs.Lists.{each_below}
 use Rattle.rota_core.specs.Ports.{Told}
 use Rattle.opb_text.specs.declared.sink.Sink.{Sink}
-use Rattle.opb_text.specs.Sink.{Takes, stands_for, sink_failed, target_of}
-use Rattle.opb_text.proofs.TakesLemmas.{or_false, takes_exit, takes_stop, takes_then}
+use Rattle.opb_text.specs.Sink.{PutsText, stands_for, sink_failed, target_of}
+use Rattle.opb_text.proofs.PutsTextLemmas.{or_false, puts_exit, puts_stop, puts_then}
 use Rattle.rota_items.proofs.Loops.{each_below-zero, each_below-more}
 use Rattle.rota_read.specs.SolutionText.{assignment_text}
 use Rattle.rota_pb.specs.RosterRows.{rows_text}
@@ -55,8 +55,8 @@ rows_join tables = record {
 
 module _ {W : Type 0} {target : Ghosts W} where
   -- nothing is put
-  pub takes_nothing : (sink : Sink W target) → Takes sink (Ok tt) [] sink
-  takes_nothing sink = record {
+  pub puts_nothing : (sink : Sink W target) → PutsText sink (Ok tt) [] sink
+  puts_nothing sink = record {
     same_target = refl;
     failure = sym (or_false (sink_failed sink));
     target_failure = sym (or_false (target.has_failed (target_of sink)));
@@ -69,20 +69,20 @@ module _ {W : Type 0} {target : Ghosts W} where
       append_known-nil (Some bytes) = ap Some (append-nil bytes)
 
   module _ {A : Type 0} {text : List A → List ℕ} (joins : Joins text) where
-    pub loop_none : (f : ℕ → List A) (sink : Sink W target) → Takes sink (Ok tt) (text (each_below 0 f)) sink
-    loop_none f sink = rw (each_below-zero f, joins.none) (takes_nothing sink)
+    pub loop_none : (f : ℕ → List A) (sink : Sink W target) → PutsText sink (Ok tt) (text (each_below 0 f)) sink
+    loop_none f sink = rw (each_below-zero f, joins.none) (puts_nothing sink)
 
     pub loop_more : (i : ℕ) (f : ℕ → List A) {old middle new : Sink W target} {u : Unit {0}} {r : Result (Unit {0}) PortFault} →
-        Takes old (Ok u) (text (each_below i f)) middle → Takes middle r (text (f i)) new → Takes old r (text (each_below (i + 1) f)) new
-    loop_more i f first second = rw (each_below-more i f, joins.append) (takes_then first second)
+        PutsText old (Ok u) (text (each_below i f)) middle → PutsText middle r (text (f i)) new → PutsText old r (text (each_below (i + 1) f)) new
+    loop_more i f first second = rw (each_below-more i f, joins.append) (puts_then first second)
 
     pub loop_all : (i n : ℕ) (f : ℕ → List A) {old new : Sink W target} {r : Result (Unit {0}) PortFault} → i ≡ n →
-        Takes old r (text (each_below i f)) new → Takes old r (text (each_below n f)) new
+        PutsText old r (text (each_below i f)) new → PutsText old r (text (each_below n f)) new
     loop_all i n f same takes = rw (← same) takes
 
     pub loop_exit : (i n : ℕ) (f : ℕ → List A) {old middle new : Sink W target} {u : Unit {0}} {e : PortFault} (r : Result (Unit {0}) PortFault) →
-        IsErr r → i < n → Takes old (Ok u) (text (each_below i f)) middle → Takes middle (Err e) (text (f i)) new →
-        Takes old r (text (each_below n f)) new
+        IsErr r → i < n → PutsText old (Ok u) (text (each_below i f)) middle → PutsText middle (Err e) (text (f i)) new →
+        PutsText old r (text (each_below n f)) new
     loop_exit i n f r failed below first second =
         let w = within i n f below in
-        takes_exit r failed (rw (w.are, joins.append) (takes_stop (text w.after) (loop_more i f first second)))
+        puts_exit r failed (rw (w.are, joins.append) (puts_stop (text w.after) (loop_more i f first second)))

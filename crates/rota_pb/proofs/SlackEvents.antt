@@ -7,10 +7,10 @@ use Rattle.rota_core.specs.Ports.{Told}
 use Rattle.rota_core.specs.declared.ports.PortFault.{PortFault}
 use Rattle.rota_core.specs.declared.ports.Target.{Ghosts}
 use Rattle.rota_items.specs.Events.{Event}
-use Rattle.rota_items.specs.Takes.{Took, Refused, Takes as TakesEvents}
+use Rattle.rota_items.specs.Takes.{Took, Refused, Takes}
 use Rattle.opb_text.specs.Begins.{Begins}
-use Rattle.opb_text.specs.Sink.{Takes, stands_for, sent_by, sink_failed, target_of}
-use Rattle.opb_text.proofs.TakesLemmas.{or_false, or_true}
+use Rattle.opb_text.specs.Sink.{PutsText, stands_for, sent_by, sink_failed, target_of}
+use Rattle.opb_text.proofs.PutsTextLemmas.{or_false, or_true}
 use Rattle.opb_text.proofs.Told.{append_known-append, Begins-longer}
 use Rattle.solver_text.specs.AnswerWriter.{sink_of}
 use Rattle.rota_pb.specs.SlackTaker.{Progress, Writing, event_text, progress_after, with_event, writing, writer_of, progress_of, FailedAt, slack_taker}
@@ -59,7 +59,7 @@ module _ {W : Type 0} {target : Ghosts W} where
   -- events that were taken put their text
   took_events_put_text : {old new : SlackTaker W target} {u : Unit {0}} (events : List Event) →
       Took slack_taker events old new →
-      Takes (sink_of (writer_of old)) (Ok u) (events_text (progress_of old) events) (sink_of (writer_of new))
+      PutsText (sink_of (writer_of old)) (Ok u) (events_text (progress_of old) events) (sink_of (writer_of new))
   took_events_put_text {old} {new} events took =
       let is : writing new ≡ with_events (writing old) events = took.value_is ∙ fold-with_event (writing old) events in
       let failed_is : sink_failed (sink_of (writer_of new)) ≡ sink_failed (sink_of (writer_of old)) = ap (λ (w : Writing W). w.has_failed) is in
@@ -82,7 +82,7 @@ module _ {W : Type 0} {target : Ghosts W} where
   -- a refusal leaves a sink that failed, and what was sent begins the text of the events
   refused_events_begin_text : {old new : SlackTaker W target} {fault : PortFault} (events : List Event) →
       Refused slack_taker events old new →
-      Takes (sink_of (writer_of old)) (Err fault) (events_text (progress_of old) events) (sink_of (writer_of new))
+      PutsText (sink_of (writer_of old)) (Err fault) (events_text (progress_of old) events) (sink_of (writer_of new))
   refused_events_begin_text {old} {new} events refused =
       let p = progress_of old in
       let middle = fold progress_after p refused.taken in
@@ -110,7 +110,7 @@ module _ {W : Type 0} {target : Ghosts W} where
 
   -- what a taker took of these events went into its sink as a text does
   pub events_put_text : (old new : SlackTaker W target) (events : List Event) (r : Result (Unit {0}) PortFault) →
-      TakesEvents slack_taker events old new r →
-      Takes (sink_of (writer_of old)) r (events_text (progress_of old) events) (sink_of (writer_of new))
+      Takes slack_taker events old new r →
+      PutsText (sink_of (writer_of old)) r (events_text (progress_of old) events) (sink_of (writer_of new))
   events_put_text old new events (Ok u) took = took_events_put_text events took
   events_put_text old new events (Err fault) refused = refused_events_begin_text events refused

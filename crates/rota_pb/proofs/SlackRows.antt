@@ -143,16 +143,16 @@ module _ (tables : InstanceTables) (roster : RosterTables) where
   at row n = record { tables = tables; roster = roster; puts_slacks = true; row = row; literals = n }
 
   -- the events put the literals of so many variables
-  pub record Puts (row : OpenRow) (n : ℕ) (these : List Event) (count : ℕ) (truth : ℕ → Bool) : Type 0 where
+  pub record PutsSlacks (row : OpenRow) (n : ℕ) (these : List Event) (count : ℕ) (truth : ℕ → Bool) : Type 0 where
     pub left : OpenRow
     pub text : events_text (at row n) these ≡ values_text n count truth
     pub after : fold progress_after (at row n) these ≡ at left (literals_after n count)
 
   -- those of some events, and then those of others
-  puts_then : (row : OpenRow) (n a b : ℕ) (these others : List Event) (one other truth : ℕ → Bool) (first : Puts row n these a one) →
-      Puts first.left (literals_after n a) others b other →
-      ((i : ℕ) → i < a → one i ≡ truth i) → ((i : ℕ) → i < b → other i ≡ truth (a + i)) → Puts row n (these ++ others) (a + b) truth
-  puts_then row n a b these others one other truth first second before behind = record {
+  slacks_then : (row : OpenRow) (n a b : ℕ) (these others : List Event) (one other truth : ℕ → Bool) (first : PutsSlacks row n these a one) →
+      PutsSlacks first.left (literals_after n a) others b other →
+      ((i : ℕ) → i < a → one i ≡ truth i) → ((i : ℕ) → i < b → other i ≡ truth (a + i)) → PutsSlacks row n (these ++ others) (a + b) truth
+  slacks_then row n a b these others one other truth first second before behind = record {
     left = second.left;
     text =
         events_text-append (at row n) these others ∙
@@ -185,7 +185,7 @@ module _ (tables : InstanceTables) (roster : RosterTables) where
   closing row = with_terms week roster (no_terms (is_soft row.part)) row.terms
 
   row_puts : (started : OpenRow) (n : ℕ) (row : LinearRow ℕ) →
-      Puts started n (row_events row) (soft_slacks (closing row)) (λ place. nat_lt place (lacking (closing row) row.degree))
+      PutsSlacks started n (row_events row) (soft_slacks (closing row)) (λ place. nat_lt place (lacking (closing row) row.degree))
   row_puts started n row = record {
     left = closing row;
     text = terms_text (no_terms (is_soft row.part)) n row.terms (close_row row.degree ∷ []) ∙ append-nil _;
@@ -193,9 +193,9 @@ module _ (tables : InstanceTables) (roster : RosterTables) where
   }
 
   -- a row that puts so many literals puts these
-  puts_same : (started : OpenRow) (n a b : ℕ) (these : List Event) (one other : ℕ → Bool) → a ≡ b → ((i : ℕ) → one i ≡ other i) →
-      Puts started n these a one → Puts started n these b other
-  puts_same started n a b these one other count same puts = record {
+  slacks_same : (started : OpenRow) (n a b : ℕ) (these : List Event) (one other : ℕ → Bool) → a ≡ b → ((i : ℕ) → one i ≡ other i) →
+      PutsSlacks started n these a one → PutsSlacks started n these b other
+  slacks_same started n a b these one other count same puts = record {
     left = puts.left;
     text = puts.text ∙ values_text-same n a one other (λ i below. same i) ∙ ap (λ (m : ℕ). values_text n m other) count;
     after = puts.after ∙ ap (λ (m : ℕ). at puts.left (literals_after n m)) count;
@@ -208,14 +208,14 @@ module _ (tables : InstanceTables) (roster : RosterTables) where
   IsHard row = is_soft row.part ≡ false
 
   -- rows of hard rules put nothing
-  pub hard_rows-put : (started : OpenRow) (n : ℕ) (rows : List (LinearRow ℕ)) (truth : ℕ → Bool) → AllByRecursion IsHard rows → Puts started n (events rows) 0 truth
+  pub hard_rows-put : (started : OpenRow) (n : ℕ) (rows : List (LinearRow ℕ)) (truth : ℕ → Bool) → AllByRecursion IsHard rows → PutsSlacks started n (events rows) 0 truth
   unfolding events
   hard_rows-put started n [] truth hard = record { left = started; text = sym (values_text-none n truth); after = refl }
   hard_rows-put started n (row ∷ rows) truth hard =
       let none : soft_slacks (closing row) ≡ 0 = no_slacks (closing row) (with_terms-part week roster (no_terms (is_soft row.part)) row.terms ∙ hard.0) in
-      let here : Puts started n (row_events row) 0 (λ place. nat_lt place (lacking (closing row) row.degree)) =
-      puts_same started n _ 0 _ _ _ none (λ i. refl) (row_puts started n row) in
-      puts_then started n 0 0 (row_events row) (events rows) (λ place. nat_lt place (lacking (closing row) row.degree)) truth truth here
+      let here : PutsSlacks started n (row_events row) 0 (λ place. nat_lt place (lacking (closing row) row.degree)) =
+      slacks_same started n _ 0 _ _ _ none (λ i. refl) (row_puts started n row) in
+      slacks_then started n 0 0 (row_events row) (events rows) (λ place. nat_lt place (lacking (closing row) row.degree)) truth truth here
       (hard_rows-put here.left n rows truth hard.1) (λ i below. absurd (omega (arith, below))) (λ i below. absurd (omega (arith, below)))
 
   -- the row of an item is closed with its value and its slacks
@@ -242,21 +242,21 @@ module _ (tables : InstanceTables) (roster : RosterTables) where
       ))
 
   item_puts : (started : OpenRow) (n : ℕ) (item : Item ℕ) (first : ℕ) → unit_number week < first → IsModest week item →
-      Puts started n (row_events (item_row item first)) item.slacks (λ place. nat_lt place (shortage assigned item))
+      PutsSlacks started n (row_events (item_row item first)) item.slacks (λ place. nat_lt place (shortage assigned item))
   item_puts started n item first above modest =
-      puts_same started n _ item.slacks _ _ _ (ap soft_slacks (item_closing item first above modest))
+      slacks_same started n _ item.slacks _ _ _ (ap soft_slacks (item_closing item first above modest))
       (λ i. ap (nat_lt i) (item_lacking item first above modest)) (row_puts started n (item_row item first))
 
   -- the rows of items put their slacks, as many true ones as each lacks
   pub item_rows-put : (started : OpenRow) (n first : ℕ) (items : List (Item ℕ)) → unit_number week < first → AllByRecursion (IsModest week) items →
-      Puts started n (events (item_rows first items)) (slack_count items) (is_slack_needed assigned items)
+      PutsSlacks started n (events (item_rows first items)) (slack_count items) (is_slack_needed assigned items)
   unfolding events
   item_rows-put started n first [] above modest = record { left = started; text = sym (values_text-none n (is_slack_needed assigned [])); after = refl }
   item_rows-put started n first (item ∷ items) above modest =
       let here = item_puts started n item first above modest.0 in
-      puts_same started n (item.slacks + slack_count items) (slack_count (item ∷ items)) _ _ _
+      slacks_same started n (item.slacks + slack_count items) (slack_count (item ∷ items)) _ _ _
       (sym (sum_by-cons (λ (i : Item ℕ). i.slacks) item items)) (λ i. refl)
-      (puts_then started n item.slacks (slack_count items) (row_events (item_row item first)) (events (item_rows (first + item.slacks) items))
+      (slacks_then started n item.slacks (slack_count items) (row_events (item_row item first)) (events (item_rows (first + item.slacks) items))
       (λ place. nat_lt place (shortage assigned item)) (is_slack_needed assigned items) (is_slack_needed assigned (item ∷ items)) here
       (item_rows-put here.left (literals_after n item.slacks) (first + item.slacks) items (omega (arith, above)) modest.1)
       (λ i below. first_needed item items i below) (λ i below. next_needed item items i))
@@ -273,10 +273,10 @@ module _ (tables : InstanceTables) (roster : RosterTables) where
 
   -- rows, and then others
   pub rows-put : (started : OpenRow) (n b : ℕ) (hard soft : List (LinearRow ℕ)) (truth : ℕ → Bool) → AllByRecursion IsHard hard →
-      ((row : OpenRow) → Puts row n (events soft) b truth) → Puts started n (events hard ++ events soft) b truth
+      ((row : OpenRow) → PutsSlacks row n (events soft) b truth) → PutsSlacks started n (events hard ++ events soft) b truth
   rows-put started n b hard soft truth are_hard behind =
       let here = hard_rows-put started n hard truth are_hard in
       let none : 0 + b ≡ b = omega arith in
-      puts_same started n (0 + b) b _ _ _ none (λ i. refl)
-      (puts_then started n 0 b (events hard) (events soft) truth truth truth here (behind here.left) (λ i below. refl)
+      slacks_same started n (0 + b) b _ _ _ none (λ i. refl)
+      (slacks_then started n 0 b (events hard) (events soft) truth truth truth here (behind here.left) (λ i below. refl)
       (λ i below. let same : i ≡ 0 + i = omega arith in ap truth same))

@@ -9,9 +9,9 @@ use Rattle.rota_core.specs.declared.ports.Target.{Ghosts}
 use Rattle.rota_items.specs.Events.{Event, close_row}
 use Rattle.opb_text.specs.Begins.{Begins}
 use Rattle.opb_text.specs.declared.sink.Sink.{Sink}
-use Rattle.opb_text.specs.Sink.{Takes, stands_for, sent_by, sink_failed, target_of}
+use Rattle.opb_text.specs.Sink.{PutsText, stands_for, sent_by, sink_failed, target_of}
 use Rattle.opb_text.proofs.Told.{append_known-append}
-use Rattle.opb_text.proofs.TakesLemmas.{or_false, or_true}
+use Rattle.opb_text.proofs.PutsTextLemmas.{or_false, or_true}
 use Rattle.solver_text.specs.AnswerWriter.{sink_of}
 use Rattle.rota_pb.specs.SlackTaker.{Progress, Writing, event_text, progress_after, with_event, writing, writer_of, progress_of, FailedAt}
 use Rattle.rota_pb.specs.declared.slack_taker.SlackTaker.{SlackTaker}
@@ -51,7 +51,7 @@ told_joined sent stands told xs ys zs last first joined =
 
 module _ {W : Type 0} {target : Ghosts W} where
   pub event_put : (old new : SlackTaker W target) (event : Event) (r : Result (Unit {0}) PortFault) →
-      Takes (sink_of (writer_of old)) r (event_text (progress_of old) event) (sink_of (writer_of new)) →
+      PutsText (sink_of (writer_of old)) r (event_text (progress_of old) event) (sink_of (writer_of new)) →
       OnOk r (progress_of new ≡ progress_after (progress_of old) event) →
       MatchResult r (λ _. writing new ≡ with_event (writing old) event) (λ _. FailedAt (writing old) event new)
   event_put old new event (Ok u) takes progress =
@@ -82,7 +82,7 @@ module _ {W : Type 0} {target : Ghosts W} where
       refl refl refl (sym (where_false (progress_of old).puts_slacks _ _ none))
 
   -- what was sent of a text that failed to go in begins it
-  pub takes-begins : {old new : Sink W target} {text : List ℕ} (r : Result (Unit {0}) PortFault) → Takes old r text new →
+  pub takes-begins : {old new : Sink W target} {text : List ℕ} (r : Result (Unit {0}) PortFault) → PutsText old r text new →
       OnErr r (Begins (sent_by new) (append_known (stands_for old) text))
   takes-begins (Ok u) takes = tt
   takes-begins (Err fault) takes = takes.bytes

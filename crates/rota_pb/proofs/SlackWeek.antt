@@ -19,7 +19,7 @@ use Rattle.rota_items.specs.Limits.{IsWithinLimits}
 use Rattle.rota_items.specs.LinearRow.{LinearRow}
 use Rattle.rota_items.specs.Slacks.{item_rows, slack_count, is_slack_needed}
 use Rattle.rota_items.specs.SoftItems.{soft_items}
-use Rattle.rota_items.specs.Takes.{Takes as TakesEvents}
+use Rattle.rota_items.specs.Takes.{Takes}
 use Rattle.rota_items.specs.WeekModel.{assignment_of, extension_of, hard_rows, model_of, numbered_items, numbered_row, rows_of}
 use Rattle.rota_items.proofs.Extension.{terms-below}
 use Rattle.rota_items.proofs.ItemEventLists.{slack_count-numbered}
@@ -37,7 +37,7 @@ use Rattle.rota_pb.specs.Extending.{extension_truths, extension_answer}
 use Rattle.rota_pb.specs.SlackTaker.{Progress, literals_after, values_text, is_soft, progress_of, progress_after, slack_taker}
 use Rattle.rota_pb.specs.declared.slack_taker.SlackTaker.{SlackTaker}
 use Rattle.rota_pb.proofs.SlackEvents.{events_text, took-progress}
-use Rattle.rota_pb.proofs.SlackRows.{IsModest, Puts, at, item_rows-put, rows-put}
+use Rattle.rota_pb.proofs.SlackRows.{IsModest, PutsSlacks, at, item_rows-put, rows-put}
 use Rattle.rota_pb.proofs.ValuesText.{literals_after-few, literals_after-sum, length-singles, values_text-literals, values_text-same, values_text-sum}
 
 -- ---- the rows of a week
@@ -101,7 +101,7 @@ module _ (progress : Progress) (limits : IsWithinLimits (week_of progress.tables
   begins : progress ≡ at progress.tables progress.roster progress.row progress.literals
   begins = ap (λ (b : Bool). record progress { puts_slacks = b }) puts
 
-  pub week-puts : Puts progress.tables progress.roster progress.row progress.literals (events (rows_of week_here)) (slack_count (numbered_items week_here)) needed
+  pub week-puts : PutsSlacks progress.tables progress.roster progress.row progress.literals (events (rows_of week_here)) (slack_count (numbered_items week_here)) needed
   week-puts =
       rw (events-parts week_here)
       (rows-put progress.tables progress.roster progress.row progress.literals (slack_count (numbered_items week_here)) (hard_rows week_here)
@@ -123,7 +123,7 @@ module _ (progress : Progress) (limits : IsWithinLimits (week_of progress.tables
 module _ {W : Type 0} {target : Ghosts W} where
   -- a taker that took all rows put so many literals more, and still puts slacks
   pub week-taken : (old new : SlackTaker W target) (r : Result (Unit {0}) PortFault) → (progress_of old).puts_slacks ≡ true →
-      TakesEvents slack_taker (events (rows_of (week_of (progress_of old).tables))) old new r →
+      Takes slack_taker (events (rows_of (week_of (progress_of old).tables))) old new r →
       OnOk r (((progress_of new).puts_slacks ≡ true) ×
       ((progress_of new).literals ≡ literals_after (progress_of old).literals (slack_count (soft_items (week_of (progress_of old).tables)))))
   week-taken old new (Ok u) puts took =

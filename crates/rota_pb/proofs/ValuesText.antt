@@ -6,7 +6,7 @@ use Rattle.rota_core.specs.declared.ports.PortFault.{PortFault}
 use Rattle.rota_core.specs.declared.ports.Target.{Ghosts}
 use Rattle.rota_items.proofs.Loops.{each_below-zero}
 use Rattle.opb_text.specs.declared.sink.Sink.{Sink}
-use Rattle.opb_text.specs.Sink.{Takes}
+use Rattle.opb_text.specs.Sink.{PutsText}
 use Rattle.solver_text.specs.AnswerWriter.{literal_text, literals_text}
 use Rattle.solver_text.proofs.WrittenLiterals.{literals_text-last}
 use Rattle.rota_pb.specs.SlackTaker.{literals_after, values_text}
@@ -89,26 +89,26 @@ values_text-literals n (suc k) truth few =
 -- ---- put in a loop
 
 module _ {W : Type 0} {target : Ghosts W} where
-  pub values_none : (n : ℕ) (truth : ℕ → Bool) (sink : Sink W target) → Takes sink (Ok tt) (values_text n 0 truth) sink
+  pub values_none : (n : ℕ) (truth : ℕ → Bool) (sink : Sink W target) → PutsText sink (Ok tt) (values_text n 0 truth) sink
   values_none n truth sink = loop_none bytes_join (λ place. literal_text (literals_after n place) (truth place)) sink
 
   -- the literal of a value has the number of those before it
   literal_here : (n place m : ℕ) (truth : ℕ → Bool) (b : Bool) {middle new : Sink W target} {r : Result (Unit {0}) PortFault} →
-      m ≡ literals_after n place → b ≡ truth place → Takes middle r (literal_text m b) new →
-      Takes middle r (literal_text (literals_after n place) (truth place)) new
+      m ≡ literals_after n place → b ≡ truth place → PutsText middle r (literal_text m b) new →
+      PutsText middle r (literal_text (literals_after n place) (truth place)) new
   literal_here n place m truth b {middle} {new} {r} number value takes =
-      subst (λ (k : ℕ). Takes middle r (literal_text k (truth place)) new) number
-      (subst (λ (v : Bool). Takes middle r (literal_text m v) new) value takes)
+      subst (λ (k : ℕ). PutsText middle r (literal_text k (truth place)) new) number
+      (subst (λ (v : Bool). PutsText middle r (literal_text m v) new) value takes)
 
   pub values_more : (n place m : ℕ) (truth : ℕ → Bool) (b : Bool) {old middle new : Sink W target} {u : Unit {0}} {r : Result (Unit {0}) PortFault} →
-      m ≡ literals_after n place → b ≡ truth place → Takes old (Ok u) (values_text n place truth) middle →
-      Takes middle r (literal_text m b) new → Takes old r (values_text n (place + 1) truth) new
+      m ≡ literals_after n place → b ≡ truth place → PutsText old (Ok u) (values_text n place truth) middle →
+      PutsText middle r (literal_text m b) new → PutsText old r (values_text n (place + 1) truth) new
   values_more n place m truth b number value first second =
       loop_more bytes_join place (λ place. literal_text (literals_after n place) (truth place)) first (literal_here n place m truth b number value second)
 
   pub values_exit : (n place count m : ℕ) (truth : ℕ → Bool) (b : Bool) {old middle new : Sink W target} {u : Unit {0}} {e : PortFault} (r : Result (Unit {0}) PortFault) →
-      IsErr r → place < count → m ≡ literals_after n place → b ≡ truth place → Takes old (Ok u) (values_text n place truth) middle →
-      Takes middle (Err e) (literal_text m b) new → Takes old r (values_text n count truth) new
+      IsErr r → place < count → m ≡ literals_after n place → b ≡ truth place → PutsText old (Ok u) (values_text n place truth) middle →
+      PutsText middle (Err e) (literal_text m b) new → PutsText old r (values_text n count truth) new
   values_exit n place count m truth b r failed below number value first second =
       loop_exit bytes_join place count (λ place. literal_text (literals_after n place) (truth place)) r failed below first
       (literal_here n place m truth b number value second)

@@ -4,7 +4,7 @@ ghost use Rattle.rota_core.specs.InstanceTables.{week_of};
 ghost use Rattle.rota_core.specs.RosterTables.{HasShapeOf, set_of};
 ghost use Rattle.rota_items.specs.Cells.{unit_number};
 ghost use Rattle.rota_items.specs.WeekModel.{assignment_of};
-ghost use Rattle.opb_text.specs.Sink.{Takes};
+ghost use Rattle.opb_text.specs.Sink.{PutsText};
 ghost use Rattle.solver_text.specs.AnswerWriter.{literals_of, phase_of, sink_of};
 ghost use Rattle.solver_text.specs.declared.answer_writer.Phase.TheVariants.{Started};
 ghost use Rattle.rota_pb.specs.SlackTaker.{literals_after, values_text};
@@ -34,7 +34,7 @@ pub(crate) fn put_assigned<W: Target>(
     requires phase { phase_of writer.old ≡ Started }
     ensures phase { phase_of writer.new ≡ Started }
     ensures takes { let week = week_of instance.now in
-        Takes (sink_of writer.old) result
+        PutsText (sink_of writer.old) result
         (values_text (literals_of writer.old) (unit_number week) (λ place. assignment_of week (set_of roster.now) (place + 1)))
         (sink_of writer.new) }
     ensures literals { OnOk result (literals_of writer.new ≡ literals_after (literals_of writer.old) (unit_number (week_of instance.now))) }

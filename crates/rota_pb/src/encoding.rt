@@ -7,7 +7,7 @@ ghost use Rattle.rota_items.specs.WeekModel.{model_of};
 ghost use Rattle.opb_text.specs.Begins.{Begins};
 ghost use Rattle.opb_text.specs.ModelText.{opb_text};
 ghost use Rattle.opb_text.specs.OpbTaker.{sink_of};
-ghost use Rattle.opb_text.specs.Sink.{Takes, sink_failed};
+ghost use Rattle.opb_text.specs.Sink.{PutsText, sink_failed};
 ghost use Rattle.rota_pb.specs.declared.fault.Fault.TheVariants.{Write};
 ghost use Rattle.rota_pb.specs.Faults.{OnCheck, OnWrite};
 ghost use Rattle.rota_pb.specs.Readers.{reader_of};
@@ -23,7 +23,7 @@ use std::alloc::Global;
 
 // Puts the text of the model.
 fn put_model<W: Target>(instance: &Instance, taker: &mut OpbTaker<W>) -> Result<(), PortFault>
-    ensures takes { Takes (sink_of taker.old) result (opb_text (model_of (week_of instance.now))) (sink_of taker.new) }
+    ensures takes { PutsText (sink_of taker.old) result (opb_text (model_of (week_of instance.now))) (sink_of taker.new) }
     ensures for_good { sink_failed (sink_of taker.old) ≡ true → IsErr result }
 {
     taker.first_line(counts(instance))?;

@@ -2,7 +2,7 @@
 ghost use Rattle.std.specs.Prelude.{◌≡◌, nat_lt, OnOk};
 ghost use Rattle.rota_core.specs.InstanceTables.{week_of};
 ghost use Rattle.rota_core.specs.RosterTables.{HasShapeOf, set_of};
-ghost use Rattle.opb_text.specs.Sink.{Takes};
+ghost use Rattle.opb_text.specs.Sink.{PutsText};
 ghost use Rattle.solver_text.specs.AnswerWriter.{literals_of, phase_of, sink_of};
 ghost use Rattle.solver_text.specs.declared.answer_writer.Phase.TheVariants.{Started};
 ghost use Rattle.rota_pb.specs.SlackTaker.{lacking, literals_after, no_terms, soft_slacks, values_text, with_term};
@@ -78,7 +78,7 @@ impl OpenRow {
     ) -> Result<(), PortFault>
         requires phase { phase_of writer.old ≡ Started }
         ensures phase { phase_of writer.new ≡ Started }
-        ensures takes { Takes (sink_of writer.old) result
+        ensures takes { PutsText (sink_of writer.old) result
             (values_text (literals_of writer.old) (soft_slacks self) (λ place. nat_lt place (lacking self degree)))
             (sink_of writer.new) }
         ensures literals { OnOk result (literals_of writer.new ≡ literals_after (literals_of writer.old) (soft_slacks self)) }
@@ -95,7 +95,7 @@ fn put_first_true<W: Target>(
 ) -> Result<(), PortFault>
     requires phase { phase_of writer.old ≡ Started }
     ensures phase { phase_of writer.new ≡ Started }
-    ensures takes { Takes (sink_of writer.old) result
+    ensures takes { PutsText (sink_of writer.old) result
         (values_text (literals_of writer.old) count (λ place. nat_lt place most)) (sink_of writer.new) }
     ensures literals { OnOk result (literals_of writer.new ≡ literals_after (literals_of writer.old) count) }
 {

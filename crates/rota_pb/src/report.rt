@@ -3,7 +3,7 @@ ghost use Rattle.std.specs.Prelude.{◌≡◌, ◌||◌, is_err, true, IsErr, If
 ghost use Rattle.std.specs.Io.KnownBytes.{append_known};
 ghost use Rattle.rota_core.specs.Ports.{told_len};
 ghost use Rattle.opb_text.specs.Begins.{Begins};
-ghost use Rattle.opb_text.specs.Sink.{Takes, sink_failed};
+ghost use Rattle.opb_text.specs.Sink.{PutsText, sink_failed};
 ghost use Rattle.rota_read.specs.SolutionText.{spaced, ended};
 ghost use Rattle.rota_pb.specs.declared.fault.Fault.TheVariants.{Write};
 ghost use Rattle.rota_pb.specs.Decoded.{FindsRoster};
@@ -18,7 +18,7 @@ use solver_text::Status;
 
 // Puts a line of a number.
 fn put_number_line<W: Target>(sink: &mut Sink<W>, name: &[u8], number: u64) -> Result<(), PortFault>
-    ensures { Takes sink.old result (number_line name.now number) sink.new }
+    ensures { PutsText sink.old result (number_line name.now number) sink.new }
 {
     sink.put(name)?;
     sink.put(b" ")?;
@@ -41,7 +41,7 @@ fn status_words(status: Status) -> &'static [u8]
 
 // Puts the line of the status.
 fn put_status_line<W: Target>(sink: &mut Sink<W>, status: Status) -> Result<(), PortFault>
-    ensures takes { Takes sink.old result (ended (spaced (codes "status") (status_words status))) sink.new }
+    ensures takes { PutsText sink.old result (ended (spaced (codes "status") (status_words status))) sink.new }
     ensures for_good { sink_failed sink.old ≡ true → IsErr result }
 {
     sink.put(b"status ")?;
@@ -51,7 +51,7 @@ fn put_status_line<W: Target>(sink: &mut Sink<W>, status: Status) -> Result<(), 
 
 // Puts the line of the soft rule with this number, from 1.
 fn put_cost_line<W: Target>(sink: &mut Sink<W>, number: u8, cost: u64) -> Result<(), PortFault>
-    ensures { Takes sink.old result (cost_line number cost) sink.new }
+    ensures { PutsText sink.old result (cost_line number cost) sink.new }
 {
     sink.put(b"S")?;
     put_natural(sink, u64::from(number))?;
@@ -62,7 +62,7 @@ fn put_cost_line<W: Target>(sink: &mut Sink<W>, number: u8, cost: u64) -> Result
 
 // Puts the lines of S1 to S7.
 fn put_cost_lines<W: Target>(sink: &mut Sink<W>, costs: &[u64; 7]) -> Result<(), PortFault>
-    ensures { Takes sink.old result (cost_lines costs.now) sink.new }
+    ensures { PutsText sink.old result (cost_lines costs.now) sink.new }
 {
     for place in 0..7 {
         put_cost_line(sink, place + 1, costs[usize::from(place)])?;
@@ -72,7 +72,7 @@ fn put_cost_lines<W: Target>(sink: &mut Sink<W>, costs: &[u64; 7]) -> Result<(),
 
 // Puts the line of the last `o` value, where there is one.
 fn put_last_o_line<W: Target>(sink: &mut Sink<W>, last_o: Option<i64>) -> Result<(), PortFault>
-    ensures { Takes sink.old result (last_o_line last_o) sink.new }
+    ensures { PutsText sink.old result (last_o_line last_o) sink.new }
 {
     let Some(value) = last_o else {
         return Ok(());
@@ -84,7 +84,7 @@ fn put_last_o_line<W: Target>(sink: &mut Sink<W>, last_o: Option<i64>) -> Result
 
 // Puts the text of the report.
 fn put_report<W: Target>(sink: &mut Sink<W>, decoded: &Decoded) -> Result<(), PortFault>
-    ensures takes { Takes sink.old result (report_text decoded.now) sink.new }
+    ensures takes { PutsText sink.old result (report_text decoded.now) sink.new }
     ensures for_good { sink_failed sink.old ≡ true → IsErr result }
 {
     put_status_line(sink, decoded.status)?;

@@ -38,7 +38,7 @@ impl<'a, 'b, W: Target> SlackTaker<'a, 'b, W> {
     ghost use Rattle.rota_items.specs.SoftItems.{soft_items};
     ghost use Rattle.rota_items.specs.WeekModel.{assignment_of, numbered_items};
     ghost use Rattle.opb_text.specs.Begins.{Begins};
-    ghost use Rattle.opb_text.specs.Sink.{Takes, sent_by, stands_for, target_of};
+    ghost use Rattle.opb_text.specs.Sink.{PutsText, sent_by, stands_for, target_of};
     ghost use Rattle.solver_text.specs.AnswerText.{answer_head};
     ghost use Rattle.solver_text.specs.AnswerWriter.{end_text, literals_of, literals_text, sink_of};
     ghost use Rattle.rota_pb.specs.Extending.{extension_answer, extension_truths};
@@ -70,7 +70,7 @@ impl<'a, 'b, W: Target> SlackTaker<'a, 'b, W> {
         requires phase { phase_of (writer_of self.old) ≡ New }
         ensures takes { let week = week_of (progress_of self.old).tables in
             let roster = set_of (progress_of self.old).roster in
-            Takes (sink_of (writer_of self.old)) result
+            PutsText (sink_of (writer_of self.old)) result
             (answer_head objective ++ literals_text 0 (extension_truths week roster)) (sink_of (writer_of self.new)) }
         ensures phase { OnOk result (phase_of (writer_of self.new) ≡ Started) }
         ensures ends { let week = week_of (progress_of self.old).tables in
@@ -90,7 +90,7 @@ impl<'a, 'b, W: Target> SlackTaker<'a, 'b, W> {
         ensures phase { OnOk result (phase_of (writer_of self.new) ≡ Started) }
         ensures takes { let week = week_of (progress_of self.old).tables in
             let roster = set_of (progress_of self.old).roster in
-            Takes (sink_of (writer_of self.old)) result
+            PutsText (sink_of (writer_of self.old)) result
             (values_text (literals_of (writer_of self.old)) (slack_count (soft_items week))
             (is_slack_needed (assignment_of week roster) (numbered_items week)))
             (sink_of (writer_of self.new)) }
@@ -106,7 +106,7 @@ impl<'a, 'b, W: Target> SlackTaker<'a, 'b, W> {
         requires phase { phase_of (writer_of self.old) ≡ New }
         ensures takes { let week = week_of (progress_of self.old).tables in
             let roster = set_of (progress_of self.old).roster in
-            Takes (sink_of (writer_of self.old)) result (extension_answer objective week roster) (sink_of (writer_of self.new)) }
+            PutsText (sink_of (writer_of self.old)) result (extension_answer objective week roster) (sink_of (writer_of self.new)) }
         ensures sent { let week = week_of (progress_of self.old).tables in
             let roster = set_of (progress_of self.old).roster in
             OnOk result (sent_by (sink_of (writer_of self.new)) ≡

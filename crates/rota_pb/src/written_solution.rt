@@ -9,7 +9,7 @@ ghost use Rattle.rota_core.specs.HardRules.{KeepsOneCell};
 ghost use Rattle.rota_core.specs.RosterTables.{HasShapeOf, set_of};
 ghost use Rattle.rota_read.specs.SolutionText.{assignment_text, cells_of, heading_text, solution_text};
 ghost use Rattle.opb_text.specs.Begins.{Begins};
-ghost use Rattle.opb_text.specs.Sink.{Takes, sink_failed};
+ghost use Rattle.opb_text.specs.Sink.{PutsText, sink_failed};
 ghost use Rattle.rota_pb.specs.RosterRows.{cells_of_day, cells_of_nurse, cells_on_shift, rows_text};
 ghost use Rattle.rota_pb.specs.declared.fault.Fault.TheVariants.{Write};
 
@@ -25,7 +25,7 @@ fn put_heading<W: Target>(
     instance: &Instance,
     count: u32,
 ) -> Result<(), PortFault>
-    ensures takes { Takes sink.old result (heading_text instance.now count) sink.new }
+    ensures takes { PutsText sink.old result (heading_text instance.now count) sink.new }
     ensures for_good { sink_failed sink.old ≡ true → IsErr result }
 {
     sink.put(b"SOLUTION\n")?;
@@ -44,7 +44,7 @@ fn put_assignment<W: Target>(
     cell: Cell,
 ) -> Result<(), PortFault>
     requires in_week { InWeek (week_of instance.now) cell }
-    ensures { Takes sink.old result (assignment_text instance.now.scenario cell) sink.new }
+    ensures { PutsText sink.old result (assignment_text instance.now.scenario cell) sink.new }
 {
     sink.put(instance.nurse_name(cell.nurse))?;
     sink.put(b" ")?;
@@ -65,7 +65,7 @@ fn put_if_assigned<W: Target>(
 ) -> Result<(), PortFault>
     requires shape { HasShapeOf (week_of instance.now) roster.now }
     requires in_week { InWeek (week_of instance.now) cell }
-    ensures { Takes sink.old result (rows_text instance.now (only_if (set_of roster.now cell) cell)) sink.new }
+    ensures { PutsText sink.old result (rows_text instance.now (only_if (set_of roster.now cell) cell)) sink.new }
 {
     if roster.has(cell) {
         return put_assignment(sink, instance, cell);
@@ -86,7 +86,7 @@ fn put_shift<W: Target>(
     requires nurse_in { nurse < (week_of instance.now).nurses }
     requires day_in { day < 7 }
     requires shift_in { shift < (week_of instance.now).shifts }
-    ensures { Takes sink.old result
+    ensures { PutsText sink.old result
         (rows_text instance.now (cells_on_shift (week_of instance.now) (set_of roster.now) nurse day shift)) sink.new }
 {
     for skill in 0..instance.skills() {
@@ -112,7 +112,7 @@ fn put_day<W: Target>(
     requires shape { HasShapeOf (week_of instance.now) roster.now }
     requires nurse_in { nurse < (week_of instance.now).nurses }
     requires day_in { day < 7 }
-    ensures { Takes sink.old result
+    ensures { PutsText sink.old result
         (rows_text instance.now (cells_of_day (week_of instance.now) (set_of roster.now) nurse day)) sink.new }
 {
     for shift in 0..instance.shifts() {
@@ -130,7 +130,7 @@ fn put_nurse<W: Target>(
 ) -> Result<(), PortFault>
     requires shape { HasShapeOf (week_of instance.now) roster.now }
     requires nurse_in { nurse < (week_of instance.now).nurses }
-    ensures { Takes sink.old result
+    ensures { PutsText sink.old result
         (rows_text instance.now (cells_of_nurse (week_of instance.now) (set_of roster.now) nurse)) sink.new }
 {
     for day in 0..7 {
@@ -146,7 +146,7 @@ fn put_nurses<W: Target>(
     roster: &Roster,
 ) -> Result<(), PortFault>
     requires shape { HasShapeOf (week_of instance.now) roster.now }
-    ensures { Takes sink.old result
+    ensures { PutsText sink.old result
         (rows_text instance.now (cells_of (week_of instance.now) (set_of roster.now))) sink.new }
 {
     for nurse in 0..instance.nurses() {
@@ -162,7 +162,7 @@ fn put_solution<W: Target>(
     roster: &Roster,
 ) -> Result<(), PortFault>
     requires shape { HasShapeOf (week_of instance.now) roster.now }
-    ensures takes { Takes sink.old result (solution_text instance.now (set_of roster.now)) sink.new }
+    ensures takes { PutsText sink.old result (solution_text instance.now (set_of roster.now)) sink.new }
     ensures for_good { sink_failed sink.old ≡ true → IsErr result }
 {
     put_heading(sink, instance, roster.count())?;

@@ -3,7 +3,7 @@ ghost use Rattle.std.specs.Prelude.{◌≡◌, ◌+◌, ◌-◌, ◌^◌, min, t
 ghost use Rattle.std.specs.Io.KnownBytes.{append_known};
 ghost use Rattle.rota_core.specs.Ports.{told_len};
 ghost use Rattle.opb_text.specs.Begins.{Begins};
-ghost use Rattle.opb_text.specs.Sink.{stands_for, sink_failed, target_of, sent_by, Takes};
+ghost use Rattle.opb_text.specs.Sink.{stands_for, sink_failed, target_of, sent_by, PutsText};
 ghost use Rattle.rota_core.specs.Numeral.{numeral};
 ghost use Rattle.solver_text.specs.AnswerText.{answer_head, behind_blank, literal_word};
 ghost use Rattle.solver_text.specs.AnswerWriter.{literal_text, row_start, row_end, end_text};
@@ -34,14 +34,14 @@ pub struct AnswerWriter<'a, W: Target> {
 }
 
 fn put_natural<W: Target>(sink: &mut Sink<W>, number: u64) -> Result<(), PortFault>
-    ensures { Takes sink.old result (numeral number) sink.new }
+    ensures { PutsText sink.old result (numeral number) sink.new }
 {
     sink.number(number as i128)
 }
 
 // Puts the letter of a line of values, where a line begins after so many literals.
 fn put_row_start<W: Target>(sink: &mut Sink<W>, literals: u32) -> Result<(), PortFault>
-    ensures takes { Takes sink.old result (row_start literals) sink.new }
+    ensures takes { PutsText sink.old result (row_start literals) sink.new }
     ensures for_good { sink_failed sink.old ≡ true → IsErr result }
 {
     let text: &[u8] = if literals % 10 == 0 { b"v" } else { b"" };
@@ -50,7 +50,7 @@ fn put_row_start<W: Target>(sink: &mut Sink<W>, literals: u32) -> Result<(), Por
 
 // Puts the end of a line of values, where it is full after so many literals.
 fn put_row_end<W: Target>(sink: &mut Sink<W>, literals: u64) -> Result<(), PortFault>
-    ensures { Takes sink.old result (row_end literals) sink.new }
+    ensures { PutsText sink.old result (row_end literals) sink.new }
 {
     let text: &[u8] = if literals % 10 == 0 { b"\n" } else { b"" };
     sink.put(text)
@@ -58,7 +58,7 @@ fn put_row_end<W: Target>(sink: &mut Sink<W>, literals: u64) -> Result<(), PortF
 
 // Puts a blank and the variable's literal.
 fn put_word<W: Target>(sink: &mut Sink<W>, variable: u64, positive: bool) -> Result<(), PortFault>
-    ensures { Takes sink.old result (behind_blank (literal_word variable positive)) sink.new }
+    ensures { PutsText sink.old result (behind_blank (literal_word variable positive)) sink.new }
 {
     let letter: &[u8] = if positive { b" x" } else { b" -x" };
     sink.put(letter)?;
@@ -71,7 +71,7 @@ fn put_literal<W: Target>(
     literals: u32,
     positive: bool,
 ) -> Result<(), PortFault>
-    ensures takes { Takes sink.old result (literal_text literals positive) sink.new }
+    ensures takes { PutsText sink.old result (literal_text literals positive) sink.new }
     ensures for_good { sink_failed sink.old ≡ true → IsErr result }
 {
     let variable = u64::from(literals) + 1;
@@ -82,7 +82,7 @@ fn put_literal<W: Target>(
 
 // Puts the lines before the values.
 fn put_head<W: Target>(sink: &mut Sink<W>, objective: u64) -> Result<(), PortFault>
-    ensures takes { Takes sink.old result (answer_head objective) sink.new }
+    ensures takes { PutsText sink.old result (answer_head objective) sink.new }
     ensures for_good { sink_failed sink.old ≡ true → IsErr result }
 {
     sink.put(b"o ")?;
@@ -92,7 +92,7 @@ fn put_head<W: Target>(sink: &mut Sink<W>, objective: u64) -> Result<(), PortFau
 
 // Puts the end of the last line of values, where it is not full.
 fn put_end<W: Target>(sink: &mut Sink<W>, literals: u32) -> Result<(), PortFault>
-    ensures takes { Takes sink.old result (end_text literals) sink.new }
+    ensures takes { PutsText sink.old result (end_text literals) sink.new }
     ensures for_good { sink_failed sink.old ≡ true → IsErr result }
 {
     let text: &[u8] = if literals % 10 == 0 { b"" } else { b"\n" };
@@ -120,7 +120,7 @@ impl<'a, W: Target> AnswerWriter<'a, W> {
         requires { phase_of self.old ≡ Phase.New }
         ensures phase { phase_of self.new ≡ Phase.Started }
         ensures literals { literals_of self.new ≡ 0 }
-        ensures takes { Takes (sink_of self.old) result (answer_head objective) (sink_of self.new) }
+        ensures takes { PutsText (sink_of self.old) result (answer_head objective) (sink_of self.new) }
         ensures for_good { sink_failed (sink_of self.old) ≡ true → IsErr result }
     {
         self.phase = Phase::Started;
@@ -134,7 +134,7 @@ impl<'a, W: Target> AnswerWriter<'a, W> {
         requires { phase_of self.old ≡ Phase.Started }
         ensures phase { phase_of self.new ≡ Phase.Started }
         ensures literals { literals_of self.new ≡ min (literals_of self.old + 1) (2 ^ 32 - 1) }
-        ensures takes { Takes (sink_of self.old) result (literal_text (literals_of self.old) positive) (sink_of self.new) }
+        ensures takes { PutsText (sink_of self.old) result (literal_text (literals_of self.old) positive) (sink_of self.new) }
         ensures for_good { sink_failed (sink_of self.old) ≡ true → IsErr result }
     {
         let literals = self.literals;
@@ -148,7 +148,7 @@ impl<'a, W: Target> AnswerWriter<'a, W> {
         requires { phase_of self.old ≡ Phase.Started }
         ensures phase { phase_of self.new ≡ Phase.Finished }
         ensures literals { literals_of self.new ≡ literals_of self.old }
-        ensures takes { Takes (sink_of self.old) result (end_text (literals_of self.old)) (sink_of self.new) }
+        ensures takes { PutsText (sink_of self.old) result (end_text (literals_of self.old)) (sink_of self.new) }
         ensures sent { OnOk result (sent_by (sink_of self.new) ≡ append_known (stands_for (sink_of self.old)) (end_text (literals_of self.old))) }
         ensures err { OnErr result (Begins (sent_by (sink_of self.new)) (append_known (stands_for (sink_of self.old)) (end_text (literals_of self.old)))) }
         ensures flushed { OnOk result (W.flushed (target_of (sink_of self.new)) ≡ told_len (sent_by (sink_of self.new))) }

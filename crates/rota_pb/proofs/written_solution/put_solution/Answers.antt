@@ -2,7 +2,7 @@ use Rattle.std.proofs.Common.{◌∙◌}
 use Rattle.rota_core.specs.InstanceTables.{week_of}
 use Rattle.rota_core.specs.RosterTables.{set_of}
 use Rattle.rota_read.specs.SolutionText.{cells_of, text_of_cells}
-use Rattle.opb_text.proofs.TakesLemmas.{takes_exit, takes_stop, takes_then}
+use Rattle.opb_text.proofs.PutsTextLemmas.{puts_exit, puts_stop, puts_then}
 use Rattle.rota_pb.specs.RosterRows.{rows_text}
 use Rattle.rota_pb.proofs.RosterCount.{count-cells_of}
 use Rattle.rota_pb.proofs.written_solution.put_solution.Goals as goal
@@ -13,12 +13,12 @@ returns-in_err-put_heading-clause-takes g c =
     let week = week_of c.args.instance.now in
     let roster = c.args.roster.now in
     let counted = c.count.ensures.count ∙ count-cells_of week roster c.requires.shape c.count.ensures.within in
-    takes_exit _ c.from_residual.ensures.0
-    (takes_stop (rows_text c.args.instance.now (cells_of week (set_of roster))) (rw counted at c.in_err-put_heading.ensures.takes))
+    puts_exit _ c.from_residual.ensures.0
+    (puts_stop (rows_text c.args.instance.now (cells_of week (set_of roster))) (rw counted at c.in_err-put_heading.ensures.takes))
 
 pub returns-clause-takes : goal.returns-clause-takes
 unfolding text_of_cells
 returns-clause-takes g c =
     let week = week_of c.args.instance.now in
     let counted = c.count.ensures.count ∙ count-cells_of week c.args.roster.now c.requires.shape c.count.ensures.within in
-    takes_then (rw counted at c.in_ok-put_heading.ensures.takes) c.put_nurses.ensures
+    puts_then (rw counted at c.in_ok-put_heading.ensures.takes) c.put_nurses.ensures

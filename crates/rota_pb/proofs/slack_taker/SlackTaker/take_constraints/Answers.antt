@@ -4,7 +4,7 @@ use Rattle.rota_items.specs.Events.{events}
 use Rattle.rota_items.specs.WeekModel.{rows_of}
 use Rattle.rota_core.specs.InstanceTables.{week_of}
 use Rattle.rota_pb.specs.SlackTaker.{progress_of}
-use Rattle.rota_pb.proofs.SinkTexts.{takes_same}
+use Rattle.rota_pb.proofs.SinkTexts.{puts_same}
 use Rattle.rota_pb.proofs.SlackEvents.{events_put_text}
 use Rattle.rota_pb.proofs.SlackWeek.{week-text, week-taken}
 use Rattle.rota_pb.proofs.slack_taker.SlackTaker.take_constraints.Goals as goal
@@ -19,7 +19,7 @@ returns-clause-phase g c =
 pub returns-clause-takes : goal.returns-clause-takes
 returns-clause-takes g c =
     let old = c.args.self.now in
-    takes_same (sym (week-text (progress_of old) old.limits c.requires.puts))
+    puts_same (sym (week-text (progress_of old) old.limits c.requires.puts))
     (events_put_text old c.drive_constraints.new.taker (events (rows_of (week_of old.instance.now))) c.drive_constraints.result c.drive_constraints.ensures)
 
 pub returns-clause-literals : goal.returns-clause-literals

@@ -7,7 +7,7 @@ use Rattle.rota_core.specs.declared.ports.PortFault.{PortFault}
 use Rattle.rota_core.specs.declared.ports.Target.{Ghosts}
 use Rattle.opb_text.specs.declared.sink.Sink.{Sink}
 use Rattle.opb_text.specs.Begins.{Begins}
-use Rattle.opb_text.specs.Sink.{Takes, stands_for, sink_failed, sent_by, target_of}
+use Rattle.opb_text.specs.Sink.{PutsText, stands_for, sink_failed, sent_by, target_of}
 use Rattle.opb_text.proofs.Told.{append_known-append, Begins-longer}
 
 pub or_false : (b : Bool) → b || false ≡ b
@@ -20,8 +20,8 @@ or_true false = refl
 
 module _ {W : Type 0} {target : Ghosts W} where
   -- a text that failed to go in begins a longer one that failed
-  pub takes_stop : {old new : Sink W target} {e d : PortFault} {xs : List ℕ} (ys : List ℕ) → Takes old (Err e) xs new → Takes old (Err d) (xs ++ ys) new
-  takes_stop {old} {new} {e} {d} {xs} ys takes = record {
+  pub puts_stop : {old new : Sink W target} {e d : PortFault} {xs : List ℕ} (ys : List ℕ) → PutsText old (Err e) xs new → PutsText old (Err d) (xs ++ ys) new
+  puts_stop {old} {new} {e} {d} {xs} ys takes = record {
     same_target = takes.same_target;
     failure = takes.failure;
     target_failure = takes.target_failure;
@@ -30,8 +30,8 @@ module _ {W : Type 0} {target : Ghosts W} where
   }
 
   -- a text that went in, and then another
-  pub takes_then : {old middle new : Sink W target} {u : Unit {0}} {r : Result (Unit {0}) PortFault} {xs ys : List ℕ} → Takes old (Ok u) xs middle → Takes middle r ys new → Takes old r (xs ++ ys) new
-  takes_then {old} {middle} {new} {u} {r} {xs} {ys} first second = record {
+  pub puts_then : {old middle new : Sink W target} {u : Unit {0}} {r : Result (Unit {0}) PortFault} {xs ys : List ℕ} → PutsText old (Ok u) xs middle → PutsText middle r ys new → PutsText old r (xs ++ ys) new
+  puts_then {old} {middle} {new} {u} {r} {xs} {ys} first second = record {
     same_target = second.same_target ∙ first.same_target;
     failure = second.failure ∙ ap (λ b. b || is_err r) (first.failure ∙ or_false (sink_failed old));
     target_failure = second.target_failure ∙ ap (λ b. b || is_err r) (first.target_failure ∙ or_false (target.has_failed (target_of old)));
@@ -44,8 +44,8 @@ module _ {W : Type 0} {target : Ghosts W} where
   }
 
   -- a sink that failed takes nothing more
-  pub takes_none : (sink : Sink W target) (e : PortFault) (xs : List ℕ) → sink_failed sink ≡ true → Takes sink (Err e) xs sink
-  takes_none sink e xs failed = record {
+  pub puts_none : (sink : Sink W target) (e : PortFault) (xs : List ℕ) → sink_failed sink ≡ true → PutsText sink (Err e) xs sink
+  puts_none sink e xs failed = record {
     same_target = refl;
     failure = failed ∙ sym (or_true (sink_failed sink));
     target_failure = sink.fails_with_target failed ∙ sym (or_true (target.has_failed (target_of sink)));
@@ -54,12 +54,12 @@ module _ {W : Type 0} {target : Ghosts W} where
   }
 
   -- the exit of a `?`: another error of the same text
-  pub takes_exit : {old new : Sink W target} {e : PortFault} {xs : List ℕ} (r : Result (Unit {0}) PortFault) → IsErr r → Takes old (Err e) xs new → Takes old r xs new
-  takes_exit {old} {new} {e} {xs} (Err d) failed takes = record {
+  pub puts_exit : {old new : Sink W target} {e : PortFault} {xs : List ℕ} (r : Result (Unit {0}) PortFault) → IsErr r → PutsText old (Err e) xs new → PutsText old r xs new
+  puts_exit {old} {new} {e} {xs} (Err d) failed takes = record {
     same_target = takes.same_target;
     failure = takes.failure;
     target_failure = takes.target_failure;
     silent = takes.silent;
     bytes = takes.bytes;
   }
-  takes_exit {old} {new} {e} {xs} (Ok u) failed takes = cc
+  puts_exit {old} {new} {e} {xs} (Ok u) failed takes = cc
