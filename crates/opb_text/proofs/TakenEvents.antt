@@ -3,7 +3,6 @@ use Rattle.std.proofs.Common.{◌≡◌, ℕ, List, [], ◌∷◌, ◌++◌, Boo
 use Rattle.std.specs.Prelude.{if◌then◌else◌}
 use Rattle.std.specs.List.{fold}
 use Rattle.std.specs.Io.KnownBytes.{append_known}
-use Rattle.std.proofs.lemmas.List.{append-nil}
 use Rattle.rota_core.specs.Ports.{Told}
 use Rattle.rota_core.specs.declared.ports.PortFault.{PortFault}
 use Rattle.rota_core.specs.declared.ports.Target.{Ghosts}
@@ -15,11 +14,7 @@ use Rattle.opb_text.specs.OpbTaker.{Writing, with_event, writing, sink_of, in_ob
 use Rattle.opb_text.specs.Sink.{PutsText, stands_for, sent_by, sink_failed, target_of}
 use Rattle.opb_text.specs.declared.opb_taker.OpbTaker.{OpbTaker}
 use Rattle.opb_text.proofs.PutsTextLemmas.{or_false, or_true}
-use Rattle.opb_text.proofs.Told.{append_known-append, Begins-longer}
-
-append_known-nil : (told : Told) → append_known told [] ≡ told
-append_known-nil None = refl
-append_known-nil (Some bytes) = ap Some (append-nil bytes)
+use Rattle.opb_text.proofs.Told.{append_known-append, append_known-nil, Begins-longer}
 
 -- the text of events and of those that follow them
 events_text-append : (b : Bool) (before after : List Event) →
@@ -44,7 +39,7 @@ fold-with_event before (event ∷ events) =
     (append_known-append before.bytes (event_text before.in_objective event) (events_text (objective_after before.in_objective event) events))
 
 -- what a failed sink left
-left_there : {W : Type 0} (failed : Bool) (target old : W) → failed ≡ true →
+pub left_there : {W : Type 0} (failed : Bool) (target old : W) → failed ≡ true →
     (if failed then Some target else None) ≡ Some old → target ≡ old
 left_there true target old failed same = cc
 left_there false target old failed same = cc

@@ -1,8 +1,13 @@
 -- Told bytes with texts appended, and beginnings of them.
-use Rattle.std.proofs.Common.{◌≡◌, ℕ, List, ◌++◌, None, Some, refl, sym, ap, ◌∙◌, append_assoc}
+use Rattle.std.proofs.Common.{◌≡◌, ℕ, List, [], ◌++◌, None, Some, refl, sym, ap, ◌∙◌, append_assoc}
 use Rattle.std.specs.Io.KnownBytes.{append_known}
+use Rattle.std.proofs.lemmas.List.{append-nil}
 use Rattle.rota_core.specs.Ports.{Told}
 use Rattle.opb_text.specs.Begins.{Begins}
+
+pub append_known-nil : (told : Told) → append_known told [] ≡ told
+append_known-nil None = refl
+append_known-nil (Some bytes) = ap Some (append-nil bytes)
 
 pub append_known-append : (told : Told) (xs ys : List ℕ) → append_known (append_known told xs) ys ≡ append_known told (xs ++ ys)
 append_known-append None xs ys = refl

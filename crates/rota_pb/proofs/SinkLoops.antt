@@ -1,7 +1,6 @@
 -- Texts that go into a sink in a loop.
-use Rattle.std.proofs.Common.{◌≡◌, ℕ, ◌+◌, ◌<◌, List, [], ◌++◌, None, Some, zero, suc, Result, Ok, Err, refl, sym, ap, ◌∙◌, subst, inl, inr, arith, append_assoc, add-one}
+use Rattle.std.proofs.Common.{◌≡◌, ℕ, ◌+◌, ◌<◌, List, [], ◌++◌, zero, suc, Result, Ok, Err, refl, sym, ap, ◌∙◌, subst, inl, inr, arith, append_assoc, add-one}
 use Rattle.std.specs.Prelude.{IsErr}
-use Rattle.std.specs.Io.KnownBytes.{append_known}
 use Rattle.std.proofs.lemmas.Bool.{cases_lt}
 use Rattle.std.proofs.lemmas.List.{append-nil}
 use Rattle.std.proofs.lemmas.List.Concat.{flat_map-append}
@@ -9,9 +8,9 @@ use Rattle.rota_core.specs.declared.ports.PortFault.{PortFault}
 use Rattle.rota_core.specs.declared.ports.Target.{Ghosts}
 use Rattle.rota_core.specs.InstanceTables.{InstanceTables}
 use Rattle.rota_core.specs.Lists.{each_below}
-use Rattle.rota_core.specs.Ports.{Told}
 use Rattle.opb_text.specs.declared.sink.Sink.{Sink}
 use Rattle.opb_text.specs.Sink.{PutsText, stands_for, sink_failed, target_of}
+use Rattle.opb_text.proofs.Told.{append_known-nil}
 use Rattle.opb_text.proofs.PutsTextLemmas.{or_false, puts_exit, puts_stop, puts_then}
 use Rattle.rota_items.proofs.Loops.{each_below-zero, each_below-more}
 use Rattle.rota_read.specs.SolutionText.{assignment_text}
@@ -63,10 +62,6 @@ module _ {W : Type 0} {target : Ghosts W} where
     silent = λ _. refl;
     bytes = sym (append_known-nil (stands_for sink));
   }
-    where
-      append_known-nil : (told : Told) → append_known told [] ≡ told
-      append_known-nil None = refl
-      append_known-nil (Some bytes) = ap Some (append-nil bytes)
 
   module _ {A : Type 0} {text : List A → List ℕ} (joins : Joins text) where
     pub loop_none : (f : ℕ → List A) (sink : Sink W target) → PutsText sink (Ok tt) (text (each_below 0 f)) sink

@@ -1,5 +1,5 @@
 -- What a taker of slacks puts into its writer that takes a list of events.
-use Rattle.std.proofs.Common.{◌≡◌, ℕ, List, [], ◌∷◌, ◌++◌, Bool, true, false, None, Some, Result, Ok, Err, refl, sym, ap, ◌∙◌, subst, append_assoc}
+use Rattle.std.proofs.Common.{◌≡◌, ℕ, List, [], ◌∷◌, ◌++◌, Bool, true, None, Some, Result, Ok, Err, refl, sym, ap, ◌∙◌, subst, append_assoc}
 use Rattle.std.specs.Prelude.{if◌then◌else◌}
 use Rattle.std.specs.List.{fold}
 use Rattle.std.specs.Io.KnownBytes.{append_known}
@@ -11,11 +11,11 @@ use Rattle.rota_items.specs.Takes.{Took, Refused, Takes}
 use Rattle.opb_text.specs.Begins.{Begins}
 use Rattle.opb_text.specs.Sink.{PutsText, stands_for, sent_by, sink_failed, target_of}
 use Rattle.opb_text.proofs.PutsTextLemmas.{or_false, or_true}
-use Rattle.opb_text.proofs.Told.{append_known-append, Begins-longer}
+use Rattle.opb_text.proofs.TakenEvents.{left_there}
+use Rattle.opb_text.proofs.Told.{append_known-append, append_known-nil, Begins-longer}
 use Rattle.solver_text.specs.AnswerWriter.{sink_of}
 use Rattle.rota_pb.specs.SlackTaker.{Progress, Writing, event_text, progress_after, with_event, writing, writer_of, progress_of, FailedAt, slack_taker}
 use Rattle.rota_pb.specs.declared.slack_taker.SlackTaker.{SlackTaker}
-use Rattle.rota_pb.proofs.SlackSteps.{append_known-nil}
 
 -- the texts of the events, joined
 abbrev pub events_text : Progress → List Event → List ℕ
@@ -43,12 +43,6 @@ fold-with_event before (event ∷ events) =
     fold-with_event (with_event before event) events ∙
     ap (λ (told : Told). record before { bytes = told; progress = fold progress_after (progress_after before.progress event) events })
     (append_known-append before.bytes (event_text before.progress event) (events_text (progress_after before.progress event) events))
-
--- what a failed sink left
-left_there : {W : Type 0} (failed : Bool) (target old : W) → failed ≡ true →
-    (if failed then Some target else None) ≡ Some old → target ≡ old
-left_there true target old failed same = cc
-left_there false target old failed same = cc
 
 module _ {W : Type 0} {target : Ghosts W} where
   -- what a taker stands for whose sink failed before

@@ -1,7 +1,6 @@
 -- One event that a taker of slacks took or refused.
-use Rattle.std.proofs.Common.{◌≡◌, ℕ, [], ◌++◌, Bool, true, false, Option, None, Some, Result, Ok, Err, refl, sym, ap, ◌∙◌}
+use Rattle.std.proofs.Common.{◌≡◌, ℕ, ◌++◌, Bool, true, false, Option, None, Some, Result, Ok, Err, refl, sym, ap, ◌∙◌}
 use Rattle.std.specs.Io.KnownBytes.{append_known}
-use Rattle.std.proofs.lemmas.List.{append-nil}
 use Rattle.std.specs.Prelude.{ℤ, if◌then◌else◌, MatchResult, OnOk, OnErr, List}
 use Rattle.rota_core.specs.Ports.{Told}
 use Rattle.rota_core.specs.declared.ports.PortFault.{PortFault}
@@ -10,7 +9,7 @@ use Rattle.rota_items.specs.Events.{Event, close_row}
 use Rattle.opb_text.specs.Begins.{Begins}
 use Rattle.opb_text.specs.declared.sink.Sink.{Sink}
 use Rattle.opb_text.specs.Sink.{PutsText, stands_for, sent_by, sink_failed, target_of}
-use Rattle.opb_text.proofs.Told.{append_known-append}
+use Rattle.opb_text.proofs.Told.{append_known-append, append_known-nil}
 use Rattle.opb_text.proofs.PutsTextLemmas.{or_false, or_true}
 use Rattle.solver_text.specs.AnswerWriter.{sink_of}
 use Rattle.rota_pb.specs.SlackTaker.{Progress, Writing, event_text, progress_after, with_event, writing, writer_of, progress_of, FailedAt}
@@ -22,10 +21,6 @@ same_writing : {W : Type 0} (t u : ℕ) (b c : Told) (f g h i : Bool) (l m : Opt
     (record { target_name = t; bytes = b; has_failed = f; target_has_failed = h; left_target = l; progress = p })
     (record { target_name = u; bytes = c; has_failed = g; target_has_failed = i; left_target = m; progress = q })
 same_writing t u b c f g h i l m p q one three four five six seven = cc
-
-pub append_known-nil : (told : Told) → append_known told [] ≡ told
-append_known-nil None = refl
-append_known-nil (Some bytes) = ap Some (append-nil bytes)
 
 pub where_true : {A : Type 0} (test : Bool) (one other : A) → test ≡ true → (if test then one else other) ≡ one
 where_true true one other is = refl
