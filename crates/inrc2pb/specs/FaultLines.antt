@@ -7,7 +7,7 @@ use Rattle.rota_core.specs.declared.fault.Kind.{Kind}
 use Rattle.rota_core.specs.declared.fault.Kind.TheVariants.{Ended, OtherWord, NoNumber, Limit, Unknown, Repeated, Trailing, LateWeek}
 use Rattle.rota_core.specs.declared.rule.Rule.{Rule}
 use Rattle.rota_core.specs.declared.rule.Rule.TheVariants.{Unit, H1, H2, H3, H4, S1, S2, S3, S4, S5, S6, S7}
-use Rattle.rota_pb.specs.Report.{status_words}
+use Rattle.solver_text.specs.Status.{status_words}
 use Rattle.rota_pb.specs.declared.fault.Fault.{Fault}
 use Rattle.rota_pb.specs.declared.fault.Fault.TheVariants.{File, Memory, Write, Read, Answer, NoRoster, Unmet, Breaks}
 

@@ -1,11 +1,9 @@
 //! The line on standard error that tells why a job failed.
 ghost use Rattle.std.specs.Prelude.{◌≡◌};
 ghost use Rattle.inrc2pb.specs.FaultLines.{fault_line, file_text, kind_text, rule_text};
-ghost use Rattle.rota_pb.specs.Report.{status_words};
 
 use rota_core::{FileFault, FileName, Kind, Rule};
 use rota_pb::Fault;
-use solver_text::Status;
 use std::fmt;
 
 /// Shows a fault as the program's line, without its end.
@@ -42,9 +40,7 @@ impl fmt::Display for FaultLine<'_> {
             Fault::Write => f.write_str("write failed"),
             Fault::Read => f.write_str("read failed"),
             Fault::Answer(fault) => write!(f, "answer: {fault}"),
-            Fault::NoRoster(status) => {
-                write!(f, "solver found no roster: {}", status_text(*status))
-            }
+            Fault::NoRoster(status) => { write!(f, "solver found no roster: {}", status.words()) }
             Fault::Unmet(number) => write!(f, "constraint {number} is not satisfied"),
             Fault::Breaks(rule) => write!(f, "roster breaks {}", rule_text(*rule)),
         }
@@ -74,18 +70,6 @@ fn kind_text(kind: Kind) -> &'static str
         Kind::Repeated => "repeated",
         Kind::Trailing => "text after the end",
         Kind::LateWeek => "week not below WEEKS",
-    }
-}
-
-fn status_text(status: Status) -> &'static str
-    ensures { result.now ≡ status_words status }
-{
-    match status {
-        Status::Satisfiable => "SATISFIABLE",
-        Status::Optimum => "OPTIMUM FOUND",
-        Status::Unsatisfiable => "UNSATISFIABLE",
-        Status::Unknown => "UNKNOWN",
-        Status::Unsupported => "UNSUPPORTED",
     }
 }
 

@@ -4,7 +4,8 @@ use Rattle.std.specs.Prelude.{codes}
 use Rattle.rota_core.specs.Numeral.{numeral, signed_numeral}
 use Rattle.rota_read.specs.SolutionText.{spaced, ended}
 use Rattle.solver_text.specs.declared.outcome.Status.{Status}
-use Rattle.rota_pb.specs.Report.{number_line, cost_line, last_o_line, status_words}
+use Rattle.solver_text.specs.Status.{status_words}
+use Rattle.rota_pb.specs.Report.{number_line, cost_line, last_o_line}
 
 pub number_line-pieces : (name : List ℕ) (number : ℕ) →
     number_line name number ≡ name ++ codes " " ++ numeral number ++ codes "\n"

@@ -3,17 +3,8 @@ use Rattle.std.specs.Prelude.{ℕ, ◌+◌, ℤ, List, [], ◌++◌, codes, Opti
 use Rattle.rota_core.specs.Lists.{each_below}
 use Rattle.rota_core.specs.Numeral.{numeral, signed_numeral}
 use Rattle.rota_read.specs.SolutionText.{spaced, ended}
-use Rattle.solver_text.specs.declared.outcome.Status.{Status}
-use Rattle.solver_text.specs.declared.outcome.Status.TheVariants.{Satisfiable, Optimum, Unsatisfiable, Unknown, Unsupported}
+use Rattle.solver_text.specs.Status.{status_words}
 use Rattle.rota_pb.specs.declared.decoded.Decoded.{Decoded}
-
--- the words of an answer's status
-abbrev pub status_words : Status → List ℕ
-status_words Satisfiable = codes "SATISFIABLE"
-status_words Optimum = codes "OPTIMUM FOUND"
-status_words Unsatisfiable = codes "UNSATISFIABLE"
-status_words Unknown = codes "UNKNOWN"
-status_words Unsupported = codes "UNSUPPORTED"
 
 -- a line of a number
 abbrev pub number_line : List ℕ → ℕ → List ℕ

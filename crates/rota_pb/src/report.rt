@@ -5,9 +5,10 @@ ghost use Rattle.rota_core.specs.Ports.{told_len};
 ghost use Rattle.opb_text.specs.Begins.{Begins};
 ghost use Rattle.opb_text.specs.Sink.{PutsText, sink_failed};
 ghost use Rattle.rota_read.specs.SolutionText.{spaced, ended};
+ghost use Rattle.solver_text.specs.Status.{status_words};
 ghost use Rattle.rota_pb.specs.declared.fault.Fault.TheVariants.{Write};
 ghost use Rattle.rota_pb.specs.Decoded.{FindsRoster};
-ghost use Rattle.rota_pb.specs.Report.{cost_line, cost_lines, last_o_line, number_line, report_text, status_words};
+ghost use Rattle.rota_pb.specs.Report.{cost_line, cost_lines, last_o_line, number_line, report_text};
 
 use crate::decoded::Decoded;
 use crate::fault::Fault;
@@ -26,26 +27,13 @@ fn put_number_line<W: Target>(sink: &mut Sink<W>, name: &[u8], number: u64) -> R
     sink.put(b"\n")
 }
 
-// The words of a status.
-fn status_words(status: Status) -> &'static [u8]
-    ensures { result.now ≡ status_words status }
-{
-    match status {
-        Status::Satisfiable => b"SATISFIABLE",
-        Status::Optimum => b"OPTIMUM FOUND",
-        Status::Unsatisfiable => b"UNSATISFIABLE",
-        Status::Unknown => b"UNKNOWN",
-        Status::Unsupported => b"UNSUPPORTED",
-    }
-}
-
 // Puts the line of the status.
 fn put_status_line<W: Target>(sink: &mut Sink<W>, status: Status) -> Result<(), PortFault>
     ensures takes { PutsText sink.old result (ended (spaced (codes "status") (status_words status))) sink.new }
     ensures for_good { sink_failed sink.old ≡ true → IsErr result }
 {
     sink.put(b"status ")?;
-    sink.put(status_words(status))?;
+    sink.put(status.words().as_bytes())?;
     sink.put(b"\n")
 }
 

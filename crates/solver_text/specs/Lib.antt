@@ -5,3 +5,4 @@ pub mod AnswerLaws
 pub mod Lines
 pub mod Places
 pub mod States
+pub mod Status

@@ -1,4 +1,5 @@
 //! What a solver's answer says, and the faults of its text.
+ghost use Rattle.std.specs.Prelude.{◌≡◌};
 
 use rota_core::Bits;
 use thiserror::Error;
@@ -13,6 +14,23 @@ pub enum Status {
     Unsatisfiable,
     Unknown,
     Unsupported,
+}
+
+impl Status {
+    ghost use Rattle.solver_text.specs.Status.{status_words};
+
+    /// The words of an `s` line that names the status, with one blank between two words.
+    pub fn words(self) -> &'static str
+        ensures { result.now ≡ status_words self }
+    {
+        match self {
+            Status::Satisfiable => "SATISFIABLE",
+            Status::Optimum => "OPTIMUM FOUND",
+            Status::Unsatisfiable => "UNSATISFIABLE",
+            Status::Unknown => "UNKNOWN",
+            Status::Unsupported => "UNSUPPORTED",
+        }
+    }
 }
 
 /// Why a text is no answer.
