@@ -1,12 +1,14 @@
 //! The solution file of a roster.
-ghost use Rattle.std.specs.Prelude.{◌≡◌, ◌<◌, ◌||◌, is_err, true, IsErr, IfErr, OnOk, OnErr};
+ghost use Rattle.std.specs.Prelude.{◌≡◌, ◌<◌, ◌≤◌, ◌||◌, is_err, length, true, IsErr, IfErr, OnOk, OnErr};
 ghost use Rattle.std.specs.Io.KnownBytes.{append_known};
 ghost use Rattle.rota_core.specs.Ports.{told_len};
-ghost use Rattle.rota_core.specs.InstanceTables.{week_of};
+ghost use Rattle.rota_core.specs.InstanceTables.{IsInstance, week_of};
 ghost use Rattle.rota_core.specs.Lists.{only_if};
 ghost use Rattle.rota_core.specs.Roster.{InWeek};
 ghost use Rattle.rota_core.specs.HardRules.{KeepsOneCell};
 ghost use Rattle.rota_core.specs.RosterTables.{HasShapeOf, set_of};
+ghost use Rattle.rota_read.specs.Reading.{LONGEST};
+ghost use Rattle.rota_read.specs.SolutionRows.{SpellsRoster};
 ghost use Rattle.rota_read.specs.SolutionText.{assignment_text, cells_of, heading_text, solution_text};
 ghost use Rattle.opb_text.specs.Begins.{Begins};
 ghost use Rattle.opb_text.specs.Sink.{PutsText, sink_failed};
@@ -146,8 +148,9 @@ fn put_nurses<W: Target>(
     roster: &Roster,
 ) -> Result<(), PortFault>
     requires shape { HasShapeOf (week_of instance.now) roster.now }
-    ensures { PutsText sink.old result
+    ensures takes { PutsText sink.old result
         (rows_text instance.now (cells_of (week_of instance.now) (set_of roster.now))) sink.new }
+    ensures limits { IsInstance instance.now }
 {
     for nurse in 0..instance.nurses() {
         put_nurse(sink, instance, roster, nurse)?;
@@ -164,6 +167,7 @@ fn put_solution<W: Target>(
     requires shape { HasShapeOf (week_of instance.now) roster.now }
     ensures takes { PutsText sink.old result (solution_text instance.now (set_of roster.now)) sink.new }
     ensures for_good { sink_failed sink.old ≡ true → IsErr result }
+    ensures limits { OnOk result (IsInstance instance.now) }
 {
     put_heading(sink, instance, roster.count())?;
     put_nurses(sink, instance, roster)
@@ -180,6 +184,7 @@ fn send_solution<W: Target>(
     ensures flushed { OnOk result (W.flushed out.new ≡ told_len (W.sent out.new)) }
     ensures err { OnErr result (Begins (W.sent out.new) (append_known (W.sent out.old) (solution_text instance.now (set_of roster.now)))) }
     ensures failure { W.has_failed out.new ≡ (W.has_failed out.old || is_err result) }
+    ensures limits { OnOk result (IsInstance instance.now) }
 {
     let mut sink = Sink::new(out);
     put_solution(&mut sink, instance, roster)?;
@@ -188,7 +193,8 @@ fn send_solution<W: Target>(
 
 /// Writes the solution file of the roster, in the text form of INRC-II: the week's number and the
 /// scenario's name, the number of assignments, and a line for each, by nurse, day, shift type and
-/// skill.
+/// skill. `read_solution` of `rota_read` gives the roster back, where the text has at most 4,194,304
+/// bytes.
 ///
 /// Takes no memory. The only error is `Write`, where the writer failed: what went out then begins the
 /// text.
@@ -201,6 +207,11 @@ pub fn write_solution<W: Target>(
     requires one_cell { KeepsOneCell (week_of instance.now) (set_of roster.now) }
     ensures ok { OnOk result (W.sent out.new ≡ append_known (W.sent out.old) (solution_text instance.now (set_of roster.now))) }
     ensures flushed { OnOk result (W.flushed out.new ≡ told_len (W.sent out.new)) }
+
+    // what went out spells the same roster, where it is not too long to be read
+    ensures spelled { OnOk result (
+        length (solution_text instance.now (set_of roster.now)) ≤ LONGEST →
+        SpellsRoster instance.now (solution_text instance.now (set_of roster.now)) roster.now) }
     ensures fault { IfErr result (λ fault. fault ≡ Write) }
     ensures err { OnErr result (Begins (W.sent out.new) (append_known (W.sent out.old) (solution_text instance.now (set_of roster.now)))) }
     ensures sound { OnOk result (W.has_failed out.new ≡ W.has_failed out.old) }

@@ -21,4 +21,4 @@ unfolding text_of_cells
 returns-clause-takes g c =
     let week = week_of c.args.instance.now in
     let counted = c.count.ensures.count ∙ count-cells_of week c.args.roster.now c.requires.shape c.count.ensures.within in
-    puts_then (rw counted at c.in_ok-put_heading.ensures.takes) c.put_nurses.ensures
+    puts_then (rw counted at c.in_ok-put_heading.ensures.takes) c.put_nurses.ensures.takes
