@@ -1,5 +1,5 @@
 -- Lists made by loops.
-use Rattle.std.proofs.Common.{◌≡◌, ℕ, zero, suc, ◌+◌, ◌*◌, ◌<◌, ◌≤◌, Bool, true, false, ◌⊎◌, inl, inr, List, [], ◌∷◌, ◌++◌, length, refl, sym, subst, arith, add-one}
+use Rattle.std.proofs.Common.{◌≡◌, ℕ, zero, suc, ◌+◌, ◌*◌, ◌<◌, ◌≤◌, Bool, true, false, ◌⊎◌, inl, inr, List, [], ◌∷◌, ◌++◌, length, refl, sym, ap, ◌∙◌, subst, arith, add-one}
 use Rattle.std.specs.List.{AllByRecursion}
 use Rattle.std.proofs.lemmas.List.{length-append}
 use Rattle.std.proofs.lemmas.Bool.{true≢false}
@@ -22,6 +22,18 @@ pub only_if-fails : {A : Type 0} (test : Bool) (x : A) → test ≡ false → on
 unfolding only_if
 only_if-fails true x e = cc
 only_if-fails false x e = refl
+
+-- lists whose turns are the same
+pub each_below-same : {A : Type 0} (n : ℕ) (f g : ℕ → List A) → ((i : ℕ) → i < n → f i ≡ g i) → each_below n f ≡ each_below n g
+unfolding each_below
+each_below-same zero f g same = refl
+each_below-same {A} (suc n) f g same =
+    ap (λ (xs : List A). xs ++ f n) (each_below-same n f g (λ i below. same i (omega (arith, below)))) ∙
+    ap (λ (xs : List A). each_below n g ++ xs) (same n (omega arith))
+
+-- a turn is the last one, or one before it
+pub last_or_before : (i n : ℕ) → i < suc n → (i ≡ n) ⊎ (i < n)
+last_or_before i n below = grind arith
 
 -- ---- how long
 
@@ -70,9 +82,6 @@ AllByRecursion-at P (suc n) f all i below =
       | inl last ↦ subst (λ j. AllByRecursion P (f j)) (sym last) (AllByRecursion-back P (each_below n f) (f n) all).1
       | inr before ↦ AllByRecursion-at P n f (AllByRecursion-back P (each_below n f) (f n) all).0 i before
     ]
-  where
-    last_or_before : (i n : ℕ) → i < suc n → (i ≡ n) ⊎ (i < n)
-    last_or_before i n below = grind arith
 
 -- an element that stands where a test holds
 pub AllByRecursion-only_if : {X : Type 0} (P : X → Type 0) (test : Bool) (x : X) → (test ≡ true → P x) →

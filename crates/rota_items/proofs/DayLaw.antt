@@ -92,7 +92,7 @@ matches-closed has history minimum d k positive inside =
     start
     (rw days (run_after has history (d - k) k d (omega arith)))
 
-cond_same : (b : Bool) → cond {A = ℕ} b 0 0 ≡ 0
+pub cond_same : (b : Bool) → cond {A = ℕ} b 0 0 ≡ 0
 cond_same true = refl
 cond_same false = refl
 

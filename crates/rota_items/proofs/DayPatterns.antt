@@ -6,6 +6,7 @@ use Rattle.std.specs.List.{range_with_len, count_by}
 use Rattle.std.proofs.lemmas.List.Sums.{sum_by-cons, sum_by-append}
 use Rattle.std.proofs.lemmas.List.{append-nil}
 use Rattle.rota_core.specs.Week.{Week}
+use Rattle.rota_items.proofs.DayLaw.{cond_same}
 use Rattle.rota_items.specs.ItemValues.{property_of, is_plain_of, days_of, pattern_of, charged_item}
 use Rattle.rota_items.specs.Lists.{only_if}
 use Rattle.rota_items.specs.RunItems.{is_plain}
@@ -42,10 +43,6 @@ module _ (p : PatternDay → Bool) where
   count-parts a b c =
       omega (arith, sum_by-append (λ x. cond (p x) 1 0) a (b ++ c), sum_by-append (λ x. cond (p x) 1 0) b c)
 
-cond_zero : (b : Bool) → cond {A = ℕ} b 0 0 ≡ 0
-cond_zero true = refl
-cond_zero false = refl
-
 pub count-has : (pattern : DayPattern) → count_by (λ (day : PatternDay). day.has) (days_of pattern) ≡ pattern.end - pattern.first
 count-has pattern =
     let p : PatternDay → Bool = λ day. day.has in
@@ -55,8 +52,8 @@ count-has pattern =
           (only_if pattern.ends (without_property pattern.end)),
       count-only_if p pattern.begins (without_property (pattern.first - 1)),
       count-only_if p pattern.ends (without_property pattern.end),
-      cond_zero pattern.begins,
-      cond_zero pattern.ends,
+      cond_same pattern.begins,
+      cond_same pattern.ends,
       count-with_all p (λ d. refl) pattern.first (pattern.end - pattern.first),
     )
 

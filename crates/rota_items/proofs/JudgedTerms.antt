@@ -78,7 +78,7 @@ still_within m counts below above sums c within = record {
   slacks = within-sum m (nat_abs c) sums.slacks _ within.slacks (within-chosen (at_slacks counts below above) c);
 }
 
-plus_assoc : (a b c : ℤ) → (a +ℤ b) +ℤ c ≡ a +ℤ (b +ℤ c)
+pub plus_assoc : (a b c : ℤ) → (a +ℤ b) +ℤ c ≡ a +ℤ (b +ℤ c)
 plus_assoc a b c = omega (arith, ints)
 
 module _ (week : Week) (evaluated : Evaluated) where

@@ -3,6 +3,7 @@ use Rattle.std.proofs.Common.{◌≡◌, ℕ, zero, suc, Bool, true, false, List
 use Rattle.std.proofs.lemmas.List.{map-append}
 use Rattle.rota_items.specs.ItemPlaces.{pattern_item_of, window_items_on, closed_items_at, pattern_items_on}
 use Rattle.rota_items.specs.Lists.{each_below, only_if}
+use Rattle.rota_items.proofs.Loops.{each_below-same}
 use Rattle.rota_items.specs.RunItems.{Runs, run_items}
 use Rattle.rota_items.specs.RunPatterns.{windows_on, windows, patterns_on, patterns, closed_patterns_on, edge_patterns_on}
 
@@ -17,19 +18,13 @@ unfolding only_if
 map-only_if f true x = refl
 map-only_if f false x = refl
 
-each_below-same : {A : Type 0} (f g : ℕ → List A) (n : ℕ) → ((i : ℕ) → f i ≡ g i) → each_below n f ≡ each_below n g
-unfolding each_below
-each_below-same f g zero same = refl
-each_below-same f g (suc n) same =
-    ap (λ xs. xs ++ f n) (each_below-same f g n same) ∙ ap (λ xs. each_below n g ++ xs) (same n)
-
 module _ {X : Type 0} (runs : Runs X) where
   pattern_items-on : (d : ℕ) → map (pattern_item_of runs) (patterns_on runs.history runs.limits d) ≡ pattern_items_on runs d
   pattern_items-on d =
       map-append (pattern_item_of runs) (closed_patterns_on runs.limits.min d) (edge_patterns_on runs.history runs.limits.min d) ∙
       ap (λ xs. xs ++ map (pattern_item_of runs) (edge_patterns_on runs.history runs.limits.min d))
       (map-each_below (pattern_item_of runs) _ d ∙
-      each_below-same _ (closed_items_at runs d) d (λ k. map-only_if (pattern_item_of runs) _ _)) ∙
+      each_below-same d _ (closed_items_at runs d) (λ k _. map-only_if (pattern_item_of runs) _ _)) ∙
       ap (λ xs. each_below d (closed_items_at runs d) ++ xs) (map-only_if (pattern_item_of runs) _ _)
 
   pub run_items-are : run_items runs ≡ each_below 7 (window_items_on runs) ++ each_below 7 (pattern_items_on runs)
@@ -37,7 +32,7 @@ module _ {X : Type 0} (runs : Runs X) where
       map-append (pattern_item_of runs) (windows runs.history runs.limits) (patterns runs.history runs.limits) ∙
       ap (λ xs. xs ++ map (pattern_item_of runs) (patterns runs.history runs.limits))
       (map-each_below (pattern_item_of runs) (windows_on runs.history runs.limits) 7 ∙
-      each_below-same _ (window_items_on runs) 7 (λ d. map-only_if (pattern_item_of runs) _ _)) ∙
+      each_below-same 7 _ (window_items_on runs) (λ d _. map-only_if (pattern_item_of runs) _ _)) ∙
       ap (λ xs. each_below 7 (window_items_on runs) ++ xs)
       (map-each_below (pattern_item_of runs) (patterns_on runs.history runs.limits) 7 ∙
-      each_below-same _ (pattern_items_on runs) 7 pattern_items-on)
+      each_below-same 7 _ (pattern_items_on runs) (λ d _. pattern_items-on d))

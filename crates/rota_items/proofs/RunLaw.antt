@@ -1,9 +1,10 @@
 -- The items of a property's runs charge the cost of the runs.
-use Rattle.std.proofs.Common.{◌≡◌, ℕ, ◌+◌, ◌*◌, ◌<◌, ◌≤◌, Bool, true, false, cond, List, [], ◌∷◌, ◌++◌, ap, ◌∙◌, arith}
+use Rattle.std.proofs.Common.{◌≡◌, ℕ, ◌+◌, ◌*◌, ◌<◌, ◌≤◌, Bool, cond, List, [], ◌∷◌, ◌++◌, ap, ◌∙◌, arith}
 use Rattle.std.specs.List.{All, count_by, AllByRecursion}
 use Rattle.std.proofs.lemmas.List.Elements.{All-from_recursion}
 use Rattle.std.proofs.lemmas.List.Sums.{sum_by-append}
 use Rattle.rota_core.specs.declared.values.Span.{Span}
+use Rattle.rota_items.proofs.CellCounts.{cond-le}
 use Rattle.rota_items.proofs.DayLaw.{matches, units_of, units, units-windows_on, units-patterns_on}
 use Rattle.rota_items.proofs.Loops.{AllByRecursion-append}
 use Rattle.rota_items.proofs.PatternItems.{weighted-pattern_item, shortage-pattern_item}
@@ -104,10 +105,6 @@ enough_slacks {X} runs assignment (p ∷ ps) one = (
   ),
   enough_slacks runs assignment ps one.1,
 )
-  where
-    cond-le : (b : Bool) → cond b 1 0 ≤ 1
-    cond-le true = omega arith
-    cond-le false = omega arith
 
 pub shortages-run_items :
     {X : Type 0} (runs : Runs X) (assignment : X → Bool) →

@@ -9,6 +9,7 @@ use Rattle.rota_core.proofs.NameLemmas.{list_any-map}
 use Rattle.rota_core.specs.Roster.{cell, InWeek}
 use Rattle.rota_core.specs.Week.{Week}
 use Rattle.rota_core.specs.declared.values.Cell.{Cell}
+use Rattle.rota_items.proofs.Loops.{last_or_before}
 use Rattle.rota_items.proofs.ModelParts.{hard_constraint, numbered_constraints, constraints-parts}
 use Rattle.rota_items.proofs.Numbers.{cell_of_number-in, cell_number-of}
 use Rattle.rota_items.proofs.RisesWithin.{RisesWithin}
@@ -46,9 +47,6 @@ any-each p (suc n) g i below found =
       | inl last ↦ any-right p (each_below n g) (g n) (ap (λ j. list_any p (g j)) (sym last) ∙ found)
       | inr before ↦ any-left p (each_below n g) (g n) (any-each p n g i before found)
     ]
-  where
-    last_or_before : (i n : ℕ) → i < suc n → (i ≡ n) ⊎ (i < n)
-    last_or_before i n below = grind arith
 
 -- ---- each variable stands in some constraint
 

@@ -6,6 +6,7 @@ use Rattle.std.proofs.lemmas.List.Sums.{sum_by-append}
 use Rattle.std.proofs.lemmas.List.Folds.{list_any-append}
 use Rattle.rota_core.specs.Below.{sum_below, count_below, any_below}
 use Rattle.rota_items.specs.Lists.{each_below}
+use Rattle.rota_items.proofs.Loops.{last_or_before}
 
 pub sum_below-none : (f : ℕ → ℕ) → sum_below 0 f ≡ 0
 unfolding sum_below
@@ -51,9 +52,6 @@ term-le-sum_below (suc n) f i below =
       | inl last ↦ omega (arith, ap f last)
       | inr before ↦ omega (arith, term-le-sum_below n f i before)
     ]
-  where
-    last_or_before : (i n : ℕ) → i < suc n → (i ≡ n) ⊎ (i < n)
-    last_or_before i n below = grind arith
 
 pub zero_or_more : (n : ℕ) → (n ≡ 0) ⊎ (0 < n)
 zero_or_more zero = inl refl
@@ -110,9 +108,6 @@ one-sum_below (suc n) f one i j i_below j_below some other =
             | inr j_before ↦ one-sum_below n f (omega arith) i j i_before j_before some other
           ]
     ]
-  where
-    last_or_before : (i n : ℕ) → i < suc n → (i ≡ n) ⊎ (i < n)
-    last_or_before i n below = grind arith
 
 -- ---- lists made by loops
 

@@ -1,14 +1,15 @@
 -- How many cells a roster has.
-use Rattle.std.proofs.Common.{◌≡◌, ℕ, zero, suc, ◌+◌, ◌*◌, Bool, true, false, List, [], ◌∷◌, length, if◌then◌else◌, refl, sym, ap, ◌∙◌, arith, length-append}
+use Rattle.std.proofs.Common.{◌≡◌, ℕ, zero, suc, ◌+◌, ◌*◌, Bool, true, false, List, [], ◌∷◌, length, if◌then◌else◌, refl, sym, ap, ◌∙◌, arith}
 use Rattle.std.specs.Prelude.{count_by, slice_index_or}
 use Rattle.std.proofs.lemmas.List.Sums.{sum_by-cons}
 use Rattle.std.proofs.Math.Nat.{suc-mul, mul_comm}
-use Rattle.rota_core.specs.declared.values.Cell.{Cell}
 use Rattle.rota_core.specs.Below.{sum_below}
-use Rattle.rota_core.specs.Lists.{each_below, only_if}
+use Rattle.rota_core.specs.Lists.{only_if}
 use Rattle.rota_core.specs.Roster.{Roster, cell}
 use Rattle.rota_core.specs.RosterTables.{RosterTables, HasShapeOf, IsRoster, set_of, count_of, place_count}
 use Rattle.rota_core.specs.Week.{Week}
+use Rattle.rota_pb.specs.RosterRows.{cells_of_day, cells_of_nurse, cells_on_shift}
+use Rattle.rota_items.proofs.ListLengths.{length-each}
 use Rattle.rota_items.proofs.SumsBelow.{sum_below-same}
 use Rattle.rota_read.specs.SolutionText.{cells_of}
 
@@ -49,12 +50,6 @@ true-count (truth ∷ truths) =
     let first = sum_by-cons one_if truth truths in
     omega (arith, front, rest, first)
 
-length-each_below-is : {A : Type 0} (n : ℕ) (f : ℕ → List A) → length (each_below n f) ≡ sum_below n (λ i. length (f i))
-unfolding each_below sum_below
-length-each_below-is zero f = refl
-length-each_below-is (suc n) f =
-    let before = length-each_below-is n f in omega (arith, before, length-append (each_below n f) (f n))
-
 length-only_if-is : {A : Type 0} (test : Bool) (x : A) → length (only_if test x) ≡ one_if test
 unfolding only_if
 length-only_if-is true x = refl
@@ -67,20 +62,14 @@ cells_of-counted : (week : Week) (roster : Roster) → length (cells_of week ros
     ≡ sum_below week.nurses (λ n. sum_below 7 (λ d. sum_below week.shifts (λ s. sum_below week.skills (λ k. one_if (roster (cell n d s k))))))
 unfolding cells_of
 cells_of-counted week roster =
-    length-each_below-is week.nurses (λ n. each_below 7 (λ d. of_day n d)) ∙
+    length-each week.nurses (cells_of_nurse week roster) ∙
     sum_below-same week.nurses _ _ (λ n _.
-    length-each_below-is 7 (λ d. of_day n d) ∙
+    length-each 7 (cells_of_day week roster n) ∙
     sum_below-same 7 _ _ (λ d _.
-    length-each_below-is week.shifts (λ s. on_shift n d s) ∙
+    length-each week.shifts (cells_on_shift week roster n d) ∙
     sum_below-same week.shifts _ _ (λ s _.
-    length-each_below-is week.skills (λ k. only_if (roster (cell n d s k)) (cell n d s k)) ∙
+    length-each week.skills (λ k. only_if (roster (cell n d s k)) (cell n d s k)) ∙
     sum_below-same week.skills _ _ (λ k _. length-only_if-is (roster (cell n d s k)) (cell n d s k)))))
-  where
-    on_shift : ℕ → ℕ → ℕ → List Cell
-    on_shift n d s = each_below week.skills (λ k. only_if (roster (cell n d s k)) (cell n d s k))
-
-    of_day : ℕ → ℕ → List Cell
-    of_day n d = each_below week.shifts (λ s. on_shift n d s)
 
 by_place : (nurses shifts skills : ℕ) (f : ℕ → ℕ) → sum_below (place_count nurses shifts skills) f
     ≡ sum_below nurses (λ n. sum_below 7 (λ d. sum_below shifts (λ s. sum_below skills (λ k. f (((n * 7 + d) * shifts + s) * skills + k)))))

@@ -1,8 +1,6 @@
 -- Texts that go into a sink in a loop.
-use Rattle.std.proofs.Common.{◌≡◌, ℕ, ◌+◌, ◌<◌, List, [], ◌++◌, zero, suc, Result, Ok, Err, refl, sym, ap, ◌∙◌, subst, inl, inr, arith, append_assoc, add-one}
+use Rattle.std.proofs.Common.{◌≡◌, ℕ, ◌+◌, ◌<◌, List, [], ◌++◌, Result, Ok, Err, refl, sym, ap, ◌∙◌, append_assoc}
 use Rattle.std.specs.Prelude.{IsErr}
-use Rattle.std.proofs.lemmas.Bool.{cases_lt}
-use Rattle.std.proofs.lemmas.List.{append-nil}
 use Rattle.std.proofs.lemmas.List.Concat.{flat_map-append}
 use Rattle.rota_core.specs.declared.ports.PortFault.{PortFault}
 use Rattle.rota_core.specs.declared.ports.Target.{Ghosts}
@@ -13,6 +11,7 @@ use Rattle.opb_text.specs.Sink.{PutsText, stands_for, sink_failed, target_of}
 use Rattle.opb_text.proofs.Told.{append_known-nil}
 use Rattle.opb_text.proofs.PutsTextLemmas.{or_false, puts_exit, puts_stop, puts_then}
 use Rattle.rota_items.proofs.Loops.{each_below-zero, each_below-more}
+use Rattle.rota_items.proofs.Taking.{within as split_at}
 use Rattle.rota_read.specs.SolutionText.{assignment_text}
 use Rattle.rota_pb.specs.RosterRows.{rows_text}
 
@@ -21,22 +20,13 @@ record WithinLoop {A : Type 0} (i n : ℕ) (f : ℕ → List A) : Type 0 where
   after : List A
   are : each_below n f ≡ each_below (i + 1) f ++ after
 
-within-longer : {A : Type 0} (i n : ℕ) (f : ℕ → List A) → WithinLoop i n f → WithinLoop i (suc n) f
-unfolding each_below
-within-longer i n f w = record {
-  after = w.after ++ f n;
-  are = ap (λ xs. xs ++ f n) w.are ∙ append_assoc (each_below (i + 1) f) w.after (f n);
-}
-
-within-last : {A : Type 0} (n : ℕ) (f : ℕ → List A) → WithinLoop n (suc n) f
-within-last n f = record { after = []; are = rw add-one (sym (append-nil (each_below (suc n) f))) }
-
 within : {A : Type 0} (i n : ℕ) (f : ℕ → List A) → i < n → WithinLoop i n f
-within i zero f below = absurd (omega arith)
-within {A} i (suc n) f below = elim (cases_lt i n) [
-  | inl before ↦ within-longer i n f (within i n f before)
-  | inr last ↦ let same : n ≡ i = omega arith in subst (λ (m : ℕ). WithinLoop {A = A} m (suc n) f) same (within-last n f)
-]
+within {A} i n f below =
+    let w = split_at i n f below in record {
+      after = w.after;
+      are = w.are ∙
+          (sym (append_assoc (each_below i f) (f i) w.after) ∙ ap (λ (xs : List A). xs ++ w.after) (sym (each_below-more i f)));
+    }
 
 -- a text made of a list, element by element
 pub record Joins {A : Type 0} (text : List A → List ℕ) : Type 0 where

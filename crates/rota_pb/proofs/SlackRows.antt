@@ -16,6 +16,7 @@ use Rattle.rota_items.specs.Linear.{Term, times, value_of}
 use Rattle.rota_items.specs.LinearRow.{LinearRow}
 use Rattle.rota_items.specs.Slacks.{slack_variables, item_row, item_rows, slack_count, is_slack_needed}
 use Rattle.rota_items.specs.WeekModel.{assignment_of}
+use Rattle.rota_items.proofs.JudgedTerms.{plus_assoc}
 use Rattle.rota_items.proofs.SmallSums.{IsWithin, saturated, within-sum, within-own, within-zero, within-value_of, spread}
 use Rattle.rota_pb.specs.declared.open_row.OpenRow.{OpenRow}
 use Rattle.rota_pb.specs.SlackTaker.{Progress, literals_after, values_text, is_soft, no_terms, with_term, lacking, soft_slacks, progress_after}
@@ -89,9 +90,6 @@ cell_terms week roster m row (t ∷ ts) below within small =
     ap (λ (r : OpenRow). with_terms week roster r ts) here ∙
     cell_terms week roster (m + nat_abs t.0) next ts below.1 (within-cond m counts row.value t.0 within) (omega (arith, small, sum)) ∙
     same_row row.is_soft _ _ _ _ (plus_assoc row.value added rest) refl
-  where
-    plus_assoc : (a b c : ℤ) → (a +ℤ b) +ℤ c ≡ a +ℤ (b +ℤ c)
-    plus_assoc a b c = omega (arith, ints)
 
 -- a term at a slack
 slack_term : (above counts : Bool) (row : OpenRow) (c : ℤ) → above ≡ true → row.slacks + 1 < 2 ^ 32 →

@@ -4,7 +4,7 @@ use Rattle.std.specs.Prelude.{IsErr}
 use Rattle.rota_core.specs.Lists.{each_below}
 use Rattle.rota_core.specs.declared.ports.PortFault.{PortFault}
 use Rattle.rota_core.specs.declared.ports.Target.{Ghosts}
-use Rattle.rota_items.proofs.Loops.{each_below-zero}
+use Rattle.rota_items.proofs.Loops.{each_below-zero, each_below-same}
 use Rattle.opb_text.specs.declared.sink.Sink.{Sink}
 use Rattle.opb_text.specs.Sink.{PutsText}
 use Rattle.solver_text.specs.AnswerWriter.{literal_text, literals_text}
@@ -28,13 +28,6 @@ literals_after-few n zero few = sym (add-zero n)
 literals_after-few n (suc k) few = omega (arith, literals_after-few n k (omega (arith, few)))
 
 -- ---- lists joined below a number
-
-pub each_below-same : {A : Type 0} (count : ℕ) (f g : ℕ → List A) → ((i : ℕ) → i < count → f i ≡ g i) → each_below count f ≡ each_below count g
-unfolding each_below
-each_below-same zero f g same = refl
-each_below-same {A} (suc n) f g same =
-    ap (λ (xs : List A). xs ++ f n) (each_below-same n f g (λ i below. same i (omega (arith, below)))) ∙
-    ap (λ (xs : List A). each_below n g ++ xs) (same n (omega arith))
 
 pub each_below-sum : {A : Type 0} (a b : ℕ) (f : ℕ → List A) → each_below (a + b) f ≡ each_below a f ++ each_below b (λ i. f (a + i))
 unfolding each_below

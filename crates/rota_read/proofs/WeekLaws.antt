@@ -1,5 +1,5 @@
 -- What a week's text spells is within the limits.
-use Rattle.std.proofs.Common.{◌≡◌, ℕ, zero, suc, ◌+◌, ◌*◌, ◌≤◌, Bool, true, false, List, [], ◌∷◌, ◌++◌, Option, Some, None, length, get_or, map, refl, ◌∙◌, arith}
+use Rattle.std.proofs.Common.{◌≡◌, ℕ, zero, suc, ◌+◌, ◌*◌, ◌≤◌, Bool, true, false, List, [], ◌∷◌, Option, Some, None, length, get_or, map, refl, ◌∙◌, arith}
 use Rattle.std.specs.List.{All, AllByRecursion, flat_map, range_with_len}
 use Rattle.std.proofs.lemmas.List.{length-map, length-replicate, length-set}
 use Rattle.std.proofs.lemmas.List.Elements.{All-replicate, All-set, recursion_from_All}
@@ -14,6 +14,7 @@ use Rattle.rota_read.specs.Layout.{Layout}
 use Rattle.rota_read.specs.WeekLayout.{demand, demands_of_days, Requirements, requirement, requirement_of, requirement_row, after_row, repeat_until, most_rows, no_requirements, requirement_rows, demand_on, demand_table, request_row, request_table, requirements_part, requests_part, week}
 use Rattle.rota_read.specs.WeekRows.{AreWithin}
 use Rattle.rota_read.specs.Files.{Fills, Spells}
+use Rattle.rota_core.proofs.Loops.{AllByRecursion-append}
 use Rattle.rota_read.proofs.WordLaws.{tokens-are_tokens}
 use Rattle.rota_read.proofs.SlotLaws.{AreTokens, length_push, number-within, repeat-keeps}
 use Rattle.rota_read.proofs.ScenarioLaws.{left, right, pair-limits, rows_length}
@@ -21,17 +22,13 @@ use Rattle.rota_read.proofs.CountLemmas.{request_table-length, request_table-mos
 
 -- ---- what holds of each element
 
-all_append : {X : Type 0} (P : X → Type 0) (xs ys : List X) → AllByRecursion P xs → AllByRecursion P ys → AllByRecursion P (xs ++ ys)
-all_append P [] ys h k = k
-all_append P (x ∷ xs) ys h k = (h.0, all_append P xs ys h.1 k)
-
 all_map : {X Y : Type 0} (P : X → Type 0) (Q : Y → Type 0) (f : X → Y) → ((x : X) → P x → Q (f x)) → (xs : List X) → AllByRecursion P xs → AllByRecursion Q (map f xs)
 all_map P Q f each [] h = tt
 all_map P Q f each (x ∷ xs) h = (each x h.0, all_map P Q f each xs h.1)
 
 all_rows : {X : Type 0} (P : X → Type 0) (row : ℕ → List X) → ((k : ℕ) → AllByRecursion P (row k)) → (first n : ℕ) → AllByRecursion P (flat_map row (range_with_len first n))
 all_rows P row each first zero = tt
-all_rows P row each first (suc n) = all_append P (row first) (flat_map row (range_with_len (first + 1) n)) (each first) (all_rows P row each (first + 1) n)
+all_rows P row each first (suc n) = AllByRecursion-append P (row first) (flat_map row (range_with_len (first + 1) n)) (each first) (all_rows P row each (first + 1) n)
 
 at_or : {X : Type 0} (P : X → Type 0) (xs : List X) (k : ℕ) (d : X) → AllByRecursion P xs → P d → P (get_or xs k d)
 at_or P [] k d h p = p

@@ -2,7 +2,7 @@
 use Rattle.std.proofs.Common.{◌≡◌, ℕ, zero, suc, ◌+◌, ◌%◌, ◌<◌, ◌≤◌, Bool, true, false, List, [], ◌∷◌, ◌++◌, length, take, drop, refl, ap, sym, ◌∙◌, arith, append_assoc, append-nil, length-drop}
 use Rattle.std.specs.List.{flat_map}
 use Rattle.std.proofs.lemmas.Bool.{eq-eqb, ne_eqb}
-use Rattle.solver_text.specs.AnswerText.{literal_word, literal_words, rows_within, behind_blank, value_line, answer_head}
+use Rattle.solver_text.specs.AnswerText.{literal_word, literal_words, rows_within, behind_blank, blank_words, value_line, answer_head}
 use Rattle.solver_text.specs.AnswerWriter.{is_full_row, literal_text, literals_text, end_text, WritesAnswerText}
 
 full : (n : ℕ) → n % 10 ≡ 0 → is_full_row n ≡ true
@@ -47,9 +47,6 @@ abbrev words_after : ℕ → List Bool → List (List ℕ)
 words_after n truths = literal_words (n + 1) truths
 
 -- the words, each behind a blank
-abbrev blank_words : List (List ℕ) → List ℕ
-blank_words words = flat_map behind_blank words
-
 drop-words_after : (k n : ℕ) (truths : List Bool) → drop k (words_after n truths) ≡ words_after (n + k) (drop k truths)
 drop-words_after zero n truths = let same : n ≡ n + 0 = omega arith in ap (λ (m : ℕ). words_after m truths) same
 drop-words_after (suc k) n [] = refl

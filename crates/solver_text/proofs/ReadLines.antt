@@ -7,7 +7,7 @@ use Rattle.std.proofs.lemmas.List.Elements.{All-nil, All-cons, All-append, All-h
 use Rattle.std.proofs.lemmas.List.Splits.{slice_split_none, slice_split_at, slice_split-cons_yes}
 use Rattle.solver_text.specs.Lines.{is_blank, is_line_feed, has_bytes, words}
 use Rattle.solver_text.specs.Answers.{Judgement, of_literal, judgements_of_line, judgements}
-use Rattle.solver_text.specs.AnswerText.{rows_within, behind_blank, value_line}
+use Rattle.solver_text.specs.AnswerText.{rows_within, behind_blank, blank_words, value_line}
 use Rattle.solver_text.proofs.NumeralWords.{IsWordByte, IsWord}
 
 -- no byte of a word is a blank
@@ -25,9 +25,6 @@ filter-words : (word : List ℕ) (others : List (List ℕ)) → has_bytes word �
 filter-words word others e = rw e refl
 
 -- words that a blank joins
-abbrev blank_words : List (List ℕ) → List ℕ
-blank_words these = flat_map behind_blank these
-
 words-joined : (word : List ℕ) (these : List (List ℕ)) → IsWord word → All IsWord these → words (word ++ blank_words these) ≡ word ∷ these
 words-joined word [] is are =
     ap (λ (bytes : List ℕ). words bytes) (append-nil word)

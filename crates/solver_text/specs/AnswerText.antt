@@ -27,8 +27,12 @@ rows_of_ten xs = rows_within (length xs) xs
 abbrev pub behind_blank : List ℕ → List ℕ
 behind_blank word = codes " " ++ word
 
+-- the words, with a blank before each
+abbrev pub blank_words : List (List ℕ) → List ℕ
+blank_words words = flat_map behind_blank words
+
 abbrev pub value_line : List (List ℕ) → List ℕ
-value_line words = codes "v" ++ flat_map behind_blank words ++ codes "\n"
+value_line words = codes "v" ++ blank_words words ++ codes "\n"
 
 -- the lines before the values
 abbrev pub answer_head : ℕ → List ℕ
