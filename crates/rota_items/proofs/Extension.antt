@@ -4,12 +4,12 @@ use Rattle.std.specs.Prelude.{pos, ◌+ℤ◌, ◌-ℤ◌, ◌≤ℤ◌, nat_lt,
 use Rattle.std.specs.List.{All, AllByRecursion}
 use Rattle.std.proofs.lemmas.Int.{ints}
 use Rattle.std.proofs.lemmas.Bool.{lt-ltb, ltb-false}
-use Rattle.std.proofs.lemmas.List.Sums.{sum_by-append}
 use Rattle.std.proofs.lemmas.List.Elements.{All-from_recursion, recursion_from_All}
 use Rattle.rota_core.specs.HardRules.{KeepsHardRules}
 use Rattle.rota_core.specs.Roster.{Roster, InWeek}
 use Rattle.rota_core.specs.Week.{Week}
 use Rattle.rota_core.specs.declared.values.Cell.{Cell}
+use Rattle.rota_items.proofs.SoftItemSums.{sum_by-soft_items}
 use Rattle.rota_items.proofs.AssignmentOf.{assignment_of-cell, assignment_of-unit}
 use Rattle.rota_items.proofs.Assignments.{weighted-assignment_items}
 use Rattle.rota_items.proofs.EnoughSlacks.{HasEnough, enough-items}
@@ -37,7 +37,7 @@ use Rattle.rota_items.specs.LinearRow.{LinearRow}
 use Rattle.rota_items.specs.Objective.{request_terms, constant_terms}
 use Rattle.rota_items.specs.Penalty.{request_cost, penalty}
 use Rattle.rota_items.specs.Slacks.{StandBelow, item_constraints, slack_weights}
-use Rattle.rota_items.specs.SoftItems.{optimum_items, consecutive_assignment_items, consecutive_day_off_items, complete_weekend_items, assignment_items, worked_weekend_items, soft_items}
+use Rattle.rota_items.specs.SoftItems.{soft_items}
 use Rattle.rota_items.specs.WeekModel.{numbered_terms, hard_constraints, numbered_items, objective_terms, roster_of, assignment_of, extension_of, is_satisfied, hard_rows, numbered_row, first_unsatisfied, model_of}
 
 -- ---- the penalty in items
@@ -48,11 +48,7 @@ charges week roster keeps =
     let weight : Item Cell → ℕ = λ item. item.weight * shortage roster item in
     omega (
       arith,
-      sum_by-append weight (optimum_items week) (consecutive_assignment_items week ++ (consecutive_day_off_items week ++ (complete_weekend_items week ++ (assignment_items week ++ worked_weekend_items week)))),
-      sum_by-append weight (consecutive_assignment_items week) (consecutive_day_off_items week ++ (complete_weekend_items week ++ (assignment_items week ++ worked_weekend_items week))),
-      sum_by-append weight (consecutive_day_off_items week) (complete_weekend_items week ++ (assignment_items week ++ worked_weekend_items week)),
-      sum_by-append weight (complete_weekend_items week) (assignment_items week ++ worked_weekend_items week),
-      sum_by-append weight (assignment_items week) (worked_weekend_items week),
+      sum_by-soft_items weight week,
       weighted-optimum_items week roster keeps.minimum,
       weighted-consecutive_assignment_items week roster keeps.one_cell,
       weighted-consecutive_day_off_items week roster keeps.one_cell,

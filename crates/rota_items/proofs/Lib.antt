@@ -51,6 +51,7 @@ pub mod SlackBound
 pub mod SlackTerms
 pub mod SmallItems
 pub mod SmallSums
+pub mod SoftItemSums
 pub mod Standing
 pub mod SumsBelow
 pub mod Taking

@@ -2,9 +2,10 @@
 use Rattle.std.proofs.Common.{◌≡◌, ℕ, ◌+◌, List, [], ◌∷◌, ◌++◌, length, refl, arith}
 use Rattle.std.specs.List.{AllByRecursion}
 use Rattle.std.proofs.lemmas.List.{length-append, length-map}
-use Rattle.std.proofs.lemmas.List.Sums.{sum_by-cons, sum_by-append}
+use Rattle.std.proofs.lemmas.List.Sums.{sum_by-cons}
 use Rattle.rota_core.specs.Week.{Week}
 use Rattle.rota_core.specs.declared.values.Cell.{Cell}
+use Rattle.rota_items.proofs.SoftItemSums.{sum_by-soft_items}
 use Rattle.rota_items.proofs.OnSoftItems.{all-consecutive_assignment_items, all-consecutive_day_off_items, all-complete_weekend_items, all-worked_weekend_items}
 use Rattle.rota_items.proofs.SlackBound.{length-item_rows}
 use Rattle.rota_items.specs.Cells.{cell_number, first_slack}
@@ -68,11 +69,7 @@ module _ (week : Week) where
   slack_count-soft_items =
       omega (
         arith,
-        sum_by-append slacks (optimum_items week) (consecutive_assignment_items week ++ (consecutive_day_off_items week ++ (complete_weekend_items week ++ (assignment_items week ++ worked_weekend_items week)))),
-        sum_by-append slacks (consecutive_assignment_items week) (consecutive_day_off_items week ++ (complete_weekend_items week ++ (assignment_items week ++ worked_weekend_items week))),
-        sum_by-append slacks (consecutive_day_off_items week) (complete_weekend_items week ++ (assignment_items week ++ worked_weekend_items week)),
-        sum_by-append slacks (complete_weekend_items week) (assignment_items week ++ worked_weekend_items week),
-        sum_by-append slacks (assignment_items week) (worked_weekend_items week),
+        sum_by-soft_items slacks week,
         one_slack-assignments,
         one_slack-days_off,
         one_slack-complete,

@@ -10,6 +10,7 @@ use Rattle.rota_core.specs.Week.{Week}
 use Rattle.rota_core.specs.declared.rule.Rule.TheVariants.{S5, S7}
 use Rattle.rota_core.specs.declared.values.Cell.{Cell}
 use Rattle.rota_core.specs.declared.values.Span.{Span}
+use Rattle.rota_items.proofs.SoftItemSums.{sum_by-soft_items}
 use Rattle.rota_items.proofs.ItemLaw.{value_of-weight, value_of-numbered}
 use Rattle.rota_items.proofs.PatternItems.{value_of-append}
 use Rattle.rota_items.proofs.PenaltyBound.{sum_below-within, sum_below-at_most, where_in, where_last, s4-le}
@@ -230,11 +231,7 @@ items-few : (w : Week) → IsWithinLimits w → sum_by all_slacks (soft_items w)
 items-few w limits =
     omega (
       arith,
-      sum_by-append {X = Item Cell} all_slacks (optimum_items w) (consecutive_assignment_items w ++ (consecutive_day_off_items w ++ (complete_weekend_items w ++ (assignment_items w ++ worked_weekend_items w)))),
-      sum_by-append {X = Item Cell} all_slacks (consecutive_assignment_items w) (consecutive_day_off_items w ++ (complete_weekend_items w ++ (assignment_items w ++ worked_weekend_items w))),
-      sum_by-append {X = Item Cell} all_slacks (consecutive_day_off_items w) (complete_weekend_items w ++ (assignment_items w ++ worked_weekend_items w)),
-      sum_by-append {X = Item Cell} all_slacks (complete_weekend_items w) (assignment_items w ++ worked_weekend_items w),
-      sum_by-append {X = Item Cell} all_slacks (assignment_items w) (worked_weekend_items w),
+      sum_by-soft_items all_slacks w,
       s1-few w limits,
       s2-few w limits,
       s3-few w limits,

@@ -2,7 +2,7 @@
 use Rattle.std.proofs.Common.{◌≡◌, ℕ, ◌+◌, ◌*◌, Bool, true, false, cond, List, [], ◌∷◌, ◌++◌, refl, ap, ◌∙◌, arith}
 use Rattle.std.specs.Prelude.{pos, ◌==◌}
 use Rattle.std.specs.List.{AllByRecursion}
-use Rattle.std.proofs.lemmas.List.Sums.{sum_by-cons, sum_by-append}
+use Rattle.std.proofs.lemmas.List.Sums.{sum_by-cons}
 use Rattle.std.proofs.lemmas.Int.{ints}
 use Rattle.rota_core.specs.HardRules.{KeepsHardRules}
 use Rattle.rota_core.specs.Roster.{Roster}
@@ -10,6 +10,7 @@ use Rattle.rota_core.specs.Week.{Week}
 use Rattle.rota_core.specs.declared.rule.Rule.{Rule}
 use Rattle.rota_core.specs.declared.rule.Rule.TheVariants.{Unit as UnitRule, H1, H2, H3, H4, S1, S2, S3, S4, S5, S6, S7}
 use Rattle.rota_core.specs.declared.values.Cell.{Cell}
+use Rattle.rota_items.proofs.SoftItemSums.{sum_by-soft_items}
 use Rattle.rota_items.proofs.Assignments.{weighted-assignment_items}
 use Rattle.rota_items.proofs.OnSoftItems.{all-optimum_items, all-consecutive_assignment_items, all-consecutive_day_off_items, all-complete_weekend_items, all-assignment_items, all-worked_weekend_items}
 use Rattle.rota_items.proofs.Optimum.{weighted-optimum_items}
@@ -87,11 +88,7 @@ shortages-items week roster rule =
     let charge : Item Cell → ℕ = λ item. cond (is_rule item.rule rule) (item.weight * shortage roster item) 0 in
     omega (
       arith,
-      sum_by-append charge (optimum_items week) (consecutive_assignment_items week ++ (consecutive_day_off_items week ++ (complete_weekend_items week ++ (assignment_items week ++ worked_weekend_items week)))),
-      sum_by-append charge (consecutive_assignment_items week) (consecutive_day_off_items week ++ (complete_weekend_items week ++ (assignment_items week ++ worked_weekend_items week))),
-      sum_by-append charge (consecutive_day_off_items week) (complete_weekend_items week ++ (assignment_items week ++ worked_weekend_items week)),
-      sum_by-append charge (complete_weekend_items week) (assignment_items week ++ worked_weekend_items week),
-      sum_by-append charge (assignment_items week) (worked_weekend_items week),
+      sum_by-soft_items charge week,
       shortages-of_rule S1 rule roster (optimum_items week) (of-optimum week),
       shortages-of_rule S2 rule roster (consecutive_assignment_items week) (of-consecutive_assignments week),
       shortages-of_rule S3 rule roster (consecutive_day_off_items week) (of-consecutive_days_off week),

@@ -10,6 +10,7 @@ use Rattle.rota_core.specs.declared.rule.Rule.{Rule}
 use Rattle.rota_core.specs.declared.rule.Rule.TheVariants.{S5, S7}
 use Rattle.rota_core.specs.declared.values.Cell.{Cell}
 use Rattle.rota_core.specs.declared.values.Span.{Span}
+use Rattle.rota_items.proofs.SoftItemSums.{sum_by-soft_items}
 use Rattle.rota_items.proofs.HardCounts.{few-hard_rows}
 use Rattle.rota_items.proofs.ListSums.{sum_by-map}
 use Rattle.rota_items.proofs.Loops.{length-each_below, length-only_if}
@@ -138,11 +139,7 @@ module _ (w : Week) (limits : IsWithinLimits w) (f : Item Cell → ℕ) (most : 
   on-soft_items =
       omega (
         arith,
-        sum_by-append f (optimum_items w) (consecutive_assignment_items w ++ (consecutive_day_off_items w ++ (complete_weekend_items w ++ (assignment_items w ++ worked_weekend_items w)))),
-        sum_by-append f (consecutive_assignment_items w) (consecutive_day_off_items w ++ (complete_weekend_items w ++ (assignment_items w ++ worked_weekend_items w))),
-        sum_by-append f (consecutive_day_off_items w) (complete_weekend_items w ++ (assignment_items w ++ worked_weekend_items w)),
-        sum_by-append f (complete_weekend_items w) (assignment_items w ++ worked_weekend_items w),
-        sum_by-append f (assignment_items w) (worked_weekend_items w),
+        sum_by-soft_items f w,
         on-s1,
         on-s2,
         on-s3,
