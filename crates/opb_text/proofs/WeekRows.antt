@@ -9,7 +9,7 @@ use Rattle.rota_items.specs.Items.{Item}
 use Rattle.rota_items.specs.LinearRow.{LinearRow}
 use Rattle.rota_items.specs.Slacks.{item_rows}
 use Rattle.rota_items.specs.WeekModel.{numbered_row, hard_rows, numbered_items, rows_of}
-use Rattle.rota_items.proofs.Loops.{AllByRecursion-append}
+use Rattle.rota_core.proofs.Loops.{AllByRecursion-append}
 use Rattle.rota_items.proofs.OnRuleRows.{all-h1_rows, all-h2_rows, all-h3_rows, all-h4_rows, all-rule_rows}
 use Rattle.opb_text.specs.EventText.{IsConstraint}
 

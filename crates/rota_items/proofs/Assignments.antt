@@ -16,7 +16,7 @@ use Rattle.rota_items.proofs.Values.{lacking, exceeding}
 use Rattle.rota_items.specs.Cells.{nurse_cells, work_cells}
 use Rattle.rota_items.specs.Constant.{constant_of_assignments}
 use Rattle.rota_items.specs.Items.{Item, shortage, weighted_shortages}
-use Rattle.rota_items.specs.Lists.{only_if}
+use Rattle.rota_core.specs.Lists.{only_if}
 use Rattle.rota_items.specs.Penalty.{assignment_cost, assignments_of, outside_total}
 use Rattle.rota_items.specs.SoftItems.{still_wanted, still_allowed, least_total_item, greatest_total_item, assignment_items}
 

@@ -8,7 +8,7 @@ use Rattle.rota_core.specs.Roster.{Roster, cell, Has}
 use Rattle.rota_core.specs.Week.{Week}
 use Rattle.rota_core.specs.declared.values.Cell.{Cell}
 use Rattle.rota_items.proofs.SumsBelow.{sum_by-each-is, count_by-each, sum_below-one, found, list_any-each, any_below-same, sum_below-zero, term-le-sum_below, one-sum_below}
-use Rattle.rota_items.specs.Lists.{each_below}
+use Rattle.rota_core.specs.Lists.{each_below}
 use Rattle.rota_items.specs.Cells.{on_cells, work_cells, skill_cells}
 
 pub true-from-count : (b : Bool) → 0 < cond b 1 0 → b ≡ true

@@ -9,7 +9,7 @@ use Rattle.rota_core.specs.Week.{Week}
 use Rattle.rota_items.proofs.Counted.{counts_row, one_if, count-more, counted-rows, greatest-append, same_counts, variables_of}
 use Rattle.rota_items.proofs.HardCounts.{counted-rule_rows, count-rows, greatest-terms}
 use Rattle.rota_items.proofs.ItemEventLists.{slack_count-numbered}
-use Rattle.rota_items.proofs.RisesWithin.{RisesWithin}
+use Rattle.rota_core.proofs.RisesWithin.{RisesWithin}
 use Rattle.rota_items.proofs.RisingTerms.{RisesTo, variable_of, rises-to_last}
 use Rattle.rota_items.proofs.SlackBound.{rows-below}
 use Rattle.rota_items.proofs.Standing.{at_variable, rises-end, stands-exactly}
@@ -24,7 +24,7 @@ use Rattle.rota_items.specs.Items.{Item}
 use Rattle.rota_items.specs.Limits.{IsWithinLimits}
 use Rattle.rota_items.specs.Linear.{Term, times}
 use Rattle.rota_items.specs.LinearRow.{LinearRow, linear_constraint}
-use Rattle.rota_items.specs.Lists.{only_if}
+use Rattle.rota_core.specs.Lists.{only_if}
 use Rattle.rota_items.specs.Objective.{request_terms, constant_terms, objective_rows}
 use Rattle.rota_items.specs.Slacks.{item_row, item_rows, slack_count, slack_weights}
 use Rattle.rota_items.specs.SoftItems.{soft_items}

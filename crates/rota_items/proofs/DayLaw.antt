@@ -8,7 +8,7 @@ use Rattle.std.proofs.lemmas.Bool.{true≢false, false≢true, cases_Bool, ltb-t
 use Rattle.rota_core.specs.declared.values.Span.{Span}
 use Rattle.rota_items.proofs.RunLengths.{run_length_before-le, run_after}
 use Rattle.rota_items.proofs.ListSums.{list_all-map, list_all-append, sum_by-only_if}
-use Rattle.rota_items.specs.Lists.{each_below, only_if}
+use Rattle.rota_core.specs.Lists.{each_below, only_if}
 use Rattle.rota_items.specs.RunPatterns.{PatternDay, Pattern, with_property, without_property, days_with, window, windows_on, closed_pattern, closed_patterns_on, edge_pattern, edge_patterns_on, patterns_on}
 use Rattle.rota_items.specs.Runs.{run_length_before, run_length, is_over, missing_on}
 

@@ -8,7 +8,7 @@ use Rattle.std.proofs.lemmas.List.{append-nil}
 use Rattle.rota_core.specs.Week.{Week}
 use Rattle.rota_items.proofs.DayLaw.{cond_same}
 use Rattle.rota_items.specs.ItemValues.{property_of, is_plain_of, days_of, pattern_of, charged_item}
-use Rattle.rota_items.specs.Lists.{only_if}
+use Rattle.rota_core.specs.Lists.{only_if}
 use Rattle.rota_items.specs.RunItems.{is_plain}
 use Rattle.rota_items.specs.RunPatterns.{Pattern, PatternDay, with_property, without_property, days_with, window, closed_pattern, edge_pattern}
 use Rattle.rota_items.specs.declared.soft_item.DayPattern.{DayPattern}

@@ -11,7 +11,7 @@ use Rattle.rota_items.proofs.Taking.{Joins, terms_join, Took-none, stop, go_on, 
 use Rattle.rota_items.specs.CellEvents.{cell_term_events}
 use Rattle.rota_items.specs.Events.{Event}
 use Rattle.rota_items.specs.Linear.{Term}
-use Rattle.rota_items.specs.Lists.{only_if}
+use Rattle.rota_core.specs.Lists.{only_if}
 use Rattle.rota_items.specs.RunPatterns.{PatternDay, with_property, days_with}
 use Rattle.rota_items.specs.Takes.{Took, Refused, Takes}
 use Rattle.rota_items.specs.declared.takers.Taker.{Ghosts}

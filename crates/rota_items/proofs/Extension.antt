@@ -16,7 +16,7 @@ use Rattle.rota_items.proofs.EnoughSlacks.{HasEnough, enough-items}
 use Rattle.rota_items.proofs.FirstBroken.{Judged, holds, first, first_of_rules, first_failing}
 use Rattle.rota_items.proofs.HardRules.{AllHold}
 use Rattle.rota_items.proofs.ItemLaw.{value_of-numbered, extension_satisfies, value_of-extension, weighted_shortages-le}
-use Rattle.rota_items.proofs.Loops.{AllByRecursion-back, AllByRecursion-append}
+use Rattle.rota_core.proofs.Loops.{AllByRecursion-back, AllByRecursion-append}
 use Rattle.rota_items.proofs.ModelParts.{numbered_constraints, constraints-parts}
 use Rattle.rota_items.proofs.Numbers.{cell_number-below}
 use Rattle.rota_items.proofs.Optimum.{weighted-optimum_items}

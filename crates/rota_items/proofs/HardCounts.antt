@@ -7,7 +7,7 @@ use Rattle.rota_core.specs.Roster.{InWeek}
 use Rattle.rota_core.specs.Week.{Week}
 use Rattle.rota_core.specs.declared.values.Cell.{Cell}
 use Rattle.rota_items.proofs.Counted.{counts_row, one_if, count-more}
-use Rattle.rota_items.proofs.Loops.{length-each_below, length-only_if}
+use Rattle.rota_core.proofs.Loops.{length-each_below, length-only_if}
 use Rattle.rota_items.proofs.Numbers.{cell_number-below}
 use Rattle.rota_items.proofs.OnRuleRows.{all-h1_rows, all-h2_rows, all-h3_rows, all-h4_rows, all-rule_rows}
 use Rattle.rota_items.proofs.TermsHold.{OnTerms}
@@ -16,7 +16,7 @@ use Rattle.rota_items.specs.Counting.{greatest}
 use Rattle.rota_items.specs.HardRows.{h1_rows, h2_rows, h3_monday_rows, h3_rows, h3_rows_between, h3_rows_of, h4_rows, rule_rows}
 use Rattle.rota_items.specs.Linear.{Term}
 use Rattle.rota_items.specs.LinearRow.{LinearRow}
-use Rattle.rota_items.specs.Lists.{each_below}
+use Rattle.rota_core.specs.Lists.{each_below}
 use Rattle.rota_items.specs.WeekModel.{numbered_terms, numbered_row, hard_rows}
 
 -- ---- how many

@@ -9,7 +9,7 @@ use Rattle.rota_core.specs.Roster.{Roster, cell}
 use Rattle.rota_core.specs.Week.{Week}
 use Rattle.rota_core.specs.declared.values.Cell.{Cell}
 use Rattle.rota_items.proofs.CellCounts.{on_count, work_count, count-on_cells, count-work_cells, on_count-le, work_count-le, any-on_cells, same_cells, skill_count, count-skill_cells, no_skill_cells, some_skill_cell}
-use Rattle.rota_items.proofs.Loops.{AllByRecursion-at, AllByRecursion-back, holds-where}
+use Rattle.rota_core.proofs.Loops.{AllByRecursion-at, AllByRecursion-back, holds-where}
 use Rattle.rota_items.proofs.OnRuleRows.{all-h1_rows, all-h2_rows, all-h3_rows, all-h4_rows}
 use Rattle.rota_items.proofs.PatternItems.{value_of-append, any_or_none}
 use Rattle.rota_items.proofs.SumsBelow.{count_by-each}
@@ -18,7 +18,7 @@ use Rattle.rota_items.specs.Cells.{on_cells, work_cells, demand_cells, skill_cel
 use Rattle.rota_items.specs.HardRows.{h1_row, h1_rows, h2_row, h2_rows, h3_monday_row, h3_monday_rows, h3_row, h3_rows_between, h3_rows, h4_row, h4_rows, h2_rows_at, h3_rows_of, h4_rows_at}
 use Rattle.rota_items.specs.Linear.{times, value_of}
 use Rattle.rota_items.specs.LinearRow.{LinearRow}
-use Rattle.rota_items.specs.Lists.{each_below, only_if}
+use Rattle.rota_core.specs.Lists.{each_below, only_if}
 
 -- the row holds on the roster
 abbrev pub Holds : Roster → LinearRow Cell → Type 0

@@ -7,7 +7,7 @@ use Rattle.std.proofs.lemmas.List.Sums.{sum_by-cons, sum_by-append}
 use Rattle.rota_core.specs.Week.{Week}
 use Rattle.rota_core.specs.declared.values.Cell.{Cell}
 use Rattle.rota_items.proofs.ListSums.{sum_by-map}
-use Rattle.rota_items.proofs.Loops.{only_if-holds}
+use Rattle.rota_core.proofs.Loops.{only_if-holds}
 use Rattle.rota_items.proofs.Taking.{within}
 use Rattle.rota_items.specs.Cells.{cell_number}
 use Rattle.rota_items.specs.Events.{term, row_events, term_events, events}
@@ -15,7 +15,7 @@ use Rattle.rota_items.specs.ItemEvents.{item_events}
 use Rattle.rota_items.specs.Items.{Item, numbered}
 use Rattle.rota_items.specs.Linear.{Term, times}
 use Rattle.rota_items.specs.LinearRow.{LinearRow}
-use Rattle.rota_items.specs.Lists.{each_below, only_if}
+use Rattle.rota_core.specs.Lists.{each_below, only_if}
 use Rattle.rota_items.specs.Slacks.{item_row, item_rows, slack_variables, slack_weights, slack_count}
 use Rattle.rota_items.specs.declared.soft_item.Section.{Section}
 use Rattle.rota_items.specs.declared.soft_item.Section.TheVariants.{Rows, Weights}

@@ -29,7 +29,7 @@ use Rattle.rota_items.proofs.ItemLaw.{IsExtension, extension-extends, positive_p
 use Rattle.rota_items.proofs.JudgedItems.{counts-below, count-needed, ext, extends-after, lacks-item, met-assigned, met-hard, met-item, own, used-item}
 use Rattle.rota_items.proofs.JudgedRows.{IsJudged, IsSmall, below-difference, charge, cost, lacks, late, met, used, weight_of}
 use Rattle.rota_items.proofs.ListSums.{sum_by-map}
-use Rattle.rota_items.proofs.Loops.{AllByRecursion-append}
+use Rattle.rota_core.proofs.Loops.{AllByRecursion-append}
 use Rattle.rota_items.proofs.Numbers.{cell_number-below}
 use Rattle.rota_items.proofs.ObjectiveBound.{length-range}
 use Rattle.rota_items.proofs.PatternItems.{value_of-append}

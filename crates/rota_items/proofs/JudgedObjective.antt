@@ -29,7 +29,7 @@ use Rattle.rota_items.proofs.JudgedItems.{cells-of_cells, cells-of_slacks, cells
 use Rattle.rota_items.proofs.JudgedModel.{late-assigned, late-extended, roster-counts}
 use Rattle.rota_items.proofs.JudgedRows.{cost-raised, late, opened, others, raised, row-tallied, total-exact}
 use Rattle.rota_items.proofs.JudgedTerms.{counted_cell, counted_slack, sums_of, value_of-parts}
-use Rattle.rota_items.proofs.Loops.{AllByRecursion-append, AllByRecursion-each_below, AllByRecursion-only_if}
+use Rattle.rota_core.proofs.Loops.{AllByRecursion-append, AllByRecursion-each_below, AllByRecursion-only_if}
 use Rattle.rota_items.proofs.Numbers.{cell_number-below}
 use Rattle.rota_items.proofs.ObjectiveBound.{objective-below}
 use Rattle.rota_items.proofs.PatternItems.{value_of-append}

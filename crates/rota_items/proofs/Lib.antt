@@ -24,7 +24,6 @@ pub mod JudgedVerdict
 pub mod Least
 pub mod ListLengths
 pub mod ListSums
-pub mod Loops
 pub mod ModelLengths
 pub mod ModelParts
 pub mod Numbers
@@ -37,7 +36,6 @@ pub mod PatternDays
 pub mod PatternItems
 pub mod PenaltyBound
 pub mod Requests
-pub mod RisesWithin
 pub mod RisingCells
 pub mod RisingRows
 pub mod RisingTerms

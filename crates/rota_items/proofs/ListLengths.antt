@@ -5,7 +5,7 @@ use Rattle.rota_core.specs.Below.{sum_below}
 use Rattle.rota_items.proofs.ListSums.{sum_by-only_if}
 use Rattle.rota_items.proofs.SumsBelow.{sum_by-each}
 use Rattle.rota_items.specs.Items.{Item}
-use Rattle.rota_items.specs.Lists.{each_below, only_if}
+use Rattle.rota_core.specs.Lists.{each_below, only_if}
 use Rattle.rota_items.specs.Slacks.{slack_count}
 
 -- ---- numbers that a loop adds up

@@ -22,7 +22,7 @@ use Rattle.rota_items.specs.Constant.{assignments_outside, weekends_above, const
 use Rattle.rota_items.specs.Items.{Item, numbered}
 use Rattle.rota_items.specs.Limits.{IsWithinLimits}
 use Rattle.rota_items.specs.Linear.{value_of, times}
-use Rattle.rota_items.specs.Lists.{each_below, only_if}
+use Rattle.rota_core.specs.Lists.{each_below, only_if}
 use Rattle.rota_items.specs.Objective.{request_terms, constant_terms}
 use Rattle.rota_items.specs.RunItems.{Runs, pattern_item, run_items}
 use Rattle.rota_items.specs.RunPatterns.{with_property, without_property, Pattern, window, windows_on, closed_pattern, closed_patterns_on, edge_pattern, edge_patterns_on, patterns_on, windows, patterns}

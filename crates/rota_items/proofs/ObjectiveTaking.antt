@@ -9,14 +9,14 @@ use Rattle.std.proofs.lemmas.Result.{MatchResult-weaker}
 use Rattle.rota_core.specs.Week.{Week}
 use Rattle.rota_core.specs.declared.values.Cell.{Cell}
 use Rattle.rota_items.proofs.ItemEventLists.{term_events-append}
-use Rattle.rota_items.proofs.Loops.{only_if-holds, only_if-fails}
+use Rattle.rota_core.proofs.Loops.{only_if-holds, only_if-fails}
 use Rattle.rota_items.proofs.Taking.{terms_join, loop_none, loop_more, loop_all, loop_refused, Took-none, Refused-before, Refused-after, Takes-then, term_taken, term_refused}
 use Rattle.rota_items.specs.CellEvents.{cell_term_events}
 use Rattle.rota_items.specs.Cells.{cell_number, first_slack}
 use Rattle.rota_items.specs.Events.{Event, term, term_events, events}
 use Rattle.rota_items.specs.Linear.{Term}
 use Rattle.rota_items.specs.LinearRow.{LinearRow}
-use Rattle.rota_items.specs.Lists.{each_below, only_if}
+use Rattle.rota_core.specs.Lists.{each_below, only_if}
 use Rattle.rota_items.specs.Objective.{request_terms, constant_terms, objective_rows}
 use Rattle.rota_items.specs.Slacks.{slack_weights}
 use Rattle.rota_items.specs.Takes.{Took, Refused, Takes}

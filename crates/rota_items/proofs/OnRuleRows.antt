@@ -4,10 +4,10 @@ use Rattle.std.specs.Prelude.{nat_lt}
 use Rattle.std.specs.List.{AllByRecursion}
 use Rattle.rota_core.specs.Week.{Week}
 use Rattle.rota_core.specs.declared.values.Cell.{Cell}
-use Rattle.rota_items.proofs.Loops.{AllByRecursion-each_below, AllByRecursion-append, AllByRecursion-only_if}
+use Rattle.rota_core.proofs.Loops.{AllByRecursion-each_below, AllByRecursion-append, AllByRecursion-only_if}
 use Rattle.rota_items.specs.HardRows.{h1_row, h1_rows, h1_rows_of, h2_row, h2_rows, h2_rows_at, h3_monday_row, h3_monday_rows, h3_row, h3_rows, h3_rows_of, h3_rows_between, h4_row, h4_rows, h4_rows_of, h4_rows_at, rule_rows}
 use Rattle.rota_items.specs.LinearRow.{LinearRow}
-use Rattle.rota_items.specs.Lists.{each_below, only_if}
+use Rattle.rota_core.specs.Lists.{each_below, only_if}
 
 -- each row that stands for H3
 pub record OnSuccessionRows (week : Week) (P : LinearRow Cell → Type 0) : Type 0 where

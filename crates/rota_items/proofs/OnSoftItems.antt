@@ -4,9 +4,9 @@ use Rattle.std.specs.Prelude.{nat_lt, nat_le, if◌then◌else◌}
 use Rattle.std.specs.List.{AllByRecursion}
 use Rattle.rota_core.specs.Week.{Week}
 use Rattle.rota_core.specs.declared.values.Cell.{Cell}
-use Rattle.rota_items.proofs.Loops.{AllByRecursion-each_below, AllByRecursion-append, AllByRecursion-only_if}
+use Rattle.rota_core.proofs.Loops.{AllByRecursion-each_below, AllByRecursion-append, AllByRecursion-only_if}
 use Rattle.rota_items.specs.Items.{Item}
-use Rattle.rota_items.specs.Lists.{each_below, only_if}
+use Rattle.rota_core.specs.Lists.{each_below, only_if}
 use Rattle.rota_items.specs.RunItems.{run_items}
 use Rattle.rota_items.specs.SoftItems.{optimum_item, optimum_items, shift_runs, work_runs, off_runs, consecutive_assignment_items, consecutive_day_off_items, complete_weekend_items_of, complete_weekend_items, worked_weekend_items_of, worked_weekend_items, still_wanted, still_allowed, least_total_item, greatest_total_item, assignment_items, soft_items}
 

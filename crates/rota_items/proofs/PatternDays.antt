@@ -5,11 +5,11 @@ use Rattle.std.specs.List.{All, AllByRecursion, range_with_len, flat_map}
 use Rattle.std.proofs.lemmas.List.{map-append}
 use Rattle.std.proofs.lemmas.List.Elements.{All-from_recursion, recursion_from_All}
 use Rattle.rota_core.specs.declared.values.Span.{Span}
-use Rattle.rota_items.proofs.Loops.{AllByRecursion-append, AllByRecursion-each_below, AllByRecursion-only_if}
+use Rattle.rota_core.proofs.Loops.{AllByRecursion-append, AllByRecursion-each_below, AllByRecursion-only_if}
 use Rattle.rota_items.proofs.WeekDays.{OnDays, OnPatterns, on-windows, on-patterns}
 use Rattle.rota_items.specs.Items.{Item}
 use Rattle.rota_items.specs.Linear.{Term, times}
-use Rattle.rota_items.specs.Lists.{only_if}
+use Rattle.rota_core.specs.Lists.{only_if}
 use Rattle.rota_items.specs.RunItems.{Property, Runs, variables_on, day_terms, run_items, pattern_items}
 use Rattle.rota_items.specs.RunPatterns.{PatternDay, Pattern, DaysFollow, with_property, without_property, days_with, window, windows_on, windows, closed_pattern, closed_patterns_on, edge_pattern, edge_patterns_on, patterns_on, patterns}
 use Rattle.rota_items.specs.Slacks.{StandBelow}

@@ -8,7 +8,7 @@ use Rattle.rota_core.specs.Roster.{Roster, cell}
 use Rattle.rota_core.specs.Week.{Week}
 use Rattle.rota_items.proofs.PatternItems.{value_of-append}
 use Rattle.rota_items.specs.Linear.{Term, value_of}
-use Rattle.rota_items.specs.Lists.{each_below, only_if}
+use Rattle.rota_core.specs.Lists.{each_below, only_if}
 use Rattle.rota_items.specs.Objective.{request_terms}
 use Rattle.rota_items.specs.Penalty.{request_cost}
 

@@ -9,11 +9,11 @@ use Rattle.rota_core.specs.Roster.{cell}
 use Rattle.rota_core.specs.Week.{Week}
 use Rattle.rota_core.specs.declared.values.Cell.{Cell}
 use Rattle.rota_items.proofs.PatternDays.{days-follow}
-use Rattle.rota_items.proofs.RisesWithin.{RisesWithin, weaken, widen, rises-append, rises-each}
+use Rattle.rota_core.proofs.RisesWithin.{RisesWithin, weaken, widen, rises-append, rises-each}
 use Rattle.rota_items.specs.Cells.{on_cells, work_cells, nurse_cells, demand_cells, skill_cells, cell_number, unit_number}
 use Rattle.rota_items.specs.Items.{Item}
 use Rattle.rota_items.specs.Linear.{Term, times}
-use Rattle.rota_items.specs.Lists.{each_below}
+use Rattle.rota_core.specs.Lists.{each_below}
 use Rattle.rota_items.specs.RunItems.{Property, variables_on, day_terms, Runs, run_items, pattern_items}
 use Rattle.rota_items.specs.RunPatterns.{PatternDay, Pattern, DaysFollow, windows, patterns}
 use Rattle.rota_items.specs.WeekModel.{numbered_terms}

@@ -8,7 +8,7 @@ use Rattle.rota_core.specs.declared.rule.Rule.TheVariants.{S5, S7}
 use Rattle.rota_core.specs.declared.values.Cell.{Cell}
 use Rattle.rota_items.proofs.OnRuleRows.{all-h1_rows, all-h2_rows, all-h3_rows, all-h4_rows, all-rule_rows}
 use Rattle.rota_items.proofs.OnSoftItems.{all-optimum_items, all-consecutive_assignment_items, all-consecutive_day_off_items, all-complete_weekend_items, all-assignment_items, all-worked_weekend_items, all-soft_items}
-use Rattle.rota_items.proofs.RisesWithin.{RisesWithin, rises-append}
+use Rattle.rota_core.proofs.RisesWithin.{RisesWithin, rises-append}
 use Rattle.rota_items.proofs.RisingCells.{ItemRises, at, day_start, first_day-from, last_day-le, on-keeps, rises-demand_cells, rises-nurse_cells, rises-pattern, rises-runs, rises-skill_cells, rises-times, rises-work_cells, week_end-le, within, within-block}
 use Rattle.rota_items.specs.Cells.{on_cells, work_cells, nurse_cells, demand_cells, skill_cells, cell_number}
 use Rattle.rota_items.specs.HardRows.{h3_row, rule_rows}

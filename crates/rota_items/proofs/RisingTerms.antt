@@ -7,9 +7,9 @@ use Rattle.std.proofs.lemmas.List.Sums.{sum_by-cons}
 use Rattle.rota_core.specs.Roster.{cell}
 use Rattle.rota_core.specs.Week.{Week}
 use Rattle.rota_core.specs.declared.values.Cell.{Cell}
-use Rattle.rota_items.proofs.Loops.{AllByRecursion-append}
+use Rattle.rota_core.proofs.Loops.{AllByRecursion-append}
 use Rattle.rota_items.proofs.ModelParts.{numbered_constraints, constraints-parts}
-use Rattle.rota_items.proofs.RisesWithin.{RisesWithin, weaken, widen, rises-append, rises-each, rises-only_if}
+use Rattle.rota_core.proofs.RisesWithin.{RisesWithin, weaken, widen, rises-append, rises-each, rises-only_if}
 use Rattle.rota_items.proofs.RisingCells.{ItemRises, at, day_start, rises-numbered, shift_start, within-block}
 use Rattle.rota_items.proofs.RisingRows.{RowRises, rises-items, rises-rows}
 use Rattle.rota_items.specs.Cells.{cell_number, unit_number, first_slack}
@@ -18,7 +18,7 @@ use Rattle.rota_items.specs.HardRows.{rule_rows}
 use Rattle.rota_items.specs.Items.{Item, numbered}
 use Rattle.rota_items.specs.Linear.{Term, Constraint, times}
 use Rattle.rota_items.specs.LinearRow.{LinearRow}
-use Rattle.rota_items.specs.Lists.{each_below, only_if}
+use Rattle.rota_core.specs.Lists.{each_below, only_if}
 use Rattle.rota_items.specs.Objective.{request_terms, constant_terms}
 use Rattle.rota_items.specs.RisingTerms.{RisesFrom, HasRisingTerms}
 use Rattle.rota_items.specs.Slacks.{item_constraints, slack_weights, slack_count}

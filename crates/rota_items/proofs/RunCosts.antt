@@ -13,7 +13,7 @@ use Rattle.rota_items.proofs.RunLaw.{weighted_shortages-run_items}
 use Rattle.rota_items.proofs.SumsBelow.{sum_by-each-times, sum_by-each-is, sum_below-times, sum_below-plus}
 use Rattle.rota_items.specs.Cells.{work_cells}
 use Rattle.rota_items.specs.Items.{Item, shortage, weighted_shortages}
-use Rattle.rota_items.specs.Lists.{each_below}
+use Rattle.rota_core.specs.Lists.{each_below}
 use Rattle.rota_items.specs.Penalty.{consecutive_assignment_cost, consecutive_day_off_cost, shift_run_cost, work_run_cost, off_run_cost}
 use Rattle.rota_items.specs.RunItems.{Runs, AtMostOneADay, run_items}
 use Rattle.rota_items.specs.Runs.{run_cost}

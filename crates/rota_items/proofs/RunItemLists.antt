@@ -2,8 +2,8 @@
 use Rattle.std.proofs.Common.{◌≡◌, ℕ, zero, suc, Bool, true, false, List, ◌++◌, map, refl, ap, ◌∙◌}
 use Rattle.std.proofs.lemmas.List.{map-append}
 use Rattle.rota_items.specs.ItemPlaces.{pattern_item_of, window_items_on, closed_items_at, pattern_items_on}
-use Rattle.rota_items.specs.Lists.{each_below, only_if}
-use Rattle.rota_items.proofs.Loops.{each_below-same}
+use Rattle.rota_core.specs.Lists.{each_below, only_if}
+use Rattle.rota_core.proofs.Loops.{each_below-same}
 use Rattle.rota_items.specs.RunItems.{Runs, run_items}
 use Rattle.rota_items.specs.RunPatterns.{windows_on, windows, patterns_on, patterns, closed_patterns_on, edge_patterns_on}
 

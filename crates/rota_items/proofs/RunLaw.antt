@@ -6,7 +6,7 @@ use Rattle.std.proofs.lemmas.List.Sums.{sum_by-append}
 use Rattle.rota_core.specs.declared.values.Span.{Span}
 use Rattle.rota_items.proofs.CellCounts.{cond-le}
 use Rattle.rota_items.proofs.DayLaw.{matches, units_of, units, units-windows_on, units-patterns_on}
-use Rattle.rota_items.proofs.Loops.{AllByRecursion-append}
+use Rattle.rota_core.proofs.Loops.{AllByRecursion-append}
 use Rattle.rota_items.proofs.PatternItems.{weighted-pattern_item, shortage-pattern_item}
 use Rattle.rota_items.proofs.ListSums.{sum_by-map, sum_by-each_below, sum_by-times, sum_by-same}
 use Rattle.rota_items.proofs.WeekDays.{OnDays, OnPatterns, on-windows_on, on-patterns_on, on-windows, on-patterns, on-week}

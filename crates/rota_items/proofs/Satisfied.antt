@@ -9,7 +9,7 @@ use Rattle.rota_core.specs.Week.{Week}
 use Rattle.rota_core.specs.declared.values.Cell.{Cell}
 use Rattle.rota_items.proofs.HardRules.{AllHold, h1_rows-hold, h1_rows-mean, h2_rows-hold, h2_rows-mean, h3_rows-hold, h3_rows-mean, h4_rows-hold, h4_rows-mean, Holds}
 use Rattle.rota_items.proofs.ItemLaw.{value_of-numbered}
-use Rattle.rota_items.proofs.Loops.{AllByRecursion-back}
+use Rattle.rota_core.proofs.Loops.{AllByRecursion-back}
 use Rattle.rota_items.proofs.ModelParts.{hard_constraint, numbered_constraints}
 use Rattle.rota_items.proofs.OnRuleRows.{all-rule_rows}
 use Rattle.rota_items.specs.Cells.{cell_number, unit_number}

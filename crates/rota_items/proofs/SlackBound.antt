@@ -13,13 +13,13 @@ use Rattle.rota_core.specs.declared.values.Span.{Span}
 use Rattle.rota_items.proofs.SoftItemSums.{sum_by-soft_items}
 use Rattle.rota_items.proofs.HardCounts.{few-hard_rows}
 use Rattle.rota_items.proofs.ListSums.{sum_by-map}
-use Rattle.rota_items.proofs.Loops.{length-each_below, length-only_if}
+use Rattle.rota_core.proofs.Loops.{length-each_below, length-only_if}
 use Rattle.rota_items.proofs.ObjectiveBound.{each-at_most, where-at_most, if-at_most}
 use Rattle.rota_items.specs.Cells.{work_cells, cell_number, cell_count, first_slack}
 use Rattle.rota_items.specs.Items.{Item, numbered}
 use Rattle.rota_items.specs.Limits.{IsWithinLimits}
 use Rattle.rota_items.specs.LinearRow.{linear_constraint}
-use Rattle.rota_items.specs.Lists.{each_below, only_if}
+use Rattle.rota_core.specs.Lists.{each_below, only_if}
 use Rattle.rota_items.specs.RunItems.{Property, Present, Runs, pattern_item, run_items}
 use Rattle.rota_items.specs.RunPatterns.{PatternDay, with_property, without_property, Pattern, windows_on, closed_patterns_on, edge_patterns_on, patterns_on, windows, patterns}
 use Rattle.rota_items.specs.Slacks.{item_rows, slack_count}

@@ -14,7 +14,7 @@ use Rattle.rota_items.specs.ItemEvents.{item_events}
 use Rattle.rota_items.specs.Items.{Item, numbered}
 use Rattle.rota_items.specs.Linear.{Term, times}
 use Rattle.rota_items.specs.LinearRow.{LinearRow}
-use Rattle.rota_items.specs.Lists.{each_below}
+use Rattle.rota_core.specs.Lists.{each_below}
 use Rattle.rota_items.specs.Slacks.{item_row}
 use Rattle.rota_items.specs.Takes.{Took, Refused, Takes}
 use Rattle.rota_items.specs.declared.part.Part.TheVariants.{Soft}

@@ -18,15 +18,15 @@ use Rattle.rota_items.specs.Items.{Item, positive_part}
 use Rattle.rota_items.specs.Limits.{IsWithinLimits}
 use Rattle.rota_items.specs.Linear.{Term, times}
 use Rattle.rota_items.specs.LinearRow.{LinearRow}
-use Rattle.rota_items.specs.Lists.{only_if}
+use Rattle.rota_core.specs.Lists.{only_if}
 use Rattle.rota_items.specs.RunItems.{Property, Present, Runs, day_terms, is_plain, variables_on, pattern_item, pattern_items, run_items}
 use Rattle.rota_items.specs.RunPatterns.{PatternDay, with_property, without_property, Pattern, window, windows_on, closed_pattern, closed_patterns_on, edge_pattern, edge_patterns_on, patterns_on, windows, patterns}
 use Rattle.rota_items.specs.SoftItems.{soft_items, shift_runs, work_runs, off_runs, weekend_item, still_allowed}
 use Rattle.rota_items.proofs.JudgedRows.{weight_of}
-use Rattle.rota_items.proofs.Loops.{AllByRecursion-each_below, AllByRecursion-append, AllByRecursion-only_if}
+use Rattle.rota_core.proofs.Loops.{AllByRecursion-each_below, AllByRecursion-append, AllByRecursion-only_if}
 use Rattle.rota_items.proofs.OnRuleRows.{all-h1_rows, all-h2_rows, all-h3_rows, all-h4_rows, all-rule_rows}
 use Rattle.rota_items.proofs.OnSoftItems.{all-optimum_items, all-consecutive_assignment_items, all-consecutive_day_off_items, all-complete_weekend_items, all-assignment_items, all-worked_weekend_items, all-soft_items}
-use Rattle.rota_items.proofs.RisesWithin.{RisesWithin}
+use Rattle.rota_core.proofs.RisesWithin.{RisesWithin}
 use Rattle.rota_items.proofs.SmallSums.{spread}
 
 -- ---- coefficients of 1 and -1

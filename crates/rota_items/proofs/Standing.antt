@@ -9,10 +9,10 @@ use Rattle.rota_core.proofs.NameLemmas.{list_any-map}
 use Rattle.rota_core.specs.Roster.{cell, InWeek}
 use Rattle.rota_core.specs.Week.{Week}
 use Rattle.rota_core.specs.declared.values.Cell.{Cell}
-use Rattle.rota_items.proofs.Loops.{last_or_before}
+use Rattle.rota_core.proofs.Loops.{last_or_before}
 use Rattle.rota_items.proofs.ModelParts.{hard_constraint, numbered_constraints, constraints-parts}
 use Rattle.rota_items.proofs.Numbers.{cell_of_number-in, cell_number-of}
-use Rattle.rota_items.proofs.RisesWithin.{RisesWithin}
+use Rattle.rota_core.proofs.RisesWithin.{RisesWithin}
 use Rattle.rota_items.proofs.RisingTerms.{RisesTo, variable_of, rises-to_last}
 use Rattle.rota_items.proofs.ItemEventLists.{slack_count-numbered}
 use Rattle.rota_items.specs.Cells.{on_cells, work_cells, cell_number, cell_of_number, unit_number, first_slack}
@@ -20,7 +20,7 @@ use Rattle.rota_items.specs.HardRows.{h1_row, h1_rows, h1_rows_of, h2_rows, h3_r
 use Rattle.rota_items.specs.Items.{Item}
 use Rattle.rota_items.specs.Linear.{Term, Constraint, times}
 use Rattle.rota_items.specs.LinearRow.{LinearRow, linear_constraint}
-use Rattle.rota_items.specs.Lists.{each_below}
+use Rattle.rota_core.specs.Lists.{each_below}
 use Rattle.rota_items.specs.Slacks.{item_constraint, item_constraints, slack_count}
 use Rattle.rota_items.specs.SoftItems.{soft_items}
 use Rattle.rota_items.specs.Standing.{stands_in, StandsInSome}

@@ -5,8 +5,8 @@ use Rattle.std.specs.List.{sum_by, count_by, list_any}
 use Rattle.std.proofs.lemmas.List.Sums.{sum_by-append}
 use Rattle.std.proofs.lemmas.List.Folds.{list_any-append}
 use Rattle.rota_core.specs.Below.{sum_below, count_below, any_below}
-use Rattle.rota_items.specs.Lists.{each_below}
-use Rattle.rota_items.proofs.Loops.{last_or_before}
+use Rattle.rota_core.specs.Lists.{each_below}
+use Rattle.rota_core.proofs.Loops.{last_or_before}
 
 pub sum_below-none : (f : ℕ → ℕ) → sum_below 0 f ≡ 0
 unfolding sum_below

@@ -10,13 +10,13 @@ use Rattle.std.specs.Prelude.{ℤ}
 use Rattle.std.specs.Result.{IsErr}
 use Rattle.rota_core.specs.Week.{Week}
 use Rattle.rota_core.specs.declared.values.Cell.{Cell}
-use Rattle.rota_items.proofs.Loops.{each_below-zero, each_below-more, only_if-holds, only_if-fails}
+use Rattle.rota_core.proofs.Loops.{each_below-zero, each_below-more, only_if-holds, only_if-fails}
 use Rattle.rota_items.specs.CellEvents.{cell_term_events, cell_row_events, coefficient_of, sum_events}
 use Rattle.rota_items.specs.Cells.{cell_number}
 use Rattle.rota_items.specs.Events.{Event, start_row, term, close_row, row_events, term_events, events}
 use Rattle.rota_items.specs.Linear.{Term, times}
 use Rattle.rota_items.specs.LinearRow.{LinearRow}
-use Rattle.rota_items.specs.Lists.{each_below, only_if}
+use Rattle.rota_core.specs.Lists.{each_below, only_if}
 use Rattle.rota_items.specs.Takes.{Took, Refused, Takes}
 use Rattle.rota_items.specs.WeekModel.{numbered_row, numbered_terms}
 use Rattle.rota_items.specs.declared.sums.Sign.{Sign}

@@ -2,7 +2,7 @@
 use Rattle.std.proofs.Common.{ℕ, ◌<◌, List, [], ◌∷◌, ◌++◌}
 use Rattle.std.specs.Prelude.{ℤ}
 use Rattle.std.specs.List.{AllByRecursion, flat_map}
-use Rattle.rota_items.proofs.Loops.{AllByRecursion-append}
+use Rattle.rota_core.proofs.Loops.{AllByRecursion-append}
 use Rattle.rota_items.proofs.WeekDays.{OnDays, OnPatterns, on-windows, on-patterns}
 use Rattle.rota_items.specs.Items.{Item}
 use Rattle.rota_items.specs.Linear.{Term, times}

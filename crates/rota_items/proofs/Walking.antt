@@ -5,11 +5,11 @@ use Rattle.std.specs.Result.{IsErr}
 use Rattle.rota_core.specs.Week.{Week}
 use Rattle.rota_core.specs.declared.values.Cell.{Cell}
 use Rattle.rota_items.proofs.ItemEventLists.{slack_count-append, slack_count-within, slack_count-where, item_events-none, item_events-append}
-use Rattle.rota_items.proofs.Loops.{each_below-zero, each_below-more, only_if-holds, only_if-fails}
+use Rattle.rota_core.proofs.Loops.{each_below-zero, each_below-more, only_if-holds, only_if-fails}
 use Rattle.rota_items.proofs.Taking.{within, Took-none, Took-then, Refused-before, Refused-after}
 use Rattle.rota_items.specs.ItemEvents.{item_events, SlacksFit, Walked, Walks}
 use Rattle.rota_items.specs.Items.{Item}
-use Rattle.rota_items.specs.Lists.{each_below, only_if}
+use Rattle.rota_core.specs.Lists.{each_below, only_if}
 use Rattle.rota_items.specs.Takes.{Took, Refused}
 use Rattle.rota_items.specs.declared.soft_item.Section.{Section}
 use Rattle.rota_items.specs.declared.takers.Taker.{Ghosts}

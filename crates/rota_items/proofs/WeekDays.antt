@@ -3,8 +3,8 @@ use Rattle.std.proofs.Common.{ℕ, zero, suc, ◌+◌, ◌-◌, ◌<◌, ◌≤�
 use Rattle.std.specs.Prelude.{nat_lt, nat_le, ◌&&◌}
 use Rattle.std.specs.List.{range_with_len, AllByRecursion}
 use Rattle.rota_core.specs.declared.values.Span.{Span}
-use Rattle.rota_items.proofs.Loops.{AllByRecursion-append, AllByRecursion-each_below, AllByRecursion-only_if}
-use Rattle.rota_items.specs.Lists.{only_if}
+use Rattle.rota_core.proofs.Loops.{AllByRecursion-append, AllByRecursion-each_below, AllByRecursion-only_if}
+use Rattle.rota_core.specs.Lists.{only_if}
 use Rattle.rota_items.specs.RunPatterns.{PatternDay, Pattern, with_property, without_property, days_with, window, windows_on, closed_pattern, closed_patterns_on, edge_pattern, edge_patterns_on, patterns_on, windows, patterns}
 use Rattle.rota_items.specs.Runs.{week_days}
 

@@ -8,7 +8,7 @@ use Rattle.rota_core.specs.Week.{Week}
 use Rattle.rota_core.specs.declared.values.Cell.{Cell}
 use Rattle.rota_core.specs.declared.values.Span.{Span}
 use Rattle.rota_items.proofs.Coefficients.{OnCoefficients, on-times, on-numbered}
-use Rattle.rota_items.proofs.Loops.{AllByRecursion-append, AllByRecursion-each_below, AllByRecursion-only_if}
+use Rattle.rota_core.proofs.Loops.{AllByRecursion-append, AllByRecursion-each_below, AllByRecursion-only_if}
 use Rattle.rota_items.proofs.ObjectiveBound.{constant-few}
 use Rattle.rota_items.proofs.OnSoftItems.{all-optimum_items, all-consecutive_assignment_items, all-consecutive_day_off_items, all-complete_weekend_items, all-assignment_items, all-worked_weekend_items, all-soft_items}
 use Rattle.rota_items.specs.Cells.{cell_number, first_slack}

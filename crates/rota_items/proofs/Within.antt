@@ -7,7 +7,7 @@ use Rattle.rota_core.specs.Week.{Week}
 use Rattle.rota_core.specs.declared.rule.Rule.{Rule}
 use Rattle.rota_core.specs.declared.rule.Rule.TheVariants.{S5, S7}
 use Rattle.rota_core.specs.declared.values.Cell.{Cell}
-use Rattle.rota_items.proofs.Loops.{AllByRecursion-each_below, AllByRecursion-append, AllByRecursion-only_if}
+use Rattle.rota_core.proofs.Loops.{AllByRecursion-each_below, AllByRecursion-append, AllByRecursion-only_if}
 use Rattle.rota_items.proofs.OnRuleRows.{OnSuccessionRows, all-h1_rows, all-h2_rows, all-h3_rows, all-h4_rows, all-rule_rows}
 use Rattle.rota_items.proofs.OnSoftItems.{all-optimum_items, all-consecutive_assignment_items, all-consecutive_day_off_items, all-complete_weekend_items, all-assignment_items, all-worked_weekend_items, all-soft_items}
 use Rattle.rota_items.proofs.TermsHold.{OnTerms, on-times, on-days, on-run_items}
@@ -17,7 +17,7 @@ use Rattle.rota_items.specs.HardRows.{rule_rows}
 use Rattle.rota_items.specs.Items.{Item}
 use Rattle.rota_items.specs.Linear.{Term, times}
 use Rattle.rota_items.specs.LinearRow.{LinearRow}
-use Rattle.rota_items.specs.Lists.{each_below}
+use Rattle.rota_core.specs.Lists.{each_below}
 use Rattle.rota_items.specs.Objective.{request_terms}
 use Rattle.rota_items.specs.RunItems.{Present}
 use Rattle.rota_items.specs.RunPatterns.{PatternDay, with_property, without_property}

@@ -4,7 +4,7 @@ use Rattle.rota_core.specs.declared.values.Cell.{Cell}
 use Rattle.rota_core.specs.Week.{Week}
 use Rattle.rota_core.specs.Roster.{cell}
 use Rattle.rota_core.specs.RosterTables.{cell_place}
-use Rattle.rota_items.specs.Lists.{each_below}
+use Rattle.rota_core.specs.Lists.{each_below}
 
 -- the cells of a nurse's day on a shift type
 abbrev pub on_cells : Week → ℕ → ℕ → ℕ → List Cell

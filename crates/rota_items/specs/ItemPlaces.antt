@@ -3,7 +3,7 @@ use Rattle.std.specs.Prelude.{ℕ, ◌+◌, nat_lt, nat_le, ◌&&◌, if◌then�
 use Rattle.rota_core.specs.declared.values.Cell.{Cell}
 use Rattle.rota_core.specs.Week.{Week}
 use Rattle.rota_items.specs.Items.{Item}
-use Rattle.rota_items.specs.Lists.{each_below, only_if}
+use Rattle.rota_core.specs.Lists.{each_below, only_if}
 use Rattle.rota_items.specs.RunItems.{Runs, pattern_item, run_items}
 use Rattle.rota_items.specs.RunPatterns.{Pattern, window, closed_pattern, edge_pattern}
 use Rattle.rota_items.specs.SoftItems.{optimum_item, shift_runs, work_runs, complete_weekend_items_of, worked_weekend_items_of, still_wanted, still_allowed, least_total_item, greatest_total_item}

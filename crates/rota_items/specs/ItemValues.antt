@@ -6,7 +6,7 @@ use Rattle.rota_items.specs.CellEvents.{coefficient_of}
 use Rattle.rota_items.specs.Cells.{on_cells, work_cells, nurse_cells, demand_cells}
 use Rattle.rota_items.specs.Items.{Item}
 use Rattle.rota_items.specs.Linear.{Term, times}
-use Rattle.rota_items.specs.Lists.{only_if}
+use Rattle.rota_core.specs.Lists.{only_if}
 use Rattle.rota_items.specs.RunItems.{Property, Present, Absent, Runs, day_terms, pattern_item}
 use Rattle.rota_items.specs.RunPatterns.{PatternDay, Pattern, without_property, days_with}
 use Rattle.rota_items.specs.declared.soft_item.DayCharge.{DayCharge}

@@ -14,7 +14,6 @@ pub mod Judging
 pub mod Limits
 pub mod Linear
 pub mod LinearRow
-pub mod Lists
 pub mod Objective
 pub mod Penalty
 pub mod RisingTerms

@@ -4,7 +4,7 @@ use Rattle.rota_core.specs.declared.values.Cell.{Cell}
 use Rattle.rota_core.specs.Week.{Week}
 use Rattle.rota_core.specs.Roster.{cell}
 use Rattle.rota_items.specs.declared.part.Part.TheVariants.{Objective}
-use Rattle.rota_items.specs.Lists.{each_below, only_if}
+use Rattle.rota_core.specs.Lists.{each_below, only_if}
 use Rattle.rota_items.specs.Linear.{Term}
 use Rattle.rota_items.specs.LinearRow.{LinearRow}
 use Rattle.rota_items.specs.Cells.{unit_number}

@@ -4,7 +4,7 @@ use Rattle.rota_core.specs.declared.rule.Rule.{Rule}
 use Rattle.rota_core.specs.declared.rule.Rule.TheVariants.{S1, S2, S3, S5, S6, S7}
 use Rattle.rota_core.specs.declared.values.Cell.{Cell}
 use Rattle.rota_core.specs.Week.{Week}
-use Rattle.rota_items.specs.Lists.{each_below, only_if}
+use Rattle.rota_core.specs.Lists.{each_below, only_if}
 use Rattle.rota_items.specs.Linear.{times}
 use Rattle.rota_items.specs.Cells.{on_cells, work_cells, nurse_cells, demand_cells}
 use Rattle.rota_items.specs.Items.{Item}

@@ -5,7 +5,7 @@ ghost use Rattle.rota_items.specs.CellEvents.{cell_row_events};
 ghost use Rattle.rota_items.specs.Events.{events};
 ghost use Rattle.rota_items.specs.Cells.{unit_number};
 ghost use Rattle.rota_items.specs.HardRows.{h1_row, h1_rows, h2_rows, h2_rows_at, h3_monday_row, h3_monday_rows, h3_row, h3_rows, h3_rows_between, h3_rows_of, h4_rows, h4_rows_at};
-ghost use Rattle.rota_items.specs.Lists.{only_if};
+ghost use Rattle.rota_core.specs.Lists.{only_if};
 ghost use Rattle.rota_items.specs.Takes.{Takes};
 ghost use Rattle.rota_items.specs.WeekModel.{unit_row};
 

@@ -4,7 +4,7 @@ ghost use Rattle.rota_core.specs.InstanceTables.{week_of};
 ghost use Rattle.rota_items.specs.CellEvents.{cell_term_events, coefficient_of, sum_events};
 ghost use Rattle.rota_items.specs.Cells.{nurse_cells};
 ghost use Rattle.rota_items.specs.ItemValues.{IsInWeek, IsKindOf, IsSumOf, days_of, is_plain_of, kind_cells, property_of, sum_terms};
-ghost use Rattle.rota_items.specs.Lists.{only_if};
+ghost use Rattle.rota_core.specs.Lists.{only_if};
 ghost use Rattle.rota_items.specs.RunItems.{day_terms};
 ghost use Rattle.rota_items.specs.RunPatterns.{days_with, without_property};
 ghost use Rattle.rota_items.specs.Takes.{Takes};

@@ -6,7 +6,7 @@ ghost use Rattle.rota_items.specs.Events.{term_events};
 ghost use Rattle.rota_items.specs.ItemEvents.{SlacksFit, Walks, item_events};
 ghost use Rattle.rota_items.specs.ItemValues.{IsSumOf, item_of};
 ghost use Rattle.rota_items.specs.Linear.{times};
-ghost use Rattle.rota_items.specs.Lists.{only_if};
+ghost use Rattle.rota_core.specs.Lists.{only_if};
 ghost use Rattle.rota_items.specs.Takes.{Takes};
 
 use crate::item_sums::take_sum;

@@ -2,7 +2,7 @@
 ghost use Rattle.std.specs.Prelude.{◌≡◌, ◌<◌, ◌≤◌, ◌+◌, ◌*◌, ℕ, Some, length};
 ghost use Rattle.rota_core.specs.InstanceTables.{week_of};
 ghost use Rattle.rota_items.specs.HardRows.{h1_rows, h2_rows, h2_rows_at, h3_monday_row, h3_monday_rows, h3_row, h3_rows, h3_rows_between, h4_rows, h4_rows_at, rule_rows};
-ghost use Rattle.rota_items.specs.Lists.{only_if};
+ghost use Rattle.rota_core.specs.Lists.{only_if};
 
 use crate::limits::within_limits;
 use rota_core::Instance;
@@ -16,7 +16,7 @@ fn count_h1(instance: &Instance) -> u32
 }
 
 /// 1 where the day asks for a nurse on the shift type and with the skill.
-#[tactic(auto, unfolding(crate::specs::Lists::only_if))]
+#[tactic(auto, unfolding(rota_core::specs::Lists::only_if))]
 fn count_h2_at(instance: &Instance, day: u8, shift: u8, skill: u8) -> u32
     requires day_in { day < 7 }
     requires shift_in { shift < (week_of instance.now).shifts }
@@ -44,7 +44,7 @@ fn count_h2(instance: &Instance) -> u32
 }
 
 /// 1 where the second shift type may not follow the first.
-#[tactic(auto, unfolding(crate::specs::Lists::only_if))]
+#[tactic(auto, unfolding(rota_core::specs::Lists::only_if))]
 fn count_forbidden(instance: &Instance, first: u8, second: u8) -> u32
     requires first_in { first < (week_of instance.now).shifts }
     requires second_in { second < (week_of instance.now).shifts }
@@ -112,7 +112,7 @@ fn count_h3(instance: &Instance) -> u32
 }
 
 /// 1 where the nurse lacks the skill.
-#[tactic(auto, unfolding(crate::specs::Lists::only_if))]
+#[tactic(auto, unfolding(rota_core::specs::Lists::only_if))]
 fn count_h4_at(instance: &Instance, nurse: u16, skill: u8) -> u32
     requires nurse_in { nurse < (week_of instance.now).nurses }
     requires skill_in { skill < (week_of instance.now).skills }

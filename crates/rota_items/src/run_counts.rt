@@ -1,6 +1,6 @@
 //! How many windows and patterns charge the runs of a property in a week.
 ghost use Rattle.std.specs.Prelude.{◌≡◌, ◌≤◌, ◌+◌, length};
-ghost use Rattle.rota_items.specs.Lists.{each_below};
+ghost use Rattle.rota_core.specs.Lists.{each_below};
 ghost use Rattle.rota_items.specs.RunPatterns.{closed_patterns_on, edge_patterns_on, patterns, windows};
 ghost use Rattle.rota_items.specs.WorkedWeeks.{limits_of};
 
@@ -8,7 +8,7 @@ use rota_core::Span;
 
 /// The number of windows: of days up to which the week may have a run above the greatest number, where
 /// so many days before Monday had the property.
-#[tactic(auto, unfolding(crate::specs::Lists::each_below, crate::specs::Lists::only_if))]
+#[tactic(auto, unfolding(rota_core::specs::Lists::each_below, rota_core::specs::Lists::only_if))]
 pub fn windows_of(history: u16, limits: Span) -> u32
     ensures { result ≡ length (windows history limits) }
 {
@@ -25,7 +25,7 @@ pub fn patterns_of(history: u16, limits: Span) -> u32
     closed_patterns_of(limits.min) + edge_patterns_of(history, limits.min)
 }
 
-#[tactic(auto, unfolding(crate::specs::Lists::each_below, crate::specs::Lists::only_if))]
+#[tactic(auto, unfolding(rota_core::specs::Lists::each_below, rota_core::specs::Lists::only_if))]
 fn closed_patterns_of(minimum: u16) -> u32
     ensures few { result ≤ 15 }
     ensures number { result ≡ length (each_below 7 (closed_patterns_on minimum)) }
@@ -34,7 +34,7 @@ fn closed_patterns_of(minimum: u16) -> u32
     longest * (11 - longest) / 2
 }
 
-#[tactic(auto, unfolding(crate::specs::Lists::each_below, crate::specs::Lists::only_if))]
+#[tactic(auto, unfolding(rota_core::specs::Lists::each_below, rota_core::specs::Lists::only_if))]
 fn edge_patterns_of(history: u16, minimum: u16) -> u32
     ensures few { result ≤ 7 }
     ensures number { result ≡ length (each_below 7 (edge_patterns_on history minimum)) }

@@ -4,7 +4,7 @@ ghost use Rattle.rota_core.specs.InstanceTables.{week_of};
 ghost use Rattle.rota_items.specs.ItemEvents.{SlacksFit, Walks};
 ghost use Rattle.rota_items.specs.ItemPlaces.{closed_items_at, edge_items_on, pattern_items_on, window_items_on};
 ghost use Rattle.rota_items.specs.ItemValues.{IsChargeOf, IsInWeek, charged_item, pattern_of, runs_of};
-ghost use Rattle.rota_items.specs.Lists.{each_below, only_if};
+ghost use Rattle.rota_core.specs.Lists.{each_below, only_if};
 ghost use Rattle.rota_items.specs.RunItems.{run_items};
 
 use crate::item_walk::walk_item;

@@ -1,7 +1,7 @@
 //! How many items charge the soft rules, and how many slacks they have.
 ghost use Rattle.std.specs.Prelude.{◌≡◌, ◌<◌, ◌≤◌, ◌++◌, [], if◌then◌else◌, length, nat_le, nat_lt};
 ghost use Rattle.rota_core.specs.InstanceTables.{week_of};
-ghost use Rattle.rota_items.specs.Lists.{each_below, only_if};
+ghost use Rattle.rota_core.specs.Lists.{each_below, only_if};
 ghost use Rattle.rota_items.specs.RunItems.{run_items};
 ghost use Rattle.rota_items.specs.RunPatterns.{patterns, windows};
 ghost use Rattle.rota_items.specs.Slacks.{slack_count};
@@ -12,7 +12,7 @@ use crate::run_counts::{patterns_of, windows_of};
 use rota_core::{Instance, Span};
 
 /// 1 where the day's optimal number of nurses on the shift type and with the skill is above the least.
-#[tactic(auto, unfolding(crate::specs::Lists::only_if))]
+#[tactic(auto, unfolding(rota_core::specs::Lists::only_if))]
 fn count_optimum_items_at(instance: &Instance, day: u8, shift: u8, skill: u8) -> u32
     requires day_in { day < 7 }
     requires shift_in { shift < (week_of instance.now).shifts }
@@ -191,7 +191,7 @@ fn nurses_with_totals(instance: &Instance) -> u16
 }
 
 /// The number of items of S6 of a nurse in the last week.
-#[tactic(auto, unfolding(crate::specs::Lists::only_if))]
+#[tactic(auto, unfolding(rota_core::specs::Lists::only_if))]
 fn count_assignment_items_of(instance: &Instance, nurse: u16) -> u32
     requires { nurse < (week_of instance.now).nurses }
     ensures few { result ≤ 2 }

@@ -10,7 +10,7 @@ use Rattle.opb_text.specs.declared.sink.Sink.{Sink}
 use Rattle.opb_text.specs.Sink.{PutsText, stands_for, sink_failed, target_of}
 use Rattle.opb_text.proofs.Told.{append_known-nil}
 use Rattle.opb_text.proofs.PutsTextLemmas.{or_false, puts_exit, puts_stop, puts_then}
-use Rattle.rota_items.proofs.Loops.{each_below-zero, each_below-more}
+use Rattle.rota_core.proofs.Loops.{each_below-zero, each_below-more}
 use Rattle.rota_items.proofs.Taking.{within as split_at}
 use Rattle.rota_read.specs.SolutionText.{assignment_text}
 use Rattle.rota_pb.specs.RosterRows.{rows_text}

@@ -7,7 +7,7 @@ use Rattle.rota_core.specs.InstanceTables.{InstanceTables}
 use Rattle.rota_core.specs.Lists.{only_if}
 use Rattle.rota_core.specs.Numeral.{numeral}
 use Rattle.rota_core.specs.ScenarioTables.{ScenarioTables}
-use Rattle.rota_items.proofs.Loops.{only_if-holds, only_if-fails}
+use Rattle.rota_core.proofs.Loops.{only_if-holds, only_if-fails}
 use Rattle.rota_read.specs.Days.{day_names}
 use Rattle.rota_read.specs.SolutionText.{spaced, ended, name_at, heading_text, assignment_text}
 use Rattle.rota_pb.specs.RosterRows.{rows_text}

@@ -2,7 +2,7 @@ use Rattle.std.proofs.Common.{[], ◌∷◌}
 use Rattle.rota_items.specs.HardRows.{h1_row, h1_rows_of}
 use Rattle.rota_core.specs.InstanceTables.{week_of}
 use Rattle.rota_items.specs.CellEvents.{cell_row_events}
-use Rattle.rota_items.specs.Lists.{each_below}
+use Rattle.rota_core.specs.Lists.{each_below}
 use Rattle.rota_items.specs.Takes.{Took}
 use Rattle.rota_items.proofs.hard_rules.take_h1.Given as goal
 

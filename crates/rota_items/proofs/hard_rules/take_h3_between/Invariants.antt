@@ -1,8 +1,7 @@
 use Rattle.rota_items.specs.HardRows.{h3_row}
-use Rattle.rota_items.specs.Lists.{only_if}
+use Rattle.rota_core.specs.Lists.{each_below, only_if}
 use Rattle.rota_core.specs.InstanceTables.{week_of}
 use Rattle.rota_items.specs.CellEvents.{cell_row_events}
-use Rattle.rota_items.specs.Lists.{each_below}
 use Rattle.rota_items.specs.Takes.{Took}
 use Rattle.rota_items.proofs.hard_rules.take_h3_between.Given as goal
 

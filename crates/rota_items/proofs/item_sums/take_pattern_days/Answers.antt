@@ -3,7 +3,7 @@ use Rattle.rota_core.specs.InstanceTables.{week_of}
 use Rattle.rota_items.proofs.DayTerms.{refused_first, refused_second, taken_third}
 use Rattle.rota_items.proofs.Taking.{exits}
 use Rattle.rota_items.specs.ItemValues.{property_of}
-use Rattle.rota_items.specs.Lists.{only_if}
+use Rattle.rota_core.specs.Lists.{only_if}
 use Rattle.rota_items.specs.RunItems.{day_terms}
 use Rattle.rota_items.specs.RunPatterns.{days_with, without_property}
 use Rattle.rota_items.proofs.item_sums.take_pattern_days.Goals as goal

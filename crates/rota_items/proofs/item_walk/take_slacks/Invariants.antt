@@ -1,7 +1,7 @@
 use Rattle.std.specs.Prelude.{pos}
 use Rattle.rota_items.proofs.SlackTerms.{slack_term}
 use Rattle.rota_items.specs.Events.{term_events}
-use Rattle.rota_items.specs.Lists.{each_below}
+use Rattle.rota_core.specs.Lists.{each_below}
 use Rattle.rota_items.specs.Takes.{Took}
 use Rattle.rota_items.proofs.item_walk.take_slacks.Given as goal
 

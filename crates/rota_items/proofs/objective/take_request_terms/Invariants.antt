@@ -1,6 +1,6 @@
 use Rattle.rota_core.specs.InstanceTables.{week_of}
 use Rattle.rota_items.specs.CellEvents.{cell_term_events}
-use Rattle.rota_items.specs.Lists.{each_below}
+use Rattle.rota_core.specs.Lists.{each_below}
 use Rattle.rota_items.specs.Objective.{request_terms_on}
 use Rattle.rota_items.specs.Takes.{Took}
 use Rattle.rota_items.proofs.objective.take_request_terms.Given as goal

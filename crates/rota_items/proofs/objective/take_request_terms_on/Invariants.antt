@@ -2,7 +2,7 @@ use Rattle.std.specs.Prelude.{◌*◌, pos, nat_lt}
 use Rattle.rota_core.specs.InstanceTables.{week_of}
 use Rattle.rota_core.specs.Roster.{cell}
 use Rattle.rota_items.specs.CellEvents.{cell_term_events}
-use Rattle.rota_items.specs.Lists.{each_below, only_if}
+use Rattle.rota_core.specs.Lists.{each_below, only_if}
 use Rattle.rota_items.specs.Takes.{Took}
 use Rattle.rota_items.proofs.objective.take_request_terms_on.Given as goal
 

@@ -1,7 +1,7 @@
 use Rattle.rota_core.specs.InstanceTables.{week_of}
 use Rattle.rota_items.specs.ItemEvents.{Walked}
 use Rattle.rota_items.specs.ItemPlaces.{optimum_items_at}
-use Rattle.rota_items.specs.Lists.{each_below}
+use Rattle.rota_core.specs.Lists.{each_below}
 use Rattle.rota_items.proofs.optimum_walk.walk_optimum_items.Given as goal
 
 abbrev pub invariant-loop-day : goal.invariant-loop-day

@@ -1,7 +1,7 @@
 use Rattle.std.proofs.Common.{ℕ, length}
 use Rattle.rota_core.specs.InstanceTables.{week_of}
 use Rattle.rota_items.specs.HardRows.{h3_monday_row}
-use Rattle.rota_items.specs.Lists.{only_if}
+use Rattle.rota_core.specs.Lists.{only_if}
 use Rattle.rota_items.proofs.ListLengths.{AddsUp}
 use Rattle.rota_items.proofs.rule_row_counts.count_after.Given as goal
 

@@ -1,7 +1,7 @@
 use Rattle.std.proofs.Common.{length}
 use Rattle.rota_core.specs.InstanceTables.{week_of}
 use Rattle.rota_items.specs.HardRows.{h2_rows_at}
-use Rattle.rota_items.specs.Lists.{each_below}
+use Rattle.rota_core.specs.Lists.{each_below}
 use Rattle.rota_items.proofs.ListLengths.{AddsUp}
 use Rattle.rota_items.proofs.rule_row_counts.count_h2.Given as goal
 

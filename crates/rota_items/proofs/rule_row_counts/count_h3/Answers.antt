@@ -1,7 +1,7 @@
 use Rattle.std.proofs.Common.{◌≡◌, ◌*◌, length, length-append, sym, arith}
 use Rattle.rota_core.specs.InstanceTables.{week_of}
 use Rattle.rota_items.specs.HardRows.{h3_monday_rows, h3_rows_between}
-use Rattle.rota_items.specs.Lists.{each_below}
+use Rattle.rota_core.specs.Lists.{each_below}
 use Rattle.rota_items.proofs.ListLengths.{adds-none, adds-more, added-length, length-each-is}
 use Rattle.rota_items.proofs.rule_row_counts.count_h3.Goals as goal
 

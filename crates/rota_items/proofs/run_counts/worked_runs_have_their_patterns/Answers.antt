@@ -1,5 +1,5 @@
 use Rattle.std.proofs.Common.{refl}
-use Rattle.rota_items.specs.Lists.{each_below, only_if}
+use Rattle.rota_core.specs.Lists.{each_below, only_if}
 use Rattle.rota_items.proofs.run_counts.worked_runs_have_their_patterns.Goals as goal
 
 pub returns-clause-windows_in_a_long_run : goal.returns-clause-windows_in_a_long_run

@@ -1,6 +1,6 @@
 use Rattle.rota_core.specs.InstanceTables.{week_of}
 use Rattle.rota_items.specs.ItemEvents.{Walked}
-use Rattle.rota_items.specs.Lists.{each_below}
+use Rattle.rota_core.specs.Lists.{each_below}
 use Rattle.rota_items.specs.ItemPlaces.{assignment_runs_of}
 use Rattle.rota_items.proofs.run_rules.walk_assignment_runs.Given as goal
 

@@ -1,7 +1,7 @@
 use Rattle.std.proofs.Common.{arith}
 use Rattle.rota_core.specs.InstanceTables.{week_of}
 use Rattle.rota_items.proofs.Walking.{walk_exits, walk_begins, walk_more, walk_ends, walk_refused, walk_stops, walk_then, fits_before, fits_after, fits_within}
-use Rattle.rota_items.specs.Lists.{each_below}
+use Rattle.rota_core.specs.Lists.{each_below}
 use Rattle.rota_items.specs.RunItems.{run_items}
 use Rattle.rota_items.specs.SoftItems.{shift_runs, work_runs}
 use Rattle.rota_items.proofs.run_rules.walk_assignment_runs_of.Goals as goal

@@ -3,7 +3,7 @@ use Rattle.rota_core.specs.InstanceTables.{week_of}
 use Rattle.rota_items.proofs.Walking.{walk_exits, walk_begins, walk_more, walk_ends, walk_refused, walk_stops, walk_then, fits_before, fits_after, fits_within}
 use Rattle.rota_items.specs.ItemPlaces.{closed_items_at, edge_items_on}
 use Rattle.rota_items.specs.ItemValues.{runs_of}
-use Rattle.rota_items.specs.Lists.{each_below}
+use Rattle.rota_core.specs.Lists.{each_below}
 use Rattle.rota_items.proofs.run_walk.walk_patterns_on.Goals as goal
 
 pub loop-count-init : goal.loop-count-init

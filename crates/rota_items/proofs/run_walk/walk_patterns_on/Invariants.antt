@@ -2,7 +2,7 @@ use Rattle.rota_core.specs.InstanceTables.{week_of}
 use Rattle.rota_items.specs.ItemEvents.{Walked}
 use Rattle.rota_items.specs.ItemPlaces.{closed_items_at}
 use Rattle.rota_items.specs.ItemValues.{runs_of}
-use Rattle.rota_items.specs.Lists.{each_below}
+use Rattle.rota_core.specs.Lists.{each_below}
 use Rattle.rota_items.proofs.run_walk.walk_patterns_on.Given as goal
 
 abbrev pub invariant-loop-count : goal.invariant-loop-count

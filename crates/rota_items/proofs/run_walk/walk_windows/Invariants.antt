@@ -2,7 +2,7 @@ use Rattle.rota_core.specs.InstanceTables.{week_of}
 use Rattle.rota_items.specs.ItemEvents.{Walked}
 use Rattle.rota_items.specs.ItemPlaces.{window_items_on}
 use Rattle.rota_items.specs.ItemValues.{runs_of}
-use Rattle.rota_items.specs.Lists.{each_below}
+use Rattle.rota_core.specs.Lists.{each_below}
 use Rattle.rota_items.proofs.run_walk.walk_windows.Given as goal
 
 abbrev pub invariant-loop-day : goal.invariant-loop-day

@@ -4,7 +4,7 @@ use Rattle.std.proofs.lemmas.List.Sums.{sum_by-append}
 use Rattle.rota_core.specs.InstanceTables.{week_of}
 use Rattle.rota_core.specs.declared.values.Cell.{Cell}
 use Rattle.rota_items.specs.Items.{Item}
-use Rattle.rota_items.specs.Lists.{only_if}
+use Rattle.rota_core.specs.Lists.{only_if}
 use Rattle.rota_items.specs.SoftItems.{still_wanted, still_allowed, least_total_item, greatest_total_item}
 use Rattle.rota_items.proofs.ListLengths.{slack_count-only_if}
 use Rattle.rota_items.proofs.soft_item_counts.count_assignment_slacks_of.Goals as goal

@@ -1,6 +1,6 @@
 use Rattle.std.proofs.Common.{◌++◌, length}
 use Rattle.rota_core.specs.InstanceTables.{week_of}
-use Rattle.rota_items.specs.Lists.{each_below}
+use Rattle.rota_core.specs.Lists.{each_below}
 use Rattle.rota_items.specs.RunItems.{run_items}
 use Rattle.rota_items.specs.SoftItems.{shift_runs, work_runs}
 use Rattle.rota_items.proofs.ListLengths.{AddsUp}

@@ -1,6 +1,6 @@
 use Rattle.std.proofs.Common.{nat_lt}
 use Rattle.rota_core.specs.InstanceTables.{week_of}
-use Rattle.rota_items.specs.Lists.{each_below, only_if}
+use Rattle.rota_core.specs.Lists.{each_below, only_if}
 use Rattle.rota_items.specs.SoftItems.{optimum_item}
 use Rattle.rota_items.specs.Slacks.{slack_count}
 use Rattle.rota_items.proofs.ListLengths.{AddsUp}

@@ -2,7 +2,7 @@ use Rattle.std.proofs.Common.{[], ◌∷◌}
 use Rattle.rota_core.specs.Roster.{cell}
 use Rattle.rota_core.specs.InstanceTables.{week_of}
 use Rattle.rota_items.specs.CellEvents.{sum_events}
-use Rattle.rota_items.specs.Lists.{each_below}
+use Rattle.rota_core.specs.Lists.{each_below}
 use Rattle.rota_items.specs.Takes.{Took}
 use Rattle.rota_items.specs.declared.sums.Sign.TheVariants.{Minus}
 use Rattle.rota_items.proofs.sums.take_skill_cells_on.Given as goal

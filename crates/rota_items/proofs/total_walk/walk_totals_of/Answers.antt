@@ -1,7 +1,7 @@
 use Rattle.std.proofs.Common.{nat_lt}
 use Rattle.rota_core.specs.InstanceTables.{week_of}
 use Rattle.rota_items.proofs.Walking.{walk_exits, walk_stops, walk_then, fits_before, fits_after}
-use Rattle.rota_items.specs.Lists.{only_if}
+use Rattle.rota_core.specs.Lists.{only_if}
 use Rattle.rota_items.specs.SoftItems.{still_wanted, still_allowed, least_total_item, greatest_total_item}
 use Rattle.rota_items.proofs.total_walk.walk_totals_of.Goals as goal
 

@@ -1,5 +1,5 @@
 use Rattle.std.proofs.Common.{refl}
-use Rattle.rota_items.specs.Lists.{only_if}
+use Rattle.rota_core.specs.Lists.{only_if}
 use Rattle.rota_items.proofs.weekend_walk.saturday_alone.Goals as goal
 
 pub returns-clause-pattern : goal.returns-clause-pattern

@@ -2,7 +2,7 @@ use Rattle.std.proofs.Common.{arith, rules}
 use Rattle.rota_core.specs.InstanceTables.{week_of}
 use Rattle.rota_items.proofs.Walking.{walk_exits, walk_begins, walk_more, walk_ends, walk_refused, walks_if, walked_if, walked_if_not, fits_if, fits_within}
 use Rattle.rota_items.specs.ItemPlaces.{worked_weekends_of}
-use Rattle.rota_items.specs.Lists.{each_below}
+use Rattle.rota_core.specs.Lists.{each_below}
 use Rattle.rota_items.proofs.weekend_walk.walk_worked_weekends.Goals as goal
 
 pub returns-then-not-last_week : goal.returns-then-not-last_week
