@@ -132,7 +132,7 @@ is_met week assignment verdict judges satisfies =
       satisfies = satisfies;
       keeps = keeps;
       costs_rules = costs-rules week assignment (roster_of week assignment) verdict judges keeps;
-      enough = omega (arith, ints, satisfying-objective week assignment satisfies, judges.objective);
+      penalty_at_most = omega (arith, ints, satisfying-objective week assignment satisfies, judges.objective);
     }
 
 pub met_or_not : (week : Week) (assignment : ℕ → Bool) (verdict : Verdict) →

@@ -74,7 +74,7 @@ pub record IsMet (week : Week) (assignment : ℕ → Bool) (verdict : Verdict) :
   pub satisfies : SatisfiesModel assignment (model_of week)
   pub keeps : KeepsHardRules week (roster_of week assignment)
   pub costs_rules : CostsTheRules week (roster_of week assignment) verdict
-  pub enough : penalty week (roster_of week assignment) ≤ verdict.objective
+  pub penalty_at_most : penalty week (roster_of week assignment) ≤ verdict.objective
 
 -- No constraint is named exactly where the assignment satisfies the model.
 abbrev pub IsMetOrNot : Week → (ℕ → Bool) → Verdict → Type 0
