@@ -56,6 +56,7 @@ pub mod Taking
 pub mod TermsHold
 pub mod Values
 pub mod VerdictMeaning
+pub mod VerdictRules
 pub mod Walking
 pub mod WeekDays
 pub mod Weekends

@@ -4,7 +4,7 @@ use Rattle.std.specs.Prelude.{pos, ◌==◌}
 use Rattle.std.specs.List.{AllByRecursion}
 use Rattle.std.proofs.lemmas.List.Sums.{sum_by-cons}
 use Rattle.std.proofs.lemmas.Int.{ints}
-use Rattle.rota_core.specs.HardRules.{KeepsHardRules}
+use Rattle.rota_core.specs.HardRules.{KeepsOneCell, KeepsHardRules}
 use Rattle.rota_core.specs.Roster.{Roster}
 use Rattle.rota_core.specs.Week.{Week}
 use Rattle.rota_core.specs.declared.rule.Rule.{Rule}
@@ -12,20 +12,23 @@ use Rattle.rota_core.specs.declared.rule.Rule.TheVariants.{Unit as UnitRule, H1,
 use Rattle.rota_core.specs.declared.values.Cell.{Cell}
 use Rattle.rota_items.proofs.SoftItemSums.{sum_by-soft_items}
 use Rattle.rota_items.proofs.Assignments.{weighted-assignment_items}
-use Rattle.rota_items.proofs.OnSoftItems.{all-optimum_items, all-consecutive_assignment_items, all-consecutive_day_off_items, all-complete_weekend_items, all-assignment_items, all-worked_weekend_items}
+use Rattle.rota_items.proofs.OnSoftItems.{all-optimum_items, all-consecutive_assignment_items, all-consecutive_day_off_items, all-complete_weekend_items, all-assignment_items, all-worked_weekend_items, all-soft_items}
 use Rattle.rota_items.proofs.Optimum.{weighted-optimum_items}
 use Rattle.rota_items.proofs.Requests.{value_of-request_terms}
 use Rattle.rota_items.proofs.RunCosts.{weighted-consecutive_assignment_items, weighted-consecutive_day_off_items}
 use Rattle.rota_items.proofs.Weekends.{weighted-complete_weekend_items, weighted-worked_weekend_items}
 use Rattle.rota_items.specs.Items.{Item, shortage, weighted_shortages}
-use Rattle.rota_items.specs.Penalty.{rule_cost}
-use Rattle.rota_items.specs.RuleCharges.{rule_number, shortages_of, charged}
+use Rattle.rota_items.specs.Penalty.{consecutive_assignment_cost, consecutive_day_off_cost, rule_cost}
+use Rattle.rota_items.specs.RuleCharges.{rule_number, is_soft, shortages_of, charged}
 use Rattle.rota_items.specs.RunItems.{Runs, run_items, pattern_items}
 use Rattle.rota_items.specs.RunPatterns.{Pattern, windows, patterns}
 use Rattle.rota_items.specs.SoftItems.{optimum_items, consecutive_assignment_items, consecutive_day_off_items, complete_weekend_items, assignment_items, worked_weekend_items, soft_items, shift_runs, work_runs, off_runs}
 
 abbrev OfRule : Rule → Item Cell → Type 0
 OfRule rule item = item.rule ≡ rule
+
+abbrev pub SoftItem : {X : Type 0} → Item X → Type 0
+SoftItem item = is_soft item.rule ≡ true
 
 abbrev is_rule : Rule → Rule → Bool
 is_rule one other = rule_number one == rule_number other
@@ -77,6 +80,20 @@ of-assignments week = all-assignment_items week (OfRule S6) (λ n _. refl) (λ n
 of-worked_weekends : (week : Week) → AllByRecursion (OfRule S7) (worked_weekend_items week)
 of-worked_weekends week = all-worked_weekend_items week (OfRule S7) (λ n _. (refl, (refl, tt)))
 
+soft_when : (rule : Rule) → is_soft rule ≡ true → (some : List (Item Cell)) → AllByRecursion (OfRule rule) some →
+    AllByRecursion SoftItem some
+soft_when rule soft [] all = tt
+soft_when rule soft (item ∷ items) all = (ap is_soft all.0 ∙ soft, soft_when rule soft items all.1)
+
+pub soft_items-soft : (week : Week) → AllByRecursion SoftItem (soft_items week)
+soft_items-soft week =
+    all-soft_items week SoftItem (soft_when S1 refl (optimum_items week) (of-optimum week))
+    (soft_when S2 refl (consecutive_assignment_items week) (of-consecutive_assignments week))
+    (soft_when S3 refl (consecutive_day_off_items week) (of-consecutive_days_off week))
+    (soft_when S5 refl (complete_weekend_items week) (of-complete_weekends week))
+    (soft_when S6 refl (assignment_items week) (of-assignments week))
+    (soft_when S7 refl (worked_weekend_items week) (of-worked_weekends week))
+
 abbrev part : Rule → Rule → Roster → List (Item Cell) → ℕ
 part own rule roster some = cond (is_rule own rule) (weighted_shortages roster some) 0
 
@@ -97,6 +114,16 @@ shortages-items week roster rule =
       shortages-of_rule S7 rule roster (worked_weekend_items week) (of-worked_weekends week),
     )
 
+pub charged_for_assignments : (week : Week) (roster : Roster) → KeepsOneCell week roster →
+    charged week roster S2 ≡ pos (consecutive_assignment_cost week roster)
+charged_for_assignments week roster one =
+    omega (arith, ints, shortages-items week roster S2, weighted-consecutive_assignment_items week roster one)
+
+pub charged_for_days_off : (week : Week) (roster : Roster) → KeepsOneCell week roster →
+    charged week roster S3 ≡ pos (consecutive_day_off_cost week roster)
+charged_for_days_off week roster one =
+    omega (arith, ints, shortages-items week roster S3, weighted-consecutive_day_off_items week roster one)
+
 pub charged_by_rule : (week : Week) (roster : Roster) (rule : Rule) → KeepsHardRules week roster →
     charged week roster rule ≡ pos (rule_cost week roster rule)
 charged_by_rule week roster UnitRule keeps =
@@ -111,10 +138,8 @@ charged_by_rule week roster H4 keeps =
     omega (arith, ints, shortages-items week roster H4)
 charged_by_rule week roster S1 keeps =
     omega (arith, ints, shortages-items week roster S1, weighted-optimum_items week roster keeps.minimum)
-charged_by_rule week roster S2 keeps =
-    omega (arith, ints, shortages-items week roster S2, weighted-consecutive_assignment_items week roster keeps.one_cell)
-charged_by_rule week roster S3 keeps =
-    omega (arith, ints, shortages-items week roster S3, weighted-consecutive_day_off_items week roster keeps.one_cell)
+charged_by_rule week roster S2 keeps = charged_for_assignments week roster keeps.one_cell
+charged_by_rule week roster S3 keeps = charged_for_days_off week roster keeps.one_cell
 charged_by_rule week roster S4 keeps =
     omega (arith, ints, shortages-items week roster S4, value_of-request_terms week roster)
 charged_by_rule week roster S5 keeps =

@@ -7,19 +7,21 @@ use Rattle.std.proofs.lemmas.Option.{none-some}
 use Rattle.std.proofs.lemmas.List.Elements.{All-from_recursion, recursion_from_All}
 use Rattle.rota_core.specs.HardRules.{KeepsHardRules, FirstBroken}
 use Rattle.rota_core.specs.Roster.{Roster}
+use Rattle.rota_core.specs.RosterTables.{set_of}
 use Rattle.rota_core.specs.Week.{Week}
 use Rattle.rota_core.specs.declared.rule.Rule.{Rule}
 use Rattle.rota_items.specs.declared.part.Part.{Part}
 use Rattle.rota_items.specs.declared.part.Part.TheVariants.{Objective, Hard, Soft}
 use Rattle.rota_items.specs.declared.verdicts.Verdict.{Verdict}
 use Rattle.rota_items.specs.Items.{positive_part}
+use Rattle.rota_items.specs.Judging.{Evaluated, SettlesModel, assigned, assignment_in, extended, roster_in}
 use Rattle.rota_items.specs.Linear.{Satisfies, SatisfiesModel, value_of}
 use Rattle.rota_items.specs.LinearRow.{LinearRow, linear_constraint}
 use Rattle.rota_items.specs.Penalty.{penalty, rule_cost}
 use Rattle.rota_items.specs.RuleCharges.{charged, soft_rules}
 use Rattle.rota_items.specs.Slacks.{item_rows}
 use Rattle.rota_items.specs.Cells.{first_slack}
-use Rattle.rota_items.specs.Verdicts.{CostsTheRules, Extends, ExtendsOrBreaks, IsMet, IsMetOrNot, Judges, first_unmet, one_later, rule_of_part}
+use Rattle.rota_items.specs.Verdicts.{CostsTheRules, Extends, ExtendsOrBreaks, IsMet, IsMetOrNot, Judges, first_unmet, one_later, rule_of_part, truth_of}
 use Rattle.rota_items.specs.WeekModel.{StandsForFirstBroken, extension_of, first_unsatisfied, hard_rows, is_satisfied, model_of, numbered_items, roster_of, rows_of}
 use Rattle.rota_items.proofs.Extension.{extension-first_broken, extension-objective, extension-satisfies, satisfying-keeps, satisfying-objective}
 use Rattle.rota_items.proofs.FirstBroken.{le_or_not}
@@ -27,7 +29,7 @@ use Rattle.rota_items.proofs.RuleCharges.{charged_by_rule}
 
 -- ---- costs
 
-only_natural : (ns : List ℕ) → map positive_part (map pos ns) ≡ ns
+pub only_natural : (ns : List ℕ) → map positive_part (map pos ns) ≡ ns
 only_natural [] = refl
 only_natural (n ∷ ns) = ap (λ (rest : List ℕ). n ∷ rest) (only_natural ns)
 
@@ -41,7 +43,7 @@ same_charges week roster keeps (rule ∷ rules) =
 sum_of_rules : (week : Week) (roster : Roster) → sum (map (rule_cost week roster) soft_rules) ≡ penalty week roster
 sum_of_rules week roster = omega arith
 
-costs-rules : (week : Week) (assignment : ℕ → Bool) (roster : Roster) (verdict : Verdict) →
+pub costs-rules : (week : Week) (assignment : ℕ → Bool) (roster : Roster) (verdict : Verdict) →
     Judges week assignment roster verdict → KeepsHardRules week roster → CostsTheRules week roster verdict
 costs-rules week assignment roster verdict judges keeps =
     let costs_are : verdict.costs ≡ map (rule_cost week roster) soft_rules =
@@ -83,11 +85,11 @@ part_or part (Some other) = other
 some-injective : (one other : Part) → ◌≡◌ {A = Option Part} (Some one) (Some other) → one ≡ other
 some-injective one other same = ap (part_or one) same
 
-abbrev Found : (ℕ → Bool) → List (LinearRow ℕ) → Part → Type 0
+abbrev pub Found : (ℕ → Bool) → List (LinearRow ℕ) → Part → Type 0
 Found assignment rows part = (number : ℕ) × (first_unmet assignment rows ≡ Some (number, rule_of_part part))
 
 -- what is not satisfied in a first part is found first
-first_unmet-among : (assignment : ℕ → Bool) (rows more : List (LinearRow ℕ)) (part : Part) →
+pub first_unmet-among : (assignment : ℕ → Bool) (rows more : List (LinearRow ℕ)) (part : Part) →
     first_unsatisfied assignment rows ≡ Some part → Found assignment (rows ++ more) part
 first_unmet-among assignment [] more part is = absurd (none-some part is)
 first_unmet-among assignment (row ∷ rows) more part is =
@@ -130,7 +132,7 @@ is_met week assignment verdict judges satisfies =
       satisfies = satisfies;
       keeps = keeps;
       costs_rules = costs-rules week assignment (roster_of week assignment) verdict judges keeps;
-      enough = omega (arith, ints, satisfying-objective week assignment satisfies, judges.objective);
+      penalty_at_most = omega (arith, ints, satisfying-objective week assignment satisfies, judges.objective);
     }
 
 pub met_or_not : (week : Week) (assignment : ℕ → Bool) (verdict : Verdict) →
@@ -160,7 +162,7 @@ abbrev Told : Week → Roster → Verdict → Option (ℕ × Rule) → Type 0
 Told week roster verdict unmet =
     MatchOption unmet (Extends week roster verdict) (λ found. FirstBroken week roster found.1)
 
-broken_rule : (week : Week) (roster : Roster) (part : Part) → StandsForFirstBroken week roster part →
+pub broken_rule : (week : Week) (roster : Roster) (part : Part) → StandsForFirstBroken week roster part →
     FirstBroken week roster (rule_of_part part)
 broken_rule week roster Objective stands = absurd stands
 broken_rule week roster (Hard rule) stands = stands
@@ -190,3 +192,10 @@ extends_or_breaks week roster verdict judges =
         let found : Found assignment (rows_of week) part =
         first_unmet-among assignment (hard_rows week) (item_rows (first_slack week) (numbered_items week)) part is in
         subst (Told week roster verdict) (sym found.1) (broken_rule week roster part stands)
+
+-- ---- either
+
+pub settles_model : (week : Week) (evaluated : Evaluated) (verdict : Verdict) →
+    Judges week (assignment_in week evaluated) (roster_in week evaluated) verdict → SettlesModel week evaluated verdict
+settles_model week (assigned bits) = met_or_not week (truth_of bits)
+settles_model week (extended roster) = extends_or_breaks week (set_of roster)

@@ -13,12 +13,13 @@ use Rattle.rota_items.specs.declared.part.Part.{Part}
 use Rattle.rota_items.specs.declared.part.Part.TheVariants.{Objective, Hard, Soft}
 use Rattle.rota_items.specs.declared.tallies.RowSums.{RowSums}
 use Rattle.rota_items.specs.declared.tallies.Tally.{Tally}
+use Rattle.rota_items.specs.declared.verdicts.Verdict.{Verdict}
 use Rattle.rota_items.specs.Cells.{unit_number}
 use Rattle.rota_items.specs.Counting.{greatest_count}
 use Rattle.rota_items.specs.Events.{Event, start_row, term, close_row, events}
 use Rattle.rota_items.specs.Items.{positive_part}
 use Rattle.rota_items.specs.Objective.{objective_rows}
-use Rattle.rota_items.specs.Verdicts.{truth_of}
+use Rattle.rota_items.specs.Verdicts.{ExtendsOrBreaks, IsMetOrNot, truth_of}
 use Rattle.rota_items.specs.WeekModel.{assignment_of, extension_of, roster_of, rows_of, objective_terms}
 
 -- what a judge evaluates: the variables whose bit is true, or the extension of a roster
@@ -39,6 +40,11 @@ roster_in week (extended roster) = set_of roster
 abbrev pub Fits : Week → Evaluated → Type 0
 Fits week (assigned bits) = Unit {0}
 Fits week (extended roster) = HasShapeOf week roster
+
+-- what its verdict says of the model: whether the bits satisfy it, or whether the roster extends to what does
+abbrev pub SettlesModel : Week → Evaluated → Verdict → Type 0
+SettlesModel week (assigned bits) verdict = IsMetOrNot week (truth_of bits) verdict
+SettlesModel week (extended roster) verdict = ExtendsOrBreaks week (set_of roster) verdict
 
 -- ---- sums that stay at the greatest number
 

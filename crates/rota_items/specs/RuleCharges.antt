@@ -1,5 +1,5 @@
 -- What the model charges, rule by rule.
-use Rattle.std.specs.Prelude.{ℕ, ◌+◌, ◌*◌, ℤ, pos, ◌+ℤ◌, ◌==◌, if◌then◌else◌, List, [], ◌∷◌}
+use Rattle.std.specs.Prelude.{ℕ, ◌+◌, ◌*◌, ℤ, pos, ◌+ℤ◌, ◌==◌, Bool, true, false, if◌then◌else◌, List, [], ◌∷◌}
 use Rattle.std.specs.List.{sum_by}
 use Rattle.rota_core.specs.declared.rule.Rule.{Rule}
 use Rattle.rota_core.specs.declared.rule.Rule.TheVariants.{Unit as UnitRule, H1, H2, H3, H4, S1, S2, S3, S4, S5, S6, S7}
@@ -54,3 +54,11 @@ charged week roster rule =
 -- the soft rules, in their order
 abbrev pub soft_rules : List Rule
 soft_rules = S1 ∷ S2 ∷ S3 ∷ S4 ∷ S5 ∷ S6 ∷ S7 ∷ []
+
+abbrev pub is_soft : Rule → Bool
+is_soft UnitRule = false
+is_soft H1 = false
+is_soft H2 = false
+is_soft H3 = false
+is_soft H4 = false
+is_soft _ = true

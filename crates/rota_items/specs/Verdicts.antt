@@ -1,17 +1,18 @@
 -- What a judge finds of an assignment and its roster.
-use Rattle.std.specs.Prelude.{◌≡◌, ℕ, zero, suc, ◌+◌, ◌≤◌, pos, Bool, false, if◌then◌else◌, slice_index_or, Option, Some, None, List, [], ◌∷◌, map, sum, MatchOption}
+use Rattle.std.specs.Prelude.{◌≡◌, ◌⊎◌, ◌↔◌, ℕ, zero, suc, ◌+◌, ◌≤◌, pos, Bool, true, false, if◌then◌else◌, slice_index_or, Option, Some, None, List, [], ◌∷◌, map, sum, IfSome, IsSomeAnd, MatchOption}
 use Rattle.rota_core.specs.declared.rule.Rule.{Rule}
 use Rattle.rota_core.specs.declared.rule.Rule.TheVariants.{Unit as UnitRule}
 use Rattle.rota_core.specs.Week.{Week}
 use Rattle.rota_core.specs.Roster.{Roster}
-use Rattle.rota_core.specs.HardRules.{KeepsHardRules, FirstBroken}
+use Rattle.rota_core.specs.HardRules.{KeepsOneCell, KeepsHardRules, FirstBroken}
 use Rattle.rota_items.specs.declared.part.Part.{Part}
 use Rattle.rota_items.specs.declared.part.Part.TheVariants.{Objective, Hard, Soft}
 use Rattle.rota_items.specs.declared.verdicts.Verdict.{Verdict}
+use Rattle.rota_items.specs.Cells.{unit_number}
 use Rattle.rota_items.specs.Linear.{SatisfiesModel, objective_value}
 use Rattle.rota_items.specs.LinearRow.{LinearRow}
-use Rattle.rota_items.specs.Penalty.{penalty, rule_cost}
-use Rattle.rota_items.specs.RuleCharges.{charged, soft_rules}
+use Rattle.rota_items.specs.Penalty.{consecutive_assignment_cost, consecutive_day_off_cost, penalty, rule_cost}
+use Rattle.rota_items.specs.RuleCharges.{charged, is_soft, soft_rules}
 use Rattle.rota_items.specs.WeekModel.{model_of, rows_of, roster_of, extension_of, is_satisfied}
 
 -- the variables whose bit is true, where bit i is that of variable i + 1
@@ -49,12 +50,31 @@ pub record CostsTheRules (week : Week) (roster : Roster) (verdict : Verdict) : T
   pub costs : verdict.costs ≡ map (rule_cost week roster) soft_rules
   pub sum_is : sum verdict.costs ≡ penalty week roster
 
+-- The costs of S2 and S3 are those of the runs: on shift types and of working days, and of days off.
+pub record CostsTheRuns (week : Week) (roster : Roster) (verdict : Verdict) : Type 0 where
+  pub assignments : slice_index_or verdict.costs 1 0 ≡ consecutive_assignment_cost week roster
+  pub days_off : slice_index_or verdict.costs 2 0 ≡ consecutive_day_off_cost week roster
+
+-- no constraint is named, or one of a soft rule
+abbrev pub NamesSoftAtMost : Verdict → Type 0
+NamesSoftAtMost verdict = IfSome verdict.unmet (λ unmet. is_soft unmet.1 ≡ true)
+
+-- What a verdict says of the rules.
+pub record JudgesTheRules (week : Week) (assignment : ℕ → Bool) (roster : Roster) (verdict : Verdict) : Type 0 where
+  -- no hard constraint is named exactly where the unit variable is true and the roster keeps the hard rules
+  pub hard : NamesSoftAtMost verdict ↔ ((assignment (unit_number week) ≡ true) × KeepsHardRules week roster)
+  -- where the unit variable is true, the rule that is named is the first that the roster breaks, if it breaks one
+  pub first_broken : assignment (unit_number week) ≡ true →
+      KeepsHardRules week roster ⊎ IsSomeAnd verdict.unmet (λ unmet. FirstBroken week roster unmet.1)
+  pub costs : KeepsHardRules week roster → CostsTheRules week roster verdict
+  pub run_costs : KeepsOneCell week roster → CostsTheRuns week roster verdict
+
 -- The assignment satisfies the model, and its roster keeps the hard rules at a penalty no greater than the objective.
 pub record IsMet (week : Week) (assignment : ℕ → Bool) (verdict : Verdict) : Type 0 where
   pub satisfies : SatisfiesModel assignment (model_of week)
   pub keeps : KeepsHardRules week (roster_of week assignment)
   pub costs_rules : CostsTheRules week (roster_of week assignment) verdict
-  pub enough : penalty week (roster_of week assignment) ≤ verdict.objective
+  pub penalty_at_most : penalty week (roster_of week assignment) ≤ verdict.objective
 
 -- No constraint is named exactly where the assignment satisfies the model.
 abbrev pub IsMetOrNot : Week → (ℕ → Bool) → Verdict → Type 0

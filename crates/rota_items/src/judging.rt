@@ -4,9 +4,9 @@ ghost use Rattle.std.specs.List.{fold};
 ghost use Rattle.rota_core.specs.InstanceTables.{week_of};
 ghost use Rattle.rota_core.specs.RosterTables.{HasShapeOf, set_of};
 ghost use Rattle.rota_items.specs.Events.{events};
-ghost use Rattle.rota_items.specs.Judging.{WasDriven, assigned, assignment_in, extended, fresh, judged, roster_in};
+ghost use Rattle.rota_items.specs.Judging.{SettlesModel, WasDriven, assigned, assignment_in, extended, fresh, judged, roster_in};
 ghost use Rattle.rota_items.specs.Objective.{objective_rows};
-ghost use Rattle.rota_items.specs.Verdicts.{ExtendsOrBreaks, IsMetOrNot, Judges, truth_of};
+ghost use Rattle.rota_items.specs.Verdicts.{ExtendsOrBreaks, IsMetOrNot, Judges, JudgesTheRules, truth_of};
 ghost use Rattle.rota_items.specs.WeekModel.{extension_of, model_of, objective_terms, roster_of, rows_of};
 
 use crate::driving::drive_constraints;
@@ -74,11 +74,16 @@ impl<'a> Judge<'a> {
         }
     }
 
-    /// What the judge found, after `drive_objective` and then `drive_constraints` of its instance.
+    /// What the judge found, after `drive_objective` and then `drive_constraints` of its instance. Where
+    /// the unit variable is true and the roster breaks H1 to H4, it names the first of them that is broken.
+    /// Where the roster keeps them, the costs are those of the rules.
     pub fn verdict(&self) -> Verdict
         requires driven { WasDriven self.now }
-        ensures { let week = week_of self.now.instance in let evaluated = self.now.evaluated in
+        ensures judges { let week = week_of self.now.instance in let evaluated = self.now.evaluated in
             Judges week (assignment_in week evaluated) (roster_in week evaluated) result }
+        ensures rules { let week = week_of self.now.instance in let evaluated = self.now.evaluated in
+            JudgesTheRules week (assignment_in week evaluated) (roster_in week evaluated) result }
+        ensures model { SettlesModel (week_of self.now.instance) self.now.evaluated result }
     {
         within_limits(self.instance);
         let [assignments, weekends] = constant_parts(self.instance);
@@ -129,6 +134,8 @@ pub fn judge_bits(instance: &Instance, bits: &Bits) -> Verdict
     requires { length bits.now ≡ (model_of (week_of instance.now)).variables }
     ensures judges { let week = week_of instance.now in
         Judges week (truth_of bits.now) (roster_of week (truth_of bits.now)) result }
+    ensures rules { let week = week_of instance.now in
+        JudgesTheRules week (truth_of bits.now) (roster_of week (truth_of bits.now)) result }
     ensures met_or_not { IsMetOrNot (week_of instance.now) (truth_of bits.now) result }
 {
     let mut judge = Judge::of_bits(instance, bits);
@@ -145,6 +152,8 @@ pub fn judge_roster(instance: &Instance, roster: &Roster) -> Verdict
     requires { HasShapeOf (week_of instance.now) roster.now }
     ensures judges { let week = week_of instance.now in
         Judges week (extension_of week (set_of roster.now)) (set_of roster.now) result }
+    ensures rules { let week = week_of instance.now in
+        JudgesTheRules week (extension_of week (set_of roster.now)) (set_of roster.now) result }
     ensures extends_or_breaks { ExtendsOrBreaks (week_of instance.now) (set_of roster.now) result }
 {
     let mut judge = Judge::of_roster(instance, roster);

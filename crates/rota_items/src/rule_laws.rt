@@ -8,14 +8,15 @@ ghost use Rattle.rota_items.specs.Linear.{value_of};
 ghost use Rattle.rota_items.specs.Items.{shortage, weighted_shortages};
 ghost use Rattle.rota_items.specs.Penalty.{optimum_cost, consecutive_assignment_cost, consecutive_day_off_cost, request_cost, complete_weekend_cost, assignment_cost, worked_weekend_cost, penalty, rule_cost};
 ghost use Rattle.rota_items.specs.RunItems.{AtMostOneADay};
-ghost use Rattle.rota_items.specs.SoftItems.{shift_runs, work_runs, optimum_items, consecutive_assignment_items, consecutive_day_off_items, complete_weekend_items, assignment_items, worked_weekend_items, soft_items};
+ghost use Rattle.rota_items.specs.SoftItems.{shift_runs, work_runs, off_runs, optimum_items, consecutive_assignment_items, consecutive_day_off_items, complete_weekend_items, assignment_items, worked_weekend_items, soft_items};
 ghost use Rattle.rota_items.specs.Constant.{constant, constant_of_assignments, constant_of_weekends};
 ghost use Rattle.rota_items.specs.Objective.{request_terms};
 ghost use Rattle.rota_items.specs.RuleCharges.{shortages_of, constant_of_rule, cell_terms_of_rule};
 ghost use Rattle.rota_items.specs.Limits.{IsWithinLimits};
 
 /// On a roster with one cell a day at most one cell of a nurse's day is on a shift type, and at most one
-/// is on any: the runs of both are of days with one variable that is true at most.
+/// is on any: the runs on shift types, of working days and of days off are of days with one variable that
+/// is true at most.
 pub fn one_cell_a_day_is_at_most_one()
     ensures on_shift { (week : Week) (roster : Roster) (n s : ℕ) →
         KeepsOneCell week roster →
@@ -26,6 +27,10 @@ pub fn one_cell_a_day_is_at_most_one()
         KeepsOneCell week roster →
         n < week.nurses →
         AtMostOneADay (work_runs week n).property roster }
+    ensures off { (week : Week) (roster : Roster) (n : ℕ) →
+        KeepsOneCell week roster →
+        n < week.nurses →
+        AtMostOneADay (off_runs week n).property roster }
 {}
 
 /// S1: the items of the optimal numbers charge the nurses that are missing.

@@ -54,7 +54,7 @@ module _ (week : Week) (meaning : Meaning) (verdict : Verdict) (roster : RosterT
     costs = met.costs_rules.costs ∙ map-alike _ _ (rule_cost-alike week _ _ same) soft_rules;
     sum_of_costs = is_total;
     penalty_is = of_roster;
-    enough = subst (λ n. n ≤ verdict.objective) (sym (is_total ∙ met.costs_rules.sum_is)) met.enough;
+    penalty_at_most = subst (λ n. n ≤ verdict.objective) (sym (is_total ∙ met.costs_rules.sum_is)) met.penalty_at_most;
     same_status = refl;
     same_last_o = refl;
   }

@@ -38,7 +38,7 @@ pub record IsDecoded (week : Week) (meaning : Meaning) (decoded : Decoded) : Typ
   pub costs : decoded.costs ≡ map (rule_cost week (set_of decoded.roster)) soft_rules
   pub sum_of_costs : decoded.penalty ≡ sum decoded.costs
   pub penalty_is : decoded.penalty ≡ penalty week (set_of decoded.roster)
-  pub enough : decoded.penalty ≤ decoded.objective
+  pub penalty_at_most : decoded.penalty ≤ decoded.objective
   pub same_status : decoded.status ≡ meaning.status
   pub same_last_o : decoded.last_o ≡ meaning.last_o
 

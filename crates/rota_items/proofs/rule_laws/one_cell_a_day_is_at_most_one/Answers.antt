@@ -6,3 +6,6 @@ returns-clause-on_shift c = λ week roster n s one. one-on_shift week roster one
 
 pub returns-clause-at_work : goal.returns-clause-at_work
 returns-clause-at_work c = λ week roster n one. one-at_work week roster one n
+
+pub returns-clause-off : goal.returns-clause-off
+returns-clause-off c = λ week roster n one. one-at_work week roster one n
