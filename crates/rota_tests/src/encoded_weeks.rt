@@ -14,7 +14,7 @@ use crate::worked_totals::{
 };
 use crate::worked_weeks::{
     DEMAND_NOBODY_CAN_MEET, ONE_NURSE_ONE_SHIFT, SCENARIO_WITHOUT_THE_SKILL,
-    SUCCESSION_AFTER_THE_HISTORY, Worked,
+    SUCCESSION_AFTER_THE_HISTORY, TWO_CELLS_ON_ONE_DAY, Worked,
 };
 use rota_core::{FileFault, FileName, Kind, MemorySource, MemoryTarget, Pace, ToWrite};
 use rota_pb::{Fault, run_encode, status_of};
@@ -26,7 +26,7 @@ use std::test::Fail;
 const ROOM: usize = 65536;
 
 /// Weeks whose models are small enough to be written out.
-pub fn written_weeks() -> [Worked; 18] {
+pub fn written_weeks() -> [Worked; 19] {
     [
         ONE_NURSE_ONE_SHIFT,
         SCENARIO_WITHOUT_THE_SKILL,
@@ -46,6 +46,7 @@ pub fn written_weeks() -> [Worked; 18] {
         DAYS_OFF_BELOW_THEIR_MINIMUM,
         DAYS_OFF_ABOVE_THEIR_MAXIMUM,
         COMPLETE_WEEKENDS,
+        TWO_CELLS_ON_ONE_DAY,
     ]
 }
 

@@ -56,6 +56,8 @@ mod week_files;
 #[cfg(test)]
 mod week_texts;
 #[cfg(test)]
+mod worked_costs;
+#[cfg(test)]
 mod worked_runs;
 #[cfg(test)]
 mod worked_totals;

@@ -165,3 +165,40 @@ SHIFT_OFF_REQUESTS = 0
 -1 x12 -1 x13 >= -1 ;
 ",
 };
+
+/// One nurse with two skills: at most one of a day's two cells.
+pub const TWO_CELLS_ON_ONE_DAY: Worked = Worked {
+    scenario: b"SCENARIO = s1
+WEEKS = 2
+SKILLS = 2
+Nurse Head
+SHIFT_TYPES = 1
+Day (1,9)
+FORBIDDEN_SHIFT_TYPES_SUCCESSIONS
+Day 0
+CONTRACTS = 1
+Full (1,9) (1,9) (1,9) 9 0
+NURSES = 1
+Ann Full 2 Nurse Head
+",
+    history: b"HISTORY
+0 s1
+NURSE_HISTORY
+Ann 0 0 None 0 0 0
+",
+    week: b"WEEK_DATA
+s1
+REQUIREMENTS
+SHIFT_OFF_REQUESTS = 0
+",
+    model: b"* #variable= 15 #constraint= 8
++1 x15 >= 1 ;
+-1 x1 -1 x2 >= -1 ;
+-1 x3 -1 x4 >= -1 ;
+-1 x5 -1 x6 >= -1 ;
+-1 x7 -1 x8 >= -1 ;
+-1 x9 -1 x10 >= -1 ;
+-1 x11 -1 x12 >= -1 ;
+-1 x13 -1 x14 >= -1 ;
+",
+};

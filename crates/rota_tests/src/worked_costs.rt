@@ -1,0 +1,115 @@
+//! Rosters of the worked weeks, and what each soft rule charges for them.
+use crate::week_files::instance_of_texts;
+use crate::worked_runs::{
+    LONG_RUN_IN_THE_HISTORY, MINIMUM_LONGER_THAN_THE_WEEK, RUN_FAR_ABOVE_THE_MAXIMUM,
+    SHIFT_NOBODY_SHOULD_WORK, SHORT_RUN_IN_THE_HISTORY,
+};
+use crate::worked_totals::{
+    COMPLETE_WEEKENDS, FEWER_THAN_THE_OPTIMUM, REQUESTS_ON_ONE_CELL, TOTAL_BELOW_IN_THE_LAST_WEEK,
+    TOTALS_ABOVE_IN_THE_LAST_WEEK,
+};
+use crate::worked_weeks::Worked;
+use rota_core::Rule;
+use rota_items::{Verdict, judge_roster};
+use rota_read::read_solution;
+use std::alloc::Global;
+
+/// A roster as a solution file, and the costs of S1 to S7.
+struct Costed {
+    files: Worked,
+    solution: &'static [u8],
+    costs: [u64; 7],
+}
+
+const NOBODY_WORKS: &[u8] = b"SOLUTION 0 s1 ASSIGNMENTS = 0";
+
+const MONDAY: &[u8] = b"SOLUTION 0 s1 ASSIGNMENTS = 1 Ann Mon Day Nurse";
+
+const COSTED: [Costed; 10] = [
+    Costed {
+        files: LONG_RUN_IN_THE_HISTORY,
+        solution: MONDAY,
+        costs: [0, 30, 0, 0, 0, 0, 0],
+    },
+    Costed {
+        files: RUN_FAR_ABOVE_THE_MAXIMUM,
+        solution: b"SOLUTION 0 s1 ASSIGNMENTS = 2 Ann Mon Day Nurse Ann Tue Day Nurse",
+        costs: [0, 60, 0, 0, 0, 0, 0],
+    },
+    Costed {
+        files: SHORT_RUN_IN_THE_HISTORY,
+        solution: NOBODY_WORKS,
+        costs: [0, 60, 0, 0, 0, 0, 0],
+    },
+    Costed {
+        files: SHIFT_NOBODY_SHOULD_WORK,
+        solution: MONDAY,
+        costs: [0, 15, 0, 0, 0, 0, 0],
+    },
+    Costed {
+        files: MINIMUM_LONGER_THAN_THE_WEEK,
+        solution: b"SOLUTION 0 s1 ASSIGNMENTS = 2 Ann Mon Day Nurse Ann Sun Day Nurse",
+        costs: [0, 240, 0, 0, 0, 0, 0],
+    },
+    Costed {
+        files: REQUESTS_ON_ONE_CELL,
+        solution: b"SOLUTION 0 s1 ASSIGNMENTS = 1 Ann Mon Late Nurse",
+        costs: [0, 0, 0, 10, 0, 0, 0],
+    },
+    Costed {
+        files: TOTALS_ABOVE_IN_THE_LAST_WEEK,
+        solution: b"SOLUTION 1 s1 ASSIGNMENTS = 7
+Ann Mon Day Nurse
+Ann Tue Day Nurse
+Ann Wed Day Nurse
+Ann Thu Day Nurse
+Ann Fri Day Nurse
+Ann Sat Day Nurse
+Ann Sun Day Nurse
+",
+        costs: [0, 0, 0, 0, 0, 240, 60],
+    },
+    Costed {
+        files: TOTAL_BELOW_IN_THE_LAST_WEEK,
+        solution: NOBODY_WORKS,
+        costs: [0, 0, 0, 0, 0, 200, 0],
+    },
+    Costed {
+        files: FEWER_THAN_THE_OPTIMUM,
+        solution: MONDAY,
+        costs: [60, 0, 0, 0, 0, 0, 0],
+    },
+    Costed {
+        files: COMPLETE_WEEKENDS,
+        solution: b"SOLUTION 0 s1 ASSIGNMENTS = 1 Ann Sat Day Nurse",
+        costs: [0, 0, 0, 0, 30, 0, 0],
+    },
+];
+
+// What a judge finds of the roster, where its files can be read.
+fn verdict_on(alloc: Global, files: &Worked, solution: &[u8]) -> Option<Verdict> {
+    let instance = instance_of_texts(alloc, files.scenario, files.history, files.week).ok()?;
+    let roster = read_solution(alloc, &instance, solution).ok()?;
+    Some(judge_roster(&instance, &roster))
+}
+
+#[test]
+fn worked_costs_by_rule(rt: HostRuntime) {
+    for costed in &COSTED {
+        let expected = Verdict {
+            unmet: None,
+            objective: costed.costs.iter().sum(),
+            costs: costed.costs,
+        };
+        assert_eq!(rt;
+            verdict_on(rt.alloc(), &costed.files, costed.solution),
+            Some(expected)
+        );
+    }
+}
+
+#[test]
+fn missing_nurse_breaks_h2(rt: HostRuntime) {
+    let verdict = verdict_on(rt.alloc(), &FEWER_THAN_THE_OPTIMUM, NOBODY_WORKS);
+    assert_eq!(rt; verdict.and_then(|found| found.unmet), Some((9, Rule::H2)));
+}
