@@ -1,8 +1,8 @@
 //! The files of one nurse and one shift type, cut after every byte.
 
-use crate::week_files::{ONE_NURSE_ONE_SHIFT, instance_of};
+use crate::week_files::{ONE_NURSE_ONE_SHIFT, history_parts, instance_of, week_parts};
 use rota_core::{FileFault, FileName, Kind};
-use rota_read::{read_history, read_scenario, read_solution, read_week};
+use rota_read::{read_scenario, read_solution};
 use std::test::Fail;
 
 const SOLUTION: &[u8] = b"SOLUTION
@@ -40,27 +40,23 @@ fn cut_scenario(rt: HostRuntime) {
 }
 
 #[test]
-fn cut_history(rt: HostRuntime) -> Result<(), Fail> {
-    let scenario = read_scenario(rt.alloc(), ONE_NURSE_ONE_SHIFT.scenario)?;
-    let text = ONE_NURSE_ONE_SHIFT.history;
-    for len in 0..text.len() {
-        let (front, cut_away) = text.split_at(len);
-        let fault = read_history(rt.alloc(), &scenario, front).err();
+fn cut_history(rt: HostRuntime) {
+    let files = ONE_NURSE_ONE_SHIFT;
+    for len in 0..files.history.len() {
+        let (front, cut_away) = files.history.split_at(len);
+        let fault = history_parts(rt.alloc(), files.scenario, front).err();
         assert!(rt; fits(fault, FileName::History, cut_away), "{len} bytes");
     }
-    Ok(())
 }
 
 #[test]
-fn cut_week(rt: HostRuntime) -> Result<(), Fail> {
-    let scenario = read_scenario(rt.alloc(), ONE_NURSE_ONE_SHIFT.scenario)?;
-    let text = ONE_NURSE_ONE_SHIFT.week;
-    for len in 0..text.len() {
-        let (front, cut_away) = text.split_at(len);
-        let fault = read_week(rt.alloc(), &scenario, front).err();
+fn cut_week(rt: HostRuntime) {
+    let files = ONE_NURSE_ONE_SHIFT;
+    for len in 0..files.week.len() {
+        let (front, cut_away) = files.week.split_at(len);
+        let fault = week_parts(rt.alloc(), files.scenario, front).err();
         assert!(rt; fits(fault, FileName::Week, cut_away), "{len} bytes");
     }
-    Ok(())
 }
 
 #[test]

@@ -23,7 +23,7 @@ pub struct Decoded {
 pub const OUTPUT_ROOM: usize = 4096;
 
 /// How many bytes an even port moves in a call.
-const PIECE: usize = 7;
+pub const PIECE: usize = 7;
 
 /// A pace at which no call fails.
 pub fn even() -> Pace {
@@ -65,4 +65,36 @@ pub fn decode_pacing(
 /// A run at which no port fails.
 pub fn decode(alloc: Global, answered: Answered) -> Result<Decoded, AllocError> {
     decode_pacing(alloc, answered, [even(); 4], even(), even())
+}
+
+/// What a run answers, and how many bytes go out.
+pub type Ended = (Result<(), Fault>, usize);
+
+/// How a run ends at these paces of the readers and of both targets.
+pub fn ended(alloc: Global, answered: Answered, readers: [Pace; 4], targets: Pace) -> Ended {
+    match decode_pacing(alloc, answered, readers, targets, targets) {
+        Ok(run) => (
+            run.outcome,
+            run.sol.bytes().len() + run.report.bytes().len(),
+        ),
+        Err(_) => (Err(Fault::Memory), 0),
+    }
+}
+
+/// Whether a run at these paces of the readers is whole: this solution and this report go out, and are flushed.
+pub fn writes(
+    alloc: Global,
+    answered: Answered,
+    readers: [Pace; 4],
+    sol: &[u8],
+    report: &[u8],
+) -> bool {
+    let Ok(run) = decode_pacing(alloc, answered, readers, even(), even()) else {
+        return false;
+    };
+    run.outcome == Ok(())
+        && run.sol.bytes() == sol
+        && run.sol.flushed() == sol.len()
+        && run.report.bytes() == report
+        && run.report.flushed() == report.len()
 }

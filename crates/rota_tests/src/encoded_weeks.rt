@@ -1,4 +1,5 @@
 //! Runs that encode worked weeks, over memory.
+use crate::encoding_runs::encode_pacing;
 use crate::five_nurses;
 use crate::five_nurses_hard_rows::{FIRST_LINES, HARD_ROWS};
 use crate::five_nurses_soft_rows::SOFT_ROWS;
@@ -22,8 +23,6 @@ use std::alloc::{AllocError, Global};
 use std::io;
 use std::io::Write;
 use std::test::Fail;
-
-const ROOM: usize = 65536;
 
 /// Weeks whose models are small enough to be written out.
 pub fn written_weeks() -> [Worked; 19] {
@@ -56,12 +55,12 @@ fn encode(
     files: Worked,
     pace: Pace,
 ) -> Result<(Result<(), Fault>, MemoryTarget), AllocError> {
-    let mut sce = MemorySource::new(files.scenario, Pace::new(7, None));
-    let mut his = MemorySource::new(files.history, Pace::new(4096, None));
-    let mut week = MemorySource::new(files.week, Pace::new(1, None));
-    let mut target = MemoryTarget::new(alloc, ROOM, pace)?;
-    let outcome = run_encode(alloc, &mut sce, &mut his, &mut week, &mut target);
-    Ok((outcome, target))
+    let readers = [
+        Pace::new(7, None),
+        Pace::new(4096, None),
+        Pace::new(1, None),
+    ];
+    encode_pacing(alloc, files, readers, pace)
 }
 
 #[test]
@@ -153,37 +152,6 @@ fn target_fails_at_each_call(rt: HostRuntime) -> Result<(), Fail> {
         assert!(rt; ONE_NURSE_ONE_SHIFT.model.starts_with(target.bytes()));
         assert_eq!(rt; target.flushed(), 0);
     }
-    Ok(())
-}
-
-// The outcome where the reader of this file, counted from 0, fails at its first call, and where the
-// scenario is one of these bytes.
-fn outcome_with_failing_reader(
-    alloc: Global,
-    failing: usize,
-    scenario: &[u8],
-) -> Result<Result<(), Fault>, AllocError> {
-    let pace = |file: usize| Pace::new(9, if file == failing { Some(0) } else { None });
-    let mut sce = MemorySource::new(scenario, pace(0));
-    let mut his = MemorySource::new(ONE_NURSE_ONE_SHIFT.history, pace(1));
-    let mut week = MemorySource::new(ONE_NURSE_ONE_SHIFT.week, pace(2));
-    let mut target = MemoryTarget::new(alloc, ROOM, Pace::new(9, Some(0)))?;
-    Ok(run_encode(alloc, &mut sce, &mut his, &mut week, &mut target))
-}
-
-#[test]
-fn readers_fail_at_first_call(rt: HostRuntime) -> Result<(), Fail> {
-    for failing in 0..3 {
-        let outcome = outcome_with_failing_reader(
-            rt.alloc(),
-            failing,
-            ONE_NURSE_ONE_SHIFT.scenario,
-        )?;
-        assert_eq!(rt; outcome, Err(Fault::Read));
-    }
-    // the fault of an earlier file comes first
-    let outcome = outcome_with_failing_reader(rt.alloc(), 1, b"SCENA")?;
-    assert_eq!(rt; outcome, Err(bad(Kind::OtherWord, FileName::Scenario, 1)));
     Ok(())
 }
 

@@ -1,14 +1,13 @@
 //! Runs that extend a roster, over memory, and back.
+use crate::extending_runs::{ROOM, extend_pacing};
 use crate::week_files::{ONE_NURSE_ONE_SHIFT, WeekFiles};
 use rota_core::{FileFault, FileName, Kind, MemorySource, MemoryTarget, Pace, Rule};
 use rota_pb::{Fault, run_decode, run_extend, status_of};
 use std::alloc::{AllocError, Global};
 use std::test::Fail;
 
-const ROOM: usize = 16384;
-
 /// No assignment to Day is allowed without a charge: each day's costs 15.
-const DAYS_CHARGED: WeekFiles = WeekFiles {
+pub const DAYS_CHARGED: WeekFiles = WeekFiles {
     scenario: b"SCENARIO = s1
 WEEKS = 2
 SKILLS = 1
@@ -25,7 +24,8 @@ Ann Full 1 Nurse
     ..ONE_NURSE_ONE_SHIFT
 };
 
-const MONDAY: &[u8] = b"SOLUTION
+/// The assignment to Day on Monday alone.
+pub const MONDAY: &[u8] = b"SOLUTION
 0 s1
 
 ASSIGNMENTS = 1
@@ -33,7 +33,7 @@ Ann Mon Day Nurse
 ";
 
 /// The answer of the extension of Monday's assignment.
-const MONDAY_EXTENDED: &[u8] = b"o 15
+pub const MONDAY_EXTENDED: &[u8] = b"o 15
 s SATISFIABLE
 v x1 -x2 -x3 -x4 -x5 -x6 -x7 x8 x9 -x10
 v -x11 -x12 -x13 -x14 -x15
@@ -91,20 +91,13 @@ fn extend(
     given: &[u8],
     pace: Pace,
 ) -> Result<(Result<(), Fault>, MemoryTarget), AllocError> {
-    let mut sce = MemorySource::new(files.scenario, Pace::new(7, None));
-    let mut his = MemorySource::new(files.history, Pace::new(4096, None));
-    let mut week = MemorySource::new(files.week, Pace::new(1, None));
-    let mut given = MemorySource::new(given, Pace::new(3, None));
-    let mut target = MemoryTarget::new(alloc, ROOM, pace)?;
-    let outcome = run_extend(
-        alloc,
-        &mut sce,
-        &mut his,
-        &mut week,
-        &mut given,
-        &mut target,
-    );
-    Ok((outcome, target))
+    let readers = [
+        Pace::new(7, None),
+        Pace::new(4096, None),
+        Pace::new(1, None),
+        Pace::new(3, None),
+    ];
+    extend_pacing(alloc, files, given, readers, pace)
 }
 
 #[test]
@@ -206,46 +199,6 @@ fn extension_cut_at_each_write(rt: HostRuntime) -> Result<(), Fail> {
         assert!(rt; MONDAY_EXTENDED.starts_with(target.bytes()));
         assert_eq!(rt; target.flushed(), 0);
     }
-    Ok(())
-}
-
-// The outcome where the reader of this file, counted from 0, fails at its first call, and where the
-// scenario is one of these bytes.
-fn outcome_with_failing_reader(
-    alloc: Global,
-    failing: usize,
-    scenario: &[u8],
-) -> Result<Result<(), Fault>, AllocError> {
-    let pace = |file: usize| Pace::new(9, if file == failing { Some(0) } else { None });
-    let mut sce = MemorySource::new(scenario, pace(0));
-    let mut his = MemorySource::new(DAYS_CHARGED.history, pace(1));
-    let mut week = MemorySource::new(DAYS_CHARGED.week, pace(2));
-    let mut given = MemorySource::new(MONDAY, pace(3));
-    let mut target = MemoryTarget::new(alloc, ROOM, Pace::new(9, Some(0)))?;
-    Ok(run_extend(
-        alloc,
-        &mut sce,
-        &mut his,
-        &mut week,
-        &mut given,
-        &mut target,
-    ))
-}
-
-#[test]
-fn given_roster_behind_failing_readers(rt: HostRuntime) -> Result<(), Fail> {
-    for failing in 0..4 {
-        let outcome = outcome_with_failing_reader(rt.alloc(), failing, DAYS_CHARGED.scenario)?;
-        assert_eq!(rt; outcome, Err(Fault::Read));
-    }
-    // the fault of an earlier file comes first
-    let outcome = outcome_with_failing_reader(rt.alloc(), 3, b"SCENA")?;
-    let other_word = FileFault::Bad {
-        kind: Kind::OtherWord,
-        file: FileName::Scenario,
-        line: 1,
-    };
-    assert_eq!(rt; outcome, Err(Fault::File(other_word)));
     Ok(())
 }
 

@@ -1,8 +1,8 @@
 //! What the files of five nurses say, as copied from them by hand.
 
 use crate::five_nurses::{HISTORY, SCENARIO, WEEK};
-use rota_core::{Contract, Demand, FileFault, Instance, Past, Span};
-use rota_read::{read_history, read_scenario, read_week};
+use crate::week_files::{history_parts, instance_of_texts, week_parts};
+use rota_core::{Contract, FileFault, Instance, Past, Span};
 use std::alloc::Global;
 use std::test::Fail;
 
@@ -23,19 +23,25 @@ const PART_TIME: Contract = Contract {
 };
 
 fn five_nurses(alloc: Global) -> Result<Instance, FileFault> {
-    let scenario = read_scenario(alloc, SCENARIO)?;
-    let history = read_history(alloc, &scenario, HISTORY)?;
-    let week = read_week(alloc, &scenario, WEEK)?;
-    Instance::join(scenario, history, week)
+    instance_of_texts(alloc, SCENARIO, HISTORY, WEEK)
+}
+
+// The numbers of nurses, shift types and skills, the number of the week, and whether it is the last.
+fn numbers(instance: &Instance) -> (u16, u8, u8, u16, bool) {
+    (
+        instance.nurses(),
+        instance.shifts(),
+        instance.skills(),
+        instance.week(),
+        instance.last_week(),
+    )
 }
 
 #[test]
 fn numbers_of_the_week(rt: HostRuntime) -> Result<(), Fail> {
     let instance = five_nurses(rt.alloc())?;
     assert_eq!(rt; instance.scenario_name(), b"n005w4".as_slice());
-    let sizes = (instance.nurses(), instance.shifts(), instance.skills());
-    assert_eq!(rt; sizes, (5, 3, 2));
-    assert_eq!(rt; (instance.week(), instance.last_week()), (0, false));
+    assert_eq!(rt; numbers(&instance), (5, 3, 2, 0, false));
     Ok(())
 }
 
@@ -53,55 +59,67 @@ const NAMES: [(&[u8], Option<u16>, Option<u8>, Option<u8>); 10] = [
     (b"Nurse", None, None, Some(1)),
 ];
 
+// The number of this name among the nurses, the shift types and the skills.
+fn numbers_of(instance: &Instance, name: &[u8]) -> (Option<u16>, Option<u8>, Option<u8>) {
+    (
+        instance.find_nurse(name),
+        instance.find_shift(name),
+        instance.find_skill(name),
+    )
+}
+
 #[test]
 fn names_in_the_order_of_the_file(rt: HostRuntime) -> Result<(), Fail> {
     let instance = five_nurses(rt.alloc())?;
     for (name, nurse, shift, skill) in NAMES {
-        assert_eq!(rt; instance.find_nurse(name), nurse);
-        assert_eq!(rt; instance.find_shift(name), shift);
-        assert_eq!(rt; instance.find_skill(name), skill);
+        assert_eq!(rt; numbers_of(&instance, name), (nurse, shift, skill));
     }
     Ok(())
+}
+
+// The contract of a nurse, and whether the nurse has the skill.
+fn contract_and_skill(nurse: u16, skill: u8) -> (Contract, bool) {
+    let contract = match nurse {
+        2 | 3 => PART_TIME,
+        _ => FULL_TIME,
+    };
+    (contract, skill == 1 || nurse < 3)
 }
 
 #[test]
 fn contracts_and_skills_of_nurses(rt: HostRuntime) -> Result<(), Fail> {
     let instance = five_nurses(rt.alloc())?;
     for nurse in 0..instance.nurses() {
-        let contract = match nurse {
-            2 | 3 => PART_TIME,
-            _ => FULL_TIME,
-        };
-        assert_eq!(rt; instance.contract(nurse), contract, "nurse {nurse}");
         for skill in 0..instance.skills() {
-            let has = skill == 1 || nurse < 3;
-            assert_eq!(rt; instance.has_skill(nurse, skill), has, "nurse {nurse}");
+            let found = (instance.contract(nurse), instance.has_skill(nurse, skill));
+            assert_eq!(rt; found, contract_and_skill(nurse, skill), "nurse {nurse}");
         }
     }
     Ok(())
 }
 
-// Late is not followed by Early, and Night by neither.
+// The limits of a shift type, and whether it is forbidden after another: Late is not followed by Early, and
+// Night by neither.
+fn limits_and_succession(first: u8, second: u8) -> (Span, bool) {
+    let (min, max) = match first {
+        0 => (2, 5),
+        1 => (2, 3),
+        _ => (4, 5),
+    };
+    let forbidden = matches!((first, second), (1, 0) | (2, 0) | (2, 1));
+    (Span { min, max }, forbidden)
+}
+
 #[test]
 fn limits_and_successions_of_shift_types(rt: HostRuntime) -> Result<(), Fail> {
     let instance = five_nurses(rt.alloc())?;
     for first in 0..instance.shifts() {
-        let (min, max) = match first {
-            0 => (2, 5),
-            1 => (2, 3),
-            _ => (4, 5),
-        };
-        assert_eq!(rt;
-            instance.limits(first),
-            Span { min, max },
-            "shift type {first}"
-        );
         for second in 0..instance.shifts() {
-            let forbidden = matches!((first, second), (1, 0) | (2, 0) | (2, 1));
+            let found = (instance.limits(first), instance.forbidden(first, second));
             assert_eq!(rt;
-                instance.forbidden(first, second),
-                forbidden,
-                "after {first}"
+                found,
+                limits_and_succession(first, second),
+                "{second} after {first}"
             );
         }
     }
@@ -121,8 +139,7 @@ fn past(last: Option<u8>, shift_run: u16, work_run: u16, off_run: u16) -> Past {
 
 #[test]
 fn rows_of_the_history(rt: HostRuntime) -> Result<(), Fail> {
-    let scenario = read_scenario(rt.alloc(), SCENARIO)?;
-    let history = read_history(rt.alloc(), &scenario, HISTORY)?.into_parts();
+    let history = history_parts(rt.alloc(), SCENARIO, HISTORY)?;
     let rows = [
         past(Some(2), 1, 4, 0),
         past(Some(0), 3, 3, 0),
@@ -130,8 +147,10 @@ fn rows_of_the_history(rt: HostRuntime) -> Result<(), Fail> {
         past(Some(1), 1, 4, 0),
         past(None, 0, 0, 1),
     ];
-    assert_eq!(rt; history.week, 0);
-    assert_eq!(rt; history.past.as_slice(), rows.as_slice());
+    assert_eq!(rt;
+        (history.week, history.past.as_slice()),
+        (0, rows.as_slice())
+    );
     Ok(())
 }
 
@@ -148,34 +167,31 @@ const DEMANDS: [[(u16, u16); 6]; 7] = [
 
 #[test]
 fn requirements_of_the_week(rt: HostRuntime) -> Result<(), Fail> {
-    let scenario = read_scenario(rt.alloc(), SCENARIO)?;
-    let week = read_week(rt.alloc(), &scenario, WEEK)?.into_parts();
-    let mut demands = Vec::new(rt.alloc());
-    for (minimum, optimal) in DEMANDS.as_flattened() {
-        demands.push(Demand {
-            minimum: *minimum,
-            optimal: *optimal,
-        })?;
+    let week = week_parts(rt.alloc(), SCENARIO, WEEK)?;
+    let wanted = DEMANDS.as_flattened();
+    assert_eq!(rt; week.demands.len(), wanted.len());
+    for (demand, pair) in week.demands.iter().zip(wanted) {
+        assert_eq!(rt; (demand.minimum, demand.optimal), *pair);
     }
-    assert_eq!(rt; week.demands.as_slice(), demands.as_slice());
     Ok(())
 }
 
 // Patrick not Early on Monday, Andrea not at all on Sunday, Stefaan not Late on Thursday, Sara not
 // Night on Friday, Nguyen not at all on Wednesday, and not Night once more.
+fn requests_at(place: usize) -> u16 {
+    match (place / 21, place / 3 % 7, place % 3) {
+        (0, 0, 0) | (1, 6, _) | (2, 3, 1) | (3, 4, 2) | (4, 2, 0 | 1) => 1,
+        (4, 2, 2) => 2,
+        _ => 0,
+    }
+}
+
 #[test]
 fn requests_of_the_week(rt: HostRuntime) -> Result<(), Fail> {
-    let scenario = read_scenario(rt.alloc(), SCENARIO)?;
-    let week = read_week(rt.alloc(), &scenario, WEEK)?.into_parts();
+    let week = week_parts(rt.alloc(), SCENARIO, WEEK)?;
     assert_eq!(rt; week.requests.len(), 5 * 7 * 3);
     for (place, count) in week.requests.iter().enumerate() {
-        let (nurse, day, shift) = (place / 21, place / 3 % 7, place % 3);
-        let wanted = match (nurse, day, shift) {
-            (0, 0, 0) | (1, 6, _) | (2, 3, 1) | (3, 4, 2) | (4, 2, 0 | 1) => 1,
-            (4, 2, 2) => 2,
-            _ => 0,
-        };
-        assert_eq!(rt; *count, wanted, "nurse {nurse} on day {day}");
+        assert_eq!(rt; *count, requests_at(place), "place {place}");
     }
     Ok(())
 }

@@ -1,7 +1,7 @@
 //! Texts that spell a history, and texts with a fault.
 
+use crate::week_files::history_parts;
 use rota_core::{FileFault, FileName, Kind, Past};
-use rota_read::{read_history, read_scenario};
 use std::test::Fail;
 
 const ONE_NURSE: &[u8] = b"SCENARIO = s1 WEEKS = 2 SKILLS = 1 Nurse SHIFT_TYPES = 1 Day (1,9)
@@ -65,26 +65,23 @@ const FAULTY_HISTORIES: [(&[u8], &[u8], Kind, u32); 8] = [
 ];
 
 #[test]
-fn faults_of_histories(rt: HostRuntime) -> Result<(), Fail> {
+fn faults_of_histories(rt: HostRuntime) {
     let file = FileName::History;
     for (scenario, text, kind, line) in FAULTY_HISTORIES {
-        let scenario = read_scenario(rt.alloc(), scenario)?;
-        let fault = read_history(rt.alloc(), &scenario, text).err();
+        let fault = history_parts(rt.alloc(), scenario, text).err();
         assert_eq!(rt;
             fault,
             Some(FileFault::Bad { kind, file, line }),
             "line {line}"
         );
     }
-    Ok(())
 }
 
 /// The rows stand in another order than the nurses.
 #[test]
 fn rows_in_any_order(rt: HostRuntime) -> Result<(), Fail> {
-    let scenario = read_scenario(rt.alloc(), TWO_NURSES)?;
     let text = b"HISTORY 1 s1 NURSE_HISTORY Bob 1 2 Day 3 4 5 Ann 9999 0 None 0 0 6";
-    let history = read_history(rt.alloc(), &scenario, text)?.into_parts();
+    let history = history_parts(rt.alloc(), TWO_NURSES, text)?;
     let bob = Past {
         assignments: 1,
         weekends: 2,
@@ -101,7 +98,10 @@ fn rows_in_any_order(rt: HostRuntime) -> Result<(), Fail> {
         work_run: 0,
         off_run: 6,
     };
-    assert_eq!(rt; history.week, 1);
-    assert_eq!(rt; history.past.as_slice(), [ann, bob].as_slice());
+    let rows = [ann, bob];
+    assert_eq!(rt;
+        (history.week, history.past.as_slice()),
+        (1, rows.as_slice())
+    );
     Ok(())
 }

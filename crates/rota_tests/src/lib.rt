@@ -14,9 +14,15 @@ mod decoding_runs;
 #[cfg(test)]
 mod encoded_weeks;
 #[cfg(test)]
+mod encoding_runs;
+#[cfg(test)]
 mod events;
 #[cfg(test)]
 mod extending;
+#[cfg(test)]
+mod extending_runs;
+#[cfg(test)]
+mod failing_readers;
 #[cfg(test)]
 mod five_nurses;
 #[cfg(test)]

@@ -51,6 +51,17 @@ fn bad(kind: Kind, line: u32) -> Option<FileFault> {
     })
 }
 
+/// The fault of the plain text with another line.
+fn fault_with(
+    alloc: Global,
+    number: u32,
+    line: &[u8],
+    goes_on: bool,
+) -> Result<Option<FileFault>, AllocError> {
+    let text = with_line(alloc, number, line, goes_on)?;
+    Ok(read_scenario(alloc, &text).err())
+}
+
 /// A line by its number, what stands there, and its fault.
 const FAULTY_LINES: [(u32, &[u8], Kind); 15] = [
     (2, b"WEEKS = 53", Kind::Limit),
@@ -78,8 +89,7 @@ const FAULTY_LINES: [(u32, &[u8], Kind); 15] = [
 #[test]
 fn faults_of_lines(rt: HostRuntime) -> Result<(), Fail> {
     for (number, line, kind) in FAULTY_LINES {
-        let text = with_line(rt.alloc(), number, line, true)?;
-        let fault = read_scenario(rt.alloc(), &text).err();
+        let fault = fault_with(rt.alloc(), number, line, true)?;
         assert_eq!(rt; fault, bad(kind, number), "line {number}");
     }
     Ok(())
@@ -97,8 +107,7 @@ const FAULTY_ENDS: [(u32, &[u8], Kind); 4] = [
 #[test]
 fn faults_of_cut_texts(rt: HostRuntime) -> Result<(), Fail> {
     for (number, line, kind) in FAULTY_ENDS {
-        let text = with_line(rt.alloc(), number, line, false)?;
-        let fault = read_scenario(rt.alloc(), &text).err();
+        let fault = fault_with(rt.alloc(), number, line, false)?;
         assert_eq!(rt; fault, bad(kind, number), "line {number}");
     }
     Ok(())
@@ -124,10 +133,13 @@ fn one_meaning(rt: HostRuntime) -> Result<(), Fail> {
     for (number, line, nurse) in LINES_OF_ONE_MEANING {
         let text = with_line(rt.alloc(), number, line, number < 12)?;
         let scenario = read_scenario(rt.alloc(), &text)?;
-        assert_eq!(rt; scenario.weeks(), 2, "line {number}");
-        assert_eq!(rt; scenario.nurses(), 1, "line {number}");
-        assert_eq!(rt; scenario.find_nurse(nurse), Some(0), "line {number}");
-        assert_eq!(rt; scenario.find_shift(b"Any"), None, "line {number}");
+        let found = (
+            scenario.weeks(),
+            scenario.nurses(),
+            scenario.find_nurse(nurse),
+            scenario.find_shift(b"Any"),
+        );
+        assert_eq!(rt; found, (2, 1, Some(0), None), "line {number}");
     }
     Ok(())
 }

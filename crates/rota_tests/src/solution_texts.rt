@@ -1,7 +1,8 @@
 //! Texts that spell a roster, and texts with a fault.
 
+use crate::week_files::instance_of_texts;
 use rota_core::{FileFault, FileName, Instance, Kind};
-use rota_read::{read_history, read_scenario, read_solution, read_week};
+use rota_read::read_solution;
 use std::alloc::Global;
 use std::test::Fail;
 
@@ -15,10 +16,7 @@ const HISTORY: &[u8] = b"HISTORY 0 s1 NURSE_HISTORY Ann 0 0 None 0 0 0 Bob 0 0 N
 const WEEK: &[u8] = b"WEEK_DATA s1 REQUIREMENTS SHIFT_OFF_REQUESTS = 0";
 
 fn two_nurses(alloc: Global) -> Result<Instance, FileFault> {
-    let scenario = read_scenario(alloc, SCENARIO)?;
-    let history = read_history(alloc, &scenario, HISTORY)?;
-    let week = read_week(alloc, &scenario, WEEK)?;
-    Instance::join(scenario, history, week)
+    instance_of_texts(alloc, SCENARIO, HISTORY, WEEK)
 }
 
 /// A text, its fault, and the line of it.

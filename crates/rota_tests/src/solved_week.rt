@@ -3,7 +3,7 @@ use crate::decoding_runs::{Answered, decode};
 use crate::five_nurses;
 use crate::solver_answers::{CLASP, CLASP_OPTIMUM, MINISAT_PLUS, SAT4J};
 use crate::worked_weeks::Worked;
-use std::test::Fail;
+use std::alloc::Global;
 
 const FIVE_NURSES: Worked = Worked {
     scenario: five_nurses::SCENARIO,
@@ -12,9 +12,31 @@ const FIVE_NURSES: Worked = Worked {
     model: b"",
 };
 
+// Whether the report on an answer ends with a last value of the objective. None where the run does not write a
+// solution, and a report with these first lines.
+fn has_last_o(alloc: Global, answer: &[u8], first_lines: &[u8]) -> Option<bool> {
+    let answered = Answered {
+        files: FIVE_NURSES,
+        answer,
+    };
+    let Ok(run) = decode(alloc, answered) else {
+        return None;
+    };
+    let is_solution = run
+        .sol
+        .bytes()
+        .starts_with(b"SOLUTION\n0 n005w4\n\nASSIGNMENTS = ")
+        && run.sol.flushed() == run.sol.bytes().len();
+    let report = run.report.bytes();
+    if run.outcome != Ok(()) || !is_solution || !report.starts_with(first_lines) {
+        return None;
+    }
+    Some(report.ends_with(b"last o 320\n"))
+}
+
 // Each answer's roster costs 320, which is the least, as two solvers proved.
 #[test]
-fn answers_of_solvers(rt: HostRuntime) -> Result<(), Fail> {
+fn answers_of_solvers(rt: HostRuntime) {
     let rows: [(&[u8], &[u8], bool); 4] = [
         (
             CLASP_OPTIMUM,
@@ -37,21 +59,8 @@ fn answers_of_solvers(rt: HostRuntime) -> Result<(), Fail> {
             true,
         ),
     ];
-    for (answer, first_lines, has_last_o) in rows {
-        let answered = Answered {
-            files: FIVE_NURSES,
-            answer,
-        };
-        let run = decode(rt.alloc(), answered)?;
-        assert_eq!(rt; run.outcome, Ok(()));
-        assert!(rt;
-            run.sol
-                .bytes()
-                .starts_with(b"SOLUTION\n0 n005w4\n\nASSIGNMENTS = ")
-        );
-        assert_eq!(rt; run.sol.flushed(), run.sol.bytes().len());
-        assert!(rt; run.report.bytes().starts_with(first_lines));
-        assert_eq!(rt; run.report.bytes().ends_with(b"last o 320\n"), has_last_o);
+    for (answer, first_lines, wanted) in rows {
+        let found = has_last_o(rt.alloc(), answer, first_lines);
+        assert_eq!(rt; found, Some(wanted));
     }
-    Ok(())
 }

@@ -37,68 +37,75 @@ fn true_variables(alloc: Global, bits: &Bits) -> Result<Vec<u32>, AllocError> {
     Ok(variables)
 }
 
-/// Each text has its fault, whole and a byte at a time.
+/// The fault of the text, whole and a byte at a time.
+fn faults_of(alloc: Global, text: &[u8]) -> Result<[Option<AnswerFault>; 2], AllocError> {
+    let whole = solve(alloc, text, usize::MAX)?.err();
+    let by_bytes = solve(alloc, text, 1)?.err();
+    Ok([whole, by_bytes])
+}
+
+/// A text, and its fault.
+const FAULTY_ANSWERS: [(&[u8], AnswerFault); 24] = [
+    (b"", AnswerFault::Statuses),
+    (b"\n\nc s SATISFIABLE\n", AnswerFault::Statuses),
+    (b"s UNKNOWN\ns UNKNOWN\n", AnswerFault::Statuses),
+    (b"s UNKNOWN\ns what\n", AnswerFault::Statuses),
+    (b"sSATISFIABLE\n", AnswerFault::Statuses),
+    (b" s SATISFIABLE\n", AnswerFault::Statuses),
+    (b"s OPTIMUM \n", AnswerFault::StatusText),
+    (b"s OPTIMUM FOUND again\n", AnswerFault::StatusText),
+    (b"s FOUND\n", AnswerFault::StatusText),
+    (b"s\n", AnswerFault::StatusText),
+    (b"s SATISFIABLE yes\n", AnswerFault::StatusText),
+    (
+        b"s SATISFIABLESATISFIABLESATISFIABLE",
+        AnswerFault::StatusText,
+    ),
+    (b"v y1\n", AnswerFault::Literal),
+    (b"v ~x1\n", AnswerFault::Literal),
+    (b"v x1-x2\n", AnswerFault::Literal),
+    (b"v x\n", AnswerFault::Literal),
+    (b"v -\n", AnswerFault::Literal),
+    (b"v x0\n", AnswerFault::Range),
+    (b"v x9\n", AnswerFault::Range),
+    (
+        b"v x9999999999999999999999999999999999999999\n",
+        AnswerFault::Range,
+    ),
+    (
+        b"v x18446744073709551617\ns SATISFIABLE\n",
+        AnswerFault::Range,
+    ),
+    (b"v x1 -x1\n", AnswerFault::BothValues),
+    (b"v x1\nv x2 -x01\n", AnswerFault::BothValues),
+    (b"v -x8\ns UNKNOWN\nv x8", AnswerFault::BothValues),
+];
+
 #[test]
 fn faults_of_answers(rt: HostRuntime) -> Result<(), Fail> {
-    let rows: [(&[u8], AnswerFault); 24] = [
-        (b"", AnswerFault::Statuses),
-        (b"\n\nc s SATISFIABLE\n", AnswerFault::Statuses),
-        (b"s UNKNOWN\ns UNKNOWN\n", AnswerFault::Statuses),
-        (b"s UNKNOWN\ns what\n", AnswerFault::Statuses),
-        (b"sSATISFIABLE\n", AnswerFault::Statuses),
-        (b" s SATISFIABLE\n", AnswerFault::Statuses),
-        (b"s OPTIMUM \n", AnswerFault::StatusText),
-        (b"s OPTIMUM FOUND again\n", AnswerFault::StatusText),
-        (b"s FOUND\n", AnswerFault::StatusText),
-        (b"s\n", AnswerFault::StatusText),
-        (b"s SATISFIABLE yes\n", AnswerFault::StatusText),
-        (
-            b"s SATISFIABLESATISFIABLESATISFIABLE",
-            AnswerFault::StatusText,
-        ),
-        (b"v y1\n", AnswerFault::Literal),
-        (b"v ~x1\n", AnswerFault::Literal),
-        (b"v x1-x2\n", AnswerFault::Literal),
-        (b"v x\n", AnswerFault::Literal),
-        (b"v -\n", AnswerFault::Literal),
-        (b"v x0\n", AnswerFault::Range),
-        (b"v x9\n", AnswerFault::Range),
-        (
-            b"v x9999999999999999999999999999999999999999\n",
-            AnswerFault::Range,
-        ),
-        (
-            b"v x18446744073709551617\ns SATISFIABLE\n",
-            AnswerFault::Range,
-        ),
-        (b"v x1 -x1\n", AnswerFault::BothValues),
-        (b"v x1\nv x2 -x01\n", AnswerFault::BothValues),
-        (b"v -x8\ns UNKNOWN\nv x8", AnswerFault::BothValues),
-    ];
-    for (text, fault) in rows {
-        assert_eq!(rt; solve(rt.alloc(), text, usize::MAX)?.err(), Some(fault));
-        assert_eq!(rt; solve(rt.alloc(), text, 1)?.err(), Some(fault));
+    for (text, fault) in FAULTY_ANSWERS {
+        assert_eq!(rt; faults_of(rt.alloc(), text)?, [Some(fault); 2]);
     }
     Ok(())
 }
 
 /// Lines of values of the objective that name none.
+const FAULTY_OBJECTIVES: [&[u8]; 8] = [
+    b"o 1 2\n",
+    b"o 0000000000000000000\n",
+    b"o -\n",
+    b"o +",
+    b"o\n",
+    b"o 1x\n",
+    b"o --1\n",
+    b"o -1234567890123456789\n",
+];
+
 #[test]
 fn faults_of_objectives(rt: HostRuntime) -> Result<(), Fail> {
-    let rows: [&[u8]; 8] = [
-        b"o 1 2\n",
-        b"o 0000000000000000000\n",
-        b"o -\n",
-        b"o +",
-        b"o\n",
-        b"o 1x\n",
-        b"o --1\n",
-        b"o -1234567890123456789\n",
-    ];
-    for text in rows {
+    for text in FAULTY_OBJECTIVES {
         let fault = Some(AnswerFault::Objective);
-        assert_eq!(rt; solve(rt.alloc(), text, usize::MAX)?.err(), fault);
-        assert_eq!(rt; solve(rt.alloc(), text, 1)?.err(), fault);
+        assert_eq!(rt; faults_of(rt.alloc(), text)?, [fault; 2]);
     }
     Ok(())
 }
@@ -122,18 +129,41 @@ fn texts_of_faults(rt: HostRuntime) -> Result<(), Fail> {
 const WHOLE: &[u8] =
     b"c hello\r\nd 1 2\r\no 5\r\ns OPTIMUM FOUND\r\nv x1 -x2\r\nv -x3 x1 -x4\r\nv -x5 -x6 x8 \r\n";
 
-/// Whether the answer is what `WHOLE` says.
-fn is_whole(alloc: Global, answer: Result<Solved, AnswerFault>) -> Result<bool, AllocError> {
+/// What an answer says: its status, its last value of the objective, and the variables that are true.
+#[derive(Clone, Copy)]
+struct Said<'a> {
+    status: Status,
+    last_o: Option<i64>,
+    variables: &'a [u32],
+}
+
+const SAID_BY_WHOLE: Said = Said {
+    status: Status::Optimum,
+    last_o: Some(5),
+    variables: &[1, 8],
+};
+
+/// Whether the answer says so.
+fn is_said(
+    alloc: Global,
+    answer: Result<Solved, AnswerFault>,
+    said: Said,
+) -> Result<bool, AllocError> {
     let Ok(solved) = answer else {
         return Ok(false);
     };
     let variables = true_variables(alloc, &solved.bits)?;
     Ok(
-        solved.status == Status::Optimum
-            && solved.last_o == Some(5)
+        solved.status == said.status
+            && solved.last_o == said.last_o
             && solved.bits.len() == VARIABLES
-            && variables.as_slice() == [1, 8].as_slice(),
+            && variables.as_slice() == said.variables,
     )
+}
+
+/// Whether the text says so, in pieces of this length at most.
+fn says(alloc: Global, text: &[u8], length: usize, said: Said) -> Result<bool, AllocError> {
+    is_said(alloc, solve(alloc, text, length)?, said)
 }
 
 /// The same in pieces of each length, and cut in two at each byte.
@@ -141,15 +171,14 @@ fn is_whole(alloc: Global, answer: Result<Solved, AnswerFault>) -> Result<bool, 
 fn cut_at_each_byte(rt: HostRuntime) -> Result<(), Fail> {
     let alloc = rt.alloc();
     for length in 1..=WHOLE.len() {
-        assert!(rt; is_whole(alloc, solve(alloc, WHOLE, length)?)?);
+        assert!(rt; says(alloc, WHOLE, length, SAID_BY_WHOLE)?);
     }
     for at in 0..=WHOLE.len() {
         let mut answer = Answer::new(alloc, VARIABLES)?;
         let (first, second) = WHOLE.split_at(at);
-        assert_eq!(rt; answer.feed(first), Ok(()));
-        assert_eq!(rt; answer.feed(b""), Ok(()));
-        assert_eq!(rt; answer.feed(second), Ok(()));
-        assert!(rt; is_whole(alloc, answer.finish())?);
+        let fed = [answer.feed(first), answer.feed(b""), answer.feed(second)];
+        assert_eq!(rt; fed, [Ok(()); 3]);
+        assert!(rt; is_said(alloc, answer.finish(), SAID_BY_WHOLE)?);
     }
     Ok(())
 }
@@ -157,21 +186,24 @@ fn cut_at_each_byte(rt: HostRuntime) -> Result<(), Fail> {
 #[test]
 fn status_in_pieces(rt: HostRuntime) -> Result<(), Fail> {
     let mut answer = Answer::new(rt.alloc(), VARIABLES)?;
-    assert_eq!(rt; answer.feed(b"s OPTI"), Ok(()));
-    assert_eq!(rt; answer.feed(b"MUM FO"), Ok(()));
-    assert_eq!(rt; answer.feed(b"UND"), Ok(()));
+    for piece in [b"s OPTI".as_slice(), b"MUM FO", b"UND"] {
+        assert_eq!(rt; answer.feed(piece), Ok(()));
+    }
     let solved = answer.finish()?;
-    assert_eq!(rt; solved.status, Status::Optimum);
-    assert_eq!(rt; solved.last_o, None);
+    assert_eq!(rt; (solved.status, solved.last_o), (Status::Optimum, None));
     Ok(())
 }
 
 #[test]
 fn fault_for_good(rt: HostRuntime) -> Result<(), Fail> {
     let mut answer = Answer::new(rt.alloc(), VARIABLES)?;
-    assert_eq!(rt; answer.feed(b"v x"), Ok(()));
-    assert_eq!(rt; answer.feed(b"9 "), Err(AnswerFault::Range));
-    assert_eq!(rt; answer.feed(b"s SATISFIABLE\n"), Err(AnswerFault::Range));
+    let fault = Err(AnswerFault::Range);
+    let fed = [
+        answer.feed(b"v x"),
+        answer.feed(b"9 "),
+        answer.feed(b"s SATISFIABLE\n"),
+    ];
+    assert_eq!(rt; fed, [Ok(()), fault, fault]);
     assert_eq!(rt; answer.finish().err(), Some(AnswerFault::Range));
     Ok(())
 }
@@ -185,40 +217,66 @@ fn open_word_is_judged_at_the_end(rt: HostRuntime) -> Result<(), Fail> {
     Ok(())
 }
 
+/// A text, and what it says.
+const SOUND_ANSWERS: [(&[u8], Said); 6] = [
+    (
+        b"o 000000000000000001\ns SATISFIABLE\nv x8 x00000000000000000000000000000000000000001",
+        Said {
+            status: Status::Satisfiable,
+            last_o: Some(1),
+            variables: &[1, 8],
+        },
+    ),
+    (
+        b"o -7\no +6\ns SATISFIABLE\nv-x8\nv x8\nv",
+        Said {
+            status: Status::Satisfiable,
+            last_o: Some(6),
+            variables: &[8],
+        },
+    ),
+    (
+        b"v\tx3\r\ns\tUNKNOWN\t",
+        Said {
+            status: Status::Unknown,
+            last_o: None,
+            variables: &[3],
+        },
+    ),
+    (
+        b"s UNSATISFIABLE",
+        Said {
+            status: Status::Unsatisfiable,
+            last_o: None,
+            variables: &[],
+        },
+    ),
+    (
+        b"s  UNSUPPORTED  \n",
+        Said {
+            status: Status::Unsupported,
+            last_o: None,
+            variables: &[],
+        },
+    ),
+    (
+        b"o -999999999999999999\ns OPTIMUM  FOUND\nv x1 x1 -x2 -x2",
+        Said {
+            status: Status::Optimum,
+            last_o: Some(-999999999999999999),
+            variables: &[1],
+        },
+    ),
+];
+
 /// Each text says these, in pieces of each length.
 #[test]
 fn sound_answers(rt: HostRuntime) -> Result<(), Fail> {
-    let rows: [(&[u8], Status, Option<i64>, &[u32]); 6] = [
-        (
-            b"o 000000000000000001\ns SATISFIABLE\nv x8 x00000000000000000000000000000000000000001",
-            Status::Satisfiable,
-            Some(1),
-            &[1, 8],
-        ),
-        (
-            b"o -7\no +6\ns SATISFIABLE\nv-x8\nv x8\nv",
-            Status::Satisfiable,
-            Some(6),
-            &[8],
-        ),
-        (b"v\tx3\r\ns\tUNKNOWN\t", Status::Unknown, None, &[3]),
-        (b"s UNSATISFIABLE", Status::Unsatisfiable, None, &[]),
-        (b"s  UNSUPPORTED  \n", Status::Unsupported, None, &[]),
-        (
-            b"o -999999999999999999\ns OPTIMUM  FOUND\nv x1 x1 -x2 -x2",
-            Status::Optimum,
-            Some(-999999999999999999),
-            &[1],
-        ),
-    ];
-    for (text, status, last_o, variables) in rows {
+    for (text, said) in SOUND_ANSWERS {
         for length in 1..=text.len() {
-            let solved = solve(rt.alloc(), text, length)??;
-            assert_eq!(rt; solved.status, status);
-            assert_eq!(rt; solved.last_o, last_o);
-            assert_eq!(rt;
-                true_variables(rt.alloc(), &solved.bits)?.as_slice(),
-                variables
+            assert!(rt;
+                says(rt.alloc(), text, length, said)?,
+                "pieces of {length} bytes"
             );
         }
     }
@@ -300,13 +358,12 @@ fn written_answer_says_its_values(rt: HostRuntime) -> Result<(), Fail> {
     for objective in [0, 7, 999_999_999_999_999_999] {
         let mut target = MemoryTarget::new(rt.alloc(), 200, Pace::new(200, None))?;
         assert!(rt; write_answer(&mut target, objective, &TRUTHS[..8]).is_ok());
-        let solved = solve(rt.alloc(), target.bytes(), 5)??;
-        assert_eq!(rt; solved.status, Status::Satisfiable);
-        assert_eq!(rt; solved.last_o, Some(objective as i64));
-        assert_eq!(rt;
-            true_variables(rt.alloc(), &solved.bits)?.as_slice(),
-            [1, 8].as_slice()
-        );
+        let said = Said {
+            status: Status::Satisfiable,
+            last_o: Some(objective as i64),
+            variables: &[1, 8],
+        };
+        assert!(rt; says(rt.alloc(), target.bytes(), 5, said)?);
     }
     Ok(())
 }

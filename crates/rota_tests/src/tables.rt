@@ -48,16 +48,16 @@ fn scenario(alloc: Global) -> Result<Scenario, AllocError>
     ensures { IfOk result (λ s. HasNumbersOf s 1 1 1) }
 {
     Ok(Scenario::of_parts(ScenarioParts {
-        name: Vec::from_slice(alloc, b"s1")?,
         weeks: 2,
-        skills: one_name(alloc, b"Nurse")?,
-        shifts: one_name(alloc, b"Day")?,
-        nurses: one_name(alloc, b"Ann")?,
+        name: Vec::from_slice(alloc, b"s1")?,
         limits: Vec::from_slice(alloc, &[LIMITS])?,
         forbidden: Vec::from_slice(alloc, &[false])?,
         contracts: Vec::from_slice(alloc, &[FULL])?,
         contract_of: Vec::from_slice(alloc, &[0])?,
         has_skill: Vec::from_slice(alloc, &[true])?,
+        skills: one_name(alloc, b"Nurse")?,
+        shifts: one_name(alloc, b"Day")?,
+        nurses: one_name(alloc, b"Ann")?,
     }))
 }
 
@@ -107,17 +107,28 @@ fn tables_are_joined(rt: HostRuntime) {
 }
 
 #[test]
-fn names_have_numbers(rt: HostRuntime) -> Result<(), Fail> {
+fn names_have_numbers(rt: HostRuntime) {
     let Ok(week) = instance(rt.alloc(), 0) else {
         panic!(rt; "the history is before the last week");
     };
-    let names = (week.scenario_name(), week.nurse_name(0));
-    assert_eq!(rt; names, (b"s1".as_slice(), b"Ann".as_slice()));
-    let names = (week.shift_name(0), week.skill_name(0));
-    assert_eq!(rt; names, (b"Day".as_slice(), b"Nurse".as_slice()));
-    let found = (week.find_nurse(b"Day"), week.find_shift(b"Day"));
-    assert_eq!(rt; found, (None, Some(0)));
-    assert_eq!(rt; week.find_skill(b"Nurse"), Some(0));
+    let names = [
+        week.scenario_name(),
+        week.nurse_name(0),
+        week.shift_name(0),
+        week.skill_name(0),
+    ];
+    let wanted: [&[u8]; 4] = [b"s1", b"Ann", b"Day", b"Nurse"];
+    assert_eq!(rt; names, wanted);
+    let found = (
+        week.find_nurse(b"Day"),
+        week.find_shift(b"Day"),
+        week.find_skill(b"Nurse"),
+    );
+    assert_eq!(rt; found, (None, Some(0), Some(0)));
+}
+
+#[test]
+fn names_have_places(rt: HostRuntime) -> Result<(), Fail> {
     let names = one_name(rt.alloc(), b"Ann")?;
     assert_eq!(rt; place_of_name(&names, b"Ann"), Some(0));
     assert!(rt; !is_name(&names, b"Bob"));
@@ -134,27 +145,39 @@ fn late_week_is_refused(rt: HostRuntime) {
     assert_eq!(rt; instance(rt.alloc(), 2).err(), Some(late));
 }
 
+const SATURDAY: Cell = Cell {
+    nurse: 0,
+    day: 5,
+    shift: 0,
+    skill: 0,
+};
+
+const SUNDAY: Cell = Cell { day: 6, ..SATURDAY };
+
 #[test]
 fn rosters_are_sets(rt: HostRuntime) -> Result<(), Fail> {
     let Ok(week) = instance(rt.alloc(), 0) else {
         panic!(rt; "the history is before the last week");
     };
-    let saturday = Cell {
-        nurse: 0,
-        day: 5,
-        shift: 0,
-        skill: 0,
-    };
-    let sunday = Cell { day: 6, ..saturday };
     let mut roster = Roster::new(rt.alloc(), &week)?;
-    assert!(rt; roster.put(sunday));
-    assert!(rt; !roster.put(sunday));
-    assert!(rt; roster.has(sunday) && !roster.has(saturday) && roster.count() == 1);
+    let is_new = [roster.put(SUNDAY), roster.put(SUNDAY)];
+    assert_eq!(rt; is_new, [true, false]);
+    let seen = (roster.has(SUNDAY), roster.has(SATURDAY), roster.count());
+    assert_eq!(rt; seen, (true, false, 1));
+    Ok(())
+}
+
+#[test]
+fn rosters_are_bits(rt: HostRuntime) -> Result<(), Fail> {
+    let Ok(week) = instance(rt.alloc(), 0) else {
+        panic!(rt; "the history is before the last week");
+    };
     let mut bits = Bits::new(rt.alloc(), 9)?;
     bits.set(5);
     bits.set(8);
-    assert!(rt; bits.len() == 9 && bits.get(5) && !bits.get(6));
+    assert_eq!(rt; (bits.len(), bits.get(5), bits.get(6)), (9, true, false));
     let roster = Roster::of_bits(bits, &week);
-    assert!(rt; roster.has(saturday) && !roster.has(sunday) && roster.count() == 1);
+    let seen = (roster.has(SATURDAY), roster.has(SUNDAY), roster.count());
+    assert_eq!(rt; seen, (true, false, 1));
     Ok(())
 }

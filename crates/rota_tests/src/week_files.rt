@@ -1,5 +1,5 @@
 //! The files of small weeks.
-use rota_core::{FileFault, Instance};
+use rota_core::{FileFault, HistoryParts, Instance, WeekParts};
 use rota_read::{read_history, read_scenario, read_week};
 use std::alloc::Global;
 
@@ -108,4 +108,20 @@ pub fn instance_of_texts(
 /// The instance that the files spell.
 pub fn instance_of(alloc: Global, files: &WeekFiles) -> Result<Instance, FileFault> {
     instance_of_texts(alloc, files.scenario, files.history, files.week)
+}
+
+/// The parts of the history that these texts of a scenario and a history spell.
+pub fn history_parts(
+    alloc: Global,
+    scenario: &[u8],
+    history: &[u8],
+) -> Result<HistoryParts, FileFault> {
+    let scenario = read_scenario(alloc, scenario)?;
+    Ok(read_history(alloc, &scenario, history)?.into_parts())
+}
+
+/// The parts of the week that these texts of a scenario and a week spell.
+pub fn week_parts(alloc: Global, scenario: &[u8], week: &[u8]) -> Result<WeekParts, FileFault> {
+    let scenario = read_scenario(alloc, scenario)?;
+    Ok(read_week(alloc, &scenario, week)?.into_parts())
 }

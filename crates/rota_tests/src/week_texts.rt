@@ -1,7 +1,7 @@
 //! Texts that spell a week, and texts with a fault.
 
+use crate::week_files::week_parts;
 use rota_core::{Demand, FileFault, FileName, Kind};
-use rota_read::{read_scenario, read_week};
 use std::alloc::{AllocError, Global};
 use std::test::Fail;
 
@@ -57,43 +57,58 @@ const FAULTY_LINES: [(u32, &[u8], bool, Kind); 11] = [
     (7, b"Ann Any", false, Kind::Ended),
 ];
 
+/// The fault of the week with another line.
+fn fault_with(
+    alloc: Global,
+    number: u32,
+    line: &[u8],
+    goes_on: bool,
+) -> Result<Option<FileFault>, AllocError> {
+    let text = with_line(alloc, &PLAIN, number, line, goes_on)?;
+    Ok(week_parts(alloc, SCENARIO, &text).err())
+}
+
 /// One line is not what it should be, or the text ends with it, and it has the fault.
 #[test]
 fn faults_of_lines(rt: HostRuntime) -> Result<(), Fail> {
-    let scenario = read_scenario(rt.alloc(), SCENARIO)?;
-    for (number, line, goes_on, kind) in FAULTY_LINES {
-        let text = with_line(rt.alloc(), &PLAIN, number, line, goes_on)?;
-        let fault = read_week(rt.alloc(), &scenario, &text).err();
-        let bad = FileFault::Bad {
-            kind,
-            file: FileName::Week,
-            line: number,
-        };
-        assert_eq!(rt; fault, Some(bad), "line {number}");
+    let file = FileName::Week;
+    for (line, text, goes_on, kind) in FAULTY_LINES {
+        let fault = fault_with(rt.alloc(), line, text, goes_on)?;
+        assert_eq!(rt;
+            fault,
+            Some(FileFault::Bad { kind, file, line }),
+            "line {line}"
+        );
     }
     Ok(())
 }
 
+/// One row of requirements: its pair on Monday alone.
+fn demand_at(place: usize) -> Demand {
+    let (minimum, optimal) = if place == 0 { (1, 3) } else { (0, 0) };
+    Demand { minimum, optimal }
+}
+
 /// Two equal rows for Early and one for any shift type: three at Early and one at Late, on Ann's
-/// Monday alone. One row of requirements: its pair on Monday alone.
+/// Monday alone.
+fn requests_at(place: usize) -> u16 {
+    match place {
+        14 => 3,
+        15 => 1,
+        _ => 0,
+    }
+}
+
 #[test]
 fn tables_of_a_week(rt: HostRuntime) -> Result<(), Fail> {
-    let scenario = read_scenario(rt.alloc(), SCENARIO)?;
     let text = with_line(rt.alloc(), &PLAIN, 9, b"", true)?;
-    let week = read_week(rt.alloc(), &scenario, &text)?.into_parts();
-    assert_eq!(rt; week.demands.len(), 14);
+    let week = week_parts(rt.alloc(), SCENARIO, &text)?;
+    assert_eq!(rt; (week.demands.len(), week.requests.len()), (14, 28));
     for (place, demand) in week.demands.iter().enumerate() {
-        let (minimum, optimal) = if place == 0 { (1, 3) } else { (0, 0) };
-        assert_eq!(rt; *demand, Demand { minimum, optimal }, "place {place}");
+        assert_eq!(rt; *demand, demand_at(place), "place {place}");
     }
-    assert_eq!(rt; week.requests.len(), 28);
     for (place, count) in week.requests.iter().enumerate() {
-        let wanted = match place {
-            14 => 3,
-            15 => 1,
-            _ => 0,
-        };
-        assert_eq!(rt; *count, wanted, "place {place}");
+        assert_eq!(rt; *count, requests_at(place), "place {place}");
     }
     Ok(())
 }
