@@ -1,4 +1,5 @@
-//! Tests over several crates: what a week's files give at the public calls.
+//! Tests over several crates: what a week's files give at the public calls; and plain programs that compute
+//! what a roster costs, for tests of small weeks.
 #![tactic(auto)]
 
 #[cfg(test)]
@@ -31,6 +32,9 @@ mod greatest_week;
 mod history_texts;
 #[cfg(test)]
 mod judged_rosters;
+pub mod plain_costs;
+mod plain_days;
+pub mod plain_runs;
 #[cfg(test)]
 mod ports;
 #[cfg(test)]
