@@ -38,11 +38,15 @@ pub mod plain_runs;
 #[cfg(test)]
 mod ports;
 #[cfg(test)]
+mod random_rosters;
+#[cfg(test)]
 mod refused_memory;
 #[cfg(test)]
 mod refused_memory_decoding;
 #[cfg(test)]
 mod refused_tables;
+#[cfg(test)]
+mod roster_costs;
 #[cfg(test)]
 mod scenario_texts;
 #[cfg(test)]
@@ -59,6 +63,8 @@ mod tables;
 mod week_files;
 #[cfg(test)]
 mod week_texts;
+#[cfg(test)]
+mod worked_penalties;
 #[cfg(test)]
 mod worked_runs;
 #[cfg(test)]
