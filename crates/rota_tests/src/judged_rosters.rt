@@ -3,12 +3,12 @@
 //! The costs were made from the rules by a program written apart from this product, which counts runs day by
 //! day and knows no window, pattern, slack or constant.
 //! The rosters may break hard rules. S1 is charged as the model does: only where the optimal number is above
-//! the least, so that missing nurses of other demands are left to H2.
+//! the least, so that missing nurses of other demands are left to H2. What S1 itself asks for stands beside
+//! it.
 use crate::five_nurses;
-use crate::week_files::{WeekFiles, instance_of};
-use rota_items::judge_roster;
-use rota_read::read_solution;
-use std::alloc::Global;
+use crate::roster_costs::costs_of;
+use crate::week_files::WeekFiles;
+use std::test::Fail;
 
 /// A history of the last week: totals and weekends count.
 const LAST_WEEK: &[u8] = b"HISTORY
@@ -22,11 +22,13 @@ Sara 9 0 Late 1 1 0
 Nguyen 14 2 None 0 0 1
 ";
 
-/// A roster as a solution file, after a history, and the costs of S1 to S7.
+/// A roster as a solution file, after a history, the costs of S1 to S7, and that of S1 with the nurses whose
+/// want the model leaves to H2.
 struct Judged {
     history: &'static [u8],
     solution: &'static [u8],
     costs: [u64; 7],
+    optimum_cost: u64,
 }
 
 const JUDGED: [Judged; 6] = [
@@ -48,6 +50,7 @@ Nguyen Fri Late Nurse
 Nguyen Sat Early Nurse
 ",
         costs: [480, 480, 270, 20, 60, 0, 0],
+        optimum_cost: 750,
     },
     Judged {
         history: five_nurses::HISTORY,
@@ -84,6 +87,7 @@ Nguyen Sat Early Nurse
 Nguyen Sun Early Nurse
 ",
         costs: [300, 525, 210, 10, 60, 0, 0],
+        optimum_cost: 450,
     },
     Judged {
         history: five_nurses::HISTORY,
@@ -128,6 +132,7 @@ Nguyen Sat Night Nurse
 Nguyen Sun Late Nurse
 ",
         costs: [150, 960, 30, 30, 0, 0, 0],
+        optimum_cost: 300,
     },
     Judged {
         history: LAST_WEEK,
@@ -152,6 +157,7 @@ Nguyen Tue Early Nurse
 Nguyen Wed Late Nurse
 ",
         costs: [390, 615, 150, 10, 120, 140, 90],
+        optimum_cost: 660,
     },
     Judged {
         history: LAST_WEEK,
@@ -183,6 +189,7 @@ Nguyen Thu Night Nurse
 Nguyen Sun Late Nurse
 ",
         costs: [360, 780, 270, 20, 90, 180, 90],
+        optimum_cost: 480,
     },
     Judged {
         history: LAST_WEEK,
@@ -227,28 +234,22 @@ Nguyen Sat Late Nurse
 Nguyen Sun Early Nurse
 ",
         costs: [240, 885, 60, 50, 0, 260, 120],
+        optimum_cost: 300,
     },
 ];
 
-// What the soft rules charge for the roster, where its files can be read.
-fn costs_of(alloc: Global, judged: &Judged) -> Option<[u64; 7]> {
-    let files = WeekFiles {
-        scenario: five_nurses::SCENARIO,
-        history: judged.history,
-        week: five_nurses::WEEK,
-    };
-    let Ok(instance) = instance_of(alloc, &files) else {
-        return None;
-    };
-    match read_solution(alloc, &instance, judged.solution) {
-        Ok(roster) => Some(judge_roster(&instance, &roster).costs),
-        Err(_fault) => None,
-    }
-}
-
 #[test]
-fn costs_by_rule(rt: HostRuntime) {
+fn costs_by_rule(rt: HostRuntime) -> Result<(), Fail> {
     for judged in &JUDGED {
-        assert_eq!(rt; costs_of(rt.alloc(), judged), Some(judged.costs));
+        let files = WeekFiles {
+            scenario: five_nurses::SCENARIO,
+            history: judged.history,
+            week: five_nurses::WEEK,
+        };
+        let found = costs_of(rt.alloc(), &files, judged.solution)?;
+        let [_, s2, s3, s4, s5, s6, s7] = judged.costs;
+        assert_eq!(rt; found.judged, judged.costs);
+        assert_eq!(rt; found.plain, [judged.optimum_cost, s2, s3, s4, s5, s6, s7]);
     }
+    Ok(())
 }

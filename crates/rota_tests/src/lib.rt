@@ -1,4 +1,5 @@
-//! Tests over several crates: what a week's files give at the public calls.
+//! Tests over several crates: what a week's files give at the public calls; and plain programs that compute
+//! what a roster costs, for tests of small weeks.
 #![tactic(auto)]
 
 #[cfg(test)]
@@ -37,14 +38,21 @@ mod greatest_week;
 mod history_texts;
 #[cfg(test)]
 mod judged_rosters;
+pub mod plain_costs;
+mod plain_days;
+pub mod plain_runs;
 #[cfg(test)]
 mod ports;
+#[cfg(test)]
+mod random_rosters;
 #[cfg(test)]
 mod refused_memory;
 #[cfg(test)]
 mod refused_memory_decoding;
 #[cfg(test)]
 mod refused_tables;
+#[cfg(test)]
+mod roster_costs;
 #[cfg(test)]
 mod scenario_texts;
 #[cfg(test)]
@@ -63,6 +71,7 @@ mod week_files;
 mod week_texts;
 #[cfg(test)]
 mod worked_costs;
+mod worked_penalties;
 #[cfg(test)]
 mod worked_runs;
 #[cfg(test)]

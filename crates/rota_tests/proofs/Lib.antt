@@ -1,0 +1,2 @@
+pub mod LoopSums
+pub mod RunDays
