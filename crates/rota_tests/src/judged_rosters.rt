@@ -248,7 +248,7 @@ fn costs_by_rule(rt: HostRuntime) -> Result<(), Fail> {
         };
         let found = costs_of(rt.alloc(), &files, judged.solution)?;
         let [_, s2, s3, s4, s5, s6, s7] = judged.costs;
-        assert_eq!(rt; found.judged, judged.costs);
+        assert_eq!(rt; found.verdict.costs, judged.costs);
         assert_eq!(rt; found.plain, [judged.optimum_cost, s2, s3, s4, s5, s6, s7]);
     }
     Ok(())

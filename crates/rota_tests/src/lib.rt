@@ -71,7 +71,6 @@ mod week_files;
 mod week_texts;
 #[cfg(test)]
 mod worked_costs;
-mod worked_penalties;
 #[cfg(test)]
 mod worked_runs;
 #[cfg(test)]

@@ -2,14 +2,14 @@
 use crate::plain_costs::{penalty, rule_costs};
 use crate::week_files::{WeekFiles, instance_of};
 use rota_core::FileFault;
-use rota_items::judge_roster;
+use rota_items::{Verdict, judge_roster};
 use rota_read::read_solution;
 use std::alloc::Global;
 
-/// What the judge and the plain programs charge for one roster.
-#[derive(Drop)]
+/// What the judge finds of one roster, and what the plain programs charge for it.
+#[derive(Clone, Copy, PartialEq, Eq, Debug)]
 pub struct RosterCosts {
-    pub judged: [u64; 7],
+    pub verdict: Verdict,
     pub plain: [u64; 7],
     pub penalty: u64,
 }
@@ -22,12 +22,9 @@ pub fn costs_of(
 ) -> Result<RosterCosts, FileFault> {
     let instance = instance_of(alloc, files)?;
     let roster = read_solution(alloc, &instance, solution)?;
-    let verdict = judge_roster(&instance, &roster);
-    let judged = verdict.costs;
-    let plain = rule_costs(&instance, &roster);
     Ok(RosterCosts {
-        judged,
-        plain,
+        verdict: judge_roster(&instance, &roster),
+        plain: rule_costs(&instance, &roster),
         penalty: penalty(&instance, &roster),
     })
 }

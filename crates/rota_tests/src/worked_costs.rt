@@ -1,5 +1,6 @@
 //! Rosters of the worked weeks, and what each soft rule charges for them.
-use crate::week_files::instance_of_texts;
+use crate::roster_costs::{RosterCosts, costs_of};
+use crate::week_files::WeekFiles;
 use crate::worked_runs::{
     LONG_RUN_IN_THE_HISTORY, MINIMUM_LONGER_THAN_THE_WEEK, RUN_FAR_ABOVE_THE_MAXIMUM,
     SHIFT_NOBODY_SHOULD_WORK, SHORT_RUN_IN_THE_HISTORY,
@@ -9,10 +10,10 @@ use crate::worked_totals::{
     TOTALS_ABOVE_IN_THE_LAST_WEEK,
 };
 use crate::worked_weeks::Worked;
-use rota_core::Rule;
-use rota_items::{Verdict, judge_roster};
-use rota_read::read_solution;
+use rota_core::{FileFault, Rule};
+use rota_items::Verdict;
 use std::alloc::Global;
+use std::test::Fail;
 
 /// A roster as a solution file, and the costs of S1 to S7.
 struct Costed {
@@ -25,7 +26,7 @@ const NOBODY_WORKS: &[u8] = b"SOLUTION 0 s1 ASSIGNMENTS = 0";
 
 const MONDAY: &[u8] = b"SOLUTION 0 s1 ASSIGNMENTS = 1 Ann Mon Day Nurse";
 
-const COSTED: [Costed; 10] = [
+const COSTED: [Costed; 11] = [
     Costed {
         files: LONG_RUN_IN_THE_HISTORY,
         solution: MONDAY,
@@ -50,6 +51,11 @@ const COSTED: [Costed; 10] = [
         files: MINIMUM_LONGER_THAN_THE_WEEK,
         solution: b"SOLUTION 0 s1 ASSIGNMENTS = 2 Ann Mon Day Nurse Ann Sun Day Nurse",
         costs: [0, 240, 0, 0, 0, 0, 0],
+    },
+    Costed {
+        files: REQUESTS_ON_ONE_CELL,
+        solution: b"SOLUTION 0 s1 ASSIGNMENTS = 1 Ann Mon Early Nurse",
+        costs: [0, 0, 0, 30, 0, 0, 0],
     },
     Costed {
         files: REQUESTS_ON_ONE_CELL,
@@ -86,30 +92,42 @@ Ann Sun Day Nurse
     },
 ];
 
-// What a judge finds of the roster, where its files can be read.
-fn verdict_on(alloc: Global, files: &Worked, solution: &[u8]) -> Option<Verdict> {
-    let instance = instance_of_texts(alloc, files.scenario, files.history, files.week).ok()?;
-    let roster = read_solution(alloc, &instance, solution).ok()?;
-    Some(judge_roster(&instance, &roster))
+// What the roster costs in the worked week.
+fn worked_costs_of(
+    alloc: Global,
+    worked: &Worked,
+    solution: &[u8],
+) -> Result<RosterCosts, FileFault> {
+    let files = WeekFiles {
+        scenario: worked.scenario,
+        history: worked.history,
+        week: worked.week,
+    };
+    costs_of(alloc, &files, solution)
 }
 
 #[test]
-fn worked_costs_by_rule(rt: HostRuntime) {
+fn worked_costs_by_rule(rt: HostRuntime) -> Result<(), Fail> {
     for costed in &COSTED {
-        let expected = Verdict {
-            unmet: None,
-            objective: costed.costs.iter().sum(),
-            costs: costed.costs,
+        let found = worked_costs_of(rt.alloc(), &costed.files, costed.solution)?;
+        let penalty = costed.costs.iter().sum();
+        let expected = RosterCosts {
+            verdict: Verdict {
+                unmet: None,
+                objective: penalty,
+                costs: costed.costs,
+            },
+            plain: costed.costs,
+            penalty,
         };
-        assert_eq!(rt;
-            verdict_on(rt.alloc(), &costed.files, costed.solution),
-            Some(expected)
-        );
+        assert_eq!(rt; found, expected);
     }
+    Ok(())
 }
 
 #[test]
-fn missing_nurse_breaks_h2(rt: HostRuntime) {
-    let verdict = verdict_on(rt.alloc(), &FEWER_THAN_THE_OPTIMUM, NOBODY_WORKS);
-    assert_eq!(rt; verdict.and_then(|found| found.unmet), Some((9, Rule::H2)));
+fn missing_nurse_breaks_h2(rt: HostRuntime) -> Result<(), Fail> {
+    let found = worked_costs_of(rt.alloc(), &FEWER_THAN_THE_OPTIMUM, NOBODY_WORKS)?;
+    assert_eq!(rt; found.verdict.unmet, Some((9, Rule::H2)));
+    Ok(())
 }
