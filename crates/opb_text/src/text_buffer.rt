@@ -1,6 +1,7 @@
 //! Text that waits to be sent.
 ghost use Rattle.std.specs.Prelude.{◌≡◌, ◌+◌, ◌≤◌, [], ◌++◌, length, decimal};
 
+use arrayvec::ArrayVec;
 use itoa::write_digits;
 use std::marker::Model;
 
@@ -9,21 +10,20 @@ const CAPACITY: usize = 4096;
 /// How many digits the greatest `u32` has.
 pub const MOST_DIGITS: usize = 10;
 
+const ZEROS: [u8; MOST_DIGITS] = [b'0'; MOST_DIGITS];
+
 /// Text that waits to be sent: at most 4096 bytes.
 #[derive(Drop)]
 pub struct TextBuffer {
-    bytes: [u8; CAPACITY],
-    len: usize,
+    bytes: ArrayVec<u8, CAPACITY>,
 }
 
 impl Model for TextBuffer {
-    ghost use Rattle.std.specs.Prelude.{ℕ, ◌≤◌, List, take};
+    ghost use Rattle.std.specs.Prelude.{ℕ, List};
 
     ghost Value = { List ℕ };
 
-    ghost view = { λ buffer. take buffer.len buffer.bytes };
-
-    ghost invariant = { λ buffer. buffer.len ≤ 4096 };
+    ghost view = { λ buffer. buffer.bytes.items };
 }
 
 impl TextBuffer {
@@ -32,8 +32,7 @@ impl TextBuffer {
         ensures { result ≡ [] }
     {
         TextBuffer {
-            bytes: [0; CAPACITY],
-            len: 0,
+            bytes: ArrayVec::new(),
         }
     }
 
@@ -42,7 +41,7 @@ impl TextBuffer {
     pub fn room(&self) -> usize
         ensures { result + length self.now ≡ 4096 }
     {
-        CAPACITY - self.len
+        CAPACITY - self.bytes.len()
     }
 
     /// The text.
@@ -50,7 +49,7 @@ impl TextBuffer {
     pub fn as_slice(&self) -> &[u8]
         ensures { result.now ≡ self.now }
     {
-        &self.bytes[..self.len]
+        self.bytes.as_slice()
     }
 
     /// Appends the piece. There must be room.
@@ -59,9 +58,8 @@ impl TextBuffer {
         requires { length self.old + length piece.now ≤ 4096 }
         ensures { self.new ≡ self.old ++ piece.now }
     {
-        let end = self.len + piece.len();
-        self.bytes[self.len..end].copy_from_slice(piece);
-        self.len = end;
+        // there is room, so it does not fail
+        let _fits = self.bytes.try_extend_from_slice(piece);
     }
 
     /// Appends the number in decimal digits. There must be room for ten.
@@ -70,16 +68,17 @@ impl TextBuffer {
         requires { length self.old + 10 ≤ 4096 }
         ensures { self.new ≡ self.old ++ decimal number }
     {
-        let end = self.len + digit_count(number);
-        write_digits(u64::from(number), &mut self.bytes, end);
-        self.len = end;
+        let count = digit_count(number);
+        let end = self.bytes.len() + count;
+        self.append(&ZEROS[..count]);
+        write_digits(u64::from(number), self.bytes.as_mut_slice(), end);
     }
 
     /// Drops the text.
     pub fn clear(&mut self)
         ensures { self.new ≡ [] }
     {
-        self.len = 0;
+        self.bytes.clear();
     }
 }
 
