@@ -43,6 +43,19 @@ module _ {W : Type 0} {target : Ghosts W} where
         subst P (ap (λ told. append_known told ys) first.bytes ∙ append_known-append (stands_for old) xs ys) second.bytes;
   }
 
+  -- a text that went into the buffer
+  pub puts_appended : {old new : Sink W target} {u : Unit {0}} {xs : List ℕ} → new.target ≡ old.target →
+      sink_failed new ≡ sink_failed old → new.buffer ≡ old.buffer ++ xs → PutsText old (Ok u) xs new
+  puts_appended {old} {new} {u} {xs} same same_failed appended = record {
+    same_target = ap (λ t. t.ghost_name) same;
+    failure = same_failed ∙ sym (or_false (sink_failed old));
+    target_failure = ap (λ t. target.has_failed t.now) same ∙ sym (or_false (target.has_failed (target_of old)));
+    silent = λ _. ap (λ t. t.now) same;
+    bytes =
+        ap (λ t. append_known (target.sent t.now) new.buffer) same ∙ ap (append_known (sent_by old)) appended ∙
+        sym (append_known-append (sent_by old) old.buffer xs);
+  }
+
   -- a sink that failed takes nothing more
   pub puts_none : (sink : Sink W target) (e : PortFault) (xs : List ℕ) → sink_failed sink ≡ true → PutsText sink (Err e) xs sink
   puts_none sink e xs failed = record {
@@ -50,7 +63,7 @@ module _ {W : Type 0} {target : Ghosts W} where
     failure = failed ∙ sym (or_true (sink_failed sink));
     target_failure = sink.fails_with_target failed ∙ sym (or_true (target.has_failed (target_of sink)));
     silent = λ _. refl;
-    bytes = record { rest = sink.buffer.items ++ xs; joined = sym (append_known-append (sent_by sink) sink.buffer.items xs) };
+    bytes = record { rest = sink.buffer ++ xs; joined = sym (append_known-append (sent_by sink) sink.buffer xs) };
   }
 
   -- the exit of a `?`: another error of the same text

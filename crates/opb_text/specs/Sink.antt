@@ -26,7 +26,7 @@ module _ {W : Type 0} {target : Ghosts W} where
 
   -- the bytes that were sent, and then those in the buffer
   abbrev pub stands_for : Sink W target → Told
-  stands_for sink = append_known (sent_by sink) sink.buffer.items
+  stands_for sink = append_known (sent_by sink) sink.buffer
 
   -- new is old with the text put into it. At an error the target failed, and what was sent is a beginning of the text.
   -- A sink that had failed leaves its target as it is.

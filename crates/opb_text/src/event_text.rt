@@ -33,10 +33,22 @@ pub fn put_term<W: Target>(
 ) -> Result<(), PortFault>
     ensures { PutsText sink.old result (term_text (coefficient, variable)) sink.new }
 {
+    match coefficient {
+        1 => sink.number_between(b"+1 x", variable, b" "),
+        -1 => sink.number_between(b"-1 x", variable, b" "),
+        _ => put_weighted_term(sink, coefficient, variable),
+    }
+}
+
+fn put_weighted_term<W: Target>(
+    sink: &mut Sink<W>,
+    coefficient: i64,
+    variable: u32,
+) -> Result<(), PortFault>
+    ensures { PutsText sink.old result (term_text (coefficient, variable)) sink.new }
+{
     put_coefficient(sink, coefficient)?;
-    sink.put(b" x")?;
-    put_natural(sink, variable)?;
-    sink.put(b" ")
+    sink.number_between(b" x", variable, b" ")
 }
 
 // Puts what stands before the terms of a row.

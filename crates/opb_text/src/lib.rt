@@ -4,6 +4,7 @@
 mod event_text;
 mod opb_taker;
 mod sink;
+mod text_buffer;
 mod text_laws;
 
 pub use opb_taker::OpbTaker;

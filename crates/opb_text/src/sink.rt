@@ -1,22 +1,20 @@
 //! A buffer of fixed size before a target.
-ghost use Rattle.std.specs.Prelude.{◌||◌, is_err, ◌≡◌, true, false, [], OnOk, OnErr, IsErr};
-ghost use Rattle.rota_core.specs.Numeral.{signed_numeral};
+ghost use Rattle.std.specs.Prelude.{◌||◌, is_err, ◌≡◌, true, false, [], ◌++◌, OnOk, OnErr, IsErr};
+ghost use Rattle.rota_core.specs.Numeral.{numeral, signed_numeral};
 ghost use Rattle.std.specs.Io.KnownBytes.{append_known};
 ghost use Rattle.opb_text.specs.Begins.{Begins};
 ghost use Rattle.rota_core.specs.Ports.{told_len};
 
-use arrayvec::ArrayVec;
+use crate::text_buffer::{MOST_DIGITS, TextBuffer};
 use itoa::Buffer;
 use rota_core::{PortFault, Target};
-
-const CAPACITY: usize = 4096;
 
 /// A buffer of 4096 bytes before a target. What went out is at every moment a beginning of what was
 /// put. After the first failure every call is a failure, and the target is not called again.
 #[derive(Drop)]
 pub struct Sink<'a, W: Target> {
     target: &'a mut W,
-    buffer: ArrayVec<u8, CAPACITY>,
+    buffer: TextBuffer,
     failed: bool,
     ghost fails_with_target: { failed ≡ true → W.has_failed target.now ≡ true },
 }
@@ -33,7 +31,7 @@ impl<'a, W: Target> Sink<'a, W> {
     {
         Sink {
             target,
-            buffer: ArrayVec::new(),
+            buffer: TextBuffer::new(),
             failed: false,
         }
     }
@@ -47,10 +45,11 @@ impl<'a, W: Target> Sink<'a, W> {
         if self.failed {
             return Err(PortFault);
         }
-        if self.buffer.try_extend_from_slice(piece).is_ok() {
-            return Ok(());
+        if piece.len() > self.buffer.room() {
+            return self.put_past_buffer(piece);
         }
-        self.put_past_buffer(piece)
+        self.buffer.append(piece);
+        Ok(())
     }
 
     /// Appends the number in decimal digits, with a minus sign where it is negative and no sign
@@ -62,6 +61,32 @@ impl<'a, W: Target> Sink<'a, W> {
     {
         let mut digits = Buffer::new();
         self.put(digits.format(number).as_bytes())
+    }
+
+    /// Appends a piece, the number in decimal digits, and another piece behind it. It fails only where
+    /// the target does.
+    #[inline]
+    pub fn number_between(
+        &mut self,
+        before: &[u8],
+        number: u32,
+        behind: &[u8],
+    ) -> Result<(), PortFault>
+        ensures takes { PutsText self.old result (before.now ++ numeral number ++ behind.now) self.new }
+        ensures for_good { sink_failed self.old ≡ true → IsErr result }
+    {
+        let room = self.buffer.room();
+        if self.failed
+            || room < MOST_DIGITS
+            || before.len() > room - MOST_DIGITS
+            || behind.len() > room - MOST_DIGITS - before.len()
+        {
+            return self.number_in_pieces(before, number, behind);
+        }
+        self.buffer.append(before);
+        self.buffer.append_number(number);
+        self.buffer.append(behind);
+        Ok(())
     }
 
     /// Sends what is still in the buffer, and makes all sent bytes flushed. Ok says that all that was
@@ -83,6 +108,31 @@ impl<'a, W: Target> Sink<'a, W> {
         flushed
     }
 
+    // Appends the pieces and the number one after the other.
+    #[cold]
+    #[inline(never)]
+    fn number_in_pieces(
+        &mut self,
+        before: &[u8],
+        number: u32,
+        behind: &[u8],
+    ) -> Result<(), PortFault>
+        ensures takes { PutsText self.old result (before.now ++ numeral number ++ behind.now) self.new }
+        ensures for_good { sink_failed self.old ≡ true → IsErr result }
+    {
+        self.put(before)?;
+        self.natural(number)?;
+        self.put(behind)
+    }
+
+    // Appends the number in decimal digits.
+    fn natural(&mut self, number: u32) -> Result<(), PortFault>
+        ensures takes { PutsText self.old result (numeral number) self.new }
+        ensures for_good { sink_failed self.old ≡ true → IsErr result }
+    {
+        self.number(number as i128)
+    }
+
     // Appends a piece for which the buffer has no room.
     #[cold]
     #[inline(never)]
@@ -91,7 +141,8 @@ impl<'a, W: Target> Sink<'a, W> {
         ensures { PutsText self.old result piece.now self.new }
     {
         self.send_buffer()?;
-        if self.buffer.try_extend_from_slice(piece).is_ok() {
+        if piece.len() <= self.buffer.room() {
+            self.buffer.append(piece);
             return Ok(());
         }
         let sent = send(self.target, piece);
@@ -103,7 +154,7 @@ impl<'a, W: Target> Sink<'a, W> {
     fn send_buffer(&mut self) -> Result<(), PortFault>
         requires { sink_failed self.old ≡ false }
         ensures takes { PutsText self.old result [] self.new }
-        ensures empty { OnOk result (self.new.buffer.items ≡ []) }
+        ensures empty { OnOk result (self.new.buffer ≡ []) }
         ensures err { OnErr result (Begins (sent_by self.new) (stands_for self.old)) }
     {
         match send(self.target, self.buffer.as_slice()) {

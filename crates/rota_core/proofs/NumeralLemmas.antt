@@ -103,7 +103,7 @@ below_power : (n : ℕ) → n < 10 ^ suc n
 below_power zero = omega arith
 below_power (suc n) = let less : n < 10 ^ suc n = below_power n in omega arith
 
-numeral_is : (n : ℕ) → n < 10 ^ 64 → std_decimal n ≡ numeral n
+pub numeral_is : (n : ℕ) → n < 10 ^ 64 → std_decimal n ≡ numeral n
 unfolding numeral
 numeral_is n small =
     sym (decimal_from_appends_wide numeral_within numeral_steps (suc n) n small (length-decimal-le_wide (suc n) n (omega arith) (below_power n) small))

@@ -1,34 +1,20 @@
-use mir.Syntax.{w64}
-use mir.Val.{SFits}
-use Rattle.std.proofs.Common.{rules}
-use Rattle.std.proofs.lemmas.Int.{to_z-of_z}
-use Rattle.opb_text.proofs.PutsTextLemmas.{puts_exit, puts_stop, puts_then}
+use Rattle.std.proofs.Common.{◌≡◌, ℤ, pos, negsuc, sym, subst, arith, rules}
+use Rattle.std.proofs.lemmas.Int.{ints}
+use Rattle.opb_text.specs.ModelText.{term_text}
+use Rattle.rota_core.specs.Numeral.{numeral}
+use Rattle.opb_text.specs.Sink.{PutsText}
 use Rattle.opb_text.proofs.event_text.put_term.Goals as goal
 
-pub returns-in_err-put_coefficient : goal.returns-in_err-put_coefficient
-returns-in_err-put_coefficient g c =
-    let fits : SFits w64 c.args.coefficient = search rules in
-    puts_exit _ c.from_residual.ensures.0
-    (puts_stop _ (puts_stop _ (puts_stop _ (rw (to_z-of_z w64 c.args.coefficient fits) at c.in_err-put_coefficient.ensures))))
+pub returns-in-1 : goal.returns-in-1
+unfolding numeral
+returns-in-1 g c =
+    let one : c.args.coefficient ≡ pos 1 = omega (arith, ints) in
+    subst (λ (z : ℤ). PutsText c.args.sink.now c.number_between.result (term_text (z, c.args.variable)) c.number_between.new.self) (sym one)
+    c.number_between.ensures.takes
 
-pub returns-in_err-put : goal.returns-in_err-put
-returns-in_err-put g c =
-    let fits : SFits w64 c.args.coefficient = search rules in
-    puts_exit _ c.from_residual-in_err-put.ensures.0
-    (puts_stop _ (puts_stop _ (puts_then (rw (to_z-of_z w64 c.args.coefficient fits) at c.in_ok-put_coefficient.ensures) c.in_err-put.ensures.takes)))
-
-pub returns-in_err-put_natural : goal.returns-in_err-put_natural
-returns-in_err-put_natural g c =
-    let fits : SFits w64 c.args.coefficient = search rules in
-    puts_exit _ c.from_residual-in_err-put_natural.ensures.0
-    (puts_stop _
-    (puts_then (puts_then (rw (to_z-of_z w64 c.args.coefficient fits) at c.in_ok-put_coefficient.ensures) c.in_ok-put.ensures.takes)
-    c.in_err-put_natural.ensures))
-
-pub returns : goal.returns
-returns g c =
-    let fits : SFits w64 c.args.coefficient = search rules in
-    puts_then
-    (puts_then (puts_then (rw (to_z-of_z w64 c.args.coefficient fits) at c.in_ok-put_coefficient.ensures) c.in_ok-put.ensures.takes)
-    c.in_ok-put_natural.ensures)
-    c.put-2.ensures.takes
+pub returns-in-minus1 : goal.returns-in-minus1
+unfolding numeral
+returns-in-minus1 g c =
+    let one : c.args.coefficient ≡ negsuc 0 = search rules in
+    subst (λ (z : ℤ). PutsText c.args.sink.now c.number_between-in-minus1.result (term_text (z, c.args.variable)) c.number_between-in-minus1.new.self) (sym one)
+    c.number_between-in-minus1.ensures.takes
