@@ -13,6 +13,7 @@ pub struct FaultLine<'a> {
 }
 
 impl<'a> FaultLine<'a> {
+    /// The line of this fault.
     pub fn of(fault: &'a Fault) -> FaultLine<'a>
         ensures { result.fault.now ≡ fault.now }
     {

@@ -2,18 +2,31 @@
 //! which bytes come and go.
 #![tactic(auto)]
 
+// Truth values, packed in words.
 mod bits;
+// Why a file was refused.
 mod fault;
+// A history: what the weeks before left.
 mod history;
+// An instance: one week of a rostering problem, with what the weeks before left.
 mod instance;
+// Ports over memory, for tests.
 mod memory_ports;
+// Names, in the order of a file.
 mod names;
+// Where bytes come from and go to.
 mod ports;
+// A roster: a set of cells.
 mod roster;
+// The rules of a week, under the names that the competition gives them.
 mod rule;
+// A scenario: what all weeks share.
 mod scenario;
+// The standard library's readers and writers as ports.
 mod std_ports;
+// The small values of a week's tables.
 mod values;
+// A week's own tables: the demands of its days, and the requests for shifts or days off.
 mod week;
 
 pub use bits::Bits;

@@ -13,6 +13,7 @@ pub struct FromRead<R> {
 }
 
 impl<R: Read> FromRead<R> {
+    /// The reader as a source. It has not failed yet.
     pub fn new(reader: R) -> FromRead<R>
         ensures { ⟦<FromRead<R> as Source>⟧.has_failed result ≡ false }
     {
@@ -51,6 +52,7 @@ pub struct ToWrite<W> {
 }
 
 impl<W: Write> ToWrite<W> {
+    /// The writer as a target. It has not failed yet.
     pub fn new(writer: W) -> ToWrite<W>
         ensures { ⟦<ToWrite<W> as Target>⟧.has_failed result ≡ false }
     {

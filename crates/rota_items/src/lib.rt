@@ -1,40 +1,78 @@
 //! The model of a week as rows, and what it means.
 #![tactic(auto)]
 
+// The numbers of variables and of constraints.
 mod counting;
+// The drives: what hands the rows of an instance's model to a taker.
 mod driving;
+// The rows of the hard rules.
 mod hard_rules;
+// What items mean: their constraints, their slacks and their shortages.
 mod item_laws;
+// The terms of items.
 mod item_sums;
+// The walk over one item: its row, or the weights of its slacks.
 mod item_walk;
+// The taker that evaluates.
 mod judging;
+// The limits of an instance's numbers.
 mod limits;
+// How many variables and constraints an instance's model has.
 mod model_counts;
+// What the model of a week means: its assignments stand for the rosters that keep the hard rules,
+// at their penalty.
 mod model_laws;
+// What the weeks before this one leave to a nurse: the length of a run, and the room in her totals.
 mod nurse_history;
+// The objective: request rows that cells match, what no roster can avoid, and the slacks with their
+// weights.
 mod objective;
+// The walk over the items that charge nurses missing below the optimal number.
 mod optimum_walk;
+// What a row of a model stands for.
 mod part;
+// What the model charges is what the soft rules cost, on rosters that keep the hard rules.
 mod rule_laws;
+// How many rows mean the hard rules.
 mod rule_row_counts;
+// How many windows and patterns charge the runs of a property in a week.
 mod run_counts;
+// What the items of a property's runs charge.
 mod run_laws;
+// The patterns of days that charge a nurse's runs, as items.
 mod run_patterns;
+// The walks over the items of consecutive assignments and of consecutive days off.
 mod run_rules;
+// The walk over the items that charge a nurse's runs.
 mod run_walk;
+// How large the numbers of a week's model are, and what its coefficients are.
 mod size_laws;
+// The items of the soft rules as values: what a walk over them hands to a taker.
 mod soft_item;
+// How many items charge the soft rules, and how many slacks they have.
 mod soft_item_counts;
+// The walk over all items of the soft rules.
 mod soft_walk;
+// What a judge evaluates.
 mod sources;
+// Sums of cells, term by term.
 mod sums;
+// What takes the rows of a model, event by event.
 mod takers;
+// What a judge adds up, row by row.
 mod tallies;
+// The walk over the items that charge totals of assignments.
 mod total_walk;
+// What no roster of the week can avoid: the history alone has made it so.
 mod unavoidable;
+// The numbers of a model's variables: those of the cells from 1 on, then the unit variable, then
+// the slacks.
 mod variables;
+// What a judge answers.
 mod verdicts;
+// The walks over the items that charge weekends.
 mod weekend_walk;
+// Small weeks whose models and penalties are written out.
 mod worked_weeks;
 
 pub use counting::{Counter, Counts, counter_counts_models, counter_counts_rows};

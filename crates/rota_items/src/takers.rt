@@ -10,6 +10,7 @@ use crate::part::Part;
 /// A taker stands for a value, and an event that it takes is a step of that value. What an event that
 /// it refuses may leave is said by `left`.
 pub trait Taker {
+    /// Why an event may be refused.
     type Fault;
 
     ghost Value: { Type 0 };
@@ -20,16 +21,20 @@ pub trait Taker {
 
     ghost left: { Value → Event → Self → Type 0 };
 
+    /// Takes the begin of a row of this part. An Err is answered by the taker alone, and ends a drive.
     fn start_row(&mut self, part: Part) -> Result<(), Self::Fault>
         ensures { MatchResult result
             (λ _. value self.new ≡ step (value self.old) (start_row part))
             (λ _. left (value self.old) (start_row part) self.new) };
 
+    /// Takes a term of the open row. Variables are numbered from 1, and rise within a row.
     fn term(&mut self, coefficient: i64, variable: u32) -> Result<(), Self::Fault>
         ensures { MatchResult result
             (λ _. value self.new ≡ step (value self.old) (term coefficient variable))
             (λ _. left (value self.old) (term coefficient variable) self.new) };
 
+    /// Takes the end of the open row: the sum of its terms is to be at least the degree. The objective's
+    /// degree is 0, and means nothing.
     fn close_row(&mut self, degree: i64) -> Result<(), Self::Fault>
         ensures { MatchResult result
             (λ _. value self.new ≡ step (value self.old) (close_row degree))

@@ -11,8 +11,11 @@ pub enum Status {
     Satisfiable,
     /// `OPTIMUM FOUND`: it does, and no other one that does has a lower objective.
     Optimum,
+    /// `UNSATISFIABLE`: no assignment satisfies all constraints.
     Unsatisfiable,
+    /// `UNKNOWN`: the solver found no assignment, and did not show that there is none.
     Unknown,
+    /// `UNSUPPORTED`: the solver does not read such a model.
     Unsupported,
 }
 
