@@ -99,11 +99,11 @@ fn bad(kind: Kind, file: FileName, line: u32) -> Fault {
     Fault::File(FileFault::Bad { kind, file, line })
 }
 
-#[test]
-fn file_faults(rt: HostRuntime) -> Result<(), Fail> {
+// Weeks with a fault in one of their files, and what a run on them answers.
+fn faulty_weeks() -> [(Worked, Fault); 4] {
     let good = ONE_NURSE_ONE_SHIFT;
     let late = b"HISTORY\n2 s1\nNURSE_HISTORY\nAnn 0 0 None 0 0 0\n";
-    let rows = [
+    [
         (
             Worked {
                 scenario: b"",
@@ -132,8 +132,12 @@ fn file_faults(rt: HostRuntime) -> Result<(), Fail> {
             },
             bad(Kind::LateWeek, FileName::History, 0),
         ),
-    ];
-    for (files, fault) in rows {
+    ]
+}
+
+#[test]
+fn file_faults(rt: HostRuntime) -> Result<(), Fail> {
+    for (files, fault) in faulty_weeks() {
         let (outcome, target) = encode(rt.alloc(), files, Pace::new(5, None))?;
         assert_eq!(rt; outcome, Err(fault));
         assert_eq!(rt; status_of(&fault), 1);
