@@ -1,88 +1,156 @@
 #!/usr/bin/env python3
-"""Measures the built program on two made-up weeks, beside `cat` of the same bytes.
+"""Measures the built program on made-up weeks, beside `cat` of the same bytes.
 
-usage: run.py [PROGRAM]      PROGRAM is crates/inrc2pb/out/inrc2pb where it is left out
+usage: run.py [PROGRAM] [--growth] [--picture FILE]
 
-For each run it prints the bytes of the model or the answer, the least time of three runs, the bytes in a
-second, and the greatest memory that the program held. README.md beside this file says how to read it.
+PROGRAM is crates/inrc2pb/out/inrc2pb where it is left out. For each run it prints the bytes of the model, the
+files or the answer, the least time of some runs, the bytes in a second, how many times `cat` that is, and the
+greatest memory that the program held. --growth prints only the times for weeks of 10 to 1000 nurses, and
+--picture draws these as an SVG picture. README.md beside this file says how to read it.
 """
 
+import argparse
 import os
+import re
 import subprocess
 import sys
 import tempfile
 import time
 
+import picture
 import weeks
+import worst
 
 HERE = os.path.dirname(os.path.abspath(__file__))
-RUNS = 3
+RUNS = 5
+SHORT_RUNS = 40
 GNU_TIME = "/usr/bin/time"
 MEGABYTE = 1_000_000
 
 
-def seconds_of(words, stdin, stdout):
+def seconds_of(words, stdin=os.devnull, stdout=os.devnull, status=0):
     """Runs the words, and returns the seconds that they took."""
     with open(stdin, "rb") as source, open(stdout, "wb") as target:
         began = time.perf_counter()
-        status = subprocess.run(words, stdin=source, stdout=target).returncode
+        ended = subprocess.run(words, stdin=source, stdout=target, stderr=subprocess.DEVNULL).returncode
         took = time.perf_counter() - began
-    if status:
-        sys.exit(f"{' '.join(words)}: status {status}")
+    if ended != status:
+        sys.exit(f"{' '.join(words)}: status {ended}")
     return took
 
 
-def memory_of(words, stdin, stdout):
+def least_seconds(words, runs=RUNS, **streams):
+    return min(seconds_of(words, **streams) for _ in range(runs))
+
+
+def memory_of(words, **streams):
     """Runs the words under GNU time, and returns the most memory that they held, in bytes."""
     with tempfile.NamedTemporaryFile("r") as told:
-        seconds_of([GNU_TIME, "-f", "%M", "-o", told.name, *words], stdin, stdout)
-        return int(told.read()) * 1024
+        seconds_of([GNU_TIME, "-q", "-f", "%M", "-o", told.name, *words], **streams)
+        return int(told.read().split()[-1]) * 1024
 
 
-def measure(what, size, words, stdin=os.devnull, stdout=os.devnull):
-    took = min(seconds_of(words, stdin, stdout) for _ in range(RUNS))
-    megabytes = size / MEGABYTE
-    held = memory_of(words, stdin, stdout) / MEGABYTE
-    print(f"{what:<44}{megabytes:>9.1f} MB{took:>9.3f} s{megabytes / took:>9.0f} MB/s{held:>9.1f} MB held", flush=True)
+def measure(what, paths, words, **streams):
+    """Prints a line on this run, beside `cat` of the files at `paths`."""
+    took = least_seconds(words, **streams)
+    floor = least_seconds(["cat", *paths], stdout=streams.get("stdout", os.devnull))
+    megabytes = sum(os.path.getsize(path) for path in paths) / MEGABYTE
+    held = memory_of(words, **streams) / MEGABYTE
+    print(
+        f"{what:<52}{megabytes:>8.1f} MB{took:>8.3f} s{megabytes / took:>8.0f} MB/s"
+        f"{took / floor:>8.1f} times cat{held:>8.1f} MB held",
+        flush=True,
+    )
 
 
-def has_subcommand(program, name):
-    return subprocess.run([program, name, "--help"], capture_output=True).returncode == 0
+def inputs(folder, history="history"):
+    return ["--sce", f"{folder}/scenario.txt", "--his", f"{folder}/{history}.txt", "--week", f"{folder}/week.txt"]
 
 
-def bench_encode(program, name, files, room):
-    model, copy = f"{room}/{name}.opb", f"{room}/{name}.copy"
-    subprocess.run([program, "encode", *files, "--opb", model], check=True)
-    size = os.path.getsize(model)
-    measure(f"{name}: encode to /dev/null", size, [program, "encode", *files])
-    measure(f"{name}: encode to a file", size, [program, "encode", *files, "--opb", copy])
-    measure(f"{name}: cat to /dev/null", size, ["cat", model])
-    measure(f"{name}: cat to a file", size, ["cat", model], stdout=copy)
+def paths_of(folder, history="history"):
+    return [f"{folder}/{name}.txt" for name in ("scenario", history, "week")]
+
+
+def bench_week(program, name, room):
+    folder, model, copy = f"{room}/{name}", f"{room}/{name}.opb", f"{room}/{name}.copy"
+    weeks.write_files(weeks.SIZES[name], folder)
+    late = inputs(folder, "late")
+    measure(f"{name}: read the files (a late week)", paths_of(folder, "late"), [program, "encode", *late], status=1)
+    subprocess.run([program, "encode", *inputs(folder), "--opb", model], check=True)
+    measure(f"{name}: encode to /dev/null", [model], [program, "encode", *inputs(folder)])
+    measure(f"{name}: encode to a file", [model], [program, "encode", *inputs(folder), "--opb", copy])
     os.remove(copy)
-    return model
+    bench_answers(program, name, folder, model, room)
+    os.remove(model)
 
 
-def bench_decode(program, name, files, model, room):
+def bench_answers(program, name, folder, model, room):
     answer, solution = f"{room}/{name}.answer", f"{room}/{name}.solution"
     weeks.write_answer(weeks.SIZES[name], model, answer)
-    size = os.path.getsize(answer)
-    words = [program, "decode", *files, "--sol", solution]
-    measure(f"{name}: decode, the answer from a file", size, [*words, "--answer", answer])
-    measure(f"{name}: decode, from standard input", size, words, stdin=answer)
-    measure(f"{name}: cat of the answer to /dev/null", size, ["cat", answer])
+    words = [program, "decode", *inputs(folder), "--sol", solution]
+    unknown = f"{room}/{name}.unknown"
+    with open(answer) as file, open(unknown, "w") as other:
+        other.write(file.read().replace("s SATISFIABLE", "s UNKNOWN", 1))
+    measure(f"{name}: read the answer (status UNKNOWN)", [unknown], [*words, "--answer", unknown], status=5)
+    measure(f"{name}: decode, the answer from a file", [answer], [*words, "--answer", answer])
+    measure(f"{name}: decode, from standard input", [answer], words, stdin=answer)
+    extended = f"{room}/{name}.extended"
+    subprocess.run([program, "extend", *inputs(folder), "--from", solution], stdout=open(extended, "wb"), check=True)
+    measure(f"{name}: extend to /dev/null", [extended], [program, "extend", *inputs(folder), "--from", solution])
+    measure(f"{name}: decode of lines of ten literals", [extended], [*words, "--answer", extended])
+
+
+def bench_worst(program, room):
+    for what, folder in worst.write_weeks(f"{room}/worst"):
+        measure(what, paths_of(folder), [program, "encode", *inputs(folder)])
+    plain = f"{room}/plain"
+    os.makedirs(plain)
+    for name, text in worst.week_of_names(["Ann"]).items():
+        with open(f"{plain}/{name}.txt", "w") as file:
+            file.write(text)
+    for what, make in worst.answers():
+        answer = f"{room}/answer"
+        worst.write_answer(answer, make)
+        ends = 0 if "o lines" in what else 1
+        measure(what, [answer], [program, "decode", *inputs(plain), "--sol", f"{room}/solution", "--answer", answer], status=ends)
+
+
+def bench_growth(program, room, drawn):
+    """Nanoseconds a term of the model, and a byte of the files, for more and more nurses; the program's start is taken off."""
+    start = least_seconds([program, "--version"], SHORT_RUNS)
+    print(f"a start of the program: {start * 1000:.1f} ms", flush=True)
+    print(f"{'nurses':>7}{'terms':>12}{'ns a term':>12}{'bytes read':>12}{'ns a byte':>12}")
+    a_term, a_byte = [], []
+    for nurses, size in weeks.GROWTH.items():
+        folder = f"{room}/growth{nurses}"
+        weeks.write_files(size, folder)
+        text = subprocess.run([program, "encode", *inputs(folder)], capture_output=True, check=True).stdout
+        terms = len(re.findall(rb"x\d", text))
+        read = sum(os.path.getsize(path) for path in paths_of(folder))
+        encoding = least_seconds([program, "encode", *inputs(folder)], SHORT_RUNS)
+        reading = least_seconds([program, "encode", *inputs(folder, "late")], SHORT_RUNS, status=1)
+        a_term.append(max(0.0, encoding - reading) / terms * 1e9)
+        a_byte.append(max(0.0, reading - start) / read * 1e9)
+        print(f"{nurses:>7}{terms:>12}{a_term[-1]:>12.2f}{read:>12}{a_byte[-1]:>12.2f}", flush=True)
+    if drawn:
+        lines = {"a term written": a_term, "a byte read": a_byte}
+        with open(drawn, "w") as file:
+            file.write(picture.picture("nanoseconds", "nurses", lines, list(weeks.GROWTH)))
 
 
 def main():
-    program = os.path.abspath(sys.argv[1] if len(sys.argv) > 1 else f"{HERE}/../crates/inrc2pb/out/inrc2pb")
+    reader = argparse.ArgumentParser(description=__doc__, formatter_class=argparse.RawDescriptionHelpFormatter)
+    reader.add_argument("program", nargs="?", default=f"{HERE}/../crates/inrc2pb/out/inrc2pb")
+    reader.add_argument("--growth", action="store_true")
+    reader.add_argument("--picture", metavar="FILE")
+    given = reader.parse_args()
+    program = os.path.abspath(given.program)
     with tempfile.TemporaryDirectory(prefix="inrc2pb-bench-") as room:
-        for name in weeks.SIZES:
-            folder = f"{room}/{name}"
-            weeks.write_files(weeks.SIZES[name], folder)
-            files = ["--sce", f"{folder}/scenario.txt", "--his", f"{folder}/history.txt", "--week", f"{folder}/week.txt"]
-            model = bench_encode(program, name, files, room)
-            if has_subcommand(program, "decode"):
-                bench_decode(program, name, files, model, room)
-            os.remove(model)
+        if not given.growth:
+            for name in weeks.SIZES:
+                bench_week(program, name, room)
+            bench_worst(program, room)
+        bench_growth(program, room, given.picture)
 
 
 if __name__ == "__main__":

@@ -38,6 +38,9 @@ SIZES = {
     "greatest": Size(nurses=1000, shifts=16, skills=16, contracts=64, requests=9999),
 }
 
+# Weeks that differ only in the number of nurses, as wards do: requests grow with it.
+GROWTH = {nurses: Size(nurses=nurses, shifts=4, skills=4, contracts=4, requests=9 * nurses) for nurses in (10, 30, 120, 300, 1000)}
+
 
 def scenario(size):
     yield "SCENARIO = bench"
@@ -83,9 +86,14 @@ def week(size):
         yield f"nurse{r * 7 % size.nurses} {shift} {DAYS[r % 7]}"
 
 
+def late_history(size):
+    """The same history in a week that the scenario does not have: a run reads all files and ends there."""
+    return (line.replace("3 bench", "4 bench") for line in history(size))
+
+
 def write_files(size, folder):
     os.makedirs(folder, exist_ok=True)
-    for name, lines in (("scenario", scenario), ("history", history), ("week", week)):
+    for name, lines in (("scenario", scenario), ("history", history), ("late", late_history), ("week", week)):
         with open(f"{folder}/{name}.txt", "w") as file:
             file.writelines(f"{line}\n" for line in lines(size))
 

@@ -8,12 +8,6 @@
 # the usual tools of a shell.
 . "$(dirname "$0")/program_runs.sh"
 
-# report STATUS OBJECTIVE PENALTY S2 [LAST]: the report whose costs are 0 but that of S2.
-report() {
-    printf 'status %s\nobjective %s\npenalty %s\nS1 0\nS2 %s\nS3 0\nS4 0\nS5 0\nS6 0\nS7 0\n' "$1" "$2" "$3" "$4"
-    [ $# -lt 5 ] || printf 'last o %s\n' "$5"
-}
-
 # solution ROW..: a solution file of the week.
 solution() {
     printf 'SOLUTION\n0 s1\n\nASSIGNMENTS = %s\n' $#
@@ -24,11 +18,11 @@ solution() {
 sed '6s/.*/Day (1,0)/' "$room/scenario.txt" > "$room/closed.txt"
 solution > "$room/empty_solution"
 solution 'Ann Mon Day Nurse' > "$room/monday_solution"
-report 'OPTIMUM FOUND' 0 0 0 5 > "$room/optimum_report"
-report SATISFIABLE 0 0 0 > "$room/plain_report"
-report SATISFIABLE 0 0 0 1 > "$room/last_one_report"
-report SATISFIABLE 15 0 0 > "$room/slack_report"
-report SATISFIABLE 15 15 15 15 > "$room/extended_report"
+report 'OPTIMUM FOUND' 0 0 '0 0 0 0 0 0 0' 5 > "$room/optimum_report"
+report SATISFIABLE 0 0 '0 0 0 0 0 0 0' > "$room/plain_report"
+report SATISFIABLE 0 0 '0 0 0 0 0 0 0' 1 > "$room/last_one_report"
+report SATISFIABLE 15 0 '0 0 0 0 0 0 0' > "$room/slack_report"
+report SATISFIABLE 15 15 '0 15 0 0 0 0 0' 15 > "$room/extended_report"
 printf '%s\r\n' 'c hello' 'd 1 2' 'o 5' 's OPTIMUM FOUND' 'v x1 -x2' 'v -x3 x1 -x4' 'v -x5 -x6 x8 ' > "$room/answer.txt"
 line scenario_ends 'inrc2pb: scenario line 1: end of file'
 
@@ -74,6 +68,9 @@ decodes() {
     answer 's SATISFIABLE' 'v-x8' 'v x8' 'v'
     run 'a line that only looks like one' 0 plain_report nothing "${week[@]}"
     holds solution empty_solution
+    answer $'s\tSATISFIABLE ' $'v\r' $'v\tx8\r'
+    run 'tabs and returns' 0 plain_report nothing "${week[@]}"
+    holds solution empty_solution
     answer 'o 000000000000000001' 's SATISFIABLE' 'v x8'
     run 'an objective with leading zeros' 0 last_one_report nothing "${week[@]}"
     holds solution empty_solution
@@ -102,7 +99,7 @@ charges_slacks_and_shifts() {
 refuses_answers() {
     local text
     rm -f "$room/solution"
-    for text in 'v x1 -x1' 'v -x8 x8'; do answer "$text"; refuses 1 'answer: variable with both values'; done
+    for text in 'v x1 -x1' 'v -x8 x8' $'v x1\nv -x1 x1'; do answer "$text"; refuses 1 'answer: variable with both values'; done
     for text in 'v x0' 'v x9' "v x$(printf '9%.0s' {1..40})"; do answer "$text"; refuses 1 'answer: variable out of range'; done
     for text in 'v y1' 'v ~x1' 'v x' 'v -' 'v x1-'; do answer "$text"; refuses 1 'answer: bad literal'; done
     for text in 's OPTIMUM ' 's' 's SATISFIABLE yes'; do answer "$text"; refuses 1 'answer: unknown status'; done
@@ -110,12 +107,20 @@ refuses_answers() {
     for text in 'sSATISFIABLE' 'v x8' 'c'; do answer "$text"; refuses 1 'answer: no status line or a second one'; done
     answer 's UNKNOWN' 's UNKNOWN'
     refuses 1 'answer: no status line or a second one'
+    answer 's SATISFIABLE' 's SATISFIABLE' 'v y1'
+    refuses 1 'answer: no status line or a second one'
     in=/dev/null
     refuses 1 'answer: no status line or a second one'
     (printf c; head -c 10000000 /dev/zero | tr '\0' x) > "$room/stdin"
     in=$room/stdin
     refuses 1 'answer: no status line or a second one'
     for text in UNSATISFIABLE UNKNOWN UNSUPPORTED; do answer "s $text"; refuses 5 "solver found no roster: $text"; done
+    answer 's UNKNOWN' 'v x8'
+    refuses 5 'solver found no roster: UNKNOWN'
+    for text in 's SATISFIABLE' $'s OPTIMUM FOUND\nv x1' $'s OPTIMUM FOUND\nv -x8'; do
+        answer "$text"
+        refuses 6 'constraint 1 is not satisfied'
+    done
 }
 
 checks_in_order() {

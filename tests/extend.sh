@@ -41,19 +41,7 @@ o 0
 s SATISFIABLE
 v -x1 -x2 -x3 -x4 -x5 -x6 -x7 x8
 END
-cat > "$room/monday_report" <<'END'
-status SATISFIABLE
-objective 15
-penalty 15
-S1 0
-S2 15
-S3 0
-S4 0
-S5 0
-S6 0
-S7 0
-last o 15
-END
+report SATISFIABLE 15 15 '0 15 0 0 0 0 0' 15 > "$room/monday_report"
 printf 'SOLUTION\n0 s1\n\nASSIGNMENTS = 1\nAnn Mon Day Nurse\n' > "$room/monday_solution"
 
 # extend_of SCENARIO ROSTER: the words.

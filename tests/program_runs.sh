@@ -12,6 +12,9 @@ trap 'rm -rf "$room"' EXIT
 
 failed=0
 checked=0
+
+# What prints the public calls' findings, as `rt ci` leaves it in its crate.
+reporter=$PWD/crates/week_report/out/week_report
 what='the files'
 
 # The files of one nurse, one shift type and one skill.
@@ -25,6 +28,18 @@ line read_failed 'inrc2pb: read failed'
 line write_failed 'inrc2pb: write failed'
 line week_late 'inrc2pb: history: week not below WEEKS'
 sed '2s/^0 /2 /' "$room/history.txt" > "$room/late.txt"
+
+# report STATUS OBJECTIVE PENALTY COSTS [LAST]: the report of an answer whose roster costs this by the soft rules, in
+# their order.
+report() {
+    local number=0 cost
+    printf 'status %s\nobjective %s\npenalty %s\n' "$1" "$2" "$3"
+    for cost in $4; do
+        number=$((number + 1))
+        printf 'S%s %s\n' $number "$cost"
+    done
+    [ $# -lt 5 ] || printf 'last o %s\n' "$5"
+}
 
 complain() {
     echo "FAILED: $(basename "$program"): $what: $*"
@@ -52,6 +67,18 @@ run() {
     [ $ended = "$status" ] || complain "status $ended, not $status"
     [ "$out" != "$room/out" ] || check_stream 'standard output' "$out" "$wants_out"
     [ "$err" != "$room/err" ] || check_stream 'standard error' "$err" "$wants_err"
+}
+
+# reports WHAT STDOUT WORDS..: runs `week_report` in the room, as the same compiler built it.
+reports() {
+    local tried=$program build=${program#*/inrc2pb/out/inrc2pb}
+    local what=$1 wants=$2
+    shift 2
+    case $build in /*) build= ;; esac
+    program=$reporter$build
+    [ -x "$program" ] || program=$reporter
+    run "$what" 0 "$wants" nothing "$@"
+    program=$tried
 }
 
 # holds FILE WANTED: the file that the last run may have written.

@@ -131,11 +131,26 @@ only_words_went_on
 cmp -s "$room/opb" crates/inrc2pb/stdout || complain 'not the bytes of the model'
 sweep 'five nurses' "${five_nurses[@]}"
 only_words_went_on
+cmp -s "$room/out" "$data/week0.opb" || complain 'not the bytes of the model'
 sweep 'no words'
 sweep 'help' --help
 sweep 'the version' --version
 sweep 'a word that is refused' solve
 sweep 'a missing option' encode --sce "$data/Sc-n005w4.txt"
+
+# An answer to the week of one nurse, and a roster of it where each day's shift costs 15.
+small_data=crates/inrc2pb/data
+sed '6s/.*/Day (1,0)/' "$small_data/scenario.txt" > "$room/closed.txt"
+printf '%s\r\n' 'c hello' 'd 1 2' 'o 5' 's OPTIMUM FOUND' 'v x1 -x2' 'v -x3 x1 -x4' 'v -x5 -x6 x8 ' > "$room/small_answer"
+printf 'SOLUTION\n0 s1\n\nASSIGNMENTS = 1\nAnn Mon Day Nurse\n' > "$room/monday"
+printf '%s\n' 'status OPTIMUM FOUND' 'objective 0' 'penalty 0' 'S1 0' 'S2 0' 'S3 0' 'S4 0' 'S5 0' 'S6 0' 'S7 0' 'last o 5' > "$room/small_report"
+printf '%s\n' 'o 15' 's SATISFIABLE' 'v x1 -x2 -x3 -x4 -x5 -x6 -x7 x8 x9 -x10' 'v -x11 -x12 -x13 -x14 -x15' > "$room/monday_answer"
+sweep 'an answer for one nurse' decode --sce "$small_data/scenario.txt" --his "$small_data/history.txt" --week "$small_data/week.txt" --answer "$room/small_answer" --sol "$room/opb"
+only_words_went_on
+cmp -s "$room/opb" "$room/monday" && cmp -s "$room/out" "$room/small_report" || complain 'not the bytes of the solution and the report'
+sweep 'a roster of one nurse' extend --sce "$room/closed.txt" --his "$small_data/history.txt" --week "$small_data/week.txt" --from "$room/monday"
+only_words_went_on
+cmp -s "$room/out" "$room/monday_answer" || complain 'not the bytes of the answer'
 
 solved=(--sce "$data/Sc-n005w4.txt" --his "$data/H0-n005w4-0.txt" --week "$data/WD-n005w4-0.txt")
 sweep 'an answer' decode "${solved[@]}" --answer "$data/answers/sat4j.txt" --sol "$room/opb"
@@ -148,9 +163,9 @@ sweep 'an empty answer' decode "${solved[@]}" --answer /dev/null --sol "$room/op
 (printf c; head -c 10000000 /dev/zero | tr '\0' x) > "$room/long_answer"
 makes_no_more 'an answer of one long line' decode "${solved[@]}" --answer "$room/long_answer" --sol "$room/opb"
 
-sweep_test refused_memory::memory_comes_before_the_first_write
-sweep_test refused_memory_decoding::decoding_wants_memory_before_the_first_write
-sweep_test extending::memory_comes_before_the_extension
+sweep_test refused_memory::encoding_wants_memory_before_the_first_write
+sweep_test refused_memory::decoding_wants_memory_before_the_first_write
+sweep_test refused_memory::extending_wants_memory_before_the_first_write
 
 echo "refusals: $ended_for_memory runs ended for want of memory, $went_on went on without, $tested runs of a test, $failed failed"
 [ $failed = 0 ]

@@ -1,7 +1,8 @@
 #!/usr/bin/env bash
 # Decodes the answers that real solvers gave for the week of examples/n005w4. Each is a roster whose
 # objective and penalty are 320, the least ones, as two solvers proved. What `decode` writes as a solution
-# goes back through `extend` and `decode`, with the same costs and the same solution.
+# goes back through `extend` and `decode`, with the same costs and the same solution. The same with cells
+# held, and with `--early` for the last week of examples/n030w4.
 #
 #   tests/solver_answers.sh [PROGRAM..]
 #
@@ -9,21 +10,57 @@
 # the usual tools of a shell.
 . "$(dirname "$0")/program_runs.sh"
 
-cp examples/n005w4/*.txt examples/n005w4/answers/*.txt "$room"
+cp examples/n005w4/*.txt examples/n005w4/answers/*.txt examples/n030w4/*.txt "$room"
+cp tests/n030w4_clasp_early.txt "$room/clasp-early.txt"
 files=(--sce Sc-n005w4.txt --his H0-n005w4-0.txt --week WD-n005w4-0.txt)
 
-# The answer's status, the least objective twice, and the last `o` value, if there is one.
+# wanted_report PENALTY: the answer's status, the least objective twice, and the last `o` value, if there is one.
 wanted_report() {
     sed -n 's/^s /status /p' "$in"
-    printf 'objective 320\npenalty 320\n'
+    printf 'objective %s\npenalty %s\n' "$1" "$1"
     sed -n 's/^o /last o /p' "$in" | tail -n 1
 }
 
-# The report has seven costs beside this, which sum to the penalty.
+# check_report PENALTY: the report has seven costs beside this, which sum to the penalty.
 check_report() {
-    [ "$(grep -v '^S[1-7] ' "$room/out")" = "$(wanted_report)" ] || complain "another report: $(cat "$room/out")"
-    [ "$(awk '/^S[1-7] / { lines += 1; sum += $2 } END { print lines, sum }' "$room/out")" = '7 320' ] ||
-        complain 'the seven costs do not sum to 320'
+    [ "$(grep -v '^S[1-7] ' "$room/out")" = "$(wanted_report "$1")" ] || complain "another report: $(cat "$room/out")"
+    [ "$(awk '/^S[1-7] / { lines += 1; sum += $2 } END { print lines, sum }' "$room/out")" = "7 $1" ] ||
+        complain "the seven costs do not sum to $1"
+}
+
+# With a shift promised the least penalty is 350, as clasp proved. With one nurse's week of the best roster held it stays
+# 320, and the best answer is an answer to that model too.
+holds_cells() {
+    in=$room/clasp-held.txt
+    run 'a shift promised' 0 text nothing decode "${files[@]}" --fix promised.txt --sol solution
+    check_report 350
+    grep -q '^Stefaan Tue Late Nurse$' "$room/solution" || complain 'the promise is not kept'
+    in=$room/clasp-optimum.txt
+    run 'the best roster' 0 text nothing decode "${files[@]}" --sol solution
+    {
+        sed -n '1,3p' "$room/solution"
+        echo "ASSIGNMENTS = $(grep -c '^Stefaan ' "$room/solution")"
+        grep '^Stefaan ' "$room/solution"
+    } > "$room/stefaan.txt"
+    run "a nurse's week held" 0 text nothing decode "${files[@]}" --fix stefaan.txt --sol solution
+    check_report 320
+    run 'a promise that the best roster breaks' 6 nothing text decode "${files[@]}" --fix promised.txt --sol solution
+    grep -q '^inrc2pb: constraint [0-9]* is not satisfied$' "$room/err" || complain "$(cat "$room/err")"
+}
+
+# clasp's answer to the model of the last week of thirty nurses with `--early`. Its objective there is the last one that
+# clasp told. Without the flag the week pays for what was exceeded before it too: for the same roster it pays more.
+charges_early() {
+    local thirty=(--sce Sc-n030w4.txt --his H0-n030w4-3.txt --week WD-n030w4-3.txt) early
+    in=$room/clasp-early.txt
+    run 'charged early' 0 text nothing decode "${thirty[@]}" --early --sol solution
+    grep -qx "objective $(sed -n 's/^o //p' "$in" | tail -n 1)" "$room/out" || complain "another objective: $(cat "$room/out")"
+    early=$(sed -n 's/^penalty //p' "$room/out")
+    in=/dev/null
+    run 'charged early, extended' 0 text nothing extend "${thirty[@]}" --early --from solution
+    [ "$(head -n 1 "$room/out")" = "o $early" ] || complain "$(head -n 1 "$room/out"), not $early"
+    run 'charged in the last week only, extended' 0 text nothing extend "${thirty[@]}" --from solution
+    [ "$(sed -n '1s/^o //p' "$room/out")" -gt "$early" ] || complain 'no more without the flag'
 }
 
 solver_answers() {
@@ -31,7 +68,7 @@ solver_answers() {
     for answer in clasp clasp-optimum minisatp sat4j; do
         in=$room/$answer.txt
         run "$answer" 0 text nothing decode "${files[@]}" --sol solution
-        check_report
+        check_report 320
         in=/dev/null
         cp "$room/out" "$room/report"
         cp "$room/solution" "$room/first_solution"
@@ -43,6 +80,8 @@ solver_answers() {
         [ "$(grep '^[pS]' "$room/out")" = "$(grep '^[pS]' "$room/report")" ] || complain 'other costs'
         holds solution first_solution
     done
+    holds_cells
+    charges_early
 }
 
 for_each_program solver_answers "$@"

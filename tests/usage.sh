@@ -20,11 +20,17 @@ cat > "$room/model" <<'END'
 -1 x6 >= -1 ;
 -1 x7 >= -1 ;
 END
-line version 'inrc2pb 0.1.0'
+line version "inrc2pb $(sed -n 's/^const VERSION: &str = "\(.*\)";$/\1/p' crates/inrc2pb/src/command.rt)"
 line scenario_ends 'inrc2pb: scenario line 10: end of file'
 line scenario_empty 'inrc2pb: scenario line 1: end of file'
 line scenario_long 'inrc2pb: scenario: out of limits'
 line history_word 'inrc2pb: history line 1: another word expected'
+
+# The help that was shown last ends with an example of the command and where more is said.
+ends_with_example() {
+    grep -A 1 '^Example:$' "$room/out" | grep -q -- "inrc2pb $1 --sce " || complain 'no example'
+    tail -n 1 "$room/out" | grep -q ': inrc2pb(1), docs/formats.md.$' || complain 'not told where more is said'
+}
 
 # tells_options SUBCOMMAND OPTION..: its help has a line for each option.
 tells_options() {
@@ -35,6 +41,8 @@ tells_options() {
         for option; do
             grep -q -e "^ *$option <FILE>  *[A-Z]" "$room/out" || complain "no line for $option"
         done
+        grep -q -e '^ *--early  *[A-Z]' "$room/out" || complain 'no line for --early'
+        ends_with_example "$subcommand"
     done
 }
 
@@ -46,10 +54,11 @@ asks_for_help() {
         for subcommand in encode decode extend; do
             grep -q "^ *$subcommand  *[A-Z]" "$room/out" || complain "no line for $subcommand"
         done
+        ends_with_example encode
     done
-    tells_options encode --sce --his --week --opb
-    tells_options decode --sce --his --week --sol --answer
-    tells_options extend --sce --his --week --from
+    tells_options encode --sce --his --week --fix --opb
+    tells_options decode --sce --his --week --fix --sol --answer
+    tells_options extend --sce --his --week --fix --from
     run 'the version' 0 version nothing --version
     out=/dev/full
     run 'help that cannot be written' 3 nothing write_failed --help

@@ -2,7 +2,7 @@
 use Rattle.std.specs.Prelude.{◌≡◌, List, [], ◌∷◌, ◌++◌, Some, true, false, codes, fold}
 use Rattle.clap.specs.Words.{App, Rule, Text, app_of, new_app, new_rule, with_rule, with_subcommand}
 use Rattle.clap.specs.Simple.{new_shape}
-use Rattle.clap.specs.declared.builder.action.ArgAction.TheVariants.{Set}
+use Rattle.clap.specs.declared.builder.action.ArgAction.TheVariants.{Set, SetTrue}
 use Rattle.clap.specs.declared.builder.command.Command.{Command}
 use Rattle.clap.specs.declared.builder.command.Command.TheViews.{out-Command as fields_of}
 
@@ -11,6 +11,10 @@ abbrev pub file_rule : Text → Rule
 file_rule id =
     record (new_rule id) { long = Some id; action = Some Set; value_names = 1 }
 
+-- the flag `--id`
+abbrev pub flag_rule : Text → Rule
+flag_rule id = record (new_rule id) { long = Some id; action = Some SetTrue }
+
 -- the option `--id FILE`, which has to be given
 abbrev pub required_file_rule : Text → Rule
 required_file_rule id = record (file_rule id) { required = true }
@@ -18,7 +22,7 @@ required_file_rule id = record (file_rule id) { required = true }
 -- the options that every subcommand has
 abbrev pub input_rules : List Rule
 input_rules = required_file_rule (codes "sce") ∷ required_file_rule (codes "his")
-    ∷ required_file_rule (codes "week") ∷ []
+    ∷ required_file_rule (codes "week") ∷ file_rule (codes "fix") ∷ flag_rule (codes "early") ∷ []
 
 -- a subcommand, with the options of its own
 abbrev pub subcommand_app : Text → List Rule → App

@@ -1,11 +1,12 @@
 -- The job that the matches of a subcommand spell.
-use Rattle.std.specs.Prelude.{◌≡◌, ◌⊎◌, List, Some, None, true, codes, ⊤}
+use Rattle.std.specs.Prelude.{◌≡◌, ◌⊎◌, Bool, List, Some, None, true, false, codes, is_some, ⊤}
 use Rattle.std.specs.Prelude.{IsSomeAnd, map, option_map, string_bytes}
 use Rattle.std.specs.Borrow.{Bor}
-use Rattle.clap.specs.Words.{Row, Text, first_of, found_of, kind_of, rows_of}
+use Rattle.clap.specs.Words.{Row, Text, first_of, found_of, kind_of, one_of, rows_of}
 use Rattle.clap.specs.Words.{subcommand_of, takes}
 use Rattle.clap.specs.declared.error.kind.ErrorKind.TheVariants.{OutOfMemory}
 use Rattle.clap.specs.declared.parser.matches.ArgMatches.{ArgMatches}
+use Rattle.rota_pb.specs.declared.week_files.Choice.{Choice}
 use Rattle.inrc2pb.specs.CommandLine.{inrc2pb_app}
 use Rattle.inrc2pb.specs.declared.jobs.Inputs.{Inputs}
 use Rattle.inrc2pb.specs.declared.jobs.Job.{Job}
@@ -29,11 +30,24 @@ abbrev pub IsSubcommand : Text → Type 0
 IsSubcommand name =
     (name ≡ codes "encode") ⊎ ((name ≡ codes "decode") ⊎ (name ≡ codes "extend"))
 
--- the paths are those of the options, unchanged
+-- the flag is set where the text of its option is `true`, and not where it is `false` or there is none
+pub record HasFlag (id : Text) (options : List Row) (flag : Bool) : Type 0 where
+  pub set : one_of id options ≡ Some (codes "true") → flag ≡ true
+  pub unset : one_of id options ≡ Some (codes "false") → flag ≡ false
+  pub absent : one_of id options ≡ None → flag ≡ false
+
+-- what is asked of a run: early charges by the flag, and held cells where a file is named for them
+pub record IsChoiceOf (inputs : Inputs) (choice : Choice) : Type 0 where
+  pub early : choice.early ≡ inputs.early
+  pub fixed : choice.fixed ≡ is_some inputs.fix
+
+-- the paths are those of the options, unchanged, and the flag is theirs
 pub record HasInputs (options : List Row) (inputs : Inputs) : Type 0 where
   pub sce : first_of (codes "sce") options ≡ Some (string_bytes inputs.sce)
   pub his : first_of (codes "his") options ≡ Some (string_bytes inputs.his)
   pub week : first_of (codes "week") options ≡ Some (string_bytes inputs.week)
+  pub fix : first_of (codes "fix") options ≡ option_map string_bytes inputs.fix
+  pub early : HasFlag (codes "early") options inputs.early
 
 -- the job is the subcommand, with the paths of its options
 abbrev pub IsJobOf : Matched → Job → Type 0
@@ -64,7 +78,7 @@ IsForMemoryOr lacks (Words error) = ⊥
 IsForMemoryOr lacks Missing = lacks
 IsForMemoryOr lacks Memory = ⊤
 
--- why the words give no job: words that the command takes are refused for want of memory alone
+-- why the words give no job: words that the command takes are refused only for want of memory
 abbrev pub IsFaultOf : List Text → JobFault → Type 0
 IsFaultOf words (Words error) = takes inrc2pb_app words ≡ true → kind_of error ≡ OutOfMemory
 IsFaultOf words Missing = IsSomeAnd (subcommand_of inrc2pb_app words) LacksPath

@@ -2,11 +2,14 @@
 ghost use Rattle.std.specs.Prelude.{◌≡◌, [], IfOk, false};
 ghost use Rattle.clap.specs.Words.{rule_of};
 ghost use Rattle.inrc2pb.specs.CommandLine.{IsCommandOf, bare_app, decode_app, encode_app};
-ghost use Rattle.inrc2pb.specs.CommandLine.{extend_app, file_rule, inrc2pb_app};
+ghost use Rattle.inrc2pb.specs.CommandLine.{extend_app, file_rule, flag_rule, inrc2pb_app};
 ghost use Rattle.inrc2pb.specs.CommandLine.{required_file_rule, subcommand_app};
 
 use clap::{Arg, ArgAction, Command};
 use std::alloc::{AllocError, Global};
+
+/// The version of the program, which stands here only.
+const VERSION: &str = "0.2.0";
 
 /// The whole command: one of its subcommands has to be named.
 pub fn inrc2pb<'a>(alloc: Global) -> Result<Command<'a>, AllocError>
@@ -23,17 +26,32 @@ fn bare<'a>(alloc: Global) -> Result<Command<'a>, AllocError>
 {
     Command::new(alloc, "inrc2pb")
         .about("Turns one week of an INRC-II nurse roster into a pseudo-Boolean model, and back")
-        .version("0.1.0")
+        .version(VERSION)
         .subcommand_required(true)
         .arg_required_else_help(true)
         .disable_help_subcommand(true)
+        .after_help(
+            "Example:
+  inrc2pb encode --sce Sc-n005w4.txt --his H0-n005w4-0.txt --week WD-n005w4-0.txt --opb week.opb
+
+The files, the faults and the exit statuses: inrc2pb(1), docs/formats.md.",
+        )
         .bin_name("inrc2pb")
 }
 
 fn encode<'a>(alloc: Global) -> Result<Command<'a>, AllocError>
     ensures { IfOk result (IsCommandOf encode_app) }
 {
-    subcommand(alloc, "encode", "Writes the week as a pseudo-Boolean model")?.arg(file_option(
+    subcommand(
+        alloc,
+        "encode",
+        "Writes the week as a pseudo-Boolean model",
+        "Example:
+  inrc2pb encode --sce Sc-n005w4.txt --his H0-n005w4-0.txt --week WD-n005w4-0.txt --opb week.opb
+
+The files of the week and the model: inrc2pb(1), docs/formats.md.",
+    )?
+    .arg(file_option(
         alloc,
         "opb",
         "Where to write the model [default: standard output]",
@@ -47,6 +65,10 @@ fn decode<'a>(alloc: Global) -> Result<Command<'a>, AllocError>
         alloc,
         "decode",
         "Turns a solver's answer into a solution file, and reports what it costs",
+        "Example:
+  inrc2pb decode --sce Sc-n005w4.txt --his H0-n005w4-0.txt --week WD-n005w4-0.txt --answer answer.txt --sol roster.txt
+
+The answer, the solution file and the report: inrc2pb(1), docs/formats.md.",
     )?
     .arg(required_file(alloc, "sol", "Where to write the solution file"))?
     .arg(file_option(
@@ -59,22 +81,54 @@ fn decode<'a>(alloc: Global) -> Result<Command<'a>, AllocError>
 fn extend<'a>(alloc: Global) -> Result<Command<'a>, AllocError>
     ensures { IfOk result (IsCommandOf extend_app) }
 {
-    subcommand(alloc, "extend", "Turns a roster into an answer of a solver")?.arg(required_file(
+    subcommand(
         alloc,
-        "from",
-        "The roster, in the form of a solution file",
-    ))
+        "extend",
+        "Turns a roster into an answer of a solver",
+        "Example:
+  inrc2pb extend --sce Sc-n005w4.txt --his H0-n005w4-0.txt --week WD-n005w4-0.txt --from roster.txt
+
+The roster and the answer: inrc2pb(1), docs/formats.md.",
+    )?
+    .arg(required_file(alloc, "from", "The roster, in the form of a solution file"))
 }
 
-/// A subcommand with the options that each of them has.
-fn subcommand<'a>(alloc: Global, name: &'a str, about: &'a str) -> Result<Command<'a>, AllocError>
+/// A subcommand with the options that each of them has; its help ends with `example`.
+fn subcommand<'a>(
+    alloc: Global,
+    name: &'a str,
+    about: &'a str,
+    example: &'a str,
+) -> Result<Command<'a>, AllocError>
     ensures { IfOk result (IsCommandOf (subcommand_app name.entry.now [])) }
 {
     Command::new(alloc, name)
         .about(about)
+        .after_help(example)
         .arg(required_file(alloc, "sce", "The scenario"))?
         .arg(required_file(alloc, "his", "The history before the week"))?
-        .arg(required_file(alloc, "week", "The requirements and requests of the week"))
+        .arg(required_file(alloc, "week", "The requirements and requests of the week"))?
+        .arg(file_option(
+            alloc,
+            "fix",
+            "Assignments that are held, in the form of a solution file",
+        ))?
+        .arg(flag(
+            alloc,
+            "early",
+            "Charges what exceeds a total in the week in which it arises",
+        ))
+}
+
+/// The flag `--id`.
+fn flag<'a>(alloc: Global, id: &'a str, help: &'a str) -> Arg<'a>
+    ensures rule { rule_of result ≡ flag_rule id.entry.now }
+    ensures local { result.global ≡ false }
+{
+    Arg::new(alloc, id)
+        .long(id)
+        .help(help)
+        .action(ArgAction::SetTrue)
 }
 
 /// The option `--id FILE`.

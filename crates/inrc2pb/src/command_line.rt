@@ -2,7 +2,7 @@
 ghost use Rattle.std.specs.Prelude.{◌≡◌, IfErr, IfOk, IsSomeAnd, Some, option_map, string_bytes};
 ghost use Rattle.clap.specs.Words.{first_of, subcommand_of};
 ghost use Rattle.inrc2pb.specs.CommandLine.{inrc2pb_app};
-ghost use Rattle.inrc2pb.specs.Jobs.{HasInputs, IsFaultOf, IsForMemoryOr, IsJobOf, IsSubcommand};
+ghost use Rattle.inrc2pb.specs.Jobs.{HasFlag, HasInputs, IsFaultOf, IsForMemoryOr, IsJobOf, IsSubcommand};
 ghost use Rattle.inrc2pb.specs.Jobs.{LacksInput, LacksOption, LacksPath, options_of, texts};
 
 use crate::command;
@@ -55,7 +55,15 @@ fn inputs(alloc: Global, options: &ArgMatches<'_>) -> Result<Inputs, JobFault>
         sce: required_path(alloc, options, "sce")?,
         his: required_path(alloc, options, "his")?,
         week: required_path(alloc, options, "week")?,
+        fix: optional_path(alloc, options, "fix")?,
+        early: flag(options, "early"),
     })
+}
+
+fn flag(options: &ArgMatches<'_>, id: &str) -> bool
+    ensures { HasFlag id.now (options_of options.now) result }
+{
+    options.get_flag(id)
 }
 
 fn required_path(alloc: Global, options: &ArgMatches<'_>, id: &str) -> Result<String, JobFault>

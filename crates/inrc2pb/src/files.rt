@@ -1,21 +1,39 @@
 //! The files of a job: those that it reads are opened before it runs, the one that it writes is made at
 //! its first write.
-ghost use Rattle.std.specs.Prelude.{◌≡◌, None, IfErr};
+ghost use Rattle.std.specs.Prelude.{◌≡◌, None, IfErr, IfOk};
+ghost use Rattle.inrc2pb.specs.Jobs.{IsChoiceOf};
 ghost use Rattle.rota_pb.specs.declared.fault.Fault.TheVariants.{Read as ReadFailed};
 
 use crate::jobs::Inputs;
 use rota_core::FromRead;
-use rota_pb::Fault;
-use std::io::Write;
+use rota_pb::{Choice, Fault};
+use std::io::{Read, Write};
 use std::rt::Files;
 use std::{fs, io};
 
-/// The inputs that every job has, open.
+/// The inputs that every job has, open, and what is asked of its run beside them.
 #[derive(Drop)]
 pub struct OpenInputs<F: Drop> {
+    pub choice: Choice,
     pub sce: FromRead<F>,
     pub his: FromRead<F>,
     pub week: FromRead<F>,
+    pub fix: FromRead<FixFile<F>>,
+}
+
+/// The file of the cells that are held, where there is one.
+#[derive(Drop)]
+pub struct FixFile<F: Drop> {
+    file: Option<F>,
+}
+
+impl<F: Read + Drop> Read for FixFile<F> {
+    fn read(&mut self, bytes: &mut [u8]) -> io::Result<usize> {
+        match &mut self.file {
+            Some(file) => file.read(bytes),
+            None => Ok(0),
+        }
+    }
 }
 
 /// Opens the inputs, in the order in which they are checked.
@@ -23,12 +41,15 @@ pub struct OpenInputs<F: Drop> {
 /// # Errors
 /// An input that does not open: the read failed.
 pub fn open_inputs<R: Files>(rt: &R, inputs: &Inputs) -> Result<OpenInputs<R::File>, Fault>
-    ensures { IfErr result (λ fault. fault ≡ ReadFailed) }
+    ensures choice { IfOk result (λ files. IsChoiceOf inputs.now files.choice) }
+    ensures fault { IfErr result (λ fault. fault ≡ ReadFailed) }
 {
     Ok(OpenInputs {
+        choice: inputs.choice(),
         sce: open(rt, inputs.sce.as_str())?,
         his: open(rt, inputs.his.as_str())?,
         week: open(rt, inputs.week.as_str())?,
+        fix: open_fix(rt, &inputs.fix)?,
     })
 }
 
@@ -39,8 +60,24 @@ pub fn open_inputs<R: Files>(rt: &R, inputs: &Inputs) -> Result<OpenInputs<R::Fi
 pub fn open<R: Files>(rt: &R, path: &str) -> Result<FromRead<R::File>, Fault>
     ensures { IfErr result (λ fault. fault ≡ ReadFailed) }
 {
+    Ok(FromRead::new(file_at(rt, path)?))
+}
+
+fn open_fix<R: Files>(rt: &R, path: &Option<String>) -> Result<FromRead<FixFile<R::File>>, Fault>
+    ensures { IfErr result (λ fault. fault ≡ ReadFailed) }
+{
+    let file = match path {
+        Some(path) => Some(file_at(rt, path.as_str())?),
+        None => None,
+    };
+    Ok(FromRead::new(FixFile { file }))
+}
+
+fn file_at<R: Files>(rt: &R, path: &str) -> Result<R::File, Fault>
+    ensures { IfErr result (λ fault. fault ≡ ReadFailed) }
+{
     match fs::open(rt, path) {
-        Ok(file) => Ok(FromRead::new(file)),
+        Ok(file) => Ok(file),
         Err(_) => Err(Fault::Read),
     }
 }

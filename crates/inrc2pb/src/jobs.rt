@@ -1,15 +1,32 @@
 //! What the program is asked to do.
 ghost use Rattle.std.specs.Prelude.{◌≡◌};
+ghost use Rattle.inrc2pb.specs.Jobs.{IsChoiceOf};
 ghost use Rattle.inrc2pb.specs.declared.jobs.JobFault.TheVariants.{Memory, Words};
 
+use rota_pb::Choice;
 use std::alloc::AllocError;
 
-/// The files that every job reads: a scenario, the history before the week and the week's data.
+/// What every job is given: a scenario, the history before the week, the week's data and, where one is
+/// named, the file of the cells that are held; and whether excess is charged early.
 #[derive(Debug, Drop)]
 pub struct Inputs {
     pub sce: String,
     pub his: String,
     pub week: String,
+    pub fix: Option<String>,
+    pub early: bool,
+}
+
+impl Inputs {
+    /// What is asked of a run beside its files.
+    pub fn choice(&self) -> Choice
+        ensures { IsChoiceOf self.now result }
+    {
+        Choice {
+            early: self.early,
+            fixed: self.fix.is_some(),
+        }
+    }
 }
 
 /// What the program is asked to do, with the paths as they were given.
@@ -41,7 +58,7 @@ pub enum JobFault {
     Words(clap::Error),
     /// The matches lack a required path.
     Missing,
-    /// A path could not be copied.
+    /// Memory ran out, for the command or for the copy of a path.
     Memory,
 }
 

@@ -1,4 +1,7 @@
 //! One week of an INRC-II nurse roster as a pseudo-Boolean model, and back.
+//!
+//! `encode` writes the model of a week, `decode` reads a solver's answer to it, and `extend` makes such an answer of a
+//! roster. `make tour` goes once around with a solver, and shows each command before it runs.
 #![tactic(auto)]
 
 mod command;
@@ -69,9 +72,11 @@ fn encode<R: Files + AllocGlobal, W: Target>(
     let mut files = open_inputs(rt, inputs)?;
     run_encode(
         rt.alloc(),
+        files.choice,
         &mut files.sce,
         &mut files.his,
         &mut files.week,
+        &mut files.fix,
         out,
     )
 }
@@ -97,9 +102,11 @@ fn decode_answer<R: Files + Print + AllocGlobal, A: Source>(
 ) -> Result<(), Fault> {
     run_decode(
         rt.alloc(),
+        files.choice,
         &mut files.sce,
         &mut files.his,
         &mut files.week,
+        &mut files.fix,
         answer,
         &mut ToWrite::new(FileOnFirstWrite::new(rt, sol)),
         &mut ToWrite::new(io::writer(rt)),
@@ -115,9 +122,11 @@ fn extend<R: Files + Print + AllocGlobal>(
     let mut given = open(rt, from)?;
     run_extend(
         rt.alloc(),
+        files.choice,
         &mut files.sce,
         &mut files.his,
         &mut files.week,
+        &mut files.fix,
         &mut given,
         &mut ToWrite::new(io::writer(rt)),
     )

@@ -1,5 +1,5 @@
 //! Why the program ends before its work is done, and what it then says.
-ghost use Rattle.std.specs.Prelude.{◌≡◌, ◌⊎◌};
+ghost use Rattle.std.specs.Prelude.{◌≡◌, ◌⊎◌, OnErr, OnOk};
 ghost use Rattle.inrc2pb.specs.Stops.{IsStatusOf, IsStopOf};
 ghost use Rattle.inrc2pb.specs.declared.stop.Stop.TheVariants.{Job};
 ghost use Rattle.rota_pb.specs.Statuses.{exit_status};
@@ -42,7 +42,15 @@ impl Stop {
 fn show<R: Print + Eprint>(rt: &R, text: &clap::Error) -> u8
     ensures { (result ≡ 0) ⊎ (result ≡ exit_status Write) }
 {
-    match rt.print(text) {
+    shown(rt, rt.print(text))
+}
+
+// The status after a text that was asked for, which went out or could not be written.
+fn shown(rt: &impl Eprint, printed: io::Result<()>) -> u8
+    ensures written { OnOk printed (result ≡ 0) }
+    ensures unwritten { OnErr printed (result ≡ exit_status Write) }
+{
+    match printed {
         Ok(()) => 0,
         Err(_) => report_fault(rt, &Fault::Write),
     }

@@ -9,7 +9,7 @@ use Rattle.rota_items.specs.Linear.{Term, Model}
 use Rattle.rota_items.specs.LinearRow.{LinearRow, linear_constraint}
 use Rattle.rota_items.specs.Objective.{objective_rows}
 use Rattle.rota_items.specs.Takes.{Took, Refused, Takes}
-use Rattle.opb_text.specs.EventText.{events_text, IsConstraint}
+use Rattle.opb_text.specs.EventText.{events_text, opb_texts, IsConstraint}
 use Rattle.opb_text.specs.ModelText.{first_line, opb_text}
 use Rattle.opb_text.specs.OpbTaker.{sink_of, in_objective, opb_taker}
 use Rattle.opb_text.specs.Sink.{PutsText}
@@ -49,7 +49,7 @@ module _ {W : Type 0} {target : Ghosts W} (variables : ℕ) (objective : List (T
       PutsText old r (opb_text (model_with variables objective rows)) (sink_of new)
   objective_failed {old} {started} r failed line refused =
       puts_exit r failed
-      (joined (Err record {}) (in_objective started) true (puts_stop (rows_part rows true) (puts_then line (refused_events_begin_text _ refused))))
+      (joined (Err record {}) (in_objective started) true (puts_stop (rows_part rows true) (puts_then line (refused_events_begin_text sink_of in_objective opb_texts _ refused))))
 
   -- the first line was put, the objective was taken, and then the rows were handed over
   pub model_put : {old : Sink W target} (started middle new : OpbTaker W target) {u : Unit {0}} (r : Result (Unit {0}) PortFault) →
@@ -59,4 +59,4 @@ module _ {W : Type 0} {target : Ghosts W} (variables : ℕ) (objective : List (T
       PutsText old r (opb_text (model_with variables objective rows)) (sink_of new)
   model_put started middle new r line took taken =
       joined r (in_objective started) (in_objective middle)
-      (puts_then (puts_then line (took_events_put_text {u = tt} _ took)) (events_put_text middle new _ r taken))
+      (puts_then (puts_then line (took_events_put_text sink_of in_objective opb_texts {u = tt} _ took)) (events_put_text sink_of in_objective opb_texts middle new _ r taken))

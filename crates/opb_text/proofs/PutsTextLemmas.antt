@@ -19,6 +19,10 @@ or_true true = refl
 or_true false = refl
 
 module _ {W : Type 0} {target : Ghosts W} where
+  -- another way to write the text
+  pub puts_same : {old new : Sink W target} {r : Result (Unit {0}) PortFault} {xs ys : List ℕ} → xs ≡ ys → PutsText old r ys new → PutsText old r xs new
+  puts_same {old} {new} {r} same takes = subst (λ (text : List ℕ). PutsText old r text new) (sym same) takes
+
   -- a text that failed to go in begins a longer one that failed
   pub puts_stop : {old new : Sink W target} {e d : PortFault} {xs : List ℕ} (ys : List ℕ) → PutsText old (Err e) xs new → PutsText old (Err d) (xs ++ ys) new
   puts_stop {old} {new} {e} {d} {xs} ys takes = record {

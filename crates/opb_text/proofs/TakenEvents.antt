@@ -1,6 +1,6 @@
--- What a taker puts into its sink that takes a list of events.
-use Rattle.std.proofs.Common.{◌≡◌, ℕ, List, [], ◌∷◌, ◌++◌, Bool, true, false, None, Some, Result, Ok, Err, refl, sym, ap, ◌∙◌, subst, append_assoc}
-use Rattle.std.specs.Prelude.{if◌then◌else◌}
+-- What a taker over a sink puts that takes an event, or a list of events.
+use Rattle.std.proofs.Common.{◌≡◌, ℕ, List, [], ◌∷◌, ◌++◌, Bool, true, false, Option, None, Some, Result, Ok, Err, refl, sym, ap, ◌∙◌, subst, append_assoc}
+use Rattle.std.specs.Prelude.{if◌then◌else◌, MatchResult, OnOk}
 use Rattle.std.specs.List.{fold}
 use Rattle.std.specs.Io.KnownBytes.{append_known}
 use Rattle.rota_core.specs.Ports.{Told}
@@ -8,87 +8,137 @@ use Rattle.rota_core.specs.declared.ports.PortFault.{PortFault}
 use Rattle.rota_core.specs.declared.ports.Target.{Ghosts}
 use Rattle.rota_items.specs.Events.{Event}
 use Rattle.rota_items.specs.Takes.{Took, Refused, Takes}
-use Rattle.opb_text.specs.EventText.{event_text, events_text, objective_after}
 use Rattle.opb_text.specs.Begins.{Begins}
-use Rattle.opb_text.specs.OpbTaker.{Writing, with_event, writing, sink_of, in_objective, FailedAt, opb_taker}
 use Rattle.opb_text.specs.Sink.{PutsText, stands_for, sent_by, sink_failed, target_of}
-use Rattle.opb_text.specs.declared.opb_taker.OpbTaker.{OpbTaker}
+use Rattle.opb_text.specs.SinkTaker.{EventTexts, FailedAt, Writing, joined_texts, sink_taker, with_event, writing_into}
+use Rattle.opb_text.specs.declared.sink.Sink.{Sink}
 use Rattle.opb_text.proofs.PutsTextLemmas.{or_false, or_true}
 use Rattle.opb_text.proofs.Told.{append_known-append, append_known-nil, Begins-longer}
 
--- the text of events and of those that follow them
-events_text-append : (b : Bool) (before after : List Event) →
-    events_text b (before ++ after) ≡ events_text b before ++ events_text (fold objective_after b before) after
-events_text-append b [] after = refl
-events_text-append b (event ∷ before) after =
-    ap (λ text. event_text b event ++ text) (events_text-append (objective_after b event) before after) ∙
-    sym (append_assoc (event_text b event) (events_text (objective_after b event) before) _)
-
--- the text of all the events follows
-abbrev with_events : {W : Type 0} → Writing W → List Event → Writing W
-with_events before events = record before {
-  bytes = append_known before.bytes (events_text before.in_objective events);
-  in_objective = fold objective_after before.in_objective events;
-}
-
-fold-with_event : {W : Type 0} (before : Writing W) (events : List Event) → fold with_event before events ≡ with_events before events
-fold-with_event before [] = ap (λ (told : Told). record before { bytes = told }) (sym (append_known-nil before.bytes))
-fold-with_event before (event ∷ events) =
-    fold-with_event (with_event before event) events ∙
-    ap (λ (told : Told). record before { bytes = told; in_objective = fold objective_after (objective_after before.in_objective event) events })
-    (append_known-append before.bytes (event_text before.in_objective event) (events_text (objective_after before.in_objective event) events))
-
 -- what a failed sink left
-pub left_there : {W : Type 0} (failed : Bool) (target old : W) → failed ≡ true →
+left_there : {W : Type 0} (failed : Bool) (target old : W) → failed ≡ true →
     (if failed then Some target else None) ≡ Some old → target ≡ old
 left_there true target old failed same = cc
 left_there false target old failed same = cc
 
-module _ {W : Type 0} {target : Ghosts W} where
+-- a sink that had failed left its target as it was
+left_before : {W : Type 0} (failed : Bool) (now earlier before : W) → (failed ≡ true → now ≡ earlier) →
+    ◌≡◌ {A = Option W} (if failed then Some earlier else None) (Some before) → now ≡ before
+left_before true now earlier before silent left = let h : now ≡ earlier = silent refl in cc
+left_before false now earlier before silent left = cc
+
+-- a sink that had not failed left nothing, and one that had is as it was
+same_left : {W : Type 0} (failed failed_before : Bool) (now before : W) → failed ≡ failed_before → (failed_before ≡ true → now ≡ before) →
+    ◌≡◌ {A = Option W} (if failed then Some now else None) (if failed_before then Some before else None)
+same_left true true now before same silent = ap Some (silent refl)
+same_left false false now before same silent = refl
+same_left true false now before same silent = cc
+same_left false true now before same silent = cc
+
+pub same_writing : {W Kept : Type 0} (t u : ℕ) (b c : Told) (p q : Kept) (f g h i : Bool) (l m : Option W) →
+    t ≡ u → b ≡ c → p ≡ q → f ≡ g → h ≡ i → l ≡ m →
+    ◌≡◌ {A = Writing W Kept}
+    (record { target_name = t; bytes = b; kept = p; has_failed = f; target_has_failed = h; left_target = l })
+    (record { target_name = u; bytes = c; kept = q; has_failed = g; target_has_failed = i; left_target = m })
+same_writing t u b c p q f g h i l m one two three four five six = cc
+
+module _ {Kept : Type 0} (texts : EventTexts Kept) where
+  -- the text of events and of those that follow them
+  pub joined_texts-append : (kept : Kept) (before after : List Event) →
+      joined_texts texts kept (before ++ after) ≡ joined_texts texts kept before ++ joined_texts texts (fold texts.after kept before) after
+  joined_texts-append kept [] after = refl
+  joined_texts-append kept (event ∷ before) after =
+      ap (λ (text : List ℕ). texts.text kept event ++ text) (joined_texts-append (texts.after kept event) before after) ∙
+      sym (append_assoc (texts.text kept event) (joined_texts texts (texts.after kept event) before) _)
+
+  -- the text of all the events follows
+  abbrev with_events : {W : Type 0} → Writing W Kept → List Event → Writing W Kept
+  with_events before events = record before {
+    bytes = append_known before.bytes (joined_texts texts before.kept events);
+    kept = fold texts.after before.kept events;
+  }
+
+  fold-with_event : {W : Type 0} (before : Writing W Kept) (events : List Event) → fold (with_event texts) before events ≡ with_events before events
+  fold-with_event before [] = ap (λ (told : Told). record before { bytes = told }) (sym (append_known-nil before.bytes))
+  fold-with_event before (event ∷ events) =
+      fold-with_event (with_event texts before event) events ∙
+      ap (λ (told : Told). record before { bytes = told; kept = fold texts.after (texts.after before.kept event) events })
+      (append_known-append before.bytes (texts.text before.kept event) (joined_texts texts (texts.after before.kept event) events))
+
+  module _ {W : Type 0} {target : Ghosts W} where
+    -- an event whose text was put, or not
+    pub event_put : {old new : Sink W target} (kept next : Kept) (event : Event) (r : Result (Unit {0}) PortFault) →
+        PutsText old r (texts.text kept event) new → OnOk r (next ≡ texts.after kept event) →
+        MatchResult r (λ _. writing_into new next ≡ with_event texts (writing_into old kept) event)
+        (λ _. FailedAt texts (writing_into old kept) event new)
+    event_put {old} {new} kept next event (Ok u) takes same =
+        let failed : sink_failed new ≡ sink_failed old = takes.failure ∙ or_false _ in
+        same_writing _ _ _ _ _ _ _ _ _ _ _ _ takes.same_target takes.bytes same failed (takes.target_failure ∙ or_false _)
+        (same_left (sink_failed new) (sink_failed old) (target_of new) (target_of old) failed takes.silent)
+    event_put {old} {new} kept next event (Err fault) takes same = record {
+      same_target = takes.same_target;
+      failed = takes.failure ∙ or_true _;
+      target_failed = takes.target_failure ∙ or_true _;
+      begins = takes.bytes;
+      silent = λ before left. left_before (sink_failed old) (target_of new) (target_of old) before takes.silent left;
+    }
+
+module _ {Self W Kept : Type 0} {target : Ghosts W} (sink_of : Self → Sink W target) (kept_of : Self → Kept) (texts : EventTexts Kept) where
+  abbrev writing : Self → Writing W Kept
+  writing taker = writing_into (sink_of taker) (kept_of taker)
+
   -- what a taker stands for whose sink failed before
-  failed_before : (taker : OpbTaker W target) → sink_failed (sink_of taker) ≡ true →
-      (writing taker).left_target ≡ Some (target_of (sink_of taker))
+  failed_before : (taker : Self) → sink_failed (sink_of taker) ≡ true → (writing taker).left_target ≡ Some (target_of (sink_of taker))
   failed_before taker failed = ap (λ (b : Bool). if b then Some (target_of (sink_of taker)) else None) failed
 
+  took_is : {old new : Self} (events : List Event) → Took (sink_taker sink_of kept_of texts) events old new →
+      writing new ≡ with_events texts (writing old) events
+  took_is {old} events took = took.value_is ∙ fold-with_event texts (writing old) events
+
+  -- what is kept after events that were taken
+  pub took_events_keep : {old new : Self} (events : List Event) → Took (sink_taker sink_of kept_of texts) events old new →
+      kept_of new ≡ fold texts.after (kept_of old) events
+  took_events_keep events took = ap (λ (w : Writing W Kept). w.kept) (took_is events took)
+
   -- events that were taken put their text
-  pub took_events_put_text : {old new : OpbTaker W target} {u : Unit {0}} (events : List Event) →
-      Took opb_taker events old new →
-      PutsText (sink_of old) (Ok u) (events_text (in_objective old) events) (sink_of new)
+  pub took_events_put_text : {old new : Self} {u : Unit {0}} (events : List Event) →
+      Took (sink_taker sink_of kept_of texts) events old new →
+      PutsText (sink_of old) (Ok u) (joined_texts texts (kept_of old) events) (sink_of new)
   took_events_put_text {old} {new} events took =
-      let is : writing new ≡ with_events (writing old) events = took.value_is ∙ fold-with_event (writing old) events in
-      let failed_is : sink_failed (sink_of new) ≡ sink_failed (sink_of old) = ap (λ (w : Writing W). w.has_failed) is in
-      let left_is : (writing new).left_target ≡ (writing old).left_target = ap (λ (w : Writing W). w.left_target) is in
+      let is : writing new ≡ with_events texts (writing old) events = took_is events took in
+      let failed_is : sink_failed (sink_of new) ≡ sink_failed (sink_of old) = ap (λ (w : Writing W Kept). w.has_failed) is in
+      let left_is : (writing new).left_target ≡ (writing old).left_target = ap (λ (w : Writing W Kept). w.left_target) is in
       record {
-        same_target = ap (λ (w : Writing W). w.target_name) is;
+        same_target = ap (λ (w : Writing W Kept). w.target_name) is;
         failure = failed_is ∙ sym (or_false (sink_failed (sink_of old)));
-        target_failure = ap (λ (w : Writing W). w.target_has_failed) is ∙ sym (or_false (target.has_failed (target_of (sink_of old))));
+        target_failure = ap (λ (w : Writing W Kept). w.target_has_failed) is ∙ sym (or_false (target.has_failed (target_of (sink_of old))));
         silent = λ failed.
             left_there (sink_failed (sink_of new)) (target_of (sink_of new)) (target_of (sink_of old)) (failed_is ∙ failed)
             (left_is ∙ failed_before old failed);
-        bytes = ap (λ (w : Writing W). w.bytes) is;
+        bytes = ap (λ (w : Writing W Kept). w.bytes) is;
       }
 
   -- a refusal leaves a sink that failed, and what was sent begins the text of the events
-  pub refused_events_begin_text : {old new : OpbTaker W target} {fault : PortFault} (events : List Event) →
-      Refused opb_taker events old new →
-      PutsText (sink_of old) (Err fault) (events_text (in_objective old) events) (sink_of new)
+  pub refused_events_begin_text : {old new : Self} {fault : PortFault} (events : List Event) →
+      Refused (sink_taker sink_of kept_of texts) events old new →
+      PutsText (sink_of old) (Err fault) (joined_texts texts (kept_of old) events) (sink_of new)
   refused_events_begin_text {old} {new} events refused =
-      let b = in_objective old in
-      let middle = fold objective_after b refused.taken in
-      let before = with_events (writing old) refused.taken in
-      let leaves : FailedAt before refused.event new =
-      subst (λ (w : Writing W). FailedAt w refused.event new) (fold-with_event (writing old) refused.taken) refused.leaves in
-      let front = events_text b refused.taken in
-      let text = event_text middle refused.event in
-      let rest = events_text (objective_after middle refused.event) refused.untold in
+      let kept = kept_of old in
+      let middle = fold texts.after kept refused.taken in
+      let before = with_events texts (writing old) refused.taken in
+      let leaves : FailedAt texts before refused.event (sink_of new) =
+      subst (λ (w : Writing W Kept). FailedAt texts w refused.event (sink_of new)) (fold-with_event texts (writing old) refused.taken) refused.leaves in
+      let front = joined_texts texts kept refused.taken in
+      let text = texts.text middle refused.event in
+      let rest = joined_texts texts (texts.after middle refused.event) refused.untold in
       let sent = sent_by (sink_of new) in
       let told = stands_for (sink_of old) in
       let begins : Begins sent (append_known told (front ++ (text ++ rest))) =
       subst (λ (whole : List ℕ). Begins sent (append_known told whole)) (append_assoc front text rest)
       (Begins-longer sent told (front ++ text) rest
       (subst (λ (whole : Told). Begins sent whole) (append_known-append told front text) leaves.begins)) in
-      let joined : events_text b events ≡ front ++ (text ++ rest) =
-      ap (events_text b) refused.are ∙ events_text-append b refused.taken (refused.event ∷ refused.untold) in
+      let joined : joined_texts texts kept events ≡ front ++ (text ++ rest) =
+      ap (joined_texts texts kept) refused.are ∙ joined_texts-append texts kept refused.taken (refused.event ∷ refused.untold) in
       record {
         same_target = leaves.same_target;
         failure = leaves.failed ∙ sym (or_true (sink_failed (sink_of old)));
@@ -98,8 +148,8 @@ module _ {W : Type 0} {target : Ghosts W} where
       }
 
   -- what a taker took of these events went into its sink as a text does
-  pub events_put_text : (old new : OpbTaker W target) (events : List Event) (r : Result (Unit {0}) PortFault) →
-      Takes opb_taker events old new r →
-      PutsText (sink_of old) r (events_text (in_objective old) events) (sink_of new)
+  pub events_put_text : (old new : Self) (events : List Event) (r : Result (Unit {0}) PortFault) →
+      Takes (sink_taker sink_of kept_of texts) events old new r →
+      PutsText (sink_of old) r (joined_texts texts (kept_of old) events) (sink_of new)
   events_put_text old new events (Ok u) took = took_events_put_text events took
   events_put_text old new events (Err fault) refused = refused_events_begin_text events refused

@@ -1,5 +1,5 @@
 -- The text of the events of rows.
-use Rattle.std.specs.Prelude.{◌≡◌, ℕ, ℤ, Bool, true, false, List, [], ◌∷◌, ◌++◌, length, map, codes}
+use Rattle.std.specs.Prelude.{◌≡◌, ℕ, ℤ, Bool, true, false, List, [], ◌++◌, length, map, codes}
 use Rattle.std.specs.List.{AllByRecursion}
 use Rattle.rota_items.specs.declared.part.Part.{Part}
 use Rattle.rota_items.specs.declared.part.Part.TheVariants.{Objective, Hard, Soft}
@@ -9,6 +9,7 @@ use Rattle.rota_items.specs.LinearRow.{LinearRow, linear_constraint}
 use Rattle.rota_items.specs.Objective.{objective_rows}
 use Rattle.rota_core.specs.Numeral.{signed_numeral}
 use Rattle.opb_text.specs.ModelText.{term_text, first_line, SpellsModel}
+use Rattle.opb_text.specs.SinkTaker.{EventTexts, joined_texts}
 
 abbrev pub is_objective : Part → Bool
 is_objective Objective = true
@@ -37,11 +38,13 @@ event_text in_objective (start_row part) = start_text (is_objective part)
 event_text in_objective (term coefficient variable) = term_text (coefficient, variable)
 event_text in_objective (close_row degree) = close_text in_objective degree
 
+-- the texts of events, where it is kept whether the row that is open is the objective's
+abbrev pub opb_texts : EventTexts Bool
+opb_texts = record { text = event_text; after = objective_after }
+
 -- the texts of the events, joined
 abbrev pub events_text : Bool → List Event → List ℕ
-events_text in_objective [] = []
-events_text in_objective (event ∷ events) =
-    event_text in_objective event ++ events_text (objective_after in_objective event) events
+events_text = joined_texts opb_texts
 
 -- the row stands for a constraint
 abbrev pub IsConstraint : {X : Type 0} → LinearRow X → Type 0

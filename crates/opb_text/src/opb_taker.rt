@@ -71,26 +71,41 @@ impl<'a, W: Target> OpbTaker<'a, W> {
 impl<'a, W: Target> Taker for OpbTaker<'a, W> {
     type Fault = PortFault;
 
-    ghost use Rattle.opb_text.specs.OpbTaker.{Writing, writing, with_event, FailedAt};
+    ghost use Rattle.std.specs.Prelude.{Bool};
+    ghost use Rattle.opb_text.specs.EventText.{opb_texts};
+    ghost use Rattle.rota_items.specs.Events.{start_row, term, close_row};
+    ghost use Rattle.opb_text.specs.OpbTaker.{TakesEvent, in_objective, sink_of};
+    ghost use Rattle.opb_text.specs.Sink.{sink_failed};
+    ghost use Rattle.opb_text.specs.SinkTaker.{FailedAt, Writing, with_event, writing_into};
 
-    ghost Value = { Writing W };
+    ghost Value = { Writing W Bool };
 
-    ghost value = { writing };
+    ghost value = { λ taker. writing_into (sink_of taker) (in_objective taker) };
 
-    ghost step = { with_event };
+    ghost step = { with_event opb_texts };
 
-    ghost left = { FailedAt };
+    ghost left = { λ before event taker. FailedAt opb_texts before event (sink_of taker) };
 
-    fn start_row(&mut self, part: Part) -> Result<(), PortFault> {
+    fn start_row(&mut self, part: Part) -> Result<(), PortFault>
+        ensures takes { TakesEvent (start_row part) self.old self.new result }
+        ensures for_good { sink_failed (sink_of self.old) ≡ true → IsErr result }
+    {
         self.in_objective = matches!(part, Part::Objective);
         put_start(&mut self.sink, self.in_objective)
     }
 
-    fn term(&mut self, coefficient: i64, variable: u32) -> Result<(), PortFault> {
+    #[inline(always)]
+    fn term(&mut self, coefficient: i64, variable: u32) -> Result<(), PortFault>
+        ensures takes { TakesEvent (term coefficient variable) self.old self.new result }
+        ensures for_good { sink_failed (sink_of self.old) ≡ true → IsErr result }
+    {
         put_term(&mut self.sink, coefficient, variable)
     }
 
-    fn close_row(&mut self, degree: i64) -> Result<(), PortFault> {
+    fn close_row(&mut self, degree: i64) -> Result<(), PortFault>
+        ensures takes { TakesEvent (close_row degree) self.old self.new result }
+        ensures for_good { sink_failed (sink_of self.old) ≡ true → IsErr result }
+    {
         put_close(&mut self.sink, self.in_objective, degree)
     }
 }

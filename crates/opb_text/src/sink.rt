@@ -4,10 +4,23 @@ ghost use Rattle.rota_core.specs.Numeral.{numeral, signed_numeral};
 ghost use Rattle.std.specs.Io.KnownBytes.{append_known};
 ghost use Rattle.opb_text.specs.Begins.{Begins};
 ghost use Rattle.rota_core.specs.Ports.{told_len};
+ghost use Rattle.opb_text.specs.Pieces.{piece_text, pieces_text};
+ghost use Rattle.opb_text.specs.TermText.{unit_text};
 
-use crate::text_buffer::{MOST_DIGITS, TextBuffer};
+use crate::text_buffer::{MOST_DIGITS, MOST_TERM, TextBuffer};
 use itoa::Buffer;
 use rota_core::{PortFault, Target};
+
+/// A piece of a text.
+#[derive(Clone, Copy)]
+pub enum Piece<'a> {
+    /// These bytes.
+    Bytes(&'a [u8]),
+    /// The number in decimal digits.
+    Natural(u64),
+    /// The number in decimal digits, with a minus sign where it is negative.
+    Integer(i64),
+}
 
 /// A buffer of 4096 bytes before a target. What went out is at every moment a beginning of what was
 /// put. After the first failure every call is a failure, and the target is not called again.
@@ -63,13 +76,46 @@ impl<'a, W: Target> Sink<'a, W> {
         self.put(digits.format(number).as_bytes())
     }
 
+    /// Appends the number in decimal digits. It fails only where the target does.
+    pub fn natural(&mut self, number: u64) -> Result<(), PortFault>
+        ensures takes { PutsText self.old result (numeral number) self.new }
+        ensures for_good { sink_failed self.old ≡ true → IsErr result }
+    {
+        self.number(number as i128)
+    }
+
+    /// Appends the pieces, one behind the other. It fails only where the target does.
+    pub fn put_all(&mut self, pieces: &[Piece]) -> Result<(), PortFault>
+        ensures takes { PutsText self.old result (pieces_text pieces.now) self.new }
+        ensures for_good { sink_failed self.old ≡ true → IsErr result }
+    {
+        if self.failed {
+            return Err(PortFault);
+        }
+        for place in 0..pieces.len() {
+            self.put_piece(pieces[place])?;
+        }
+        Ok(())
+    }
+
+    // Appends the piece.
+    fn put_piece(&mut self, piece: Piece) -> Result<(), PortFault>
+        ensures { PutsText self.old result (piece_text piece.entry) self.new }
+    {
+        match piece {
+            Piece::Bytes(bytes) => self.put(bytes),
+            Piece::Natural(number) => self.natural(number),
+            Piece::Integer(number) => self.number(number as i128),
+        }
+    }
+
     /// Appends a piece, the number in decimal digits, and another piece behind it. It fails only where
     /// the target does.
     #[inline]
     pub fn number_between(
         &mut self,
         before: &[u8],
-        number: u32,
+        number: u64,
         behind: &[u8],
     ) -> Result<(), PortFault>
         ensures takes { PutsText self.old result (before.now ++ numeral number ++ behind.now) self.new }
@@ -77,6 +123,7 @@ impl<'a, W: Target> Sink<'a, W> {
     {
         let room = self.buffer.room();
         if self.failed
+            || number >= 1 << 32
             || room < MOST_DIGITS
             || before.len() > room - MOST_DIGITS
             || behind.len() > room - MOST_DIGITS - before.len()
@@ -84,8 +131,21 @@ impl<'a, W: Target> Sink<'a, W> {
             return self.number_in_pieces(before, number, behind);
         }
         self.buffer.append(before);
-        self.buffer.append_number(number);
+        self.buffer.append_number(number as u32);
         self.buffer.append(behind);
+        Ok(())
+    }
+
+    // Appends a term with the coefficient 1 or -1, and a blank.
+    #[inline(always)]
+    pub(crate) fn unit_term(&mut self, positive: bool, variable: u32) -> Result<(), PortFault>
+        ensures takes { PutsText self.old result (unit_text positive variable) self.new }
+        ensures for_good { sink_failed self.old ≡ true → IsErr result }
+    {
+        if self.failed || self.buffer.room() < MOST_TERM {
+            return self.unit_term_in_pieces(positive, variable);
+        }
+        self.buffer.append_term(positive, variable);
         Ok(())
     }
 
@@ -108,13 +168,13 @@ impl<'a, W: Target> Sink<'a, W> {
         flushed
     }
 
-    // Appends the pieces and the number one after the other.
+    // Appends the pieces and the number, one behind the other.
     #[cold]
     #[inline(never)]
     fn number_in_pieces(
         &mut self,
         before: &[u8],
-        number: u32,
+        number: u64,
         behind: &[u8],
     ) -> Result<(), PortFault>
         ensures takes { PutsText self.old result (before.now ++ numeral number ++ behind.now) self.new }
@@ -125,12 +185,15 @@ impl<'a, W: Target> Sink<'a, W> {
         self.put(behind)
     }
 
-    // Appends the number in decimal digits.
-    fn natural(&mut self, number: u32) -> Result<(), PortFault>
-        ensures takes { PutsText self.old result (numeral number) self.new }
+    // Appends the pieces of a term one after the other.
+    #[cold]
+    #[inline(never)]
+    fn unit_term_in_pieces(&mut self, positive: bool, variable: u32) -> Result<(), PortFault>
+        ensures takes { PutsText self.old result (unit_text positive variable) self.new }
         ensures for_good { sink_failed self.old ≡ true → IsErr result }
     {
-        self.number(number as i128)
+        let sign: &[u8] = if positive { b"+1 x" } else { b"-1 x" };
+        self.number_in_pieces(sign, u64::from(variable), b" ")
     }
 
     // Appends a piece for which the buffer has no room.

@@ -1,5 +1,5 @@
--- A numeral is digits alone that tell its number. It is a word, and what the standard library writes.
-use Rattle.std.proofs.Common.{◌≡◌, ℕ, zero, suc, ◌+◌, ◌-◌, ◌*◌, ◌/◌, ◌%◌, ◌^◌, ◌<◌, ◌≤◌, ℤ, pos, negsuc, true, List, [], ◌∷◌, ◌++◌, length, length-append, inl, inr, refl, sym, ap, ◌∙◌, arith, rules}
+-- A numeral is digits only, which tell its number. It is a word, and what the standard library writes.
+use Rattle.std.proofs.Common.{◌≡◌, ℕ, zero, suc, ◌+◌, ◌*◌, ◌/◌, ◌%◌, ◌^◌, ◌<◌, ◌≤◌, ℤ, pos, negsuc, true, List, [], ◌∷◌, ◌++◌, length, length-append, inl, inr, refl, sym, ap, ◌∙◌, arith, rules}
 use Rattle.std.specs.Char.{is_ascii_digit}
 use Rattle.std.specs.Fmt.{decimal as std_decimal, signed_decimal}
 use Rattle.std.specs.List.{list_all}
@@ -14,7 +14,7 @@ use Rattle.rota_core.specs.Words.{is_word_byte, IsWord}
 pub numeral_steps : AppendsLastDigit numeral_within
 numeral_steps = search rules
 
--- ---- digits alone
+-- ---- digits only
 
 -- the bytes are digits
 abbrev pub AreDigits : List ℕ → Type 0

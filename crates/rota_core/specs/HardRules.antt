@@ -1,7 +1,7 @@
 -- The days of a roster, and the rules that it must keep.
 use Rattle.std.specs.Prelude.{◌≡◌, ℕ, ◌+◌, ◌<◌, ◌≤◌, Bool, true, false, not, Some}
 use Rattle.rota_core.specs.declared.rule.Rule.{Rule}
-use Rattle.rota_core.specs.declared.rule.Rule.TheVariants.{H1, H2, H3, H4}
+use Rattle.rota_core.specs.declared.rule.Rule.TheVariants.{H1, H2, H3, H4, H5}
 use Rattle.rota_core.specs.Below.{count_below, any_below}
 use Rattle.rota_core.specs.declared.values.Cell.{Cell}
 use Rattle.rota_core.specs.Week.{Week}
@@ -47,11 +47,21 @@ abbrev pub KeepsSkills : Week → Roster → Type 0
 KeepsSkills week roster =
     (one : Cell) → Has week roster one → week.has_skill one.nurse one.skill ≡ true
 
-pub record KeepsHardRules (week : Week) (roster : Roster) : Type 0 where
+-- H5: each held cell is in the roster
+abbrev pub KeepsHeld : Week → Roster → Type 0
+KeepsHeld week roster = (one : Cell) → Has week week.is_held one → roster one ≡ true
+
+-- The hard rules of the competition, H1 to H4.
+pub record KeepsCompetitionRules (week : Week) (roster : Roster) : Type 0 where
   pub one_cell : KeepsOneCell week roster
   pub minimum : KeepsMinimum week roster
   pub succession : KeepsSuccession week roster
   pub skills : KeepsSkills week roster
+
+-- The hard rules, H1 to H5: those of the competition, and that each held cell is in the roster.
+pub record KeepsHardRules (week : Week) (roster : Roster) : Type 0 where
+  pub of_competition : KeepsCompetitionRules week roster
+  pub held : KeepsHeld week roster
 
 -- the rule is the first, in their order, that the roster breaks
 abbrev pub FirstBroken : Week → Roster → Rule → Type 0
@@ -62,4 +72,5 @@ FirstBroken week roster H3 =
 FirstBroken week roster H4 =
     KeepsOneCell week roster × KeepsMinimum week roster × KeepsSuccession week roster ×
     (KeepsSkills week roster → ⊥)
+FirstBroken week roster H5 = KeepsCompetitionRules week roster × (KeepsHeld week roster → ⊥)
 FirstBroken week roster _ = ⊥

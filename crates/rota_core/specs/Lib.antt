@@ -1,5 +1,6 @@
 pub mod Below
 pub mod Bits
+pub mod FaultTexts
 pub mod HardRules
 pub mod InstanceTables
 pub mod Lists
@@ -9,7 +10,9 @@ pub mod Numeral
 pub mod Parts
 pub mod Ports
 pub mod Roster
+pub mod RosterCells
 pub mod RosterTables
+pub mod Rules
 pub mod ScenarioTables
 pub mod Week
 pub mod WeekTables

@@ -1,4 +1,6 @@
 -- The tables that parts hold.
+use Rattle.std.specs.Prelude.{Bool, Option}
+use Rattle.rota_core.specs.RosterTables.{RosterTables}
 use Rattle.rota_core.specs.Names.{bytes_of}
 use Rattle.rota_core.specs.ScenarioTables.{ScenarioTables}
 use Rattle.rota_core.specs.InstanceTables.{InstanceTables}
@@ -39,5 +41,11 @@ week_tables_of parts = record {
   requests = parts.requests.items;
 }
 
-abbrev pub instance_of : ScenarioTables → HistoryParts → WeekParts → InstanceTables
-instance_of scenario history week = record { scenario = scenario; history = history_of history; week = week_tables_of week }
+abbrev pub instance_of : ScenarioTables → HistoryParts → WeekParts → Bool → Option RosterTables → InstanceTables
+instance_of scenario history week early held = record {
+  scenario = scenario;
+  history = history_of history;
+  week = week_tables_of week;
+  is_early = early;
+  held = held;
+}

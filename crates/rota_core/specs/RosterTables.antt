@@ -1,21 +1,26 @@
 -- What a roster holds: a set of cells, within the numbers of an instance.
-use Rattle.std.specs.Prelude.{◌≡◌, ◌≢◌, ℕ, ◌+◌, ◌*◌, ◌≤◌, ◌<◌, Bool, true, false, List, length, take, slice_index_or}
-use Rattle.std.specs.List.{count_by}
+use Rattle.std.specs.Prelude.{◌≡◌, ◌≢◌, ℕ, ◌+◌, ◌*◌, ◌/◌, ◌%◌, ◌≤◌, ◌<◌, Bool, true, false, List, length, take, slice_index_or}
+use Rattle.std.specs.List.{AllByRecursion, count_by}
 use Rattle.rota_core.specs.declared.values.Cell.{Cell}
-use Rattle.rota_core.specs.Roster.{Roster}
+use Rattle.rota_core.specs.Roster.{Roster, cell}
 use Rattle.rota_core.specs.ScenarioTables.{Within}
 use Rattle.rota_core.specs.Week.{Week}
 
--- For so many nurses, shift types and skills, whether each cell is in the roster, by the cell's place.
+-- The numbers of nurses, shift types and skills, and whether each cell is in the roster, by the cell's place.
 pub record RosterTables : Type 0 where
   pub nurses : ℕ
   pub shifts : ℕ
   pub skills : ℕ
   pub cells : List Bool
 
--- the place of a cell, where there are so many shift types and skills
+-- the place of a cell, where there are these numbers of shift types and skills
 abbrev pub cell_place : ℕ → ℕ → Cell → ℕ
 cell_place shifts skills cell = ((cell.nurse * 7 + cell.day) * shifts + cell.shift) * skills + cell.skill
+
+-- the cell at a place
+abbrev pub cell_at : ℕ → ℕ → ℕ → Cell
+cell_at shifts skills place =
+    cell (place / skills / shifts / 7) (place / skills / shifts % 7) (place / skills % shifts) (place % skills)
 
 -- the number of the cells, in the roster or not
 abbrev pub place_count : ℕ → ℕ → ℕ → ℕ
@@ -57,7 +62,7 @@ pub record AddsCell (old new : RosterTables) (cell : Cell) : Type 0 where
   pub is_there : set_of new cell ≡ true
   pub others_stay : (other : Cell) → InShape old other → other ≢ cell → set_of new other ≡ set_of old other
 
--- the tables of truth values for so many nurses, shift types and skills, of which there may be more
+-- the tables of truth values for these numbers of nurses, shift types and skills; there may be more truth values
 abbrev pub roster_tables : ℕ → ℕ → ℕ → List Bool → RosterTables
 roster_tables nurses shifts skills bits = record {
   nurses = nurses;
@@ -72,3 +77,9 @@ pub record HoldsRoster (nurses shifts skills : ℕ) (bits : List Bool) : Type 0 
   pub shifts_in : Within 16 shifts
   pub skills_in : Within 16 skills
   pub enough : place_count nurses shifts skills ≤ length bits
+
+-- the numbers are within the limits, and the places are those of cells
+pub record ArePlaces (shifts skills : ℕ) (places : List ℕ) : Type 0 where
+  pub shifts_in : Within 16 shifts
+  pub skills_in : Within 16 skills
+  pub below : AllByRecursion (λ place. place < place_count 1000 shifts skills) places

@@ -21,7 +21,7 @@ pub record ScenarioTables : Type 0 where
   pub contract_of : List ℕ
   pub has_skill : List Bool
 
--- from one to so many
+-- from 1 to most
 abbrev pub Within : ℕ → ℕ → Type 0
 Within most n = (1 ≤ n) × (n ≤ most)
 

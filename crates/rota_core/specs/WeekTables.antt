@@ -6,7 +6,7 @@ use Rattle.rota_core.specs.declared.values.Demand.{Demand}
 use Rattle.rota_core.specs.declared.values.Past.{Past}
 use Rattle.rota_core.specs.ScenarioTables.{Within}
 
--- The rows of a history, by nurse, for so many nurses, shift types and skills.
+-- The numbers of nurses, shift types and skills, and the rows of a history, by nurse.
 pub record HistoryTables : Type 0 where
   pub nurses : ℕ
   pub shifts : ℕ
@@ -23,7 +23,7 @@ pub record WeekTables : Type 0 where
   pub demands : List Demand
   pub requests : List ℕ
 
--- numbers up to 9999, and a last shift type of so many
+-- numbers up to 9999, and a last shift type below the number of them
 pub record IsPast (shifts : ℕ) (past : Past) : Type 0 where
   pub totals : (past.assignments ≤ 9999) × (past.weekends ≤ 9999)
   pub last : ForSome past.last (λ s. s < shifts)

@@ -25,7 +25,7 @@ impl Model for Bits {
 impl Bits {
     ghost use Rattle.std.specs.Prelude.{◌≡◌, ◌<◌, false, true, IfOk, length, replicate, slice_index_or, slice_set};
 
-    /// So many truth values, all false.
+    /// A list of `len` truth values, all false.
     pub fn new(alloc: Global, len: u32) -> Result<Bits, AllocError>
         ensures { IfOk result (λ bits. bits ≡ replicate len false) }
     {

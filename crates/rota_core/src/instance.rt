@@ -1,18 +1,20 @@
 //! An instance: one week of a rostering problem, with what the weeks before left.
 
-ghost use Rattle.std.specs.Prelude.{◌≡◌, ◌<◌, ◌≤◌, ◌↔◌, IfOk, IfErr, IsErr, slice_get};
+ghost use Rattle.std.specs.Prelude.{◌≡◌, ◌<◌, ◌≤◌, ◌↔◌, None, IfOk, IfErr, IsErr, length, slice_get};
 ghost use Rattle.rota_core.specs.Names.{place_of};
 ghost use Rattle.rota_core.specs.ScenarioTables.{Within};
 
 use crate::fault::{FileFault, FileName, Kind};
 use crate::history::{History, HistoryParts};
+use crate::roster::Roster;
 use crate::scenario::Scenario;
-use crate::values::{Contract, Demand, Past, Span};
+use crate::values::{Cell, Contract, Demand, Past, Span};
 use crate::week::{Week, WeekParts};
 use std::marker::Model;
 
 /// The tables of one week: its scenario, the history before it, and its own demands and requests, all
 /// for the same nurses, shift types and skills. The week is one of those that the scenario spans.
+/// Beside them stand whether excess is charged in each week, and the cells that are held.
 ///
 /// Nurses, shift types and skills are numbered from 0 in the order of the scenario's file, and days
 /// are 0 (Monday) to 6 (Sunday).
@@ -21,6 +23,8 @@ pub struct Instance {
     scenario: Scenario,
     history: HistoryParts,
     week: WeekParts,
+    early: bool,
+    held: Option<Roster>,
 }
 
 impl Model for Instance {
@@ -30,20 +34,36 @@ impl Model for Instance {
 
     ghost use Rattle.rota_core.specs.Parts.{instance_of};
 
-    ghost view = { λ i. instance_of i.scenario i.history i.week };
+    ghost view = { λ i. instance_of i.scenario i.history i.week i.early i.held };
 
-    ghost invariant = { λ i. IsInstance (instance_of i.scenario i.history i.week) };
+    ghost invariant = { λ i. IsInstance (instance_of i.scenario i.history i.week i.early i.held) };
 }
 
 impl Instance {
-    ghost use Rattle.rota_core.specs.InstanceTables.{HasNumbersOf, IsInstance, week_of};
+    ghost use Rattle.rota_core.specs.InstanceTables.{HasNumbersOf, IsInstance, holding, week_of};
+    ghost use Rattle.rota_core.specs.Roster.{InWeek};
+    ghost use Rattle.rota_core.specs.RosterCells.{cells_of};
+    ghost use Rattle.rota_core.specs.RosterTables.{HasShapeOf};
 
-    /// The instance of these three, or `LateWeek` at line 0 of the history where its week's number is
-    /// not below the scenario's number of weeks.
-    pub fn join(scenario: Scenario, history: History, week: Week) -> Result<Instance, FileFault>
+    /// The instance of these three, with no cell held, or `LateWeek` at line 0 of the history where
+    /// its week's number is not below the scenario's number of weeks. `early` says whether what
+    /// exceeds a total is charged in each week and not only in the last.
+    pub fn join(
+        scenario: Scenario,
+        history: History,
+        week: Week,
+        early: bool,
+    ) -> Result<Instance, FileFault>
         requires history_fits { HasNumbersOf scenario history.nurses history.shifts history.skills }
         requires week_fits { HasNumbersOf scenario week.nurses week.shifts week.skills }
-        ensures joined { IfOk result (λ i. i ≡ record { scenario = scenario; history = history; week = week }) }
+        ensures joined { IfOk result (λ i. i ≡ record {
+          scenario = scenario;
+          history = history;
+          week = week;
+          is_early = early;
+          held = None;
+        }) }
+        ensures limits { IfOk result (λ i. IsInstance i) }
         ensures fault { IfErr result (λ e. e ≡ FileFault.Bad Kind.LateWeek FileName.History 0) }
         ensures late { IsErr result ↔ (scenario.weeks ≤ history.week) }
     {
@@ -59,7 +79,28 @@ impl Instance {
             scenario,
             history,
             week: week.into_parts(),
+            early,
+            held: None,
         })
+    }
+
+    /// The instance with the roster's cells held, and no others.
+    pub fn hold(self, roster: Roster) -> Instance
+        requires { HasShapeOf (week_of self) roster }
+        ensures holds { result ≡ holding self roster }
+        ensures limits { IsInstance result }
+    {
+        Instance {
+            held: Some(roster),
+            ..self
+        }
+    }
+
+    /// The scenario of the week.
+    pub fn scenario(&self) -> &Scenario
+        ensures { result.now ≡ self.now.scenario }
+    {
+        &self.scenario
     }
 
     /// The number of nurses, 1 to 1000.
@@ -100,6 +141,34 @@ impl Instance {
         ensures { result ≡ (week_of self.now).is_last }
     {
         self.scenario.weeks() == self.week() + 1
+    }
+
+    /// Whether what exceeds a total is charged in each week, and not only in the last.
+    pub fn early(&self) -> bool
+        ensures { result ≡ (week_of self.now).is_early }
+    {
+        self.early
+    }
+
+    /// Whether the cell is held.
+    pub fn held(&self, cell: Cell) -> bool
+        requires { InWeek (week_of self.now) cell }
+        ensures { result ≡ (week_of self.now).is_held cell }
+    {
+        match &self.held {
+            Some(roster) => roster.has(cell),
+            None => false,
+        }
+    }
+
+    /// How many cells are held.
+    pub fn held_count(&self) -> u32
+        ensures { let week = week_of self.now in result ≡ length (cells_of week week.is_held) }
+    {
+        match &self.held {
+            Some(roster) => roster.count(),
+            None => 0,
+        }
     }
 
     /// What the nurse's contract asks of her.

@@ -4,7 +4,9 @@ ghost use Rattle.std.specs.Prelude.{◌≡◌, ◌<◌, ◌≤◌, Bool, not, If
 ghost use Rattle.rota_core.specs.RosterTables.{cell_place, place_count};
 
 use crate::bits::Bits;
+use crate::cell_places::{count_of_places, place_of_cell};
 use crate::instance::Instance;
+use crate::roster_cells::Cells;
 use crate::values::Cell;
 use std::alloc::{AllocError, Global};
 use std::marker::Model;
@@ -32,6 +34,7 @@ impl Model for Roster {
 impl Roster {
     ghost use Rattle.rota_core.specs.RosterTables.{set_of, count_of, InShape, HasShapeOf, IsRoster, AddsCell};
     ghost use Rattle.rota_core.specs.Roster.{InWeek};
+    ghost use Rattle.rota_core.specs.RosterCells.{cells_in};
     ghost use Rattle.rota_core.specs.InstanceTables.{week_of};
 
     /// The roster of the instance's shape with no cell.
@@ -87,6 +90,22 @@ impl Roster {
         self.bits.get(place_of_cell(self.shifts, self.skills, cell))
     }
 
+    /// Whether the cell at the place is in the roster, where `Instance::place` numbers the cells.
+    pub fn has_place(&self, place: u32) -> bool
+        requires { place < place_count self.now.nurses self.now.shifts self.now.skills }
+        ensures { result ≡ slice_index_or self.now.cells place false }
+    {
+        self.bits.get(place)
+    }
+
+    /// The roster's cells, by nurse, day, shift type and skill.
+    pub fn cells(&self) -> Cells<'_>
+        ensures { result ≡ cells_in self.now }
+    {
+        let count = count_of_places(self.nurses, self.shifts, self.skills);
+        Cells::at(self.bits.true_places_below(count), self.shifts, self.skills)
+    }
+
     /// How many cells are in the roster.
     pub fn count(&self) -> u32
         ensures count { result ≡ count_of self.now }
@@ -100,29 +119,4 @@ impl Roster {
         }
         count
     }
-}
-
-// The place of a cell, where there are so many shift types and skills.
-fn place_of_cell(shifts: u8, skills: u8, cell: Cell) -> u32
-    requires nurse_in { cell.nurse < 1000 }
-    requires day_in { cell.day < 7 }
-    requires shifts_in { shifts ≤ 16 }
-    requires skills_in { skills ≤ 16 }
-    requires shift_in { cell.shift < shifts }
-    requires skill_in { cell.skill < skills }
-    ensures { result ≡ cell_place shifts skills cell }
-{
-    let day = u32::from(cell.nurse) * 7 + u32::from(cell.day);
-    let row = day * u32::from(shifts) + u32::from(cell.shift);
-    row * u32::from(skills) + u32::from(cell.skill)
-}
-
-// How many cells there are for so many nurses, shift types and skills.
-fn count_of_places(nurses: u16, shifts: u8, skills: u8) -> u32
-    requires nurses_in { nurses ≤ 1000 }
-    requires shifts_in { shifts ≤ 16 }
-    requires skills_in { skills ≤ 16 }
-    ensures { result ≡ place_count nurses shifts skills }
-{
-    7 * u32::from(nurses) * u32::from(shifts) * u32::from(skills)
 }

@@ -59,6 +59,14 @@ impl Scenario {
         Scenario { parts }
     }
 
+    /// The rows of the scenario.
+    pub fn into_parts(self) -> ScenarioParts
+        ensures tables { scenario_of result ≡ self }
+        ensures within { IsScenario self }
+    {
+        self.parts
+    }
+
     /// The number of weeks that the scenario spans, 1 to 52.
     pub fn weeks(&self) -> u16
         ensures weeks { result ≡ self.now.weeks }
@@ -101,7 +109,7 @@ impl Scenario {
     }
 
     /// What the nurse's contract asks of her.
-    pub(crate) fn contract(&self, nurse: u16) -> Contract
+    pub fn contract(&self, nurse: u16) -> Contract
         requires { nurse < length self.now.nurses }
         ensures { result ≡ (bare_week self.now).contract nurse }
     {
@@ -110,7 +118,7 @@ impl Scenario {
     }
 
     /// The limits of consecutive assignments to the shift type.
-    pub(crate) fn limits(&self, shift: u8) -> Span
+    pub fn limits(&self, shift: u8) -> Span
         requires { shift < length self.now.shifts }
         ensures { result ≡ (bare_week self.now).limits shift }
     {
@@ -118,7 +126,7 @@ impl Scenario {
     }
 
     /// Whether the second shift type may not follow the first on the next day.
-    pub(crate) fn forbidden(&self, first: u8, second: u8) -> bool
+    pub fn forbidden(&self, first: u8, second: u8) -> bool
         requires first_in { first < length self.now.shifts }
         requires second_in { second < length self.now.shifts }
         ensures { result ≡ (bare_week self.now).is_forbidden first second }
@@ -127,14 +135,14 @@ impl Scenario {
     }
 
     /// The name of the scenario.
-    pub(crate) fn name(&self) -> &[u8]
+    pub fn name(&self) -> &[u8]
         ensures { result.now ≡ self.now.name }
     {
         self.parts.name.as_slice()
     }
 
     /// The name of the nurse.
-    pub(crate) fn nurse_name(&self, nurse: u16) -> &[u8]
+    pub fn nurse_name(&self, nurse: u16) -> &[u8]
         requires { nurse < length self.now.nurses }
         ensures { slice_get self.now.nurses nurse ≡ Some result.now }
     {
@@ -142,7 +150,7 @@ impl Scenario {
     }
 
     /// The name of the shift type.
-    pub(crate) fn shift_name(&self, shift: u8) -> &[u8]
+    pub fn shift_name(&self, shift: u8) -> &[u8]
         requires { shift < length self.now.shifts }
         ensures { slice_get self.now.shifts shift ≡ Some result.now }
     {
@@ -150,7 +158,7 @@ impl Scenario {
     }
 
     /// The name of the skill.
-    pub(crate) fn skill_name(&self, skill: u8) -> &[u8]
+    pub fn skill_name(&self, skill: u8) -> &[u8]
         requires { skill < length self.now.skills }
         ensures { slice_get self.now.skills skill ≡ Some result.now }
     {

@@ -5,21 +5,25 @@ use crate::ports::{PortFault, Source, Target};
 use std::io::{Read, Write};
 
 /// A reader as a source. After the first error every call is an error, and the reader is not
-/// called again.
+/// called again; nor is it called for an empty buffer.
 #[derive(Drop)]
 pub struct FromRead<R> {
     reader: R,
     failed: bool,
+    // the reader said the end
+    ended: bool,
 }
 
 impl<R: Read> FromRead<R> {
-    /// The reader as a source. It has not failed yet.
+    /// The reader as a source. It has not failed yet, nor said its end.
     pub fn new(reader: R) -> FromRead<R>
-        ensures { ⟦<FromRead<R> as Source>⟧.has_failed result ≡ false }
+        ensures sound { ⟦<FromRead<R> as Source>⟧.has_failed result ≡ false }
+        ensures unended { ⟦<FromRead<R> as Source>⟧.has_ended result ≡ false }
     {
         FromRead {
             reader,
             failed: false,
+            ended: false,
         }
     }
 }
@@ -29,12 +33,20 @@ impl<R: Read> Source for FromRead<R> {
 
     ghost has_failed = { λ s. s.failed };
 
+    ghost has_ended = { λ s. s.ended };
+
     fn read(&mut self, buffer: &mut [u8]) -> Result<usize, PortFault> {
         if self.failed {
             return Err(PortFault);
         }
+        if buffer.is_empty() {
+            return Ok(0);
+        }
         match self.reader.read(buffer) {
-            Ok(count) => Ok(count),
+            Ok(count) => {
+                self.ended = self.ended || count == 0;
+                Ok(count)
+            }
             Err(_) => {
                 self.failed = true;
                 Err(PortFault)
@@ -44,7 +56,7 @@ impl<R: Read> Source for FromRead<R> {
 }
 
 /// A writer as a target. After the first error every call is an error, and the writer is not
-/// called again. A write that takes nothing of a piece that is not empty is an error.
+/// called again; nor is it called for an empty piece. A write that takes nothing of another is an error.
 #[derive(Drop)]
 pub struct ToWrite<W> {
     writer: W,
@@ -74,8 +86,11 @@ impl<W: Write> Target for ToWrite<W> {
         if self.failed {
             return Err(PortFault);
         }
+        if piece.is_empty() {
+            return Ok(0);
+        }
         match self.writer.write(piece) {
-            Ok(count) if count > 0 || piece.is_empty() => Ok(count),
+            Ok(count) if count > 0 => Ok(count),
             _ => {
                 self.failed = true;
                 Err(PortFault)

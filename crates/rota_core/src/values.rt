@@ -8,8 +8,8 @@ pub struct Span {
 }
 
 /// What a contract asks of a nurse: her assignments over all weeks, her consecutive working days,
-/// her consecutive days off, her most worked weekends over all weeks, and whether she works on both
-/// days of a weekend or on none.
+/// her consecutive days off, the most weekends that she works over all weeks, and whether she works on
+/// both days of a weekend or on none.
 #[derive(Clone, Copy, Debug, PartialEq, Eq)]
 pub struct Contract {
     pub total: Span,
@@ -19,9 +19,9 @@ pub struct Contract {
     pub complete: bool,
 }
 
-/// What the weeks before left of a nurse: her assignments and worked weekends so far, the shift type
-/// of the last Sunday, where she worked then, and how many days in a row she has had that shift type,
-/// worked, or been off.
+/// What the weeks before left of a nurse: how many assignments she has had so far and how many weekends
+/// she has worked, the shift type of the last Sunday, where she worked then, and how many days in a row
+/// she has had that shift type, worked, or been off.
 #[derive(Clone, Copy, Debug, PartialEq, Eq)]
 pub struct Past {
     pub assignments: u16,

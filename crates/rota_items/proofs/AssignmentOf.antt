@@ -1,11 +1,13 @@
 -- The assignment that stands for a roster.
-use Rattle.std.proofs.Common.{◌≡◌, ℕ, ◌<◌, true, refl, ap, arith}
+use Rattle.std.proofs.Common.{◌≡◌, ℕ, ◌+◌, ◌<◌, true, false, refl, ap, arith}
+use Rattle.std.specs.Prelude.{slice_index_or}
 use Rattle.std.proofs.lemmas.Bool.{lt-ltb, ne_eqb, eq-eqb}
 use Rattle.rota_core.specs.Roster.{Roster, InWeek}
+use Rattle.rota_core.specs.RosterTables.{RosterTables, HasShapeOf, cell_place, set_of}
 use Rattle.rota_core.specs.Week.{Week}
 use Rattle.rota_core.specs.declared.values.Cell.{Cell}
-use Rattle.rota_items.specs.Cells.{cell_number, unit_number}
-use Rattle.rota_items.proofs.Numbers.{cell_number-below, cell_of-cell_number}
+use Rattle.rota_items.specs.Cells.{cell_number, cell_of_number, unit_number}
+use Rattle.rota_items.proofs.Numbers.{cell_number-below, cell_number-of, cell_of-cell_number}
 use Rattle.rota_items.specs.WeekModel.{assignment_of}
 
 pub assignment_of-cell : (week : Week) (roster : Roster) (one : Cell) → InWeek week one →
@@ -19,3 +21,12 @@ assignment_of-cell week roster one inside =
 
 pub assignment_of-unit : (week : Week) (roster : Roster) → assignment_of week roster (unit_number week) ≡ true
 assignment_of-unit week roster = rw (eq-eqb (unit_number week) (unit_number week) refl) refl
+
+-- the truth values of a roster's cells stand by their places
+pub place-assigned : (week : Week) (tables : RosterTables) (place v : ℕ) → HasShapeOf week tables → v ≡ place + 1 →
+    v < unit_number week → slice_index_or tables.cells place false ≡ assignment_of week (set_of tables) v
+place-assigned week tables place v shape next below =
+    let same : place ≡ cell_place tables.shifts tables.skills (cell_of_number week v) =
+    rw (shape.same_shifts, shape.same_skills) (omega (arith, cell_number-of week v (omega arith) below)) in
+    rw (ne_eqb v (unit_number week) (omega arith), lt-ltb 0 v (omega arith), lt-ltb v (unit_number week) below)
+    (ap (λ at. slice_index_or tables.cells at false) same)

@@ -1,15 +1,9 @@
 -- A nurse has at most one cell a day, so the sums over her day are 0 or 1.
-use Rattle.std.proofs.Common.{◌≡◌, ℕ, ◌<◌, ◌≤◌, Bool, ◌||◌, true, false, cond, [], ◌∷◌, refl, ap, ◌∙◌, arith, sym}
-use Rattle.std.specs.List.{count_by, list_any}
-use Rattle.std.proofs.lemmas.Bool.{true≢false}
+use Rattle.rota_items.proofs.LogicWords.{◌≡◌, ℕ, ◌<◌, ◌≤◌, Bool, ◌||◌, true, false, cond, [], ◌∷◌, refl, ap, ◌∙◌, arith, sym, count_by, list_any, true≢false}
+use Rattle.rota_items.proofs.ModelWords.{KeepsOneCell, KeepsSkills, is_on, works, Roster, cell, Has, Week, Cell, on_cells, work_cells, skill_cells}
 use Rattle.rota_core.specs.Below.{sum_below, count_below}
-use Rattle.rota_core.specs.HardRules.{KeepsOneCell, KeepsSkills, is_on, works}
-use Rattle.rota_core.specs.Roster.{Roster, cell, Has}
-use Rattle.rota_core.specs.Week.{Week}
-use Rattle.rota_core.specs.declared.values.Cell.{Cell}
 use Rattle.rota_items.proofs.SumsBelow.{sum_by-each-is, count_by-each, sum_below-one, found, list_any-each, any_below-same, sum_below-zero, term-le-sum_below, one-sum_below}
 use Rattle.rota_core.specs.Lists.{each_below}
-use Rattle.rota_items.specs.Cells.{on_cells, work_cells, skill_cells}
 
 pub true-from-count : (b : Bool) → 0 < cond b 1 0 → b ≡ true
 true-from-count true some = refl

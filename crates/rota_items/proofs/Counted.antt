@@ -1,11 +1,8 @@
 -- What a counter makes of a list of rows.
-use Rattle.std.proofs.Common.{◌≡◌, ℕ, ◌+◌, ◌≤◌, min, max, Bool, cond, List, [], ◌∷◌, ◌++◌, map, refl, ap, ◌∙◌, arith}
-use Rattle.std.proofs.lemmas.List.Sums.{fold-append, sum_by-cons}
-use Rattle.std.specs.List.{fold, count_by}
+use Rattle.rota_items.proofs.LogicWords.{◌≡◌, ℕ, ◌+◌, ◌≤◌, min, max, Bool, true, cond, List, [], ◌∷◌, ◌++◌, map, length, refl, ap, ◌∙◌, arith, fold-append, sum_by-cons, AllByRecursion, fold, count_by}
+use Rattle.rota_items.proofs.ModelWords.{Term, LinearRow}
 use Rattle.rota_items.specs.Counting.{counted, counts_of, greatest, greatest_count, is_constraint, no_counts, variables_in}
 use Rattle.rota_items.specs.Events.{start_row, close_row, term_events, row_events, events}
-use Rattle.rota_items.specs.Linear.{Term}
-use Rattle.rota_items.specs.LinearRow.{LinearRow}
 use Rattle.rota_items.specs.declared.counting.Counts.{Counts}
 use Rattle.rota_items.specs.declared.part.Part.{Part}
 use Rattle.rota_items.specs.declared.part.Part.TheVariants.{Objective, Hard, Soft}
@@ -39,6 +36,11 @@ one_if test = cond test 1 0
 pub count-more : (row : LinearRow ℕ) (rows : List (LinearRow ℕ)) →
     count_by counts_row (row ∷ rows) ≡ one_if (counts_row row) + count_by counts_row rows
 count-more row rows = sum_by-cons (λ (r : LinearRow ℕ). one_if (counts_row r)) row rows
+
+-- where each row is a constraint, all are counted
+pub all-counted : (rows : List (LinearRow ℕ)) → AllByRecursion (λ row. counts_row row ≡ true) rows → count_by counts_row rows ≡ length rows
+all-counted [] all = refl
+all-counted (row ∷ rows) all = omega (arith, ap one_if all.0, count-more row rows, all-counted rows all.1)
 
 counted-start : (counts : Counts) (part : Part) → counts.constraints ≤ greatest_count →
     counted counts (start_row part) ≡

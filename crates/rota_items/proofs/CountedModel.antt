@@ -1,61 +1,29 @@
 -- What a counter makes of the rows of a week's model.
-use Rattle.std.proofs.Common.{◌≡◌, ℕ, zero, suc, ◌+◌, ◌<◌, ◌≤◌, max, Bool, ◌||◌, true, false, inl, inr, List, [], ◌∷◌, ◌++◌, map, length, refl, sym, ap, ◌∙◌, arith}
-use Rattle.std.specs.Prelude.{ℤ, pos, nat_lt, ◌==◌}
-use Rattle.std.specs.List.{AllByRecursion, count_by, fold, list_any, range_with_len}
-use Rattle.std.proofs.lemmas.Bool.{cases_Bool, eqb-true, true≢false}
-use Rattle.std.proofs.lemmas.List.{length-append, length-map, map-append}
-use Rattle.std.proofs.lemmas.List.Sums.{sum_by-cons, sum_by-append}
-use Rattle.rota_core.specs.Week.{Week}
-use Rattle.rota_items.proofs.Counted.{counts_row, one_if, count-more, counted-rows, greatest-append, same_counts, variables_of}
-use Rattle.rota_items.proofs.HardCounts.{counted-rule_rows, count-rows, greatest-terms}
+use Rattle.rota_items.proofs.LogicWords.{◌≡◌, ℕ, zero, suc, ◌+◌, ◌<◌, ◌≤◌, max, Bool, ◌||◌, true, false, inl, inr, List, [], ◌∷◌, ◌++◌, map, length, refl, sym, ap, ◌∙◌, arith, ℤ, pos, nat_lt, ◌==◌, AllByRecursion, count_by, fold, list_any, range_with_len, cases_Bool, eqb-true, true≢false, length-map, map-append, sum_by-cons}
+use Rattle.rota_items.proofs.ModelWords.{InWeek, Week, Cell, cell_number, first_slack, unit_number, constant_terms, objective_rows, cell_terms, constant, soft_items, Item, IsWithinLimits, Term, times, LinearRow, linear_constraint, slack_count, slack_weights, numbered_terms, numbered_items, rows_of, objective_terms, model_of}
+use Rattle.rota_items.proofs.Counted.{all-counted, counts_row, count-more, counted-rows, greatest-append, same_counts, variables_of}
 use Rattle.rota_items.proofs.ItemEventLists.{slack_count-numbered}
+use Rattle.rota_items.proofs.ModelRows.{each-model_row}
+use Rattle.rota_items.proofs.Numbers.{cell_number-below}
+use Rattle.rota_items.proofs.TermsHold.{OnTerms}
 use Rattle.rota_core.proofs.RisesWithin.{RisesWithin}
 use Rattle.rota_items.proofs.RisingTerms.{RisesTo, variable_of, rises-to_last}
 use Rattle.rota_items.proofs.SlackBound.{rows-below}
 use Rattle.rota_items.proofs.Standing.{at_variable, rises-end, stands-exactly}
-use Rattle.rota_items.proofs.Within.{in-request_terms}
-use Rattle.rota_items.specs.Cells.{cell_number, first_slack, unit_number}
-use Rattle.rota_items.specs.Constant.{constant}
+use Rattle.rota_items.proofs.SoftRules.AllItems.{in-cell_terms}
 use Rattle.rota_items.specs.declared.part.Part.TheVariants.{Objective}
-use Rattle.rota_items.specs.Counting.{counted, counts_of, counts_of_model, greatest, no_counts, variables_in}
+use Rattle.rota_items.specs.Counting.{counted, counts_of, counts_of_model, greatest, is_constraint, no_counts, variables_in}
 use Rattle.rota_items.specs.Events.{events}
-use Rattle.rota_items.specs.HardRows.{rule_rows}
-use Rattle.rota_items.specs.Items.{Item}
-use Rattle.rota_items.specs.Limits.{IsWithinLimits}
-use Rattle.rota_items.specs.Linear.{Term, times}
-use Rattle.rota_items.specs.LinearRow.{LinearRow, linear_constraint}
 use Rattle.rota_core.specs.Lists.{only_if}
-use Rattle.rota_items.specs.Objective.{request_terms, constant_terms, objective_rows}
-use Rattle.rota_items.specs.Slacks.{item_row, item_rows, slack_count, slack_weights}
-use Rattle.rota_items.specs.SoftItems.{soft_items}
 use Rattle.rota_items.specs.Standing.{stands_in}
-use Rattle.rota_items.specs.WeekModel.{numbered_row, numbered_terms, unit_row, hard_rows, numbered_items, rows_of, objective_terms, model_of}
 
--- ---- each row of an item is a constraint
-
-count-item_rows : (first : ℕ) (items : List (Item ℕ)) →
-    count_by counts_row (item_rows first items) ≡ length (item_rows first items)
-count-item_rows first [] = refl
-count-item_rows first (item ∷ items) =
-    omega (
-      arith,
-      count-more (item_row item first) (item_rows (first + item.slacks) items),
-      count-item_rows (first + item.slacks) items,
-    )
+-- ---- each row is a constraint
 
 count-rows_of : (week : Week) → count_by counts_row (rows_of week) ≡ length (rows_of week)
 count-rows_of week =
-    omega (
-      arith,
-      sum_by-append (λ (row : LinearRow ℕ). one_if (counts_row row)) (hard_rows week) items,
-      length-append (hard_rows week) items,
-      count-more (unit_row (unit_number week)) (map (numbered_row week) (rule_rows week)),
-      count-rows week (rule_rows week) (counted-rule_rows week),
-      count-item_rows (first_slack week) (numbered_items week),
-    )
-  where
-    items : List (LinearRow ℕ)
-    items = item_rows (first_slack week) (numbered_items week)
+    all-counted (rows_of week)
+    (each-model_row week (λ row. counts_row row ≡ true) refl (λ rule row sound. ap is_constraint sound.part_is)
+    (λ rule item first sound after up_to. refl))
 
 -- ---- the greatest variable of the constraints is the model's last
 
@@ -116,6 +84,12 @@ greatest-terms_append : (xs ys : List (Term ℕ)) →
 greatest-terms_append xs ys =
     ap greatest (map-append (λ (term : Term ℕ). term.1) xs ys) ∙ greatest-append (variables_of xs) (variables_of ys)
 
+-- the unit variable is above those of the cells
+greatest-terms : (week : Week) (terms : List (Term Cell)) → OnTerms (InWeek week) terms →
+    greatest (variables_of (numbered_terms week terms)) ≤ unit_number week
+greatest-terms week [] all = omega arith
+greatest-terms week (term ∷ terms) all = omega (arith, cell_number-below week term.1 all.0, greatest-terms week terms all.1)
+
 greatest-only_if : (test : Bool) (term : Term ℕ) → greatest (variables_of (only_if test term)) ≤ term.1
 unfolding only_if
 greatest-only_if true term = omega arith
@@ -140,13 +114,13 @@ greatest-slacks first (item ∷ items) some =
 
 greatest-objective : (week : Week) → greatest (variables_of (objective_terms week)) ≤ (model_of week).variables
 greatest-objective week =
-    let requests = numbered_terms week (request_terms week) in
+    let requests = numbered_terms week (cell_terms week) in
     let slacks = slack_weights (first_slack week) (numbered_items week) in
     omega (
       arith,
       greatest-terms_append requests (constant_terms week ++ slacks),
       greatest-terms_append (constant_terms week) slacks,
-      greatest-terms week (request_terms week) (in-request_terms week),
+      greatest-terms week (cell_terms week) (in-cell_terms week),
       greatest-only_if (nat_lt 0 (constant week)) (pos (constant week), unit_number week),
       greatest-slacks (first_slack week) (numbered_items week) (omega arith),
       slack_count-numbered (cell_number week) (soft_items week),

@@ -1,5 +1,5 @@
 -- The events of items, one list after another.
-use Rattle.std.proofs.Common.{◌≡◌, ℕ, ◌+◌, ◌<◌, ◌≤◌, Bool, true, List, [], ◌∷◌, ◌++◌, map, refl, sym, ap, ◌∙◌, arith, add-zero, append_assoc}
+use Rattle.std.proofs.Common.{◌≡◌, ℕ, ◌+◌, ◌<◌, ◌≤◌, List, [], ◌∷◌, ◌++◌, map, refl, sym, ap, ◌∙◌, arith, add-zero, append_assoc}
 use Rattle.std.specs.Prelude.{pos}
 use Rattle.std.proofs.lemmas.List.{map-append, append-nil}
 use Rattle.std.proofs.lemmas.List.Concat.{flat_map-append}
@@ -7,7 +7,6 @@ use Rattle.std.proofs.lemmas.List.Sums.{sum_by-cons, sum_by-append}
 use Rattle.rota_core.specs.Week.{Week}
 use Rattle.rota_core.specs.declared.values.Cell.{Cell}
 use Rattle.rota_items.proofs.ListSums.{sum_by-map}
-use Rattle.rota_core.proofs.Loops.{only_if-holds}
 use Rattle.rota_items.proofs.Taking.{within}
 use Rattle.rota_items.specs.Cells.{cell_number}
 use Rattle.rota_items.specs.Events.{term, row_events, term_events, events}
@@ -15,10 +14,10 @@ use Rattle.rota_items.specs.ItemEvents.{item_events}
 use Rattle.rota_items.specs.Items.{Item, numbered}
 use Rattle.rota_items.specs.Linear.{Term, times}
 use Rattle.rota_items.specs.LinearRow.{LinearRow}
-use Rattle.rota_core.specs.Lists.{each_below, only_if}
+use Rattle.rota_core.specs.Lists.{each_below}
 use Rattle.rota_items.specs.Slacks.{item_row, item_rows, slack_variables, slack_weights, slack_count}
-use Rattle.rota_items.specs.declared.soft_item.Section.{Section}
-use Rattle.rota_items.specs.declared.soft_item.Section.TheVariants.{Rows, Weights}
+use Rattle.rota_items.specs.declared.soft_item.ItemPart.{ItemPart}
+use Rattle.rota_items.specs.declared.soft_item.ItemPart.TheVariants.{Row, SlackWeights}
 
 -- ---- how many slacks
 
@@ -38,9 +37,6 @@ pub slack_count-within : {X : Type 0} (i n : ℕ) (f : ℕ → List (Item X)) �
 slack_count-within i n f below =
     let w = within i n f below in
     rw w.are (omega (arith, slack_count-append (each_below i f) (f i ++ w.after), slack_count-append (f i) w.after))
-
-pub slack_count-where : {X : Type 0} (test : Bool) (item : Item X) → test ≡ true → slack_count (only_if test item) ≡ item.slacks
-slack_count-where test item holds = rw (only_if-holds test item holds) (omega (arith, slack_count-cons item []))
 
 -- ---- rows and weights
 
@@ -72,25 +68,25 @@ pub term_events-append : (xs ys : List (Term ℕ)) → term_events (xs ++ ys) �
 unfolding term_events
 term_events-append xs ys = map-append (λ (t : Term ℕ). term t.0 t.1) xs ys
 
--- ---- the events of either section
+-- ---- the events of either part
 
-pub item_events-none : (section : Section) (week : Week) (first : ℕ) → item_events section week first [] ≡ []
+pub item_events-none : (part : ItemPart) (week : Week) (first : ℕ) → item_events part week first [] ≡ []
 unfolding item_events events term_events
-item_events-none Rows week first = refl
-item_events-none Weights week first = refl
+item_events-none Row week first = refl
+item_events-none SlackWeights week first = refl
 
-pub item_events-append : (section : Section) (week : Week) (first : ℕ) (xs ys : List (Item Cell)) →
-    item_events section week first (xs ++ ys) ≡
-    item_events section week first xs ++ item_events section week (first + slack_count xs) ys
+pub item_events-append : (part : ItemPart) (week : Week) (first : ℕ) (xs ys : List (Item Cell)) →
+    item_events part week first (xs ++ ys) ≡
+    item_events part week first xs ++ item_events part week (first + slack_count xs) ys
 unfolding item_events
-item_events-append Rows week first xs ys =
+item_events-append Row week first xs ys =
     let f = numbered (cell_number week) in
     ap (λ items. events (item_rows first items)) (map-append f xs ys) ∙
     ap events (item_rows-append first (map f xs) (map f ys)) ∙
     events-append (item_rows first (map f xs)) (item_rows (first + slack_count (map f xs)) (map f ys)) ∙
     ap (λ n. events (item_rows first (map f xs)) ++ events (item_rows (first + n) (map f ys)))
     (slack_count-numbered (cell_number week) xs)
-item_events-append Weights week first xs ys =
+item_events-append SlackWeights week first xs ys =
     let f = numbered (cell_number week) in
     ap (λ items. term_events (slack_weights first items)) (map-append f xs ys) ∙
     ap term_events (slack_weights-append first (map f xs) (map f ys)) ∙
@@ -99,12 +95,12 @@ item_events-append Weights week first xs ys =
     (slack_count-numbered (cell_number week) xs)
 
 pub item_events-row : (week : Week) (first : ℕ) (item : Item Cell) →
-    item_events Rows week first (item ∷ []) ≡ row_events (item_row (numbered (cell_number week) item) first)
+    item_events Row week first (item ∷ []) ≡ row_events (item_row (numbered (cell_number week) item) first)
 unfolding item_events events
 item_events-row week first item = append-nil (row_events (item_row (numbered (cell_number week) item) first))
 
 pub item_events-weights : (week : Week) (first : ℕ) (item : Item Cell) →
-    item_events Weights week first (item ∷ []) ≡
+    item_events SlackWeights week first (item ∷ []) ≡
     term_events (times (pos item.weight) (slack_variables (numbered (cell_number week) item) first))
 unfolding item_events
 item_events-weights week first item =

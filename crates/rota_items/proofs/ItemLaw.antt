@@ -1,17 +1,11 @@
 -- Items and their slacks.
-use Rattle.std.proofs.Common.{map, ◌≡◌, ◌↔◌, ℕ, zero, suc, ◌+◌, ◌-◌, ◌*◌, ◌<◌, ◌≤◌, Bool, true, false, cond, List, [], ◌∷◌, refl, sym, ap, ◌∙◌, arith, add-zero, ltb}
-use Rattle.std.specs.Prelude.{ℤ, pos, negsuc, ◌+ℤ◌, ◌-ℤ◌, ◌≤ℤ◌}
-use Rattle.std.specs.List.{All, AllByRecursion, count_by, range_with_len}
-use Rattle.std.proofs.lemmas.List.Sums.{sum_by-cons}
-use Rattle.std.proofs.lemmas.List.Elements.{All-from_recursion, recursion_from_All}
-use Rattle.std.proofs.lemmas.Bool.{lt-ltb, le-ltb}
+use Rattle.rota_items.proofs.LogicWords.{map, ◌≡◌, ◌↔◌, ℕ, zero, suc, ◌+◌, ◌-◌, ◌*◌, ◌<◌, ◌≤◌, Bool, true, false, cond, List, [], ◌∷◌, refl, sym, ap, ◌∙◌, arith, add-zero, ltb, ℤ, pos, negsuc, ◌+ℤ◌, ◌-ℤ◌, ◌≤ℤ◌, All, AllByRecursion, count_by, range_with_len, sum_by-cons, All-from_recursion, recursion_from_All, lt-ltb, le-ltb, ints}
+use Rattle.rota_items.proofs.ModelWords.{numbered, Item, positive_part, shortage, weighted_shortages, Term, Satisfies, value_of, times, StandBelow, slack_variables, item_constraint, item_constraints, slack_weights}
 use Rattle.std.proofs.lemmas.Bool.Decides.{nat_tests}
-use Rattle.std.proofs.lemmas.Int.{ints}
 use Rattle.std.proofs.Math.Nat.{mul-le-mul_left}
 use Rattle.rota_items.proofs.PatternItems.{value_of-append}
-use Rattle.rota_items.specs.Items.{numbered, Item, positive_part, shortage, weighted_shortages}
-use Rattle.rota_items.specs.Linear.{Term, Satisfies, value_of, times}
-use Rattle.rota_items.specs.Slacks.{StandBelow, slack_variables, item_constraint, item_constraints, slack_weights, is_slack_needed, extension}
+use Rattle.rota_items.proofs.TermsHold.{value_of-agree}
+use Rattle.rota_items.specs.Slacks.{is_slack_needed, extension}
 
 -- variables with one coefficient give it once for each that is true
 pub value_of-weight : (assignment : ℕ → Bool) (w : ℕ) (variables : List ℕ) →
@@ -31,7 +25,7 @@ pub positive_part-le : (z : ℤ) (k : ℕ) → z ≤ℤ pos k → positive_part 
 positive_part-le (pos n) k h = omega (arith, ints)
 positive_part-le (negsuc n) k h = omega arith
 
-le-positive_part : (z : ℤ) (k : ℕ) → positive_part z ≤ k → z ≤ℤ pos k
+pub le-positive_part : (z : ℤ) (k : ℕ) → positive_part z ≤ k → z ≤ℤ pos k
 le-positive_part (pos n) k h = omega (arith, ints)
 le-positive_part (negsuc n) k h = omega (arith, ints)
 
@@ -88,15 +82,6 @@ weighted_shortages-le assignment first items holds =
 
 -- ---- the slacks that are needed
 
--- two assignments that agree below a number give terms below it the same value
-value_of-same : (one other : ℕ → Bool) (end : ℕ) (terms : List (Term ℕ)) →
-    ((v : ℕ) → v < end → one v ≡ other v) → AllByRecursion (λ (term : Term ℕ). term.1 < end) terms →
-    value_of one terms ≡ value_of other terms
-value_of-same one other end [] agree below = refl
-value_of-same one other end (t ∷ ts) agree below =
-    ap (λ b. cond b t.0 (pos 0) +ℤ value_of one ts) (agree t.1 below.0) ∙
-    ap (λ z. cond (other t.1) t.0 (pos 0) +ℤ z) (value_of-same one other end ts agree below.1)
-
 ltb-next : (o k : ℕ) → ltb (o + 1) k ≡ ltb o (k - 1)
 ltb-next o k = grind (arith, nat_tests)
 
@@ -138,7 +123,7 @@ shortage-same : (one other : ℕ → Bool) (end : ℕ) (item : Item ℕ) →
     shortage one item ≡ shortage other item
 shortage-same one other end item agree below =
     ap (λ z. positive_part (item.degree -ℤ z))
-    (value_of-same one other end item.terms agree
+    (value_of-agree one other (λ v. v < end) item.terms agree
     (recursion_from_All (λ (term : Term ℕ). term.1 < end) item.terms below))
 
 -- the first item's slacks come first, and after them those of the others

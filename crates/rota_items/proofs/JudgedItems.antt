@@ -1,251 +1,187 @@
--- What a judge finds at the close of the rows of constraints.
-use Rattle.std.proofs.Common.{◌≡◌, ℕ, zero, suc, ◌+◌, ◌<◌, ◌≤◌, Bool, true, false, ◌&&◌, not, List, [], ◌∷◌, refl, sym, ap, ◌∙◌, arith, min, ltb}
-use Rattle.std.specs.Prelude.{ℤ, pos, ◌-ℤ◌, int_le, nat_lt}
-use Rattle.std.specs.List.{AllByRecursion, count_by, range_with_len}
-use Rattle.std.proofs.lemmas.Int.{ints}
-use Rattle.std.proofs.lemmas.Bool.{lt-ltb, le-ltb}
+-- What a judge makes of the rows of items.
+use Rattle.rota_items.proofs.LogicWords.{◌≡◌, ℕ, zero, suc, ◌+◌, ◌*◌, ◌^◌, ◌<◌, ◌≤◌, Bool, true, List, [], ◌∷◌, length, refl, sym, ap, ◌∙◌, arith, min, ltb, w64, ℤ, pos, nat_abs, ◌-ℤ◌, int_le, nat_le, if◌then◌else◌, AllByRecursion, count_by, range_with_len, sum_by, lt-ltb, le-leb, ints, sum_by-append, sum_by-cons}
+use Rattle.rota_items.proofs.ModelWords.{set_of, Week, Rule, unit_number, Item, positive_part, shortage, Term, value_of, times, LinearRow, item_row, item_rows, slack_count, slack_variables, slack_weights, assignment_of, extension_of, model_of}
+use Rattle.std.specs.Int.{saturate_signed}
 use Rattle.std.proofs.lemmas.Bool.Decides.{nat_tests}
-use Rattle.rota_core.specs.RosterTables.{RosterTables, set_of}
-use Rattle.rota_core.specs.Week.{Week}
-use Rattle.rota_items.specs.Cells.{unit_number, first_slack}
-use Rattle.rota_items.specs.Items.{Item, positive_part, shortage}
-use Rattle.rota_items.specs.Judging.{Evaluated, assigned, extended, counts_for}
-use Rattle.rota_items.specs.Linear.{Term, value_of, times}
-use Rattle.rota_items.specs.LinearRow.{LinearRow}
-use Rattle.rota_items.specs.Slacks.{item_row, slack_variables}
+use Rattle.rota_core.specs.RosterTables.{RosterTables}
+use Rattle.rota_items.specs.Judging.{Subject, assigned, extended, assignment_in, counts_for, lacking, true_slacks}
 use Rattle.rota_items.specs.Verdicts.{truth_of}
-use Rattle.rota_items.specs.WeekModel.{assignment_of, extension_of, is_satisfied}
-use Rattle.rota_items.proofs.Extension.{extension-below, value_of-agree}
-use Rattle.rota_items.proofs.ItemLaw.{IsExtension, count-front, needed-first, needed-after, value_of-item_constraint}
-use Rattle.rota_items.proofs.JudgedRows.{lacks, met, others, used}
-use Rattle.rota_items.proofs.JudgedTerms.{at_cells, at_unit, at_slacks, counted_cell, counted_unit, counted_slack, sums_of, value_of-parts}
+use Rattle.rota_items.proofs.Extension.{extension-below}
+use Rattle.rota_items.proofs.ItemLaw.{IsExtension, count-front, needed-first, needed-after, value_of-item_constraint, value_of-weight}
+use Rattle.rota_items.proofs.JudgedRows.{IsJudged, assignment, charge, covers, is_same, lacks, payment, positive-saturated, slacks}
+use Rattle.rota_items.proofs.JudgedTerms.{AtSlacks, Before, others-of, slacks-of, sums_of}
+use Rattle.rota_items.proofs.PenaltyBound.{length-range}
 use Rattle.rota_items.proofs.PatternItems.{value_of-append}
-use Rattle.rota_items.proofs.TermsHold.{OnTerms, on-times}
+use Rattle.rota_items.proofs.SmallSums.{shortage-least, spread}
+use Rattle.rota_items.proofs.TermsHold.{on-times, value_of-agree}
 
--- ---- where a variable stands
+-- ---- the slacks of an item
 
-abbrev pub Places : Bool → ℕ → ℕ → Bool → Bool → Bool → Type 0
-Places counts v unit cell at slack =
-    (at_cells counts (nat_lt v unit) (nat_lt unit v) ≡ cell) ×
-    (at_unit counts (nat_lt v unit) (nat_lt unit v) ≡ at) ×
-    (at_slacks counts (nat_lt v unit) (nat_lt unit v) ≡ slack)
+pub range-within : (P : ℕ → Type 0) (first n : ℕ) → ((v : ℕ) → first ≤ v → v < first + n → P v) →
+    AllByRecursion P (range_with_len first n)
+range-within P first zero each = tt
+range-within P first (suc n) each =
+    (each first (omega arith) (omega arith), range-within P (first + 1) n (λ v from to. each v (omega arith) (omega arith)))
 
-below_unit : (counts : Bool) (v unit : ℕ) → v < unit → Places counts v unit counts false false
-below_unit true v unit below = rw (lt-ltb v unit below) (refl, refl, refl)
-below_unit false v unit below = (refl, refl, refl)
-
-at_the_unit : (counts : Bool) (v unit : ℕ) → v ≡ unit → Places counts v unit false counts false
-at_the_unit true v unit is = rw (le-ltb v unit (omega arith), le-ltb unit v (omega arith)) (refl, refl, refl)
-at_the_unit false v unit is = (refl, refl, refl)
-
-above_unit : (counts : Bool) (v unit : ℕ) → unit < v → Places counts v unit false false counts
-above_unit true v unit above = rw (le-ltb v unit (omega arith), lt-ltb unit v above) (refl, refl, refl)
-above_unit false v unit above = (refl, refl, refl)
-
-no_slack : (counts : Bool) (v unit : ℕ) → v < unit + 1 → at_slacks counts (nat_lt v unit) (nat_lt unit v) ≡ false
-no_slack true v unit below = rw (le-ltb unit v (omega arith)) (none (nat_lt v unit))
-  where
-    none : (b : Bool) → (not b && false) ≡ false
-    none true = refl
-    none false = refl
-no_slack false v unit below = refl
-
-pub value_of-none : {X : Type 0} (terms : List (Term X)) → value_of (λ x. false) terms ≡ pos 0
-value_of-none [] = refl
-value_of-none (t ∷ ts) = omega (arith, ints, value_of-none ts)
-
-pub value_of-all : (first n : ℕ) → value_of (λ x. true) (times (pos 1) (range_with_len first n)) ≡ pos n
+value_of-all : (first n : ℕ) → value_of (λ v. true) (times (pos 1) (range_with_len first n)) ≡ pos n
 value_of-all first zero = refl
 value_of-all first (suc n) = omega (arith, ints, value_of-all (first + 1) n)
 
-pub range-from : (P : ℕ → Type 0) (first n : ℕ) → ((v : ℕ) → first ≤ v → P v) → AllByRecursion P (range_with_len first n)
-range-from P first zero each = tt
-range-from P first (suc n) each = (each first (omega arith), range-from P (first + 1) n (λ v from. each v (omega arith)))
+spread-slacks : (vs : List ℕ) → spread (times (pos 1) vs) ≡ length vs
+spread-slacks [] = refl
+spread-slacks (v ∷ vs) =
+    omega (arith, sum_by-cons (λ (term : Term ℕ). nat_abs term.0) (pos 1, v) (times (pos 1) vs), spread-slacks vs)
 
 front-min : (o n k : ℕ) → o < n → ltb o k ≡ ltb o (min n k)
 front-min o n k below = grind (arith, nat_tests)
 
-module _ (week : Week) (evaluated : Evaluated) where
-  abbrev unit : ℕ
-  unit = unit_number week
+module _ (week : Week) where
+  -- a roster's extension has slacks for these items from this number on
+  abbrev pub Follows : Subject → ℕ → List (Item ℕ) → Type 0
+  Follows (assigned bits) first items = Unit {0}
+  Follows (extended roster) first items =
+      IsExtension (extension_of week (set_of roster)) (assignment_of week (set_of roster)) first items
 
-  abbrev pub counts : ℕ → Bool
-  counts = counts_for week evaluated
-
-  -- ---- terms at cells, at the unit variable or at slacks alone
-
-  pub cells-of_slacks : (terms : List (Term ℕ)) → OnTerms (λ v. unit < v) terms →
-      value_of (counted_cell week evaluated) terms ≡ pos 0
-  cells-of_slacks terms above =
-      value_of-agree (counted_cell week evaluated) (λ v. false) (λ v. unit < v) terms
-      (λ v after. (above_unit (counts v) v unit after).0) above ∙ value_of-none terms
-
-  pub unit-of_slacks : (terms : List (Term ℕ)) → OnTerms (λ v. unit < v) terms →
-      value_of (counted_unit week evaluated) terms ≡ pos 0
-  unit-of_slacks terms above =
-      value_of-agree (counted_unit week evaluated) (λ v. false) (λ v. unit < v) terms
-      (λ v after. (above_unit (counts v) v unit after).1) above ∙ value_of-none terms
-
-  pub slacks-of_slacks : (terms : List (Term ℕ)) → OnTerms (λ v. unit < v) terms →
-      value_of (counted_slack week evaluated) terms ≡ value_of counts terms
-  slacks-of_slacks terms above =
-      value_of-agree (counted_slack week evaluated) counts (λ v. unit < v) terms
-      (λ v after. (above_unit (counts v) v unit after).2) above
-
-  pub slacks-of_others : (terms : List (Term ℕ)) → OnTerms (λ v. v < first_slack week) terms →
-      value_of (counted_slack week evaluated) terms ≡ pos 0
-  slacks-of_others terms below =
-      value_of-agree (counted_slack week evaluated) (λ v. false) (λ v. v < first_slack week) terms
-      (λ v before. no_slack (counts v) v unit before) below ∙ value_of-none terms
-
-  pub others-of_others : (terms : List (Term ℕ)) → OnTerms (λ v. v < first_slack week) terms →
-      others week evaluated terms ≡ value_of counts terms
-  others-of_others terms below =
-      omega (arith, ints, value_of-parts week evaluated terms, slacks-of_others terms below)
-
-  pub cells-of_cells : (terms : List (Term ℕ)) → OnTerms (λ v. v < unit) terms →
-      value_of (counted_cell week evaluated) terms ≡ value_of counts terms
-  cells-of_cells terms below =
-      value_of-agree (counted_cell week evaluated) counts (λ v. v < unit) terms
-      (λ v before. (below_unit (counts v) v unit before).0) below
-
-  pub cells-of_unit : (terms : List (Term ℕ)) → OnTerms (λ v. v ≡ unit) terms →
-      value_of (counted_cell week evaluated) terms ≡ pos 0
-  cells-of_unit terms at =
-      value_of-agree (counted_cell week evaluated) (λ v. false) (λ v. v ≡ unit) terms
-      (λ v is. (at_the_unit (counts v) v unit is).0) at ∙ value_of-none terms
-
-  -- ---- the rows of items
-
-  pub slacks-above : (item : Item ℕ) (first : ℕ) → unit < first →
-      OnTerms (λ v. unit < v) (times (pos 1) (slack_variables item first))
-  slacks-above item first after =
-      on-times (λ v. unit < v) (pos 1) (slack_variables item first)
-      (range-from (λ v. unit < v) first item.slacks (λ v from. omega (arith, after, from)))
-
-  others-item : (item : Item ℕ) (first : ℕ) → OnTerms (λ v. v < first_slack week) item.terms → unit < first →
-      others week evaluated (item_row item first).terms ≡ value_of counts item.terms
-  others-item item first below after =
-      let slacks : List (Term ℕ) = times (pos 1) (slack_variables item first) in
-      omega (
-        arith,
-        ints,
-        value_of-append (counted_cell week evaluated) item.terms slacks,
-        value_of-append (counted_unit week evaluated) item.terms slacks,
-        cells-of_slacks slacks (slacks-above item first after),
-        unit-of_slacks slacks (slacks-above item first after),
-        others-of_others item.terms below,
-      )
-
-  slacks-item : (item : Item ℕ) (first : ℕ) → OnTerms (λ v. v < first_slack week) item.terms → unit < first →
-      (sums_of week evaluated (item_row item first).terms).slacks ≡
-      value_of counts (times (pos 1) (slack_variables item first))
-  slacks-item item first below after =
-      let slacks : List (Term ℕ) = times (pos 1) (slack_variables item first) in
-      omega (
-        arith,
-        ints,
-        value_of-append (counted_slack week evaluated) item.terms slacks,
-        slacks-of_others item.terms below,
-        slacks-of_slacks slacks (slacks-above item first after),
-      )
-
-  pub lacks-item : (item : Item ℕ) (first : ℕ) → OnTerms (λ v. v < first_slack week) item.terms → unit < first →
-      lacks week evaluated (item_row item first) ≡ shortage counts item
-  lacks-item item first below after =
-      ap (λ z. positive_part (item.degree -ℤ z)) (others-item item first below after)
-
--- ---- bits: what counts is the assignment
-
-pub met-assigned : (week : Week) (bits : List Bool) (row : LinearRow ℕ) →
-    met week (assigned bits) row ≡ is_satisfied (truth_of bits) row
-met-assigned week bits row = ap (int_le row.degree) (sym (value_of-parts week (assigned bits) row.terms))
-
--- ---- a roster: its extension has as many slacks as an item lacks
-
-module _ (week : Week) (tables : RosterTables) where
-  abbrev pub ext : ℕ → Bool
-  ext = extension_of week (set_of tables)
-
-  abbrev pub own : ℕ → Bool
-  own = assignment_of week (set_of tables)
-
-  abbrev all : Evaluated
-  all = extended tables
-
-  pub counts-below : (v : ℕ) → v < first_slack week → counts_for week all v ≡ own v
-  counts-below v below = rw (le-ltb (unit_number week) v (omega arith)) refl
-
-  pub counts-above : (v : ℕ) → unit_number week < v → counts_for week all v ≡ true
-  counts-above v above = rw (lt-ltb (unit_number week) v above) refl
-
-  pub value_of-own : (terms : List (Term ℕ)) → OnTerms (λ v. v < first_slack week) terms →
-      value_of (counts_for week all) terms ≡ value_of own terms
-  value_of-own terms below =
-      value_of-agree (counts_for week all) own (λ v. v < first_slack week) terms counts-below below
-
-  pub value_of-ext : (terms : List (Term ℕ)) → OnTerms (λ v. v < first_slack week) terms →
-      value_of ext terms ≡ value_of own terms
-  value_of-ext terms below =
-      value_of-agree ext own (λ v. v < first_slack week) terms (extension-below week (set_of tables)) below
-
-  and_nothing : (n : ℕ) (z : ℤ) → z ≡ pos 0 → pos (min (positive_part z) n) ≡ pos 0
-  and_nothing n z none = rw none (omega (arith, ints))
-
-  -- a row without slacks
-  pub met-hard : (row : LinearRow ℕ) → OnTerms (λ v. v < first_slack week) row.terms →
-      met week all row ≡ is_satisfied ext row
-  met-hard row below =
-      ap (int_le row.degree)
-      (omega (
-        arith,
-        ints,
-        others-of_others week all row.terms below,
-        value_of-own row.terms below,
-        value_of-ext row.terms below,
-        and_nothing (lacks week all row) (sums_of week all row.terms).slacks (slacks-of_others week all row.terms below),
-      ))
-
-  shortage-own : (item : Item ℕ) → OnTerms (λ v. v < first_slack week) item.terms →
-      shortage (counts_for week all) item ≡ shortage own item
-  shortage-own item below = ap (λ z. positive_part (item.degree -ℤ z)) (value_of-own item.terms below)
-
-  pub used-item : (item : Item ℕ) (first : ℕ) → OnTerms (λ v. v < first_slack week) item.terms →
-      unit_number week < first →
-      used week all (item_row item first) ≡ pos (min item.slacks (shortage own item))
-  used-item item first below after =
-      let every : value_of (counts_for week all) (times (pos 1) (slack_variables item first)) ≡ pos item.slacks =
-      value_of-agree (counts_for week all) (λ v. true) (λ v. unit_number week < v) _ counts-above
-      (slacks-above week all item first after) ∙ value_of-all first item.slacks in
-      ap (λ z. pos (min (positive_part z) (lacks week all (item_row item first))))
-      (slacks-item week all item first below after ∙ every) ∙
-      ap (λ (n : ℕ). pos (min item.slacks n)) (lacks-item week all item first below after ∙ shortage-own item below)
-
-  -- the extension has the first slacks of the items
-  pub count-needed : (item : Item ℕ) (items : List (Item ℕ)) (first : ℕ) → IsExtension ext own first (item ∷ items) →
-      count_by ext (slack_variables item first) ≡ min item.slacks (shortage own item)
-  count-needed item items first extends =
-      count-front ext first item.slacks (min item.slacks (shortage own item)) (omega arith)
-      (λ o within. extends o ∙ needed-first own item items o within ∙ front-min o item.slacks (shortage own item) within)
-
-  pub extends-after : (item : Item ℕ) (items : List (Item ℕ)) (first : ℕ) → IsExtension ext own first (item ∷ items) →
-      IsExtension ext own (first + item.slacks) items
-  extends-after item items first extends o =
+  follows-after : (given : Subject) (item : Item ℕ) (items : List (Item ℕ)) (first : ℕ) → Follows given first (item ∷ items) →
+      Follows given (first + item.slacks) items
+  follows-after (assigned bits) item items first follows = tt
+  follows-after (extended roster) item items first follows = λ o.
       let further : first + item.slacks + o ≡ first + (item.slacks + o) = omega arith in
-      ap ext further ∙ extends (item.slacks + o) ∙ needed-after own item items o
+      ap (extension_of week (set_of roster)) further ∙ follows (item.slacks + o) ∙
+      needed-after (assignment_of week (set_of roster)) item items o
 
-  pub met-item : (item : Item ℕ) (items : List (Item ℕ)) (first : ℕ) → OnTerms (λ v. v < first_slack week) item.terms →
-      unit_number week < first → IsExtension ext own first (item ∷ items) →
-      met week all (item_row item first) ≡ is_satisfied ext (item_row item first)
-  met-item item items first below after extends =
-      ap (int_le item.degree)
-      (omega (
+  -- of a roster's extension all slacks of an item count, and the item lacks what it lacks on the roster
+  pub slacks-counted : (roster : RosterTables) (item : Item ℕ) (first : ℕ) → unit_number week < first →
+      first + item.slacks ≤ (model_of week).variables + 1 →
+      value_of (counts_for week (extended roster)) (times (pos 1) (slack_variables item first)) ≡ pos item.slacks
+  slacks-counted roster item first after in_model =
+      value_of-agree (counts_for week (extended roster)) (λ v. true) (λ v. (unit_number week < v) × (v ≤ (model_of week).variables)) _
+      (λ v inside. rw (lt-ltb (unit_number week) v inside.0, le-leb v (model_of week).variables inside.1) refl)
+      (on-times _ (pos 1) (slack_variables item first)
+      (range-within _ first item.slacks (λ v from to. (omega arith, omega arith)))) ∙
+      value_of-all first item.slacks
+
+  pub shortage-extended : (roster : RosterTables) (item : Item ℕ) → Before week (extended roster) item.terms →
+      shortage (extension_of week (set_of roster)) item ≡ shortage (assignment_of week (set_of roster)) item
+  shortage-extended roster item before =
+      ap (λ z. positive_part (item.degree -ℤ z))
+      (value_of-agree (extension_of week (set_of roster)) (assignment_of week (set_of roster)) (λ v. v < unit_number week + 1) item.terms
+      (extension-below week (set_of roster)) before)
+
+  -- as many of an item's slacks are true as the judge counts
+  slacks-paid : (given : Subject) (item : Item ℕ) (items : List (Item ℕ)) (first : ℕ) (others : ℤ) →
+      Before week given item.terms → unit_number week < first → first + item.slacks ≤ (model_of week).variables + 1 →
+      Follows given first (item ∷ items) →
+      true_slacks given (record {
+        others = others;
+        slacks = value_of (counts_for week given) (times (pos 1) (slack_variables item first));
+      }) (shortage (assignment_in week given) item) ≡ count_by (assignment_in week given) (slack_variables item first)
+  slacks-paid (assigned bits) item items first others before after in_model follows =
+      ap positive_part (value_of-weight (truth_of bits) 1 (slack_variables item first)) ∙
+      (let once : 1 * count_by (truth_of bits) (slack_variables item first) ≡ count_by (truth_of bits) (slack_variables item first) = omega arith in once)
+  slacks-paid (extended roster) item items first others before after in_model follows =
+      let own : ℕ → Bool = assignment_of week (set_of roster) in
+      let ext : ℕ → Bool = extension_of week (set_of roster) in
+      (λ i. min (positive_part (slacks-counted roster item first after in_model i)) (shortage-extended roster item before i)) ∙
+      sym (count-front ext first item.slacks (min item.slacks (shortage own item)) (omega arith)
+      (λ o within. follows o ∙ needed-first own item items o within ∙ front-min o item.slacks (shortage own item) within))
+
+-- ---- the rows
+
+module _ (week : Week) (subject : Subject) where
+  abbrev A : ℕ → Bool
+  A = assignment week subject
+
+  pub record IsFit (item : Item ℕ) : Type 0 where
+    pub before : Before week subject item.terms
+    pub small : spread item.terms + item.slacks + positive_part item.degree < 2 ^ 62
+
+  abbrev paid_slacks : Item ℕ → ℕ → ℕ
+  paid_slacks item first = count_by A (slack_variables item first)
+
+  pub slacks-at_slacks : (item : Item ℕ) (first : ℕ) → unit_number week < first →
+      AtSlacks week subject (times (pos 1) (slack_variables item first))
+  slacks-at_slacks item first after =
+      on-times (λ v. unit_number week < v) (pos 1) (slack_variables item first)
+      (range-within (λ v. unit_number week < v) first item.slacks (λ v from to. omega arith))
+
+  pub item-spread : (item : Item ℕ) (first : ℕ) → IsFit item → spread (item_row item first).terms < 2 ^ 63
+  item-spread item first fit =
+      omega (
         arith,
-        ints,
-        others-item week all item first below after,
-        value_of-own item.terms below,
-        value_of-ext item.terms below,
-        used-item item first below after,
-        value_of-item_constraint ext item first,
-        count-needed item items first extends,
-      ))
+        sum_by-append (λ (term : Term ℕ). nat_abs term.0) item.terms (times (pos 1) (slack_variables item first)),
+        spread-slacks (slack_variables item first),
+        length-range first item.slacks,
+        fit.small,
+      )
+
+  -- what the row of an item lacks
+  pub item-lacks : (item : Item ℕ) (first : ℕ) → IsFit item → unit_number week < first →
+      lacking (sums_of week subject (item_row item first).terms) item.degree ≡ shortage A item
+  item-lacks item first fit after =
+      ap (λ z. positive_part (saturate_signed w64 (item.degree -ℤ z)))
+      (others-of week subject item.terms (times (pos 1) (slack_variables item first)) fit.before (slacks-at_slacks item first after)) ∙
+      positive-saturated (item.degree -ℤ value_of A item.terms) ∙
+      (let least : min (shortage A item) 9223372036854775807 ≡ shortage A item = omega (arith, fit.small, shortage-least A item) in least)
+
+  row-pays : (item : Item ℕ) (items : List (Item ℕ)) (first : ℕ) → IsFit item → unit_number week < first →
+      first + item.slacks ≤ (model_of week).variables + 1 → Follows week subject first (item ∷ items) →
+      slacks week subject (item_row item first) ≡ paid_slacks item first
+  row-pays item items first fit after in_model follows =
+      (λ i. true_slacks subject (record {
+        others = (sums_of week subject (item_row item first).terms).others;
+        slacks = slacks-of week subject item.terms (times (pos 1) (slack_variables item first)) fit.before (slacks-at_slacks item first after) i;
+      }) (item-lacks item first fit after i)) ∙
+      slacks-paid week subject item items first (sums_of week subject (item_row item first).terms).others fit.before after in_model follows
+
+  -- what the item is charged, if it is one of the rule
+  abbrev pub charge_of : Rule → Item ℕ → ℕ
+  charge_of rule item = if is_same item.rule rule then item.weight * shortage A item else 0
+
+  -- the items' rows are judged; their true slacks are paid, and their shortages charged
+  pub record AreCharged (first : ℕ) (items : List (Item ℕ)) : Type 0 where
+    pub judged : AllByRecursion (IsJudged week subject) (item_rows first items)
+    pub paid : value_of A (slack_weights first items) ≡ pos (sum_by (payment week subject) (item_rows first items))
+    pub charged : (rule : Rule) → sum_by (charge week subject rule) (item_rows first items) ≡ sum_by (charge_of rule) items
+
+  pub rows-items : (first : ℕ) (items : List (Item ℕ)) → AllByRecursion IsFit items → unit_number week < first →
+      first + slack_count items ≤ (model_of week).variables + 1 → Follows week subject first items → AreCharged first items
+  rows-items first [] all after in_model follows = record { judged = tt; paid = refl; charged = λ rule. refl }
+  rows-items first (item ∷ items) all after in_model follows =
+      let row : LinearRow ℕ = item_row item first in
+      let rows : List (LinearRow ℕ) = item_rows (first + item.slacks) items in
+      let more : slack_count (item ∷ items) ≡ item.slacks + slack_count items = sum_by-cons (λ (item : Item ℕ). item.slacks) item items in
+      let within : first + item.slacks ≤ (model_of week).variables + 1 = omega (arith, more, in_model) in
+      let lacks_is : lacks week subject row ≡ shortage A item = item-lacks item first all.0 after in
+      let pays : slacks week subject row ≡ paid_slacks item first = row-pays item items first all.0 after within follows in
+      let rest : AreCharged (first + item.slacks) items =
+      rows-items (first + item.slacks) items all.1 (omega (arith, after)) (omega (arith, more, in_model))
+      (follows-after week subject item items first follows) in record {
+        judged = (
+          record {
+            constraint = refl;
+            small = item-spread item first all.0;
+            met =
+                (λ i. nat_le (lacks_is i) (pays i)) ∙
+                covers item.degree (value_of A item.terms) (paid_slacks item first) ∙
+                ap (int_le item.degree) (sym (value_of-item_constraint A item first));
+          },
+          rest.judged,
+        );
+        paid = omega (
+          arith,
+          ints,
+          value_of-append A (times (pos item.weight) (slack_variables item first)) (slack_weights (first + item.slacks) items),
+          value_of-weight A item.weight (slack_variables item first),
+          ap (λ n. item.weight * n) pays,
+          sum_by-cons (payment week subject) row rows,
+          rest.paid,
+        );
+        charged = λ rule. omega (
+          arith,
+          sum_by-cons (charge week subject rule) row rows,
+          sum_by-cons (charge_of rule) item items,
+          ap (λ n. if is_same item.rule rule then item.weight * n else 0) lacks_is,
+          rest.charged rule,
+        );
+      }

@@ -1,14 +1,7 @@
 -- The least objective is the least penalty.
-use Rattle.std.proofs.Common.{◌↔◌, ℕ, ◌≤◌, Bool, arith}
-use Rattle.std.specs.Prelude.{pos, ◌≤ℤ◌}
-use Rattle.std.proofs.lemmas.Int.{ints}
-use Rattle.rota_core.specs.HardRules.{KeepsHardRules}
-use Rattle.rota_core.specs.Roster.{Roster}
-use Rattle.rota_core.specs.Week.{Week}
+use Rattle.rota_items.proofs.LogicWords.{◌↔◌, ℕ, ◌≤◌, Bool, arith, pos, ◌≤ℤ◌, ints}
+use Rattle.rota_items.proofs.ModelWords.{KeepsHardRules, Roster, Week, SatisfiesModel, objective_value, penalty, roster_of, extension_of, model_of}
 use Rattle.rota_items.proofs.Extension.{extension-satisfies, extension-objective, satisfying-keeps, satisfying-objective}
-use Rattle.rota_items.specs.Linear.{SatisfiesModel, objective_value}
-use Rattle.rota_items.specs.Penalty.{penalty}
-use Rattle.rota_items.specs.WeekModel.{roster_of, extension_of, model_of}
 
 pub least : (week : Week) (n : ℕ) →
     ((assignment : ℕ → Bool) → SatisfiesModel assignment (model_of week) → pos n ≤ℤ objective_value assignment (model_of week)) ↔

@@ -1,5 +1,5 @@
 -- Sums and tests over lists.
-use Rattle.std.proofs.Common.{◌≡◌, ℕ, zero, suc, ◌+◌, ◌*◌, Bool, ◌&&◌, true, false, cond, List, [], ◌∷◌, ◌++◌, map, refl, sym, ap, ◌∙◌, arith, zero-add}
+use Rattle.std.proofs.Common.{◌≡◌, ℕ, zero, suc, ◌+◌, ◌*◌, ◌≤◌, Bool, ◌&&◌, true, false, cond, List, [], ◌∷◌, ◌++◌, map, refl, sym, ap, ◌∙◌, arith, zero-add}
 use Rattle.std.specs.List.{sum_by, list_all, AllByRecursion, range_with_len}
 use Rattle.std.proofs.lemmas.List.Sums.{sum_by-cons, sum_by-append}
 use Rattle.rota_core.specs.Lists.{each_below, only_if}
@@ -10,18 +10,6 @@ sum_by-map f g [] = refl
 sum_by-map f g (x ∷ xs) =
     sum_by-cons f (g x) (map g xs) ∙ ap (λ n. f (g x) + n) (sum_by-map f g xs) ∙
     sym (sum_by-cons (λ y. f (g y)) x xs)
-
-pub sum_by-plus : {X : Type 0} (f g : X → ℕ) (xs : List X) →
-    sum_by (λ x. f x + g x) xs ≡ sum_by f xs + sum_by g xs
-sum_by-plus f g [] = refl
-sum_by-plus f g (x ∷ xs) =
-    omega (
-      arith,
-      sum_by-cons (λ y. f y + g y) x xs,
-      sum_by-cons f x xs,
-      sum_by-cons g x xs,
-      sum_by-plus f g xs,
-    )
 
 pub sum_by-times : {X : Type 0} (w : ℕ) (f : X → ℕ) (xs : List X) →
     sum_by (λ x. w * f x) xs ≡ w * sum_by f xs
@@ -40,6 +28,16 @@ pub sum_by-same : {X : Type 0} (f g : X → ℕ) (xs : List X) →
 sum_by-same f g [] same = refl
 sum_by-same f g (x ∷ xs) same =
     omega (arith, sum_by-cons f x xs, sum_by-cons g x xs, same.0, sum_by-same f g xs same.1)
+
+pub sum_by-each-le : {X : Type 0} (f g : X → ℕ) → ((x : X) → f x ≤ g x) → (xs : List X) → sum_by f xs ≤ sum_by g xs
+sum_by-each-le f g each [] = omega arith
+sum_by-each-le f g each (x ∷ xs) =
+    omega (arith, sum_by-cons f x xs, sum_by-cons g x xs, each x, sum_by-each-le f g each xs)
+
+pub sum_by-each-same : {X : Type 0} (f g : X → ℕ) → ((x : X) → f x ≡ g x) → (xs : List X) → sum_by f xs ≡ sum_by g xs
+sum_by-each-same f g each [] = refl
+sum_by-each-same f g each (x ∷ xs) =
+    omega (arith, sum_by-cons f x xs, sum_by-cons g x xs, each x, sum_by-each-same f g each xs)
 
 pub list_all-map : {X Y : Type 0} (p : Y → Bool) (g : X → Y) (xs : List X) →
     list_all p (map g xs) ≡ list_all (λ x. p (g x)) xs

@@ -1,13 +1,6 @@
 -- The constraints of the model in their two parts: those of the hard rules, and those of the items.
-use Rattle.std.proofs.Common.{◌≡◌, List, ◌++◌, map}
-use Rattle.std.proofs.lemmas.List.{map-append}
-use Rattle.rota_core.specs.Week.{Week}
-use Rattle.rota_core.specs.declared.values.Cell.{Cell}
-use Rattle.rota_items.specs.Cells.{first_slack}
-use Rattle.rota_items.specs.Linear.{Constraint}
-use Rattle.rota_items.specs.LinearRow.{LinearRow, linear_constraint}
-use Rattle.rota_items.specs.Slacks.{item_rows, item_constraints}
-use Rattle.rota_items.specs.WeekModel.{numbered_row, hard_rows, hard_constraints, numbered_items, model_of}
+use Rattle.rota_items.proofs.LogicWords.{◌≡◌, List, ◌++◌, map, map-append}
+use Rattle.rota_items.proofs.ModelWords.{Week, Cell, first_slack, Constraint, LinearRow, linear_constraint, item_rows, item_constraints, numbered_row, hard_rows, hard_constraints, numbered_items, model_of}
 
 abbrev pub hard_constraint : Week → LinearRow Cell → Constraint
 hard_constraint week row = linear_constraint (numbered_row week row)

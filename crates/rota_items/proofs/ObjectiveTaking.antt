@@ -1,5 +1,5 @@
 -- How a taker takes the objective, term by term.
-use Rattle.std.proofs.Common.{◌≡◌, ℕ, zero, suc, ◌+◌, ◌<◌, Bool, true, false, List, [], ◌∷◌, ◌++◌, map, length, Result, MatchResult, refl, sym, ap, ◌∙◌, arith}
+use Rattle.std.proofs.Common.{◌≡◌, ℕ, zero, suc, Bool, true, false, List, [], ◌∷◌, ◌++◌, map, length, Result, MatchResult, refl, sym, ap, ◌∙◌, arith}
 use Rattle.std.proofs.lemmas.Bool.{true≢false}
 use Rattle.std.specs.List.{fold}
 use Rattle.std.specs.Result.{is_err}
@@ -10,14 +10,15 @@ use Rattle.rota_core.specs.Week.{Week}
 use Rattle.rota_core.specs.declared.values.Cell.{Cell}
 use Rattle.rota_items.proofs.ItemEventLists.{term_events-append}
 use Rattle.rota_core.proofs.Loops.{only_if-holds, only_if-fails}
-use Rattle.rota_items.proofs.Taking.{terms_join, loop_none, loop_more, loop_all, loop_refused, Took-none, Refused-before, Refused-after, Takes-then, term_taken, term_refused}
+use Rattle.rota_items.proofs.Taking.{terms_join, Took-none, Refused-before, Refused-after, Takes-then, term_taken, term_refused}
 use Rattle.rota_items.specs.CellEvents.{cell_term_events}
-use Rattle.rota_items.specs.Cells.{cell_number, first_slack}
+use Rattle.rota_items.specs.Cells.{first_slack}
 use Rattle.rota_items.specs.Events.{Event, term, term_events, events}
 use Rattle.rota_items.specs.Linear.{Term}
 use Rattle.rota_items.specs.LinearRow.{LinearRow}
 use Rattle.rota_core.specs.Lists.{each_below, only_if}
-use Rattle.rota_items.specs.Objective.{request_terms, constant_terms, objective_rows}
+use Rattle.rota_items.specs.Objective.{constant_terms, objective_rows}
+use Rattle.rota_items.specs.SoftRules.{cell_terms}
 use Rattle.rota_items.specs.Slacks.{slack_weights}
 use Rattle.rota_items.specs.Takes.{Took, Refused, Takes}
 use Rattle.rota_items.specs.WeekModel.{numbered_terms, numbered_items, objective_terms}
@@ -64,25 +65,6 @@ pub is_some : (there : Bool) (terms : List (Term ℕ)) → there ≡ true → (t
 is_some there terms some tells none = true≢false (sym some ∙ tells none)
 
 module _ {S F : Type 0} (T : Ghosts S F) where
-  -- ---- a loop over terms at cells
-
-  module _ (week : Week) where
-    pub cell_terms_none : (f : ℕ → List (Term Cell)) (s : S) → Took T (cell_term_events week (each_below 0 f)) s s
-    cell_terms_none = loop_none T (terms_join week)
-
-    pub cell_terms_more : (i : ℕ) (f : ℕ → List (Term Cell)) (s t u : S) → Took T (cell_term_events week (each_below i f)) s t →
-        Took T (cell_term_events week (f i)) t u → Took T (cell_term_events week (each_below (i + 1) f)) s u
-    cell_terms_more = loop_more T (terms_join week)
-
-    pub cell_terms_all : (i n : ℕ) (f : ℕ → List (Term Cell)) (s t : S) → i ≡ n →
-        Took T (cell_term_events week (each_below i f)) s t → Took T (cell_term_events week (each_below n f)) s t
-    cell_terms_all = loop_all T (terms_join week)
-
-    pub cell_terms_refused : (i n : ℕ) (f : ℕ → List (Term Cell)) (s t u : S) → i < n →
-        Took T (cell_term_events week (each_below i f)) s t → Refused T (cell_term_events week (f i)) t u →
-        Refused T (cell_term_events week (each_below n f)) s u
-    cell_terms_refused = loop_refused T (terms_join week)
-
   -- ---- one term, where a test holds
 
   pub term_takes_where : (test : Bool) (coefficient told : ℤ) (variable at : ℕ) (s t : S) (r : Result (Unit {0}) F) → test ≡ true →
@@ -98,20 +80,6 @@ module _ {S F : Type 0} (T : Ghosts S F) where
   term_nowhere test at_variable s fails = rw (only_if-fails test at_variable fails) (Took-none T s)
 
   module _ (week : Week) where
-    pub cell_term_took_where : (test : Bool) (coefficient told : ℤ) (cell : Cell) (variable : ℕ) (s t : S) → test ≡ true →
-        told ≡ coefficient → variable ≡ cell_number week cell → T.value t ≡ T.step (T.value s) (term told variable) →
-        Took T (cell_term_events week (only_if test (coefficient, cell))) s t
-    unfolding cell_term_events
-    cell_term_took_where test coefficient told cell variable s t holds same at_cell taken =
-        rw (only_if-holds {A = Term Cell} test (coefficient, cell) holds, ← same, ← at_cell) (term_taken T told variable s t taken)
-
-    pub cell_term_refused_where : (test : Bool) (coefficient told : ℤ) (cell : Cell) (variable : ℕ) (s t : S) → test ≡ true →
-        told ≡ coefficient → variable ≡ cell_number week cell → T.left (T.value s) (term told variable) t →
-        Refused T (cell_term_events week (only_if test (coefficient, cell))) s t
-    unfolding cell_term_events
-    cell_term_refused_where test coefficient told cell variable s t holds same at_cell refused =
-        rw (only_if-holds {A = Term Cell} test (coefficient, cell) holds, ← same, ← at_cell) (term_refused T told variable s t refused)
-
     pub cell_terms_nowhere : (test : Bool) (n : ℕ) (f : ℕ → Term Cell) (s : S) → test ≡ false →
         Took T (cell_term_events week (each_below n (λ k. only_if test (f k)))) s s
     cell_terms_nowhere test n f s fails = rw (each_below-nowhere test n f fails, (terms_join week).none) (Took-none T s)
@@ -120,24 +88,24 @@ module _ {S F : Type 0} (T : Ghosts S F) where
 
   module _ (week : Week) where
     abbrev requests : List (Term ℕ)
-    requests = numbered_terms week (request_terms week)
+    requests = numbered_terms week (cell_terms week)
 
     abbrev weights : List (Term ℕ)
     weights = slack_weights (first_slack week) (numbered_items week)
 
-    pub requests_stop : (s t : S) → Refused T (cell_term_events week (request_terms week)) s t →
+    pub requests_stop : (s t : S) → Refused T (cell_term_events week (cell_terms week)) s t →
         Refused T (term_events (objective_terms week)) s t
     unfolding cell_term_events
     requests_stop s t p = rw (term_events-append requests (constant_terms week ++ weights)) (Refused-before T _ _ s t p)
 
-    pub constant_stops : (s t u : S) → Took T (cell_term_events week (request_terms week)) s t →
+    pub constant_stops : (s t u : S) → Took T (cell_term_events week (cell_terms week)) s t →
         Refused T (term_events (constant_terms week)) t u → Refused T (term_events (objective_terms week)) s u
     unfolding cell_term_events
     constant_stops s t u p q =
         rw (term_events-append requests (constant_terms week ++ weights), term_events-append (constant_terms week) weights)
         (Refused-after T _ _ s t u p (Refused-before T _ _ t u q))
 
-    pub weights_then : {R : Type 0} (s t u v : S) (r : Result R F) → Took T (cell_term_events week (request_terms week)) s t →
+    pub weights_then : {R : Type 0} (s t u v : S) (r : Result R F) → Took T (cell_term_events week (cell_terms week)) s t →
         Took T (term_events (constant_terms week)) t u → Takes T (term_events weights) u v r →
         Takes T (term_events (objective_terms week)) s v r
     unfolding cell_term_events

@@ -1,13 +1,7 @@
 -- The shortage of a pattern's item is 1 where the days are as the pattern says, and else 0.
-use Rattle.std.proofs.Common.{◌≡◌, ℕ, ◌+◌, ◌-◌, ◌*◌, ◌≤◌, Bool, ◌&&◌, ◌||◌, not, cond, true, false, ◌⊎◌, inl, inr, List, [], ◌∷◌, ◌++◌, refl, ap, ◌∙◌, arith}
-use Rattle.std.specs.Prelude.{ℤ, pos, negsuc, ◌+ℤ◌, ◌-ℤ◌}
-use Rattle.std.specs.List.{list_any, sum_by, count_by, flat_map, AllByRecursion}
-use Rattle.std.proofs.lemmas.List.Sums.{sum_by-cons}
-use Rattle.std.proofs.lemmas.Int.{ints}
-use Rattle.rota_core.specs.declared.rule.Rule.{Rule}
+use Rattle.rota_items.proofs.LogicWords.{◌≡◌, ℕ, ◌+◌, ◌-◌, ◌*◌, ◌≤◌, Bool, ◌&&◌, ◌||◌, not, cond, true, false, ◌⊎◌, inl, inr, List, [], ◌∷◌, ◌++◌, refl, ap, ◌∙◌, arith, ℤ, pos, negsuc, ◌+ℤ◌, ◌-ℤ◌, list_any, sum_by, count_by, flat_map, AllByRecursion, sum_by-cons, ints}
+use Rattle.rota_items.proofs.ModelWords.{Rule, positive_part, shortage, times, Term, value_of}
 use Rattle.rota_items.proofs.DayLaw.{agrees, matches_day, matches, units_of}
-use Rattle.rota_items.specs.Items.{positive_part, shortage}
-use Rattle.rota_items.specs.Linear.{times, Term, value_of}
 use Rattle.rota_items.specs.RunItems.{Property, Present, Absent, variables_on, has_property, is_plain, day_terms, pattern_item}
 use Rattle.rota_items.specs.RunPatterns.{PatternDay, Pattern}
 

@@ -1,147 +1,120 @@
--- How large the costs of the rules are.
-use Rattle.std.proofs.Common.{ℕ, zero, suc, ◌+◌, ◌-◌, ◌*◌, ◌^◌, ◌<◌, ◌≤◌, Bool, ◌&&◌, ◌||◌, true, false, cond, arith}
-use Rattle.std.proofs.lemmas.List.Sums.{count_by-le-length, sum_by-le}
-use Rattle.std.proofs.lemmas.List.Elements.{All-from_recursion}
+-- How large penalties, the constant and the objective are.
+use Rattle.rota_items.proofs.LogicWords.{◌*◌, ◌^◌, ◌<◌, ◌≤◌, length, arith, ◌≡◌, ℕ, zero, suc, ◌+◌, Bool, List, [], ◌∷◌, refl, ap, All-from_recursion, sum_by-le, sum_by-cons, count_by-le-length, pos, ◌≤ℤ◌, sum_by, count_by, range_with_len, ints}
+use Rattle.rota_items.proofs.ModelWords.{Roster, soft_rules, Week, Rule, Cell, Item, shortage, weighted_shortages, numbered, IsWithinLimits, constant, constant_of_rule, items_of_rule, penalty, rule_cost, cell_terms, soft_items, cell_number, unit_number, first_slack, value_of, times, slack_variables, slack_weights, numbered_terms, numbered_items, objective_terms, roster_of}
 use Rattle.std.proofs.lemmas.Nat.{mul-le}
-use Rattle.rota_core.specs.Below.{sum_below}
-use Rattle.rota_core.specs.HardRules.{works, is_off, is_on, nurses_at}
-use Rattle.rota_core.specs.Roster.{Roster, cell}
-use Rattle.rota_core.specs.Week.{Week}
-use Rattle.rota_core.specs.declared.values.Span.{Span}
-use Rattle.rota_items.proofs.CellCounts.{cond-le}
-use Rattle.rota_items.proofs.WeekDays.{on-week}
-use Rattle.rota_items.specs.Limits.{IsWithinLimits}
-use Rattle.rota_items.specs.Penalty.{optimum_cost, consecutive_assignment_cost, consecutive_day_off_cost, request_cost, complete_weekend_cost, assignment_cost, worked_weekend_cost, penalty, shift_run_cost, work_run_cost, off_run_cost, assignments_of, outside_total, worked_weekend, exactly_one}
-use Rattle.rota_items.specs.Runs.{week_days, is_over, missing_on, ends_run, run_length_before, run_over, run_under, run_cost}
+use Rattle.rota_items.proofs.ListSums.{sum_by-each-le, sum_by-map}
+use Rattle.rota_items.proofs.SlackBound.{variables-below, items-few}
+use Rattle.rota_items.proofs.SmallSums.{shortage-least}
+use Rattle.rota_items.proofs.SoftRules.EachRule.{of_sound, sound-rule, cell_terms-are, each-item}
+use Rattle.rota_items.proofs.SoftRules.Sound.{IsItemSound, most_constant, most_items}
+use Rattle.rota_items.proofs.SoundTerms.{spread-sound}
+use Rattle.std.proofs.Math.Nat.{mul-le-mul_left}
+use Rattle.rota_items.proofs.Extension.{value_of-objective}
+use Rattle.rota_items.proofs.ItemLaw.{value_of-weight, value_of-numbered}
+use Rattle.rota_items.proofs.PatternItems.{value_of-append}
+use Rattle.rota_items.proofs.SoftRules.ShiftOffRequests.{request_cost-le, value_of-request_terms}
+use Rattle.rota_items.proofs.SumsBelow.{where_in}
 
--- a bound for the terms below n, and one for all
-pub sum_below-within : (n m : ℕ) (f : ℕ → ℕ) → ((i : ℕ) → i < n → f i ≤ m) → sum_below n f ≤ n * m
-unfolding sum_below
-sum_below-within zero m f small = omega arith
-sum_below-within (suc n) m f small =
-    omega (arith, sum_below-within n m f (λ i below. small i (omega arith)), small n (omega arith))
+module _ (week : Week) where
+  pub penalty-below : (roster : Roster) → IsWithinLimits week → penalty week roster < 2 ^ 55
+  penalty-below roster limits =
+      omega (
+        arith,
+        sum_by-each-le (rule_cost week roster) (λ _. 200000000000) (λ rule. (sound-rule week rule).cost_most limits roster)
+            soft_rules,
+      )
 
-sum_below-each : (n m : ℕ) (f : ℕ → ℕ) → ((i : ℕ) → f i ≤ m) → sum_below n f ≤ n * m
-unfolding sum_below
-sum_below-each zero m f small = omega arith
-sum_below-each (suc n) m f small = omega (arith, sum_below-each n m f small, small n)
+  pub constant-few : IsWithinLimits week → constant week ≤ 700000000
+  constant-few limits =
+      omega (
+        arith,
+        sum_by-each-le (constant_of_rule week) most_constant (λ rule. (sound-rule week rule).constant_most limits) soft_rules,
+      )
 
-pub sum_below-at_most : (n most m : ℕ) (f : ℕ → ℕ) → n ≤ most → ((i : ℕ) → f i ≤ m) → sum_below n f ≤ most * m
-sum_below-at_most n most m f few small =
-    omega (arith, sum_below-each n m f small, mul-le n m most m few (omega arith))
+  -- what an item is charged on any roster
+  charge-few : (rule : Rule) (item : Item Cell) (roster : Roster) → IsWithinLimits week → IsItemSound week rule item →
+      item.weight * shortage roster item ≤ 300000 * 33564431
+  charge-few rule item roster limits sound =
+      mul-le item.weight (shortage roster item) 300000 33564431 (sound.small limits).weight
+      (omega (
+        arith,
+        shortage-least roster item,
+        (sound.small limits).degree,
+        spread-sound week item.terms sound.terms,
+        variables-below week limits,
+      ))
 
-missing-le : (b : Bool) (minimum length : ℕ) → cond b (minimum - length) 0 ≤ minimum
-missing-le true minimum length = omega arith
-missing-le false minimum length = omega arith
+  pub shortages-few : (roster : Roster) (rule : Rule) → IsWithinLimits week →
+      weighted_shortages roster (items_of_rule week rule) ≤ most_items rule * (300000 * 33564431)
+  shortages-few roster rule limits =
+      omega (
+        arith,
+        sum_by-le (λ (item : Item Cell). item.weight * shortage roster item) (300000 * 33564431) (items_of_rule week rule)
+            (All-from_recursion _ (items_of_rule week rule)
+            (of_sound week (λ item. item.weight * shortage roster item ≤ 300000 * 33564431) rule
+            (λ item sound. charge-few rule item roster limits sound) (items_of_rule week rule) (sound-rule week rule).items)),
+        mul-le (length (items_of_rule week rule)) (300000 * 33564431) (most_items rule) (300000 * 33564431)
+            ((sound-rule week rule).few limits) (omega arith),
+      )
 
-run_cost-le : (has : ℕ → Bool) (history : ℕ) (limits : Span) → limits.min ≤ 9999 → run_cost has history limits ≤ 70000
-unfolding run_over run_under
-run_cost-le has history limits small =
+-- ---- the objective under any assignment
+
+-- what all slacks of an item weigh
+abbrev all_slacks : {X : Type 0} → Item X → ℕ
+all_slacks item = item.weight * item.slacks
+
+pub length-range : (first n : ℕ) → length (range_with_len first n) ≡ n
+length-range first zero = refl
+length-range first (suc n) = ap suc (length-range (first + 1) n)
+
+value_of-slack_weights : (assignment : ℕ → Bool) (first : ℕ) (some : List (Item ℕ)) →
+    value_of assignment (slack_weights first some) ≤ℤ pos (sum_by all_slacks some)
+value_of-slack_weights assignment first [] = omega (arith, ints)
+value_of-slack_weights assignment first (x ∷ xs) =
+    let few : count_by assignment (slack_variables x first) ≤ x.slacks =
+    omega (arith, count_by-le-length assignment (slack_variables x first), length-range first x.slacks) in
     omega (
       arith,
-      count_by-le-length (is_over has history limits.max) week_days,
-      sum_by-le (missing_on has history limits.min) 9999 week_days
-          (All-from_recursion (λ d. missing_on has history limits.min d ≤ 9999) week_days
-          (on-week (λ d. missing_on has history limits.min d ≤ 9999)
-          (λ d _. omega (arith, missing-le (ends_run has history d) limits.min (run_length_before has history d))))),
+      ints,
+      value_of-append assignment (times (pos x.weight) (slack_variables x first)) (slack_weights (first + x.slacks) xs),
+      value_of-weight assignment x.weight (slack_variables x first),
+      mul-le-mul_left x.weight few,
+      sum_by-cons {X = Item ℕ} all_slacks x xs,
+      value_of-slack_weights assignment (first + x.slacks) xs,
     )
 
-s1-le : (w : Week) (roster : Roster) → IsWithinLimits w → optimum_cost w roster ≤ 540000000
-s1-le w roster limits =
-    omega (
-      arith,
-      sum_below-at_most 7 7 2559744 _ (omega arith) (λ d.
-          sum_below-at_most w.shifts 16 159984 _ limits.shifts (λ s.
-          sum_below-at_most w.skills 16 9999 (λ k. (w.demand d s k).optimal - nurses_at w roster d s k) limits.skills
-          (λ k. omega (arith, limits.optimal d s k)))),
-    )
+module _ (week : Week) (assignment : ℕ → Bool) (limits : IsWithinLimits week) where
+  slacks-small : sum_by all_slacks (soft_items week) ≤ sum_by most_items soft_rules * 300000
+  slacks-small =
+      omega (
+        arith,
+        sum_by-le (all_slacks {X = Cell}) 300000 (soft_items week)
+            (All-from_recursion (λ (item : Item Cell). all_slacks item ≤ 300000) (soft_items week)
+            (each-item week (λ item. all_slacks item ≤ 300000) (λ _ _ _ sound. (sound.small limits).all_slacks))),
+        items-few week limits,
+      )
 
-s2-le : (w : Week) (roster : Roster) → IsWithinLimits w → consecutive_assignment_cost w roster ≤ 20000000000
-s2-le w roster limits =
-    omega (
-      arith,
-      sum_below-at_most w.nurses 1000 1120000 (λ n. sum_below w.shifts (shift_run_cost w roster n)) limits.nurses (λ n.
-          sum_below-at_most w.shifts 16 70000 (shift_run_cost w roster n) limits.shifts (λ s.
-          run_cost-le (is_on w roster n s) _ (w.limits s) (limits.limits s))),
-      sum_below-at_most w.nurses 1000 70000 (work_run_cost w roster) limits.nurses (λ n.
-          run_cost-le (works w roster n) _ (w.contract n).work (limits.work_limits n)),
-    )
+  cell_terms-small : value_of assignment (numbered_terms week (cell_terms week)) ≤ℤ pos 200000000000
+  cell_terms-small =
+      omega (
+        arith,
+        ints,
+        value_of-numbered (cell_number week) assignment (cell_terms week),
+        ap (value_of (roster_of week assignment)) (cell_terms-are week),
+        value_of-request_terms week (roster_of week assignment),
+        request_cost-le week (roster_of week assignment) limits,
+      )
 
-s3-le : (w : Week) (roster : Roster) → IsWithinLimits w → consecutive_day_off_cost w roster ≤ 2100000000
-s3-le w roster limits =
-    omega (
-      arith,
-      sum_below-at_most w.nurses 1000 70000 (off_run_cost w roster) limits.nurses (λ n.
-          run_cost-le (is_off w roster n) _ (w.contract n).off (limits.off_limits n)),
-    )
-
-pub where_in : (b : Bool) (n : ℕ) → cond b n 0 ≤ n
-where_in true n = omega arith
-where_in false n = omega arith
-
-pub s4-le : (w : Week) (roster : Roster) → IsWithinLimits w → request_cost w roster ≤ 200000000000
-s4-le w roster limits =
-    omega (
-      arith,
-      sum_below-at_most w.nurses 1000 17918208 _ limits.nurses (λ n.
-          sum_below-at_most 7 7 2559744 _ (omega arith) (λ d.
-          sum_below-at_most w.shifts 16 159984 _ limits.shifts (λ s.
-          sum_below-at_most w.skills 16 9999 (λ k. cond (roster (cell n d s k)) (w.requests n d s) 0) limits.skills
-          (λ k. omega (arith, limits.requests n d s, where_in (roster (cell n d s k)) (w.requests n d s)))))),
-    )
-
-s5-le : (w : Week) (roster : Roster) → IsWithinLimits w → complete_weekend_cost w roster ≤ 30000
-s5-le w roster limits =
-    omega (
-      arith,
-      sum_below-at_most w.nurses 1000 1
-          (λ n. cond ((w.contract n).complete && exactly_one (works w roster n 5) (works w roster n 6)) 1 0)
-          limits.nurses (λ n. cond-le _),
-    )
-
-assignments-few : (w : Week) (roster : Roster) → IsWithinLimits w → (n : ℕ) → assignments_of w roster n ≤ 1792
-assignments-few w roster limits n =
-    sum_below-at_most 7 7 256 _ (omega arith) (λ d.
-    sum_below-at_most w.shifts 16 16 _ limits.shifts (λ s.
-    sum_below-at_most w.skills 16 1 (λ k. cond (roster (cell n d s k)) 1 0) limits.skills (λ k. cond-le _)))
-
-pub where_last : (b : Bool) (n most : ℕ) → n ≤ most → cond b n 0 ≤ most
-where_last true n most small = small
-where_last false n most small = omega arith
-
-s6-le : (w : Week) (roster : Roster) → IsWithinLimits w → assignment_cost w roster ≤ 500000000
-s6-le w roster limits =
-    where_last w.is_last
-    (20 * sum_below w.nurses (λ n. outside_total (w.contract n).total ((w.past n).assignments + assignments_of w roster n)))
-    500000000
-    (omega (
-      arith,
-      sum_below-at_most w.nurses 1000 22000
-          (λ n. outside_total (w.contract n).total ((w.past n).assignments + assignments_of w roster n)) limits.nurses
-          (λ n. omega (arith, limits.totals n, limits.assignments n, assignments-few w roster limits n)),
-    ))
-
-s7-le : (w : Week) (roster : Roster) → IsWithinLimits w → worked_weekend_cost w roster ≤ 300000000
-s7-le w roster limits =
-    where_last w.is_last
-    (30 * sum_below w.nurses (λ n. (w.past n).weekends + worked_weekend w roster n - (w.contract n).weekends))
-    300000000
-    (omega (
-      arith,
-      sum_below-at_most w.nurses 1000 10000
-          (λ n. (w.past n).weekends + worked_weekend w roster n - (w.contract n).weekends) limits.nurses
-          (λ n. omega (arith, limits.weekends n, cond-le (works w roster n 5 || works w roster n 6))),
-    ))
-
-pub penalty-below : (w : Week) (roster : Roster) → IsWithinLimits w → penalty w roster < 2 ^ 55
-penalty-below w roster limits =
-    omega (
-      arith,
-      s1-le w roster limits,
-      s2-le w roster limits,
-      s3-le w roster limits,
-      s4-le w roster limits,
-      s5-le w roster limits,
-      s6-le w roster limits,
-      s7-le w roster limits,
-    )
+  pub objective-below : value_of assignment (objective_terms week) ≤ℤ pos 700000000000
+  objective-below =
+      omega (
+        arith,
+        ints,
+        value_of-objective week assignment,
+        cell_terms-small,
+        where_in (assignment (unit_number week)) (constant week),
+        constant-few week limits,
+        value_of-slack_weights assignment (first_slack week) (numbered_items week),
+        sum_by-map all_slacks (numbered (cell_number week)) (soft_items week),
+        slacks-small,
+      )

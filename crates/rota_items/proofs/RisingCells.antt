@@ -1,22 +1,12 @@
 -- The cells of sums, and the terms of patterns, stand by rising number.
-use Rattle.std.proofs.Common.{◌≡◌, ℕ, suc, ◌+◌, ◌*◌, ◌<◌, ◌≤◌, List, [], ◌∷◌, ◌++◌, map, length, sym, subst, arith}
-use Rattle.std.specs.Prelude.{ℤ}
-use Rattle.std.specs.List.{AllByRecursion, range_with_len, flat_map}
+use Rattle.rota_items.proofs.LogicWords.{◌≡◌, ℕ, suc, ◌+◌, ◌*◌, ◌<◌, ◌≤◌, List, [], ◌∷◌, map, length, sym, subst, arith, ℤ, range_with_len, flat_map}
+use Rattle.rota_items.proofs.ModelWords.{cell, Week, Cell, on_cells, work_cells, nurse_cells, demand_cells, skill_cells, cell_number, unit_number, Term, times, numbered_terms}
 use Rattle.std.proofs.lemmas.Nat.{mul-add-lt}
 use Rattle.std.proofs.Math.Nat.{mul-le-mul_right}
-use Rattle.std.proofs.lemmas.List.Elements.{recursion_from_All}
-use Rattle.rota_core.specs.Roster.{cell}
-use Rattle.rota_core.specs.Week.{Week}
-use Rattle.rota_core.specs.declared.values.Cell.{Cell}
-use Rattle.rota_items.proofs.PatternDays.{days-follow}
 use Rattle.rota_core.proofs.RisesWithin.{RisesWithin, weaken, widen, rises-append, rises-each}
-use Rattle.rota_items.specs.Cells.{on_cells, work_cells, nurse_cells, demand_cells, skill_cells, cell_number, unit_number}
-use Rattle.rota_items.specs.Items.{Item}
-use Rattle.rota_items.specs.Linear.{Term, times}
 use Rattle.rota_core.specs.Lists.{each_below}
-use Rattle.rota_items.specs.RunItems.{Property, variables_on, day_terms, Runs, run_items, pattern_items}
-use Rattle.rota_items.specs.RunPatterns.{PatternDay, Pattern, DaysFollow, windows, patterns}
-use Rattle.rota_items.specs.WeekModel.{numbered_terms}
+use Rattle.rota_items.specs.RunItems.{Property, variables_on, day_terms}
+use Rattle.rota_items.specs.RunPatterns.{PatternDay}
 
 module _ (week : Week) where
   abbrev variable : Cell → ℕ
@@ -143,23 +133,6 @@ module _ (week : Week) where
       within-block (day_start n first) (day_start n (first + length days)) (flat_map (day_terms property) days)
       (first_day-from n first) (last_day-le n (first + length days) n_in in_week)
       (rises-days n property keeps first days days_are)
-
-  abbrev pub ItemRises : Item Cell → Type 0
-  ItemRises item = within item.terms
-
-  pub rises-runs : (n : ℕ) (runs : Runs Cell) → n < week.nurses → KeepsToDays n runs.property →
-      AllByRecursion ItemRises (run_items runs)
-  rises-runs n runs n_in keeps =
-      each (windows runs.history runs.limits ++ patterns runs.history runs.limits)
-      (recursion_from_All DaysFollow (windows runs.history runs.limits ++ patterns runs.history runs.limits)
-      (days-follow runs.history runs.limits))
-    where
-      each : (all : List Pattern) → AllByRecursion DaysFollow all → AllByRecursion ItemRises (pattern_items runs all)
-      each [] follow = tt
-      each (p ∷ ps) follow = (
-        rises-pattern n runs.property n_in keeps (follow.0).first p.days (follow.0).days_are (follow.0).in_week,
-        each ps follow.1,
-      )
 
   pub on-keeps : (n s d : ℕ) → s < week.shifts →
       RisesWithin (cell_number week) (day_start n d) (day_start n (d + 1)) (on_cells week n s d)

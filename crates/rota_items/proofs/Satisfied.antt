@@ -1,44 +1,10 @@
 -- An assignment satisfies the numbered rows exactly where its roster keeps the rules.
-use Rattle.std.proofs.Common.{◌≡◌, ℕ, Bool, true, false, cond, List, [], ◌∷◌, ◌++◌, refl, sym, subst, arith}
-use Rattle.std.specs.Prelude.{pos, ◌+ℤ◌, ◌≤ℤ◌}
-use Rattle.std.specs.List.{AllByRecursion}
-use Rattle.std.proofs.lemmas.Int.{ints}
-use Rattle.rota_core.specs.HardRules.{KeepsHardRules}
-use Rattle.rota_core.specs.Roster.{Roster}
-use Rattle.rota_core.specs.Week.{Week}
-use Rattle.rota_core.specs.declared.values.Cell.{Cell}
-use Rattle.rota_items.proofs.HardRules.{AllHold, h1_rows-hold, h1_rows-mean, h2_rows-hold, h2_rows-mean, h3_rows-hold, h3_rows-mean, h4_rows-hold, h4_rows-mean, Holds}
+use Rattle.rota_items.proofs.LogicWords.{◌≡◌, ℕ, Bool, true, false, cond, List, [], ◌∷◌, refl, sym, subst, arith, pos, ◌+ℤ◌, ◌≤ℤ◌, AllByRecursion, ints}
+use Rattle.rota_items.proofs.ModelWords.{KeepsHardRules, Week, Cell, cell_number, unit_number, rule_rows, Satisfies, value_of, LinearRow, hard_constraints, roster_of}
+use Rattle.rota_items.proofs.HardRules.EachRule.{rule_rows-hold, rule_rows-mean}
+use Rattle.rota_items.proofs.HardRules.Sound.{AllHold}
 use Rattle.rota_items.proofs.ItemLaw.{value_of-numbered}
-use Rattle.rota_core.proofs.Loops.{AllByRecursion-back}
 use Rattle.rota_items.proofs.ModelParts.{hard_constraint, numbered_constraints}
-use Rattle.rota_items.proofs.OnRuleRows.{all-rule_rows}
-use Rattle.rota_items.specs.Cells.{cell_number, unit_number}
-use Rattle.rota_items.specs.HardRows.{h1_rows, h2_rows, h3_rows, h4_rows, rule_rows}
-use Rattle.rota_items.specs.Linear.{Satisfies, value_of}
-use Rattle.rota_items.specs.LinearRow.{LinearRow}
-use Rattle.rota_items.specs.WeekModel.{hard_constraints, roster_of}
-
--- ---- all rows
-
-pub rule_rows-hold : (week : Week) (roster : Roster) → KeepsHardRules week roster → AllHold roster (rule_rows week)
-rule_rows-hold week roster keeps =
-    all-rule_rows week (Holds roster) (h1_rows-hold week roster keeps.one_cell) (h2_rows-hold week roster keeps.minimum)
-    (h3_rows-hold week roster keeps.one_cell keeps.succession) (h4_rows-hold week roster keeps.skills)
-
-pub rule_rows-mean : (week : Week) (roster : Roster) → AllHold roster (rule_rows week) → KeepsHardRules week roster
-rule_rows-mean week roster all =
-    let first : AllHold roster (h1_rows week) × AllHold roster (h2_rows week ++ (h3_rows week ++ h4_rows week)) =
-    AllByRecursion-back (Holds roster) (h1_rows week) (h2_rows week ++ (h3_rows week ++ h4_rows week)) all in
-    let second : AllHold roster (h2_rows week) × AllHold roster (h3_rows week ++ h4_rows week) =
-    AllByRecursion-back (Holds roster) (h2_rows week) (h3_rows week ++ h4_rows week) first.1 in
-    let third : AllHold roster (h3_rows week) × AllHold roster (h4_rows week) =
-    AllByRecursion-back (Holds roster) (h3_rows week) (h4_rows week) second.1 in
-    record {
-      one_cell = h1_rows-mean week roster first.0;
-      minimum = h2_rows-mean week roster second.0;
-      succession = h3_rows-mean week roster third.0;
-      skills = h4_rows-mean week roster third.1;
-    }
 
 -- ---- over assignments
 

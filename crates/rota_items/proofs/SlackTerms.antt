@@ -18,7 +18,7 @@ use Rattle.rota_core.specs.Lists.{each_below}
 use Rattle.rota_items.specs.Slacks.{item_row}
 use Rattle.rota_items.specs.Takes.{Took, Refused, Takes}
 use Rattle.rota_items.specs.declared.part.Part.TheVariants.{Soft}
-use Rattle.rota_items.specs.declared.soft_item.Section.TheVariants.{Rows, Weights}
+use Rattle.rota_items.specs.declared.soft_item.ItemPart.TheVariants.{Row, SlackWeights}
 use Rattle.rota_items.specs.declared.takers.Taker.{Ghosts}
 
 -- one variable, so far from the first
@@ -61,11 +61,11 @@ module _ {S F : Type 0} (T : Ghosts S F) where
     row = item_row (numbered (cell_number week) item) first
 
     pub item_refused_at_start : (s t : S) → T.left (T.value s) (start_row (Soft item.rule item.weight)) t →
-        Refused T (item_events Rows week first (item ∷ [])) s t
+        Refused T (item_events Row week first (item ∷ [])) s t
     item_refused_at_start s t h = rw (item_events-row week first item) (refused_at_start T row s t h)
 
     pub item_refused_at_terms : (s t u : S) → T.value t ≡ T.step (T.value s) (start_row (Soft item.rule item.weight)) →
-        Refused T (cell_term_events week item.terms) t u → Refused T (item_events Rows week first (item ∷ [])) s u
+        Refused T (cell_term_events week item.terms) t u → Refused T (item_events Row week first (item ∷ [])) s u
     unfolding cell_term_events
     item_refused_at_terms s t u started refused =
         rw (item_events-row week first item)
@@ -73,7 +73,7 @@ module _ {S F : Type 0} (T : Ghosts S F) where
 
     pub item_refused_at_slacks : (s t u v : S) → T.value t ≡ T.step (T.value s) (start_row (Soft item.rule item.weight)) →
         Took T (cell_term_events week item.terms) t u → Refused T (term_events (times (pos 1) (range_with_len first item.slacks))) u v →
-        Refused T (item_events Rows week first (item ∷ [])) s v
+        Refused T (item_events Row week first (item ∷ [])) s v
     unfolding cell_term_events
     item_refused_at_slacks s t u v started taken refused =
         rw (item_events-row week first item)
@@ -82,7 +82,7 @@ module _ {S F : Type 0} (T : Ghosts S F) where
     pub item_closed : (s t u v w : S) (r : Result (Unit {0}) F) → T.value t ≡ T.step (T.value s) (start_row (Soft item.rule item.weight)) →
         Took T (cell_term_events week item.terms) t u → Took T (term_events (times (pos 1) (range_with_len first item.slacks))) u v →
         MatchResult r (λ _. T.value w ≡ T.step (T.value v) (close_row item.degree)) (λ _. T.left (T.value v) (close_row item.degree) w) →
-        Takes T (item_events Rows week first (item ∷ [])) s w r
+        Takes T (item_events Row week first (item ∷ [])) s w r
     unfolding cell_term_events
     item_closed s t u v w r started taken slacks closes =
         rw (item_events-row week first item)
@@ -90,5 +90,5 @@ module _ {S F : Type 0} (T : Ghosts S F) where
 
     pub weights_taken : {R : Type 0} (s t : S) (r : Result R F) →
         Takes T (term_events (times (pos item.weight) (range_with_len first item.slacks))) s t r →
-        Takes T (item_events Weights week first (item ∷ [])) s t r
+        Takes T (item_events SlackWeights week first (item ∷ [])) s t r
     weights_taken s t r taken = rw (item_events-weights week first item) taken

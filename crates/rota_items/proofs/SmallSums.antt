@@ -1,11 +1,9 @@
 -- Sums that do not reach the greatest number.
-use Rattle.std.proofs.Common.{◌≡◌, ℕ, suc, ◌+◌, ◌^◌, ◌<◌, ◌≤◌, Bool, true, false, List, [], ◌∷◌, ap, arith, w64}
-use Rattle.std.specs.Prelude.{ℤ, pos, negsuc, ◌+ℤ◌, ◌≤ℤ◌, neg_ℤ, nat_abs, if◌then◌else◌}
+use Rattle.rota_items.proofs.LogicWords.{◌≡◌, ℕ, suc, ◌+◌, ◌^◌, ◌<◌, ◌≤◌, Bool, true, false, List, [], ◌∷◌, ap, arith, w64, ℤ, pos, negsuc, ◌+ℤ◌, ◌-ℤ◌, ◌≤ℤ◌, nat_abs, if◌then◌else◌, sum_by, ints, sum_by-cons}
+use Rattle.rota_items.proofs.ModelWords.{Item, positive_part, shortage, Term, value_of}
+use Rattle.std.specs.Prelude.{neg_ℤ}
 use Rattle.std.specs.Int.{saturate_signed}
-use Rattle.std.specs.List.{sum_by}
-use Rattle.std.proofs.lemmas.Int.{ints}
-use Rattle.std.proofs.lemmas.List.Sums.{sum_by-cons}
-use Rattle.rota_items.specs.Linear.{Term, value_of}
+use Rattle.rota_items.proofs.ItemLaw.{positive_part-le}
 
 -- from -m to m
 pub record IsWithin (m : ℕ) (z : ℤ) : Type 0 where
@@ -48,3 +46,13 @@ within-value_of {X} assignment (t ∷ ts) =
     (omega (arith, sum_by-cons (λ (term : Term X). nat_abs term.0) t ts))
     (within-sum (nat_abs t.0) (spread ts) (if assignment t.1 then t.0 else pos 0) (value_of assignment ts)
     (within-chosen (assignment t.1) t.0) (within-value_of assignment ts))
+
+-- what is lacking is no more than the degree and the coefficients
+lacking-least : (d : ℤ) (m : ℕ) (z : ℤ) → neg_ℤ (pos m) ≤ℤ z → positive_part (d -ℤ z) ≤ positive_part d + m
+lacking-least (pos n) m z low = positive_part-le (pos n -ℤ z) (n + m) (omega (arith, ints, low))
+lacking-least (negsuc n) m z low = positive_part-le (negsuc n -ℤ z) (0 + m) (omega (arith, ints, low))
+
+pub shortage-least : {X : Type 0} (assignment : X → Bool) (item : Item X) →
+    shortage assignment item ≤ positive_part item.degree + spread item.terms
+shortage-least assignment item =
+    lacking-least item.degree (spread item.terms) (value_of assignment item.terms) (within-value_of assignment item.terms).low

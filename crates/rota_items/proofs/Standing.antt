@@ -1,30 +1,18 @@
 -- A variable stands in some constraint exactly where it is one of the model's.
-use Rattle.std.proofs.Common.{◌≡◌, ◌↔◌, ℕ, zero, suc, ◌+◌, ◌<◌, ◌≤◌, Bool, ◌||◌, true, false, ◌⊎◌, inl, inr, List, [], ◌∷◌, ◌++◌, map, refl, sym, ap, ◌∙◌, arith}
-use Rattle.std.specs.Prelude.{ℤ, pos, negsuc, ◌==◌}
-use Rattle.std.specs.List.{AllByRecursion, list_any, range_with_len}
-use Rattle.std.proofs.lemmas.Bool.{cases_Bool, eq-eqb, eqb-true, true≢false}
+use Rattle.rota_items.proofs.LogicWords.{◌≡◌, ◌↔◌, ℕ, zero, suc, ◌+◌, ◌<◌, ◌≤◌, Bool, ◌||◌, true, false, ◌⊎◌, inl, inr, List, [], ◌∷◌, ◌++◌, map, refl, sym, ap, ◌∙◌, arith, ℤ, pos, negsuc, ◌==◌, AllByRecursion, list_any, range_with_len, cases_Bool, eqb-true, true≢false, sum_by-cons}
+use Rattle.rota_items.proofs.ModelWords.{cell, InWeek, Week, Cell, on_cells, work_cells, cell_number, cell_of_number, unit_number, first_slack, rule_rows, Item, Term, Constraint, times, LinearRow, linear_constraint, item_constraint, item_constraints, slack_count, soft_items, numbered_row, numbered_terms, hard_constraints, numbered_items, model_of}
+use Rattle.std.proofs.lemmas.Bool.{eq-eqb}
 use Rattle.std.proofs.lemmas.List.Folds.{list_any-append}
-use Rattle.std.proofs.lemmas.List.Sums.{sum_by-cons}
 use Rattle.rota_core.proofs.NameLemmas.{list_any-map}
-use Rattle.rota_core.specs.Roster.{cell, InWeek}
-use Rattle.rota_core.specs.Week.{Week}
-use Rattle.rota_core.specs.declared.values.Cell.{Cell}
 use Rattle.rota_core.proofs.Loops.{last_or_before}
 use Rattle.rota_items.proofs.ModelParts.{hard_constraint, numbered_constraints, constraints-parts}
 use Rattle.rota_items.proofs.Numbers.{cell_of_number-in, cell_number-of}
 use Rattle.rota_core.proofs.RisesWithin.{RisesWithin}
 use Rattle.rota_items.proofs.RisingTerms.{RisesTo, variable_of, rises-to_last}
 use Rattle.rota_items.proofs.ItemEventLists.{slack_count-numbered}
-use Rattle.rota_items.specs.Cells.{on_cells, work_cells, cell_number, cell_of_number, unit_number, first_slack}
-use Rattle.rota_items.specs.HardRows.{h1_row, h1_rows, h1_rows_of, h2_rows, h3_rows, h4_rows, rule_rows}
-use Rattle.rota_items.specs.Items.{Item}
-use Rattle.rota_items.specs.Linear.{Term, Constraint, times}
-use Rattle.rota_items.specs.LinearRow.{LinearRow, linear_constraint}
+use Rattle.rota_items.specs.hard.OneCell.{h1_row, h1_rows, h1_rows_of}
 use Rattle.rota_core.specs.Lists.{each_below}
-use Rattle.rota_items.specs.Slacks.{item_constraint, item_constraints, slack_count}
-use Rattle.rota_items.specs.SoftItems.{soft_items}
 use Rattle.rota_items.specs.Standing.{stands_in, StandsInSome}
-use Rattle.rota_items.specs.WeekModel.{numbered_row, numbered_terms, hard_constraints, numbered_items, model_of}
 
 -- ---- one of a list
 
@@ -69,7 +57,7 @@ module _ (week : Week) (v : ℕ) where
   cell-stands c inside same =
       list_any-map (stands_in v) linear_constraint (map (numbered_row week) (rule_rows week)) ∙
       list_any-map (λ row. stands_in v (linear_constraint row)) (numbered_row week) (rule_rows week) ∙
-      any-left stands (h1_rows week) (h2_rows week ++ (h3_rows week ++ h4_rows week))
+      any-left stands (h1_rows week) _
       (any-each stands week.nurses (h1_rows_of week) c.nurse inside.nurse_in
       (any-each stands 7 (λ d. h1_row week c.nurse d ∷ []) c.day inside.day_in
       (any-left stands (h1_row week c.nurse c.day ∷ []) []

@@ -1,9 +1,9 @@
 -- Sums and tests over the numbers below a number.
-use Rattle.std.proofs.Common.{◌≡◌, ℕ, zero, suc, ◌+◌, ◌*◌, ◌<◌, ◌≤◌, Bool, ◌||◌, true, false, cond, ◌⊎◌, inl, inr, List, [], ◌∷◌, refl, ap, ◌∙◌, arith, zero-add, add-one}
-use Rattle.std.specs.Prelude.{if◌then◌else◌}
+use Rattle.std.proofs.Common.{◌≡◌, ℕ, zero, suc, ◌+◌, ◌*◌, ◌<◌, ◌≤◌, Bool, ◌||◌, true, false, cond, ◌⊎◌, inl, inr, List, [], ◌∷◌, refl, ap, ◌∙◌, arith, zero-add}
 use Rattle.std.specs.List.{sum_by, count_by, list_any}
 use Rattle.std.proofs.lemmas.List.Sums.{sum_by-append}
 use Rattle.std.proofs.lemmas.List.Folds.{list_any-append}
+use Rattle.std.proofs.lemmas.Nat.{mul-le}
 use Rattle.rota_core.specs.Below.{sum_below, count_below, any_below}
 use Rattle.rota_core.specs.Lists.{each_below}
 use Rattle.rota_core.proofs.Loops.{last_or_before}
@@ -11,10 +11,6 @@ use Rattle.rota_core.proofs.Loops.{last_or_before}
 pub sum_below-none : (f : ℕ → ℕ) → sum_below 0 f ≡ 0
 unfolding sum_below
 sum_below-none f = refl
-
-pub sum_below-more : (n : ℕ) (f : ℕ → ℕ) → sum_below (n + 1) f ≡ sum_below n f + f n
-unfolding sum_below
-sum_below-more n f = rw add-one refl
 
 pub sum_below-same : (n : ℕ) (f g : ℕ → ℕ) → ((i : ℕ) → i < n → f i ≡ g i) → sum_below n f ≡ sum_below n g
 unfolding sum_below
@@ -109,6 +105,22 @@ one-sum_below (suc n) f one i j i_below j_below some other =
           ]
     ]
 
+-- ---- how large
+
+pub sum_below-within : (n m : ℕ) (f : ℕ → ℕ) → ((i : ℕ) → i < n → f i ≤ m) → sum_below n f ≤ n * m
+unfolding sum_below
+sum_below-within zero m f small = omega arith
+sum_below-within (suc n) m f small =
+    omega (arith, sum_below-within n m f (λ i below. small i (omega arith)), small n (omega arith))
+
+pub sum_below-at_most : (n most m : ℕ) (f : ℕ → ℕ) → n ≤ most → ((i : ℕ) → f i ≤ m) → sum_below n f ≤ most * m
+sum_below-at_most n most m f few small =
+    omega (arith, sum_below-within n m f (λ i _. small i), mul-le n m most m few (omega arith))
+
+pub where_in : (b : Bool) (n : ℕ) → cond b n 0 ≤ n
+where_in true n = omega arith
+where_in false n = omega arith
+
 -- ---- lists made by loops
 
 pub sum_by-each : {X : Type 0} (f : X → ℕ) (n : ℕ) (g : ℕ → List X) →
@@ -139,14 +151,6 @@ with_constant f n w g constant cost each =
       sum_below-plus n (λ i. sum_by f (g i)) (λ i. w * constant i),
       sum_below-same n (λ i. sum_by f (g i) + w * constant i) (λ i. w * cost i) each,
     )
-
--- and so in the last week alone
-pub where_last : {X : Type 0} (is_last : Bool) (f : X → ℕ) (n w : ℕ) (g : ℕ → List X) (constant cost : ℕ → ℕ) →
-    ((i : ℕ) → i < n → sum_by f (g i) + w * constant i ≡ w * cost i) →
-    sum_by f (if is_last then each_below n g else []) + (if is_last then w * sum_below n constant else 0) ≡
-    (if is_last then w * sum_below n cost else 0)
-where_last true f n w g constant cost each = with_constant f n w g constant cost each
-where_last false f n w g constant cost each = refl
 
 pub count_by-each : {X : Type 0} (test : X → Bool) (n : ℕ) (x : ℕ → X) →
     count_by test (each_below n (λ i. x i ∷ [])) ≡ count_below n (λ i. test (x i))

@@ -71,7 +71,7 @@ cells_join week sign = record {
       (terms_join week).append (times (coefficient_of sign) xs) (times (coefficient_of sign) ys);
 }
 
-rows_join : (week : Week) → Joins (cell_row_events week)
+pub rows_join : (week : Week) → Joins (cell_row_events week)
 unfolding cell_row_events events
 rows_join week = record {
   none = refl;
@@ -79,6 +79,22 @@ rows_join week = record {
       ap events (map-append (numbered_row week) xs ys) ∙
       flat_map-append row_events (map (numbered_row week) xs) (map (numbered_row week) ys);
 }
+
+-- what a loop that hands over rows, terms or cells needs: each law is said of what makes the events
+
+pub rows-none : (week : Week) → cell_row_events week [] ≡ []
+rows-none week = (rows_join week).none
+
+pub rows-append : (week : Week) (xs ys : List (LinearRow Cell)) → cell_row_events week (xs ++ ys) ≡ cell_row_events week xs ++ cell_row_events week ys
+rows-append week = (rows_join week).append
+
+pub terms-none : (week : Week) → cell_term_events week [] ≡ []
+terms-none week = (terms_join week).none
+
+pub terms-append : (week : Week) (xs ys : List (Term Cell)) → cell_term_events week (xs ++ ys) ≡ cell_term_events week xs ++ cell_term_events week ys
+terms-append week = (terms_join week).append
+
+pub ruleset taking = (each_below-zero, each_below-more, rows-none, rows-append, terms-none, terms-append, map-append, fold-append)
 
 events-one : (row : LinearRow ℕ) → events (row ∷ []) ≡ row_events row
 unfolding events
@@ -148,9 +164,6 @@ module _ {S F : Type 0} (T : Ghosts S F) where
     pub loop_more : (i : ℕ) (f : ℕ → List A) (s t u : S) → Took T (h (each_below i f)) s t → Took T (h (f i)) t u → Took T (h (each_below (i + 1) f)) s u
     loop_more i f s t u p q = rw (each_below-more i f, joins.append) (Took-then _ _ s t u p q)
 
-    pub loop_all : (i n : ℕ) (f : ℕ → List A) (s t : S) → i ≡ n → Took T (h (each_below i f)) s t → Took T (h (each_below n f)) s t
-    loop_all i n f s t e p = rw (← e) p
-
     pub loop_refused : (i n : ℕ) (f : ℕ → List A) (s t u : S) → i < n → Took T (h (each_below i f)) s t → Refused T (h (f i)) t u → Refused T (h (each_below n f)) s u
     loop_refused i n f s t u below p q =
         let w = within i n f below in
@@ -162,76 +175,13 @@ module _ {S F : Type 0} (T : Ghosts S F) where
     pub go_on : (xs ys : List A) (s t u : S) → Took T (h xs) s t → Refused T (h ys) t u → Refused T (h (xs ++ ys)) s u
     go_on xs ys s t u p q = rw joins.append (Refused-after (h xs) (h ys) s t u p q)
 
+    pub nothing : (s : S) → Took T (h []) s s
+    nothing s = rw joins.none (Took-none s)
+
     pub both : (xs ys : List A) (s t u : S) → Took T (h xs) s t → Took T (h ys) t u → Took T (h (xs ++ ys)) s u
     both xs ys s t u p q = rw joins.append (Took-then (h xs) (h ys) s t u p q)
 
-  -- a loop over the cells of a sum
-  module _ (week : Week) (sign : Sign) where
-    pub cells_none : (f : ℕ → List Cell) (s : S) → Took T (sum_events week sign (each_below 0 f)) s s
-    cells_none = loop_none (cells_join week sign)
-
-    pub cells_more : (i : ℕ) (f : ℕ → List Cell) (s t u : S) → Took T (sum_events week sign (each_below i f)) s t →
-        Took T (sum_events week sign (f i)) t u → Took T (sum_events week sign (each_below (i + 1) f)) s u
-    cells_more = loop_more (cells_join week sign)
-
-    pub cells_all : (i n : ℕ) (f : ℕ → List Cell) (s t : S) → i ≡ n →
-        Took T (sum_events week sign (each_below i f)) s t → Took T (sum_events week sign (each_below n f)) s t
-    cells_all = loop_all (cells_join week sign)
-
-    pub cells_refused : (i n : ℕ) (f : ℕ → List Cell) (s t u : S) → i < n →
-        Took T (sum_events week sign (each_below i f)) s t → Refused T (sum_events week sign (f i)) t u →
-        Refused T (sum_events week sign (each_below n f)) s u
-    cells_refused = loop_refused (cells_join week sign)
-
   module _ (week : Week) where
-    -- a loop over rows
-    pub rows_none : (f : ℕ → List (LinearRow Cell)) (s : S) → Took T (cell_row_events week (each_below 0 f)) s s
-    rows_none = loop_none (rows_join week)
-
-    pub rows_more : (i : ℕ) (f : ℕ → List (LinearRow Cell)) (s t u : S) → Took T (cell_row_events week (each_below i f)) s t →
-        Took T (cell_row_events week (f i)) t u → Took T (cell_row_events week (each_below (i + 1) f)) s u
-    rows_more = loop_more (rows_join week)
-
-    pub rows_all : (i n : ℕ) (f : ℕ → List (LinearRow Cell)) (s t : S) → i ≡ n →
-        Took T (cell_row_events week (each_below i f)) s t → Took T (cell_row_events week (each_below n f)) s t
-    rows_all = loop_all (rows_join week)
-
-    pub rows_refused : (i n : ℕ) (f : ℕ → List (LinearRow Cell)) (s t u : S) → i < n →
-        Took T (cell_row_events week (each_below i f)) s t → Refused T (cell_row_events week (f i)) t u →
-        Refused T (cell_row_events week (each_below n f)) s u
-    rows_refused = loop_refused (rows_join week)
-
-    -- rows, then further rows
-    pub rows_stop : (xs ys : List (LinearRow Cell)) (s t : S) → Refused T (cell_row_events week xs) s t →
-        Refused T (cell_row_events week (xs ++ ys)) s t
-    rows_stop = stop (rows_join week)
-
-    pub rows_go_on : (xs ys : List (LinearRow Cell)) (s t u : S) → Took T (cell_row_events week xs) s t →
-        Refused T (cell_row_events week ys) t u → Refused T (cell_row_events week (xs ++ ys)) s u
-    rows_go_on = go_on (rows_join week)
-
-    pub rows_both : (xs ys : List (LinearRow Cell)) (s t u : S) → Took T (cell_row_events week xs) s t →
-        Took T (cell_row_events week ys) t u → Took T (cell_row_events week (xs ++ ys)) s u
-    rows_both = both (rows_join week)
-
-    pub rows_then : {R : Type 0} (xs ys : List (LinearRow Cell)) (s t u : S) (r : Result R F) → Took T (cell_row_events week xs) s t →
-        Takes T (cell_row_events week ys) t u r → Takes T (cell_row_events week (xs ++ ys)) s u r
-    rows_then xs ys s t u r p q =
-        MatchResult-weaker r q (λ _ taken. rows_both xs ys s t u p taken) (λ _ refused. rows_go_on xs ys s t u p refused)
-
-    -- terms, then further terms
-    pub terms_stop : (xs ys : List (Term Cell)) (s t : S) → Refused T (cell_term_events week xs) s t →
-        Refused T (cell_term_events week (xs ++ ys)) s t
-    terms_stop = stop (terms_join week)
-
-    pub terms_go_on : (xs ys : List (Term Cell)) (s t u : S) → Took T (cell_term_events week xs) s t →
-        Refused T (cell_term_events week ys) t u → Refused T (cell_term_events week (xs ++ ys)) s u
-    terms_go_on = go_on (terms_join week)
-
-    pub terms_both : (xs ys : List (Term Cell)) (s t u : S) → Took T (cell_term_events week xs) s t →
-        Took T (cell_term_events week ys) t u → Took T (cell_term_events week (xs ++ ys)) s u
-    terms_both = both (terms_join week)
-
     -- one cell
     pub cell_taken : (sign : Sign) (cell : Cell) (variable : ℕ) (s t : S) (r : Result (Unit {0}) F) →
         variable ≡ cell_number week cell →
@@ -251,9 +201,6 @@ module _ {S F : Type 0} (T : Ghosts S F) where
 
     pub row_nowhere : (test : Bool) (row : LinearRow Cell) (s : S) → test ≡ false → Took T (cell_row_events week (only_if test row)) s s
     row_nowhere test row s fails = rw (only_if-fails test row fails, (rows_join week).none) (Took-none s)
-
-    pub no_rows : (s : S) → Took T (cell_row_events week []) s s
-    no_rows s = rw (rows_join week).none (Took-none s)
 
   -- ---- a row
 

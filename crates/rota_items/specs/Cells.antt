@@ -1,9 +1,9 @@
 -- The cells that the sums of the model stand for, and their numbers.
-use Rattle.std.specs.Prelude.{ℕ, ◌+◌, ◌-◌, ◌*◌, ◌/◌, ◌%◌, List, [], ◌∷◌}
+use Rattle.std.specs.Prelude.{ℕ, ◌+◌, ◌-◌, ◌*◌, List, [], ◌∷◌}
 use Rattle.rota_core.specs.declared.values.Cell.{Cell}
 use Rattle.rota_core.specs.Week.{Week}
 use Rattle.rota_core.specs.Roster.{cell}
-use Rattle.rota_core.specs.RosterTables.{cell_place}
+use Rattle.rota_core.specs.RosterTables.{cell_at, cell_place}
 use Rattle.rota_core.specs.Lists.{each_below}
 
 -- the cells of a nurse's day on a shift type
@@ -35,10 +35,7 @@ abbrev pub cell_number : Week → Cell → ℕ
 cell_number week cell = cell_place week.shifts week.skills cell + 1
 
 abbrev pub cell_of_number : Week → ℕ → Cell
-cell_of_number week v =
-    let place = v - 1 in
-    cell (place / week.skills / week.shifts / 7) (place / week.skills / week.shifts % 7)
-    (place / week.skills % week.shifts) (place % week.skills)
+cell_of_number week v = cell_at week.shifts week.skills (v - 1)
 
 abbrev pub cell_count : Week → ℕ
 cell_count week = 7 * week.nurses * week.shifts * week.skills

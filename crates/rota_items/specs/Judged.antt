@@ -1,8 +1,8 @@
 -- What a judge's fields stand for.
-use Rattle.rota_items.specs.declared.sources.Source.{Source}
-use Rattle.rota_items.specs.declared.sources.Source.TheVariants.{Assigned, Extended}
-use Rattle.rota_items.specs.Judging.{Evaluated, assigned, extended}
+use Rattle.rota_items.specs.declared.subjects.Subject.{Subject as Given}
+use Rattle.rota_items.specs.declared.subjects.Subject.TheVariants.{Assigned, Extended}
+use Rattle.rota_items.specs.Judging.{Subject, assigned, extended}
 
-abbrev pub evaluated_of : Source → Evaluated
-evaluated_of (Assigned bits) = assigned bits.now
-evaluated_of (Extended roster) = extended roster.now
+abbrev pub subject_of : Given → Subject
+subject_of (Assigned bits) = assigned bits.now
+subject_of (Extended roster) = extended roster.now

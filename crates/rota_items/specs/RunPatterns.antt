@@ -24,24 +24,28 @@ without_property d = record { day = d; has = false }
 abbrev pub days_with : ℕ → ℕ → List PatternDay
 days_with first end = map with_property (range_with_len first (end - first))
 
--- so many days with the property up to d that the run on d is above the maximum
+-- days with the property up to d, one more than the maximum allows: the run on d is above it
 abbrev pub window : ℕ → ℕ → Pattern
 window maximum d = record { days = days_with (d - maximum) (d + 1); units = 1 }
 
 abbrev pub windows_on : ℕ → Span → ℕ → List Pattern
 windows_on history limits d = only_if (nat_lt limits.max (history + d + 1)) (window limits.max d)
 
--- a run of so many days that begins after Monday and ends before d
+-- a run of count days that begins after Monday and ends before d
 abbrev pub closed_pattern : ℕ → ℕ → ℕ → Pattern
 closed_pattern minimum d count = record {
   days = without_property (d - count - 1) ∷ days_with (d - count) d ++ without_property d ∷ [];
   units = minimum - count;
 }
 
--- for each number of days from 1 that is below the minimum and leaves room for a day before them
+-- for a number of days from 1 that is below the minimum
+abbrev pub closed_patterns_at : ℕ → ℕ → ℕ → List Pattern
+closed_patterns_at minimum d count =
+    only_if (nat_le 1 count && nat_lt count minimum) (closed_pattern minimum d count)
+
+-- for each that leaves room for a day before them
 abbrev pub closed_patterns_on : ℕ → ℕ → List Pattern
-closed_patterns_on minimum d =
-    each_below d (λ count. only_if (nat_le 1 count && nat_lt count minimum) (closed_pattern minimum d count))
+closed_patterns_on minimum d = each_below d (closed_patterns_at minimum d)
 
 -- a run that begins on Monday or in the history and ends before d
 abbrev pub edge_pattern : ℕ → ℕ → ℕ → Pattern

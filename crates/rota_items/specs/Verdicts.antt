@@ -4,16 +4,18 @@ use Rattle.rota_core.specs.declared.rule.Rule.{Rule}
 use Rattle.rota_core.specs.declared.rule.Rule.TheVariants.{Unit as UnitRule}
 use Rattle.rota_core.specs.Week.{Week}
 use Rattle.rota_core.specs.Roster.{Roster}
-use Rattle.rota_core.specs.HardRules.{KeepsOneCell, KeepsHardRules, FirstBroken}
+use Rattle.rota_core.specs.HardRules.{KeepsOneCell, KeepsCompetitionRules, KeepsHardRules, FirstBroken}
 use Rattle.rota_items.specs.declared.part.Part.{Part}
 use Rattle.rota_items.specs.declared.part.Part.TheVariants.{Objective, Hard, Soft}
 use Rattle.rota_items.specs.declared.verdicts.Verdict.{Verdict}
 use Rattle.rota_items.specs.Cells.{unit_number}
 use Rattle.rota_items.specs.Linear.{SatisfiesModel, objective_value}
-use Rattle.rota_items.specs.LinearRow.{LinearRow}
-use Rattle.rota_items.specs.Penalty.{consecutive_assignment_cost, consecutive_day_off_cost, penalty, rule_cost}
-use Rattle.rota_items.specs.RuleCharges.{charged, is_soft, soft_rules}
-use Rattle.rota_items.specs.WeekModel.{model_of, rows_of, roster_of, extension_of, is_satisfied}
+use Rattle.rota_items.specs.LinearRow.{LinearRow, is_satisfied}
+use Rattle.rota_core.specs.Rules.{soft_rules}
+use Rattle.rota_items.specs.SoftRules.{charged, is_soft, penalty, rule_cost}
+use Rattle.rota_items.specs.rules.ConsecutiveAssignments.{consecutive_assignment_cost}
+use Rattle.rota_items.specs.rules.ConsecutiveDaysOff.{consecutive_day_off_cost}
+use Rattle.rota_items.specs.WeekModel.{model_of, rows_of, roster_of, extension_of}
 
 -- the variables whose bit is true, where bit i is that of variable i + 1
 abbrev pub truth_of : List Bool → ℕ → Bool
@@ -26,17 +28,25 @@ rule_of_part Objective = UnitRule
 rule_of_part (Hard rule) = rule
 rule_of_part (Soft rule weight) = rule
 
-abbrev pub one_later : Option (ℕ × Rule) → Option (ℕ × Rule)
-one_later None = None
-one_later (Some (number, rule)) = Some (number + 1, rule)
+-- what was found after so many rows, counted from the first of them
+abbrev pub later : ℕ → Option (ℕ × Rule) → Option (ℕ × Rule)
+later before None = None
+later before (Some (number, rule)) = Some (before + number, rule)
 
--- the number, from 1, and the rule of the first row that the assignment does not satisfy
-abbrev pub first_unmet : (ℕ → Bool) → List (LinearRow ℕ) → Option (ℕ × Rule)
-first_unmet assignment [] = None
-first_unmet assignment (row ∷ rows) =
-    (if is_satisfied assignment row
-    then one_later (first_unmet assignment rows)
-    else Some (1, rule_of_part row.part))
+-- the number, from 1, and the rule of the first row that fails the test
+abbrev pub first_failing : {X : Type 0} → (LinearRow X → Bool) → List (LinearRow X) → Option (ℕ × Rule)
+first_failing test [] = None
+first_failing test (row ∷ rows) =
+    (if test row then later 1 (first_failing test rows) else Some (1, rule_of_part row.part))
+
+-- those of the first row that the assignment does not satisfy
+abbrev pub first_unmet : {X : Type 0} → (X → Bool) → List (LinearRow X) → Option (ℕ × Rule)
+first_unmet assignment rows = first_failing (is_satisfied assignment) rows
+
+-- no row is named, and the roster keeps the hard rules; or the rule of the row is the first that the roster breaks
+abbrev pub NamesFirstBroken : Week → Roster → Option (ℕ × Rule) → Type 0
+NamesFirstBroken week roster named =
+    MatchOption named (KeepsHardRules week roster) (λ row. FirstBroken week roster row.1)
 
 -- The verdict names the first constraint that the assignment does not satisfy, gives the objective's value, and what
 -- each soft rule is charged on the roster.
@@ -66,7 +76,7 @@ pub record JudgesTheRules (week : Week) (assignment : ℕ → Bool) (roster : Ro
   -- where the unit variable is true, the rule that is named is the first that the roster breaks, if it breaks one
   pub first_broken : assignment (unit_number week) ≡ true →
       KeepsHardRules week roster ⊎ IsSomeAnd verdict.unmet (λ unmet. FirstBroken week roster unmet.1)
-  pub costs : KeepsHardRules week roster → CostsTheRules week roster verdict
+  pub costs : KeepsCompetitionRules week roster → CostsTheRules week roster verdict
   pub run_costs : KeepsOneCell week roster → CostsTheRuns week roster verdict
 
 -- The assignment satisfies the model, and its roster keeps the hard rules at a penalty no greater than the objective.

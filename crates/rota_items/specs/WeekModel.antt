@@ -1,20 +1,18 @@
 -- The model of a week, over the numbers of its variables.
-use Rattle.std.specs.Prelude.{ℕ, ◌+◌, pos, Bool, true, ◌&&◌, ◌==◌, nat_lt, int_le, if◌then◌else◌, Option, Some, None, List, [], ◌∷◌, ◌++◌, map}
+use Rattle.std.specs.Prelude.{ℕ, ◌+◌, pos, Bool, true, ◌&&◌, ◌==◌, nat_lt, if◌then◌else◌, List, [], ◌∷◌, ◌++◌, map}
 use Rattle.rota_core.specs.declared.values.Cell.{Cell}
 use Rattle.rota_core.specs.declared.rule.Rule.TheVariants.{Unit as UnitRule}
 use Rattle.rota_core.specs.Week.{Week}
 use Rattle.rota_core.specs.Roster.{Roster}
-use Rattle.rota_core.specs.HardRules.{FirstBroken}
-use Rattle.rota_items.specs.declared.part.Part.{Part}
-use Rattle.rota_items.specs.declared.part.Part.TheVariants.{Objective, Hard, Soft}
-use Rattle.rota_items.specs.Linear.{Term, Constraint, Model, value_of}
+use Rattle.rota_items.specs.declared.part.Part.TheVariants.{Hard}
+use Rattle.rota_items.specs.Linear.{Term, Constraint, Model}
 use Rattle.rota_items.specs.LinearRow.{LinearRow, linear_constraint}
 use Rattle.rota_items.specs.Cells.{cell_number, cell_of_number, unit_number, first_slack}
 use Rattle.rota_items.specs.HardRows.{rule_rows}
 use Rattle.rota_items.specs.Items.{Item, numbered}
 use Rattle.rota_items.specs.Slacks.{item_rows, slack_weights, slack_count, extension}
-use Rattle.rota_items.specs.SoftItems.{soft_items}
-use Rattle.rota_items.specs.Objective.{request_terms, constant_terms}
+use Rattle.rota_items.specs.SoftRules.{soft_items, cell_terms}
+use Rattle.rota_items.specs.Objective.{constant_terms}
 
 abbrev pub numbered_terms : Week → List (Term Cell) → List (Term ℕ)
 numbered_terms week terms = map (λ (term : Term Cell). (term.0, cell_number week term.1)) terms
@@ -39,10 +37,10 @@ numbered_items week = map (numbered (cell_number week)) (soft_items week)
 abbrev pub rows_of : Week → List (LinearRow ℕ)
 rows_of week = hard_rows week ++ item_rows (first_slack week) (numbered_items week)
 
--- the requests, the constant and the slacks
+-- the rules' terms on cells, the constant and the slacks
 abbrev pub objective_terms : Week → List (Term ℕ)
 objective_terms week =
-    numbered_terms week (request_terms week) ++
+    numbered_terms week (cell_terms week) ++
     (constant_terms week ++ slack_weights (first_slack week) (numbered_items week))
 
 abbrev pub model_of : Week → Model
@@ -68,21 +66,3 @@ assignment_of week roster v =
 -- and the slacks that the items need
 abbrev pub extension_of : Week → Roster → ℕ → Bool
 extension_of week roster = extension (assignment_of week roster) (first_slack week) (numbered_items week)
-
--- ---- the first row that fails
-
--- whether the assignment satisfies the row
-abbrev pub is_satisfied : (ℕ → Bool) → LinearRow ℕ → Bool
-is_satisfied assignment row = int_le row.degree (value_of assignment row.terms)
-
--- what the first row stands for that the assignment does not satisfy
-abbrev pub first_unsatisfied : (ℕ → Bool) → List (LinearRow ℕ) → Option Part
-first_unsatisfied assignment [] = None
-first_unsatisfied assignment (row ∷ rows) =
-    (if is_satisfied assignment row then first_unsatisfied assignment rows else Some row.part)
-
--- it stands for the first hard rule that the roster breaks
-abbrev pub StandsForFirstBroken : Week → Roster → Part → Type 0
-StandsForFirstBroken week roster Objective = ⊥
-StandsForFirstBroken week roster (Hard rule) = FirstBroken week roster rule
-StandsForFirstBroken week roster (Soft rule weight) = ⊥

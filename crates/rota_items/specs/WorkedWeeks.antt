@@ -25,6 +25,7 @@ plain_week = record {
   shifts = 1;
   skills = 1;
   is_last = false;
+  is_early = false;
   has_skill = λ n k. true;
   demand = λ d s k. no_demand;
   is_forbidden = λ s t. false;
@@ -32,12 +33,13 @@ plain_week = record {
   contract = λ n. wide;
   past = λ n. no_past;
   requests = λ n d s. 0;
+  is_held = λ one. false;
 }
 
 abbrev pub with_contract : Contract → Week
 with_contract contract = record plain_week { contract = λ n. contract }
 
--- so many working days before Monday, on the first shift type
+-- n working days before Monday, on the first shift type
 abbrev pub worked_days : ℕ → Past
 worked_days n = record no_past { assignments = n; last = Some 0; shift_run = n; work_run = n }
 
@@ -77,7 +79,7 @@ requests_week = record plain_week {
 abbrev totals : Contract
 totals = record wide { total = limits_of 10 15; weekends = 2 }
 
--- a last week after so many assignments and worked weekends
+-- a last week after these numbers of assignments, and of weekends with work
 abbrev pub last_week : ℕ → ℕ → Week
 last_week assignments weekends = record (with_contract totals) {
   is_last = true;
@@ -86,6 +88,13 @@ last_week assignments weekends = record (with_contract totals) {
 
 abbrev pub closed_shift_week : Week
 closed_shift_week = record plain_week { limits = λ s. limits_of 1 0 }
+
+-- Wednesday is held, and in the other week both shift types on Monday
+abbrev pub held_wednesday_week : Week
+held_wednesday_week = record plain_week { is_held = λ one. one.day == 2 }
+
+abbrev pub held_monday_week : Week
+held_monday_week = record requests_week { is_held = λ one. one.day == 0 }
 
 abbrev pub weekends_week : Week
 weekends_week = with_contract (record wide { complete = true })
@@ -146,7 +155,7 @@ DaysOff =
     take 2 (after_days days_off_week) ≡
     row (plus 1 ∷ minus 2 ∷ plus 9 ∷ []) (pos 0) ∷ row (minus 1 ∷ plus 2 ∷ minus 3 ∷ plus 10 ∷ []) (negsuc 0) ∷ []
 
--- seven windows: from Monday alone to the days from Tuesday on
+-- seven windows: from only Monday to the days from Tuesday on
 abbrev pub RunFarAboveTheMaximum : Type 0
 RunFarAboveTheMaximum =
     let rows = after_days (working_week (limits_of 1 5) (worked_days 9)) in
@@ -165,6 +174,12 @@ TotalsAbove =
     row (minus 6 ∷ plus 16 ∷ []) (pos 0) ∷
     row (plus 6 ∷ minus 7 ∷ plus 17 ∷ []) (pos 0) ∷ []
 
+-- the held cells come last, by rising variable, and may break H1
+abbrev pub HeldCells : Type 0
+HeldCells =
+    (after_days held_wednesday_week ≡ row (plus 3 ∷ []) (pos 1) ∷ []) ×
+    (after_days held_monday_week ≡ row (plus 1 ∷ []) (pos 1) ∷ row (plus 2 ∷ []) (pos 1) ∷ [])
+
 -- ---- objectives
 
 abbrev pub NothingToCharge : Type 0
@@ -172,6 +187,9 @@ NothingToCharge = (model_of plain_week).objective ≡ []
 
 abbrev pub RequestsOnOneCell : Type 0
 RequestsOnOneCell = (model_of requests_week).objective ≡ (pos 30, 1) ∷ (pos 10, 2) ∷ []
+
+abbrev pub HeldCellsCostNothing : Type 0
+HeldCellsCostNothing = (model_of held_monday_week).objective ≡ (pos 30, 1) ∷ (pos 10, 2) ∷ []
 
 abbrev pub TotalsAboveInTheLastWeek : Type 0
 TotalsAboveInTheLastWeek =
@@ -181,6 +199,35 @@ TotalsAboveInTheLastWeek =
 abbrev pub TotalBelowInTheLastWeek : Type 0
 TotalBelowInTheLastWeek =
     (model_of (last_week 0 0)).objective ≡ (pos 60, 8) ∷ each (pos 20) (range_with_len 9 7)
+
+-- ---- the same where each week pays for what it adds
+
+abbrev pub charged_early : Week → Week
+charged_early week = record week { is_early = true }
+
+abbrev pub before_the_last : Week → Week
+before_the_last week = record week { is_last = false }
+
+-- the totals above are paid for as they are added to, in the last week as before it
+abbrev pub TotalsAboveEarly : Type 0
+TotalsAboveEarly =
+    let week = charged_early (last_week 20 3) in
+    (after_days week ≡ after_days (last_week 20 3)) ×
+    ((model_of week).objective ≡ each (pos 20) (range_with_len 9 7) ++ each (pos 30) (range_with_len 16 2)) ×
+    (model_of (before_the_last week) ≡ model_of week)
+
+-- the total below counts in the last week only
+abbrev pub TotalBelowEarly : Type 0
+TotalBelowEarly =
+    let week = charged_early (last_week 0 0) in
+    (model_of week ≡ model_of (last_week 0 0)) × (model_of (before_the_last week) ≡ model_of plain_week)
+
+-- three assignments are left before the last week
+abbrev pub TotalReachedEarly : Type 0
+TotalReachedEarly =
+    let week = before_the_last (charged_early (last_week 12 0)) in
+    (after_days week ≡ row (each (negsuc 0) (range_with_len 1 7) ++ each (pos 1) (range_with_len 9 4)) (negsuc 2) ∷ []) ×
+    ((model_of week).objective ≡ each (pos 20) (range_with_len 9 4))
 
 -- ---- variables: the cells, the unit variable, and the slacks
 

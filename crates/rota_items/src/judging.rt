@@ -1,51 +1,55 @@
 //! The taker that evaluates.
-ghost use Rattle.std.specs.Prelude.{◌≡◌, ◌++◌, length};
-ghost use Rattle.std.specs.List.{fold};
+ghost use Rattle.std.specs.Prelude.{◌≡◌, if◌then◌else◌, length};
 ghost use Rattle.rota_core.specs.InstanceTables.{week_of};
-ghost use Rattle.rota_core.specs.RosterTables.{HasShapeOf, set_of};
-ghost use Rattle.rota_items.specs.Events.{events};
-ghost use Rattle.rota_items.specs.Judging.{SettlesModel, WasDriven, assigned, assignment_in, extended, fresh, judged, roster_in};
-ghost use Rattle.rota_items.specs.Objective.{objective_rows};
-ghost use Rattle.rota_items.specs.Verdicts.{ExtendsOrBreaks, IsMetOrNot, Judges, JudgesTheRules, truth_of};
-ghost use Rattle.rota_items.specs.WeekModel.{extension_of, model_of, objective_terms, roster_of, rows_of};
+ghost use Rattle.rota_core.specs.RosterTables.{HasShapeOf};
+ghost use Rattle.rota_core.specs.Rules.{soft_rules};
+ghost use Rattle.rota_items.specs.Cells.{unit_number};
+ghost use Rattle.rota_items.specs.Items.{positive_part};
+ghost use Rattle.rota_items.specs.Judging.{SettlesModel, WasDriven, assigned, assignment_in, counts_for, extended, fresh, judged, lacking, roster_in, with_constants};
+ghost use Rattle.rota_items.specs.SoftRules.{constant};
+ghost use Rattle.rota_items.specs.Verdicts.{Judges, JudgesTheRules};
+ghost use Rattle.rota_items.specs.WeekModel.{model_of};
 
-use crate::driving::drive_constraints;
 use crate::limits::within_limits;
-use crate::objective::drive_objective;
+use crate::model_counts::counts;
 use crate::part::Part;
-use crate::sources::Source;
+use crate::rules::{constant, constant_of_rule};
+use crate::subjects::Subject;
 use crate::takers::Taker;
-use crate::tallies::{RowSums, Tally, with_cost};
-use crate::unavoidable::constant_parts;
+use crate::tallies::{RowSums, Tally, charge, positive_part};
+use crate::variables::unit_var;
 use crate::verdicts::Verdict;
-use rota_core::{Bits, Instance, Roster, Rule};
+use rota_core::{Bits, Instance, Roster, Rule, SOFT_RULES};
 use std::convert::Infallible;
 use std::marker::Model;
 
 /// A taker that evaluates the rows of an instance's model.
 ///
-/// It never fails: a sum that would not fit stays at the greatest number, which no instance reaches.
+/// It never fails: a sum that would not fit stays at the greatest number, which no instance reaches. A
+/// variable that the model does not have is false.
 #[derive(Drop)]
 pub struct Judge<'a> {
     instance: &'a Instance,
-    source: Source<'a>,
+    subject: Subject<'a>,
+    unit: u32,
+    last: u32,
     tally: Tally,
 }
 
 impl<'a> Model for Judge<'a> {
     ghost use Rattle.rota_core.specs.InstanceTables.{week_of};
-    ghost use Rattle.rota_items.specs.Judging.{Judging, Fits};
-    ghost use Rattle.rota_items.specs.Judged.{evaluated_of};
+    ghost use Rattle.rota_items.specs.Judging.{Judging, IsSetUp};
+    ghost use Rattle.rota_items.specs.Judged.{subject_of};
 
     ghost Value = { Judging };
 
     ghost view = { λ j. record {
       instance = j.instance.now;
-      evaluated = evaluated_of j.source;
+      subject = subject_of j.subject;
       tally = j.tally;
     } };
 
-    ghost invariant = { λ j. Fits (week_of j.instance.now) (evaluated_of j.source) };
+    ghost invariant = { λ j. IsSetUp (week_of j.instance.now) (subject_of j.subject) j.unit j.last };
 }
 
 impl<'a> Judge<'a> {
@@ -56,7 +60,9 @@ impl<'a> Judge<'a> {
     {
         Judge {
             instance,
-            source: Source::Assigned(bits),
+            subject: Subject::Assigned(bits),
+            unit: unit_var(instance),
+            last: bits.len(),
             tally: Tally::new(),
         }
     }
@@ -69,29 +75,74 @@ impl<'a> Judge<'a> {
     {
         Judge {
             instance,
-            source: Source::Extended(roster),
+            subject: Subject::Extended(roster),
+            unit: unit_var(instance),
+            last: counts(instance).variables,
             tally: Tally::new(),
         }
     }
 
+    /// How many slacks of the open row count, each of which stands there with 1: of a roster's extension
+    /// all that were taken.
+    pub fn open_slacks(&self) -> u64
+        ensures { result ≡ positive_part self.now.tally.sums.slacks }
+    {
+        positive_part(self.tally.sums.slacks)
+    }
+
+    /// What the terms of the open row other than those at slacks lack of the degree.
+    pub fn lacking(&self, degree: i64) -> u64
+        ensures { result ≡ lacking self.now.tally.sums degree }
+    {
+        self.tally.sums.lacking(degree)
+    }
+
     /// What the judge found, after `drive_objective` and then `drive_constraints` of its instance. Where
-    /// the unit variable is true and the roster breaks H1 to H4, it names the first of them that is broken.
+    /// the unit variable is true and the roster breaks H1 to H5, it names the first of them that is broken.
     /// Where the roster keeps them, the costs are those of the rules.
     pub fn verdict(&self) -> Verdict
         requires driven { WasDriven self.now }
-        ensures judges { let week = week_of self.now.instance in let evaluated = self.now.evaluated in
-            Judges week (assignment_in week evaluated) (roster_in week evaluated) result }
-        ensures rules { let week = week_of self.now.instance in let evaluated = self.now.evaluated in
-            JudgesTheRules week (assignment_in week evaluated) (roster_in week evaluated) result }
-        ensures model { SettlesModel (week_of self.now.instance) self.now.evaluated result }
+        ensures judges { let week = week_of self.now.instance in let subject = self.now.subject in
+            Judges week (assignment_in week subject) (roster_in week subject) result }
+        ensures rules { let week = week_of self.now.instance in let subject = self.now.subject in
+            JudgesTheRules week (assignment_in week subject) (roster_in week subject) result }
+        ensures model { SettlesModel (week_of self.now.instance) self.now.subject result }
     {
         within_limits(self.instance);
-        let [assignments, weekends] = constant_parts(self.instance);
-        let found = self.tally.verdict;
-        let costs = with_cost(found.costs, Rule::S6, assignments);
+        let tally = self.tally;
+        let requests = tally.requests_and_constant.saturating_sub(self.at_unit());
+        let mut costs = tally.shortages;
+        charge(&mut costs, Rule::S4, requests);
+        charge_constants(&mut costs, self.instance);
         Verdict {
-            costs: with_cost(costs, Rule::S7, weekends),
-            ..found
+            unmet: tally.unmet,
+            objective: tally.requests_and_constant.saturating_add(tally.slacks),
+            costs,
+        }
+    }
+
+    // What the objective gives at the unit variable.
+    fn at_unit(&self) -> u64
+        ensures { let week = week_of self.now.instance in
+            result ≡ (if counts_for week self.now.subject (unit_number week) then constant week else 0) }
+    {
+        if self.counts(self.unit) {
+            constant(self.instance)
+        } else {
+            0
+        }
+    }
+
+    // Whether a term at the variable counts.
+    fn counts(&self, variable: u32) -> bool
+        ensures { result ≡ counts_for (week_of self.now.instance) self.now.subject variable }
+    {
+        if variable == 0 || self.last < variable {
+            return false;
+        }
+        match self.subject {
+            Subject::Assigned(bits) => bits.get(variable - 1),
+            Subject::Extended(roster) => self.unit <= variable || roster.has_place(variable - 1),
         }
     }
 }
@@ -116,59 +167,29 @@ impl<'a> Taker for Judge<'a> {
     }
 
     fn term(&mut self, coefficient: i64, variable: u32) -> Result<(), Infallible> {
-        if self.source.counts(self.instance, variable) {
-            self.tally.sums.add(self.instance, coefficient, variable);
+        if !self.counts(variable) {
+            return Ok(());
+        }
+        let sums = &mut self.tally.sums;
+        if self.unit < variable {
+            sums.slacks = sums.slacks.saturating_add(coefficient);
+        } else {
+            sums.others = sums.others.saturating_add(coefficient);
         }
         Ok(())
     }
 
     fn close_row(&mut self, degree: i64) -> Result<(), Infallible> {
-        self.tally.close(self.source, degree);
+        self.tally.close(self.subject, degree);
         Ok(())
     }
 }
 
-/// What the assignment is worth that makes variable i + 1 true where bit i is true, and whether it
-/// satisfies the instance's model.
-pub fn judge_bits(instance: &Instance, bits: &Bits) -> Verdict
-    requires { length bits.now ≡ (model_of (week_of instance.now)).variables }
-    ensures judges { let week = week_of instance.now in
-        Judges week (truth_of bits.now) (roster_of week (truth_of bits.now)) result }
-    ensures rules { let week = week_of instance.now in
-        JudgesTheRules week (truth_of bits.now) (roster_of week (truth_of bits.now)) result }
-    ensures met_or_not { IsMetOrNot (week_of instance.now) (truth_of bits.now) result }
+// Charges each soft rule what no roster can avoid of it.
+fn charge_constants(costs: &mut [u64; SOFT_RULES], instance: &Instance)
+    ensures { costs.new ≡ with_constants (week_of instance.now) soft_rules costs.old }
 {
-    let mut judge = Judge::of_bits(instance, bits);
-    match drive_both(instance, &mut judge) {
-        Ok(()) => judge.verdict(),
-        Err(never) => match never {},
+    for rule in Rule::SOFT {
+        charge(costs, rule, constant_of_rule(instance, rule));
     }
-}
-
-/// What the roster costs, and which hard rule it breaks first. The assignment that is judged is its
-/// extension: the variables of its cells, the unit variable, and of each constraint of a soft rule the
-/// first slacks, as many as it lacks on the roster.
-pub fn judge_roster(instance: &Instance, roster: &Roster) -> Verdict
-    requires { HasShapeOf (week_of instance.now) roster.now }
-    ensures judges { let week = week_of instance.now in
-        Judges week (extension_of week (set_of roster.now)) (set_of roster.now) result }
-    ensures rules { let week = week_of instance.now in
-        JudgesTheRules week (extension_of week (set_of roster.now)) (set_of roster.now) result }
-    ensures extends_or_breaks { ExtendsOrBreaks (week_of instance.now) (set_of roster.now) result }
-{
-    let mut judge = Judge::of_roster(instance, roster);
-    match drive_both(instance, &mut judge) {
-        Ok(()) => judge.verdict(),
-        Err(never) => match never {},
-    }
-}
-
-/// Hands the judge the objective, then the constraints.
-fn drive_both(instance: &Instance, judge: &mut Judge<'_>) -> Result<(), Infallible>
-    ensures { let week = week_of instance.now in
-        judge.new ≡ fold judged judge.old
-        (events (objective_rows (objective_terms week)) ++ events (rows_of week)) }
-{
-    drive_objective(instance, judge)?;
-    drive_constraints(instance, judge)
 }

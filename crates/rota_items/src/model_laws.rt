@@ -1,17 +1,20 @@
 //! What the model of a week means: its assignments stand for the rosters that keep the hard rules, at
 //! their penalty.
-ghost use Rattle.std.specs.Prelude.{◌≡◌, ◌↔◌, ◌≤◌, ◌<◌, ℕ, Bool, true, pos, ◌≤ℤ◌, All, MatchOption};
+ghost use Rattle.std.specs.Prelude.{◌≡◌, ◌↔◌, ◌≤◌, ◌<◌, ◌+◌, ℕ, Bool, true, pos, ◌≤ℤ◌, All, length};
 ghost use Rattle.rota_core.specs.declared.values.Cell.{Cell};
 ghost use Rattle.rota_core.specs.Week.{Week};
-ghost use Rattle.rota_core.specs.Roster.{Roster, InWeek};
+ghost use Rattle.rota_core.specs.Roster.{Has, Roster, InWeek};
+ghost use Rattle.rota_core.specs.RosterCells.{cells_of};
 ghost use Rattle.rota_core.specs.HardRules.{KeepsHardRules};
 ghost use Rattle.rota_items.specs.Linear.{Satisfies, SatisfiesModel, objective_value};
 ghost use Rattle.rota_items.specs.Cells.{cell_number, cell_of_number, unit_number};
-ghost use Rattle.rota_items.specs.Penalty.{penalty};
+ghost use Rattle.rota_items.specs.SoftRules.{penalty};
 ghost use Rattle.rota_items.specs.Limits.{IsWithinLimits};
 ghost use Rattle.rota_items.specs.RisingTerms.{RisesFrom, HasRisingTerms};
 ghost use Rattle.rota_items.specs.Standing.{StandsInSome};
-ghost use Rattle.rota_items.specs.WeekModel.{StandsForFirstBroken, extension_of, first_unsatisfied, hard_constraints, hard_rows, model_of, roster_of};
+ghost use Rattle.rota_items.specs.Verdicts.{NamesFirstBroken, first_unmet};
+ghost use Rattle.rota_items.specs.hard.Held.{without_held};
+ghost use Rattle.rota_items.specs.WeekModel.{extension_of, hard_constraints, hard_rows, model_of, roster_of};
 
 /// An assignment satisfies the hard constraints exactly where the unit variable is true and its roster
 /// keeps the hard rules.
@@ -26,18 +29,14 @@ pub fn hard_constraints_mean_hard_rules()
 pub fn first_failing_row_has_first_broken_rule()
     ensures { (week : Week) (assignment : ℕ → Bool) →
         assignment (unit_number week) ≡ true →
-        MatchOption (first_unsatisfied assignment (hard_rows week))
-        (KeepsHardRules week (roster_of week assignment))
-        (StandsForFirstBroken week (roster_of week assignment)) }
+        NamesFirstBroken week (roster_of week assignment) (first_unmet assignment (hard_rows week)) }
 {}
 
 /// The first hard row that the extension of a roster does not satisfy stands for the first rule that the
 /// roster breaks.
 pub fn extension_fails_first_at_first_broken_rule()
     ensures { (week : Week) (roster : Roster) →
-        MatchOption (first_unsatisfied (extension_of week roster) (hard_rows week))
-        (KeepsHardRules week roster)
-        (StandsForFirstBroken week roster) }
+        NamesFirstBroken week roster (first_unmet (extension_of week roster) (hard_rows week)) }
 {}
 
 /// A roster that keeps the hard rules extends to an assignment that satisfies the model at its penalty.
@@ -110,4 +109,21 @@ pub fn objective_is_small()
 pub fn variables_are_those_of_the_constraints()
     ensures { (week : Week) (v : ℕ) →
         StandsInSome (model_of week) v ↔ ((0 < v) × (v ≤ (model_of week).variables)) }
+{}
+
+/// Holding cells adds to the model only that each of them is true: an assignment satisfies the model
+/// exactly where it satisfies the model without them and makes each of them true. Variables and objective
+/// stay, and there is one constraint more for each held cell.
+pub fn held_cells_add_only_that_they_are_true()
+    ensures satisfies { (week : Week) (assignment : ℕ → Bool) →
+        SatisfiesModel assignment (model_of week) ↔
+        (SatisfiesModel assignment (model_of (without_held week)) ×
+        ((cell : Cell) → Has week week.is_held cell → assignment (cell_number week cell) ≡ true)) }
+    ensures variables { (week : Week) →
+        (model_of week).variables ≡ (model_of (without_held week)).variables }
+    ensures objective { (week : Week) →
+        (model_of week).objective ≡ (model_of (without_held week)).objective }
+    ensures constraints { (week : Week) →
+        length (model_of week).constraints ≡
+        length (model_of (without_held week)).constraints + length (cells_of week week.is_held) }
 {}

@@ -1,20 +1,18 @@
 //! The objective: request rows that cells match, what no roster can avoid, and the slacks with their
 //! weights.
-ghost use Rattle.std.specs.Prelude.{◌≡◌, ◌↔◌, ◌<◌, true, false, Bool, []};
+ghost use Rattle.std.specs.Prelude.{◌≡◌, ◌↔◌, true, false, Bool, []};
 ghost use Rattle.rota_core.specs.InstanceTables.{week_of};
-ghost use Rattle.rota_items.specs.CellEvents.{cell_term_events};
 ghost use Rattle.rota_items.specs.Events.{events, term_events};
-ghost use Rattle.rota_items.specs.Objective.{constant_terms, objective_rows, request_terms, request_terms_on};
+ghost use Rattle.rota_items.specs.Objective.{constant_terms, objective_rows};
 ghost use Rattle.rota_items.specs.Takes.{Takes};
 ghost use Rattle.rota_items.specs.WeekModel.{objective_terms};
 
 use crate::limits::within_limits;
 use crate::part::Part;
-use crate::soft_walk::take_slack_weights;
+use crate::rules::{constant, give_cell_terms, give_slack_weights};
 use crate::takers::Taker;
-use crate::unavoidable::constant;
-use crate::variables::{cell_var, unit_var};
-use rota_core::{Cell, Instance};
+use crate::variables::unit_var;
+use rota_core::Instance;
 
 /// The refusal of a closed taker.
 #[derive(Drop)]
@@ -48,56 +46,8 @@ impl Taker for ClosedTaker {
     }
 }
 
-/// The terms of the request rows that ask for a nurse's day off, by a shift type: 10 for each row, at
-/// each of the day's cells on the shift type.
-fn take_request_terms_on<T: Taker>(
-    instance: &Instance,
-    taker: &mut T,
-    nurse: u16,
-    day: u8,
-    shift: u8,
-) -> Result<(), T::Fault>
-    requires nurse_in { nurse < (week_of instance.now).nurses }
-    requires day_in { day < 7 }
-    requires shift_in { shift < (week_of instance.now).shifts }
-    ensures { let week = week_of instance.now in
-        Takes T.Taker (cell_term_events week (request_terms_on week nurse day shift))
-        taker.old taker.new result }
-{
-    let requests = instance.requests(nurse, day, shift);
-    if requests == 0 {
-        return Ok(());
-    }
-    let weight = 10 * u32::from(requests);
-    for skill in 0..instance.skills() {
-        let cell = Cell {
-            nurse,
-            day,
-            shift,
-            skill,
-        };
-        taker.term(i64::from(weight), cell_var(instance, cell))?;
-    }
-    Ok(())
-}
-
-/// The terms of the request rows, by rising cell.
-fn take_request_terms<T: Taker>(instance: &Instance, taker: &mut T) -> Result<(), T::Fault>
-    ensures { let week = week_of instance.now in
-        Takes T.Taker (cell_term_events week (request_terms week)) taker.old taker.new result }
-{
-    for nurse in 0..instance.nurses() {
-        for day in 0..7 {
-            for shift in 0..instance.shifts() {
-                take_request_terms_on(instance, taker, nurse, day, shift)?;
-            }
-        }
-    }
-    Ok(())
-}
-
 /// The constant, at the unit variable, where it is not 0.
-fn take_constant<T: Taker>(instance: &Instance, taker: &mut T) -> Result<(), T::Fault>
+fn give_constant<T: Taker>(instance: &Instance, taker: &mut T) -> Result<(), T::Fault>
     ensures { Takes T.Taker (term_events (constant_terms (week_of instance.now)))
         taker.old taker.new result }
 {
@@ -110,20 +60,20 @@ fn take_constant<T: Taker>(instance: &Instance, taker: &mut T) -> Result<(), T::
 }
 
 /// The terms of the objective, by rising variable.
-fn take_terms<T: Taker>(instance: &Instance, taker: &mut T) -> Result<(), T::Fault>
+fn give_terms<T: Taker>(instance: &Instance, taker: &mut T) -> Result<(), T::Fault>
     ensures { Takes T.Taker (term_events (objective_terms (week_of instance.now)))
         taker.old taker.new result }
 {
-    take_request_terms(instance, taker)?;
-    take_constant(instance, taker)?;
-    take_slack_weights(instance, taker)
+    give_cell_terms(instance, taker)?;
+    give_constant(instance, taker)?;
+    give_slack_weights(instance, taker)
 }
 
 /// Whether the objective has a term. It stops at the first one.
 fn has_term(instance: &Instance) -> bool
     ensures { (result ≡ false) ↔ (objective_terms (week_of instance.now) ≡ []) }
 {
-    take_terms(instance, &mut ClosedTaker).is_err()
+    give_terms(instance, &mut ClosedTaker).is_err()
 }
 
 /// Hands the taker the objective, as one row, or nothing where it has no term.
@@ -139,6 +89,6 @@ pub fn drive_objective<T: Taker>(instance: &Instance, taker: &mut T) -> Result<(
         return Ok(());
     }
     taker.start_row(Part::Objective)?;
-    take_terms(instance, taker)?;
+    give_terms(instance, taker)?;
     taker.close_row(0)
 }

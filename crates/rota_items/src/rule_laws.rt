@@ -1,17 +1,21 @@
-//! What the model charges is what the soft rules cost, on rosters that keep the hard rules.
-ghost use Rattle.std.specs.Prelude.{◌≡◌, ℕ, ◌+◌, ◌≤◌, ◌<◌, ◌^◌, pos, ◌+ℤ◌, All};
+//! What the model charges is what the soft rules cost, on rosters that keep the hard rules of the
+//! competition.
+ghost use Rattle.std.specs.Prelude.{◌≡◌, ℕ, ◌+◌, ◌≤◌, ◌<◌, ◌^◌, pos, All};
 ghost use Rattle.rota_core.specs.declared.rule.Rule.{Rule};
 ghost use Rattle.rota_core.specs.Week.{Week};
 ghost use Rattle.rota_core.specs.Roster.{Roster};
-ghost use Rattle.rota_core.specs.HardRules.{KeepsOneCell, KeepsHardRules, KeepsMinimum};
+ghost use Rattle.rota_core.specs.HardRules.{KeepsOneCell, KeepsCompetitionRules, KeepsMinimum};
 ghost use Rattle.rota_items.specs.Linear.{value_of};
 ghost use Rattle.rota_items.specs.Items.{shortage, weighted_shortages};
-ghost use Rattle.rota_items.specs.Penalty.{optimum_cost, consecutive_assignment_cost, consecutive_day_off_cost, request_cost, complete_weekend_cost, assignment_cost, worked_weekend_cost, penalty, rule_cost};
+ghost use Rattle.rota_items.specs.SoftRules.{charged, penalty, rule_cost, soft_items, constant};
+ghost use Rattle.rota_items.specs.rules.CompleteWeekends.{complete_weekend_cost, complete_weekend_items};
+ghost use Rattle.rota_items.specs.rules.ConsecutiveAssignments.{consecutive_assignment_cost, shift_runs, work_runs, consecutive_assignment_items};
+ghost use Rattle.rota_items.specs.rules.ConsecutiveDaysOff.{consecutive_day_off_cost, off_runs, consecutive_day_off_items};
+ghost use Rattle.rota_items.specs.rules.OptimalCoverage.{optimum_cost, optimum_items};
+ghost use Rattle.rota_items.specs.rules.ShiftOffRequests.{request_cost, request_terms};
+ghost use Rattle.rota_items.specs.rules.TotalAssignments.{assignment_cost, assignment_items, constant_of_assignments};
+ghost use Rattle.rota_items.specs.rules.WorkedWeekends.{worked_weekend_cost, worked_weekend_items, constant_of_weekends};
 ghost use Rattle.rota_items.specs.RunItems.{AtMostOneADay};
-ghost use Rattle.rota_items.specs.SoftItems.{shift_runs, work_runs, off_runs, optimum_items, consecutive_assignment_items, consecutive_day_off_items, complete_weekend_items, assignment_items, worked_weekend_items, soft_items};
-ghost use Rattle.rota_items.specs.Constant.{constant, constant_of_assignments, constant_of_weekends};
-ghost use Rattle.rota_items.specs.Objective.{request_terms};
-ghost use Rattle.rota_items.specs.RuleCharges.{shortages_of, constant_of_rule, cell_terms_of_rule};
 ghost use Rattle.rota_items.specs.Limits.{IsWithinLimits};
 
 /// On a roster with one cell a day at most one cell of a nurse's day is on a shift type, and at most one
@@ -62,7 +66,7 @@ pub fn request_terms_charge_requests()
         value_of roster (request_terms week) ≡ pos (request_cost week roster) }
 {}
 
-/// S5: the items of complete weekends charge the nurses who work on one of its days alone.
+/// S5: the items of complete weekends charge the nurses who work on only one of its days.
 pub fn weekend_items_charge_broken_weekends()
     ensures { (week : Week) (roster : Roster) →
         KeepsOneCell week roster →
@@ -90,16 +94,14 @@ pub fn weekend_items_charge_worked_weekends()
 /// The items of a rule, its part of the constant and its terms on cells charge the cost of the rule.
 pub fn items_charge_each_rule_its_cost()
     ensures { (week : Week) (roster : Roster) (rule : Rule) →
-        KeepsHardRules week roster →
-        pos (shortages_of rule roster (soft_items week) + constant_of_rule week rule) +ℤ
-        value_of roster (cell_terms_of_rule week rule) ≡
-        pos (rule_cost week roster rule) }
+        KeepsCompetitionRules week roster →
+        charged week roster rule ≡ pos (rule_cost week roster rule) }
 {}
 
 /// The items, the terms on cells and the constant charge the penalty.
 pub fn items_requests_and_constant_charge_penalty()
     ensures { (week : Week) (roster : Roster) →
-        KeepsHardRules week roster →
+        KeepsCompetitionRules week roster →
         weighted_shortages roster (soft_items week) + request_cost week roster + constant week ≡
         penalty week roster }
 {}
@@ -107,7 +109,7 @@ pub fn items_requests_and_constant_charge_penalty()
 /// No item lacks more than its slacks make up for.
 pub fn no_item_lacks_more_than_its_slacks()
     ensures { (week : Week) (roster : Roster) →
-        KeepsHardRules week roster →
+        KeepsCompetitionRules week roster →
         All (λ item. shortage roster item ≤ item.slacks) (soft_items week) }
 {}
 

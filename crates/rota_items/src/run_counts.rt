@@ -1,13 +1,17 @@
 //! How many windows and patterns charge the runs of a property in a week.
 ghost use Rattle.std.specs.Prelude.{◌≡◌, ◌≤◌, ◌+◌, length};
 ghost use Rattle.rota_core.specs.Lists.{each_below};
+ghost use Rattle.rota_core.specs.Week.{Week};
+ghost use Rattle.rota_items.specs.ItemValues.{runs_of};
+ghost use Rattle.rota_items.specs.RunItems.{run_items};
 ghost use Rattle.rota_items.specs.RunPatterns.{closed_patterns_on, edge_patterns_on, patterns, windows};
 ghost use Rattle.rota_items.specs.WorkedWeeks.{limits_of};
 
+use crate::soft_item::NurseRuns;
 use rota_core::Span;
 
 /// The number of windows: of days up to which the week may have a run above the greatest number, where
-/// so many days before Monday had the property.
+/// `history` days before Monday had the property.
 #[tactic(auto, unfolding(rota_core::specs::Lists::each_below, rota_core::specs::Lists::only_if))]
 pub fn windows_of(history: u16, limits: Span) -> u32
     ensures { result ≡ length (windows history limits) }
@@ -46,7 +50,16 @@ fn edge_patterns_of(history: u16, minimum: u16) -> u32
     }
 }
 
+/// The number of the items that charge a nurse's runs.
+pub fn count_run_items(runs: NurseRuns) -> u32
+    ensures few { result ≤ 56 }
+    ensures number { (week : Week) → result ≡ length (run_items (runs_of week runs)) }
+{
+    windows_of(runs.history, runs.limits) + patterns_of(runs.history, runs.limits)
+}
+
 /// The numbers of windows and of patterns of some histories and limits.
+#[tactic(auto, unfolding(rota_core::specs::Lists::each_below, rota_core::specs::Lists::only_if))]
 pub fn worked_runs_have_their_patterns()
     ensures windows_in_a_long_run { length (windows 9 (limits_of 1 5)) ≡ 7 }
     ensures windows_in_the_week { length (windows 0 (limits_of 1 2)) ≡ 5 }

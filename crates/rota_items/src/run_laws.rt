@@ -2,11 +2,16 @@
 ghost use Rattle.std.specs.Prelude.{◌≡◌, ◌++◌, ℕ, pos, ◌*◌, ◌<◌, ◌≤◌, Bool, All};
 ghost use Rattle.rota_core.specs.declared.values.Cell.{Cell};
 ghost use Rattle.rota_core.specs.declared.values.Span.{Span};
+ghost use Rattle.rota_core.specs.HardRules.{KeepsOneCell, is_off, is_on, works};
+ghost use Rattle.rota_core.specs.Roster.{Roster};
+ghost use Rattle.rota_core.specs.Week.{Week};
 ghost use Rattle.rota_items.specs.Linear.{value_of};
 ghost use Rattle.rota_items.specs.Items.{shortage, weighted_shortages};
 ghost use Rattle.rota_items.specs.RunItems.{Runs, AtMostOneADay, variables_on, has_property, day_items, run_items};
 ghost use Rattle.rota_items.specs.RunPatterns.{DaysFollow, windows, patterns};
 ghost use Rattle.rota_items.specs.Runs.{day_cost, run_cost};
+ghost use Rattle.rota_items.specs.rules.ConsecutiveAssignments.{shift_runs, work_runs};
+ghost use Rattle.rota_items.specs.rules.ConsecutiveDaysOff.{off_runs};
 ghost use Rattle.rota_items.specs.Slacks.{StandBelow, extension, slack_weights};
 
 /// The items of a property's runs charge the cost of the runs.
@@ -16,6 +21,30 @@ pub fn run_items_charge_run_cost()
         weighted_shortages roster (run_items runs) ≡
         runs.weight *
         run_cost (has_property runs.property roster) runs.history runs.limits }
+{}
+
+/// On a roster with one cell a day, the items of a nurse's runs charge their cost: those of her days on a
+/// shift type, at work and off, at any weight, after any history and within any limits.
+pub fn run_items_charge_a_nurses_runs()
+    ensures on_shift { (week : Week) (roster : Roster) (n s weight history : ℕ) (limits : Span) →
+        KeepsOneCell week roster →
+        n < week.nurses →
+        s < week.shifts →
+        weighted_shortages roster
+        (run_items (record (shift_runs week n s) { weight = weight; history = history; limits = limits })) ≡
+        weight * run_cost (is_on week roster n s) history limits }
+    ensures at_work { (week : Week) (roster : Roster) (n weight history : ℕ) (limits : Span) →
+        KeepsOneCell week roster →
+        n < week.nurses →
+        weighted_shortages roster
+        (run_items (record (work_runs week n) { weight = weight; history = history; limits = limits })) ≡
+        weight * run_cost (works week roster n) history limits }
+    ensures off { (week : Week) (roster : Roster) (n weight history : ℕ) (limits : Span) →
+        KeepsOneCell week roster →
+        n < week.nurses →
+        weighted_shortages roster
+        (run_items (record (off_runs week n) { weight = weight; history = history; limits = limits })) ≡
+        weight * run_cost (is_off week roster n) history limits }
 {}
 
 /// The items of a day charge what the runs cost on that day.

@@ -1,131 +1,70 @@
 //! The walk over the items that charge a nurse's runs.
 ghost use Rattle.std.specs.Prelude.{◌<◌};
 ghost use Rattle.rota_core.specs.InstanceTables.{week_of};
+ghost use Rattle.rota_core.specs.Lists.{each_below};
 ghost use Rattle.rota_items.specs.ItemEvents.{SlacksFit, Walks};
-ghost use Rattle.rota_items.specs.ItemPlaces.{closed_items_at, edge_items_on, pattern_items_on, window_items_on};
-ghost use Rattle.rota_items.specs.ItemValues.{IsChargeOf, IsInWeek, charged_item, pattern_of, runs_of};
-ghost use Rattle.rota_core.specs.Lists.{each_below, only_if};
-ghost use Rattle.rota_items.specs.RunItems.{run_items};
+ghost use Rattle.rota_items.specs.ItemValues.{AreInWeek, IsChargeOf, charged_items, patterns_given, runs_of};
+ghost use Rattle.rota_items.specs.RunItems.{pattern_items_on, run_items, window_items_on};
 
 use crate::item_walk::walk_item;
-use crate::run_patterns::{charged_days, closed_before, edge_before, window_ending};
-use crate::soft_item::{DayCharge, DayPattern, NurseRuns, Section};
+use crate::limits::DAYS;
+use crate::run_patterns::{closed_before, edge_before, pattern_item, window_on};
+use crate::soft_item::{DayPattern, ItemPart, NurseRuns, RunCharge};
 use crate::takers::Taker;
 use rota_core::Instance;
 
-/// The item that charges the pattern's days, if it is there.
+/// The item that charges the pattern's days, if there is a pattern.
 pub fn walk_pattern<T: Taker>(
     instance: &Instance,
     taker: &mut T,
-    section: Section,
+    part: ItemPart,
     first: u32,
-    charge: DayCharge,
-    there: bool,
-    pattern: DayPattern,
+    charge: RunCharge,
+    pattern: Option<DayPattern>,
 ) -> Result<u32, T::Fault>
     requires charge_in { IsChargeOf (week_of instance.now) charge }
-    requires days_in { IsInWeek pattern }
+    requires days_in { AreInWeek pattern }
     requires slacks_fit { let week = week_of instance.now in
-        SlacksFit first (only_if there (charged_item week charge (pattern_of pattern))) }
+        SlacksFit first (charged_items week charge (patterns_given pattern)) }
     ensures { let week = week_of instance.now in
-        Walks T.Taker section week first (only_if there (charged_item week charge (pattern_of pattern)))
+        Walks T.Taker part week first (charged_items week charge (patterns_given pattern))
         taker.old taker.new result }
 {
-    let item = charged_days(charge, pattern);
-    walk_item(instance, taker, section, first, there, item)
-}
-
-/// The window that ends on a day, where the run can be too long there.
-fn walk_window<T: Taker>(
-    instance: &Instance,
-    taker: &mut T,
-    section: Section,
-    first: u32,
-    runs: NurseRuns,
-    day: u8,
-) -> Result<u32, T::Fault>
-    requires charge_in { IsChargeOf (week_of instance.now) runs.charge }
-    requires day_in { day < 7 }
-    requires slacks_fit { SlacksFit first (window_items_on (runs_of (week_of instance.now) runs) day) }
-    ensures { let week = week_of instance.now in
-        Walks T.Taker section week first (window_items_on (runs_of week runs) day) taker.old taker.new result }
-{
-    let longest = u32::from(runs.history) + u32::from(day) + 1;
-    let there = u32::from(runs.limits.max) < longest;
-    let window = window_ending(runs.limits.max, day);
-    walk_pattern(instance, taker, section, first, runs.charge, there, window)
+    let Some(days) = pattern else {
+        return Ok(first);
+    };
+    let item = pattern_item(charge, days);
+    walk_item(instance, taker, part, first, Some(item))
 }
 
 /// The windows of the week.
+#[tactic(auto, using(crate::proofs::Walking::walking))]
 fn walk_windows<T: Taker>(
     instance: &Instance,
     taker: &mut T,
-    section: Section,
+    part: ItemPart,
     first: u32,
     runs: NurseRuns,
 ) -> Result<u32, T::Fault>
     requires charge_in { IsChargeOf (week_of instance.now) runs.charge }
     requires slacks_fit { SlacksFit first (each_below 7 (window_items_on (runs_of (week_of instance.now) runs))) }
     ensures { let week = week_of instance.now in
-        Walks T.Taker section week first (each_below 7 (window_items_on (runs_of week runs)))
+        Walks T.Taker part week first (each_below 7 (window_items_on (runs_of week runs)))
         taker.old taker.new result }
 {
     let mut next = first;
-    for day in 0..7 {
-        next = walk_window(instance, taker, section, next, runs, day)?;
+    for day in 0..DAYS {
+        let window = window_on(runs.history, runs.limits, day);
+        next = walk_pattern(instance, taker, part, next, runs.charge, window)?;
     }
     Ok(next)
-}
-
-/// The run of so many days that ends before a day, where the least length is greater.
-fn walk_closed<T: Taker>(
-    instance: &Instance,
-    taker: &mut T,
-    section: Section,
-    first: u32,
-    runs: NurseRuns,
-    day: u8,
-    count: u8,
-) -> Result<u32, T::Fault>
-    requires charge_in { IsChargeOf (week_of instance.now) runs.charge }
-    requires day_in { day < 7 }
-    requires count_in { count < day }
-    requires slacks_fit { SlacksFit first (closed_items_at (runs_of (week_of instance.now) runs) day count) }
-    ensures { let week = week_of instance.now in
-        Walks T.Taker section week first (closed_items_at (runs_of week runs) day count)
-        taker.old taker.new result }
-{
-    let there = count >= 1 && u16::from(count) < runs.limits.min;
-    let pattern = closed_before(runs.limits.min, day, count);
-    walk_pattern(instance, taker, section, first, runs.charge, there, pattern)
-}
-
-/// The run that fills the week up to a day and ends before it, where the least length is greater.
-fn walk_edge<T: Taker>(
-    instance: &Instance,
-    taker: &mut T,
-    section: Section,
-    first: u32,
-    runs: NurseRuns,
-    day: u8,
-) -> Result<u32, T::Fault>
-    requires charge_in { IsChargeOf (week_of instance.now) runs.charge }
-    requires day_in { day < 7 }
-    requires slacks_fit { SlacksFit first (edge_items_on (runs_of (week_of instance.now) runs) day) }
-    ensures { let week = week_of instance.now in
-        Walks T.Taker section week first (edge_items_on (runs_of week runs) day) taker.old taker.new result }
-{
-    let length = u32::from(runs.history) + u32::from(day);
-    let there = length >= 1 && length < u32::from(runs.limits.min);
-    let pattern = edge_before(runs.history, runs.limits.min, day);
-    walk_pattern(instance, taker, section, first, runs.charge, there, pattern)
 }
 
 /// The runs that end before a day.
 fn walk_patterns_on<T: Taker>(
     instance: &Instance,
     taker: &mut T,
-    section: Section,
+    part: ItemPart,
     first: u32,
     runs: NurseRuns,
     day: u8,
@@ -134,33 +73,36 @@ fn walk_patterns_on<T: Taker>(
     requires day_in { day < 7 }
     requires slacks_fit { SlacksFit first (pattern_items_on (runs_of (week_of instance.now) runs) day) }
     ensures { let week = week_of instance.now in
-        Walks T.Taker section week first (pattern_items_on (runs_of week runs) day)
+        Walks T.Taker part week first (pattern_items_on (runs_of week runs) day)
         taker.old taker.new result }
 {
     let mut next = first;
     for count in 0..day {
-        next = walk_closed(instance, taker, section, next, runs, day, count)?;
+        let closed = closed_before(runs.limits.min, day, count);
+        next = walk_pattern(instance, taker, part, next, runs.charge, closed)?;
     }
-    walk_edge(instance, taker, section, next, runs, day)
+    let edge = edge_before(runs.history, runs.limits.min, day);
+    walk_pattern(instance, taker, part, next, runs.charge, edge)
 }
 
 /// The runs that end in the week.
+#[tactic(auto, using(crate::proofs::Walking::walking))]
 fn walk_patterns<T: Taker>(
     instance: &Instance,
     taker: &mut T,
-    section: Section,
+    part: ItemPart,
     first: u32,
     runs: NurseRuns,
 ) -> Result<u32, T::Fault>
     requires charge_in { IsChargeOf (week_of instance.now) runs.charge }
     requires slacks_fit { SlacksFit first (each_below 7 (pattern_items_on (runs_of (week_of instance.now) runs))) }
     ensures { let week = week_of instance.now in
-        Walks T.Taker section week first (each_below 7 (pattern_items_on (runs_of week runs)))
+        Walks T.Taker part week first (each_below 7 (pattern_items_on (runs_of week runs)))
         taker.old taker.new result }
 {
     let mut next = first;
-    for day in 0..7 {
-        next = walk_patterns_on(instance, taker, section, next, runs, day)?;
+    for day in 0..DAYS {
+        next = walk_patterns_on(instance, taker, part, next, runs, day)?;
     }
     Ok(next)
 }
@@ -169,15 +111,15 @@ fn walk_patterns<T: Taker>(
 pub fn walk_runs<T: Taker>(
     instance: &Instance,
     taker: &mut T,
-    section: Section,
+    part: ItemPart,
     first: u32,
     runs: NurseRuns,
 ) -> Result<u32, T::Fault>
     requires charge_in { IsChargeOf (week_of instance.now) runs.charge }
     requires slacks_fit { SlacksFit first (run_items (runs_of (week_of instance.now) runs)) }
     ensures { let week = week_of instance.now in
-        Walks T.Taker section week first (run_items (runs_of week runs)) taker.old taker.new result }
+        Walks T.Taker part week first (run_items (runs_of week runs)) taker.old taker.new result }
 {
-    let next = walk_windows(instance, taker, section, first, runs)?;
-    walk_patterns(instance, taker, section, next, runs)
+    let next = walk_windows(instance, taker, part, first, runs)?;
+    walk_patterns(instance, taker, part, next, runs)
 }

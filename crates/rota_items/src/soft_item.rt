@@ -5,28 +5,28 @@ use rota_core::{Rule, Span};
 
 /// What of each item a walk hands over: its row, or the weight of each of its slacks.
 #[derive(Clone, Copy)]
-pub enum Section {
-    Rows,
-    Weights,
+pub enum ItemPart {
+    Row,
+    SlackWeights,
 }
 
 /// What a nurse's run is made of: days on a shift type, days of work, or days off.
 #[derive(Clone, Copy)]
-pub enum RunKind {
+pub enum DayProperty {
     Shift(u8),
     Work,
     Off,
 }
 
-/// Days of the week, 0 to 6, that are all of a kind: from the first up to the end, which is left out.
-/// Whether the day before them and the day after them must not be of the kind, and the units that such
-/// days cost.
+/// Days of the week, 0 to 6, that all have a property: from the first up to the end, which is left out.
+/// Whether the day before them and the day after them must be without it, and the units that such days
+/// cost.
 #[derive(Clone, Copy)]
 pub struct DayPattern {
     pub first: u8,
     pub end: u8,
-    pub begins: bool,
-    pub ends: bool,
+    pub off_before: bool,
+    pub off_after: bool,
     pub units: u16,
 }
 
@@ -39,11 +39,11 @@ pub enum ItemSum {
         shift: u8,
         skill: u8,
     },
-    /// The days of a nurse's pattern: the cells of a day that is to be of the kind with -1, and those
-    /// of another with 1; for days off the other way round.
+    /// The days of a nurse's pattern: the cells of a day that is to have the property with -1, and
+    /// those of another with 1; for days off the other way round.
     Days {
         nurse: u16,
-        kind: RunKind,
+        property: DayProperty,
         pattern: DayPattern,
     },
     /// All cells of a nurse.
@@ -53,7 +53,7 @@ pub enum ItemSum {
     },
 }
 
-/// An item: terms that with so many slacks are to be at least the degree, where each slack costs the
+/// An item: terms that with `slacks` slacks are to be at least the degree, where each slack costs the
 /// weight.
 #[derive(Clone, Copy)]
 pub struct SoftItem {
@@ -64,20 +64,20 @@ pub struct SoftItem {
     pub degree: i64,
 }
 
-/// What of a nurse's days is charged: the rule, the weight of a unit, and the kind of days that a
-/// pattern is to have.
+/// What of a nurse's days is charged: the rule, the weight of a unit, and the property that the days of
+/// a pattern are to have.
 #[derive(Clone, Copy)]
-pub struct DayCharge {
+pub struct RunCharge {
     pub rule: Rule,
     pub weight: u16,
     pub nurse: u16,
-    pub kind: RunKind,
+    pub property: DayProperty,
 }
 
 /// A nurse's runs: how long a run the history left, and how long a run is to be.
 #[derive(Clone, Copy)]
 pub struct NurseRuns {
-    pub charge: DayCharge,
+    pub charge: RunCharge,
     pub history: u16,
     pub limits: Span,
 }

@@ -1,13 +1,16 @@
 //! Sums of cells, term by term.
-ghost use Rattle.std.specs.Prelude.{◌<◌, [], ◌∷◌};
+ghost use Rattle.std.specs.Prelude.{◌≡◌, ◌+◌, ◌^◌, ◌<◌, [], ◌∷◌};
+ghost use Rattle.std.specs.List.{range_with_len};
 ghost use Rattle.rota_core.specs.InstanceTables.{week_of};
 ghost use Rattle.rota_core.specs.Roster.{InWeek};
-ghost use Rattle.rota_items.specs.CellEvents.{sum_events};
-ghost use Rattle.rota_items.specs.Cells.{demand_cells, on_cells, skill_cells, skill_cells_on, work_cells};
+ghost use Rattle.rota_items.specs.CellEvents.{coefficient_of, sum_events};
+ghost use Rattle.rota_items.specs.Cells.{demand_cells, nurse_cells, on_cells, skill_cells, skill_cells_on, work_cells};
+ghost use Rattle.rota_items.specs.Events.{term_events};
+ghost use Rattle.rota_items.specs.Linear.{times};
 ghost use Rattle.rota_items.specs.Takes.{Takes};
 
 use crate::takers::Taker;
-use crate::variables::cell_var;
+use crate::variables::{cell_var, first_var_on};
 use rota_core::{Cell, Instance};
 
 /// The sign of a sum's terms.
@@ -17,8 +20,89 @@ pub enum Sign {
     Minus,
 }
 
+/// The coefficient of terms of the sign.
+fn coefficient(sign: Sign) -> i64
+    ensures { result ≡ coefficient_of sign }
+{
+    match sign {
+        Sign::Plus => 1,
+        Sign::Minus => -1,
+    }
+}
+
+/// Variables that follow one another from the first on, `count` of them, each with the coefficient.
+pub fn give_range<T: Taker>(
+    taker: &mut T,
+    coefficient: i64,
+    first: u32,
+    count: u32,
+) -> Result<(), T::Fault>
+    requires { first + count < 2 ^ 32 }
+    ensures { Takes T.Taker (term_events (times coefficient (range_with_len first count)))
+        taker.old taker.new result }
+{
+    for i in 0..count {
+        taker.term(coefficient, first + i)?;
+    }
+    Ok(())
+}
+
+/// The cells of a nurse's day on a shift type, whose variables follow one another.
+pub fn give_on<T: Taker>(
+    instance: &Instance,
+    taker: &mut T,
+    sign: Sign,
+    nurse: u16,
+    shift: u8,
+    day: u8,
+) -> Result<(), T::Fault>
+    requires nurse_in { nurse < (week_of instance.now).nurses }
+    requires shift_in { shift < (week_of instance.now).shifts }
+    requires day_in { day < 7 }
+    ensures { let week = week_of instance.now in
+        Takes T.Taker (sum_events week sign (on_cells week nurse shift day)) taker.old taker.new result }
+{
+    let first = first_var_on(instance, nurse, day, shift);
+    let cells = u32::from(instance.skills());
+    give_range(taker, coefficient(sign), first, cells)
+}
+
+/// The cells of a nurse's day, whose variables follow one another.
+pub fn give_work<T: Taker>(
+    instance: &Instance,
+    taker: &mut T,
+    sign: Sign,
+    nurse: u16,
+    day: u8,
+) -> Result<(), T::Fault>
+    requires nurse_in { nurse < (week_of instance.now).nurses }
+    requires day_in { day < 7 }
+    ensures { let week = week_of instance.now in
+        Takes T.Taker (sum_events week sign (work_cells week nurse day)) taker.old taker.new result }
+{
+    let first = first_var_on(instance, nurse, day, 0);
+    let cells = u32::from(instance.shifts()) * u32::from(instance.skills());
+    give_range(taker, coefficient(sign), first, cells)
+}
+
+/// All cells of a nurse, whose variables follow one another.
+pub fn give_nurse_cells<T: Taker>(
+    instance: &Instance,
+    taker: &mut T,
+    sign: Sign,
+    nurse: u16,
+) -> Result<(), T::Fault>
+    requires { nurse < (week_of instance.now).nurses }
+    ensures { let week = week_of instance.now in
+        Takes T.Taker (sum_events week sign (nurse_cells week nurse)) taker.old taker.new result }
+{
+    let first = first_var_on(instance, nurse, 0, 0);
+    let cells = 7 * u32::from(instance.shifts()) * u32::from(instance.skills());
+    give_range(taker, coefficient(sign), first, cells)
+}
+
 /// One cell, with the sign.
-fn take_cell<T: Taker>(
+pub fn give_cell<T: Taker>(
     instance: &Instance,
     taker: &mut T,
     sign: Sign,
@@ -35,54 +119,9 @@ fn take_cell<T: Taker>(
     }
 }
 
-/// The cells of a nurse's day on a shift type.
-pub fn take_on<T: Taker>(
-    instance: &Instance,
-    taker: &mut T,
-    sign: Sign,
-    nurse: u16,
-    shift: u8,
-    day: u8,
-) -> Result<(), T::Fault>
-    requires nurse_in { nurse < (week_of instance.now).nurses }
-    requires shift_in { shift < (week_of instance.now).shifts }
-    requires day_in { day < 7 }
-    ensures { let week = week_of instance.now in
-        Takes T.Taker (sum_events week sign (on_cells week nurse shift day)) taker.old taker.new result }
-{
-    for skill in 0..instance.skills() {
-        let cell = Cell {
-            nurse,
-            day,
-            shift,
-            skill,
-        };
-        take_cell(instance, taker, sign, cell)?;
-    }
-    Ok(())
-}
-
-/// The cells of a nurse's day.
-pub fn take_work<T: Taker>(
-    instance: &Instance,
-    taker: &mut T,
-    sign: Sign,
-    nurse: u16,
-    day: u8,
-) -> Result<(), T::Fault>
-    requires nurse_in { nurse < (week_of instance.now).nurses }
-    requires day_in { day < 7 }
-    ensures { let week = week_of instance.now in
-        Takes T.Taker (sum_events week sign (work_cells week nurse day)) taker.old taker.new result }
-{
-    for shift in 0..instance.shifts() {
-        take_on(instance, taker, sign, nurse, shift, day)?;
-    }
-    Ok(())
-}
-
 /// The cells of a day's shift type and skill, one for each nurse.
-pub fn take_demand_cells<T: Taker>(
+#[tactic(auto, using(crate::proofs::Taking::taking))]
+pub fn give_demand_cells<T: Taker>(
     instance: &Instance,
     taker: &mut T,
     day: u8,
@@ -103,13 +142,14 @@ pub fn take_demand_cells<T: Taker>(
             shift,
             skill,
         };
-        take_cell(instance, taker, Sign::Plus, cell)?;
+        give_cell(instance, taker, Sign::Plus, cell)?;
     }
     Ok(())
 }
 
 /// The cells of a nurse's day that need the skill, each with -1.
-fn take_skill_cells_on<T: Taker>(
+#[tactic(auto, using(crate::proofs::Taking::taking))]
+fn give_skill_cells_on<T: Taker>(
     instance: &Instance,
     taker: &mut T,
     nurse: u16,
@@ -130,13 +170,14 @@ fn take_skill_cells_on<T: Taker>(
             shift,
             skill,
         };
-        take_cell(instance, taker, Sign::Minus, cell)?;
+        give_cell(instance, taker, Sign::Minus, cell)?;
     }
     Ok(())
 }
 
 /// The cells of a nurse that need the skill, each with -1.
-pub fn take_skill_cells<T: Taker>(
+#[tactic(auto, using(crate::proofs::Taking::taking))]
+pub fn give_skill_cells<T: Taker>(
     instance: &Instance,
     taker: &mut T,
     nurse: u16,
@@ -149,7 +190,7 @@ pub fn take_skill_cells<T: Taker>(
         taker.old taker.new result }
 {
     for day in 0..7 {
-        take_skill_cells_on(instance, taker, nurse, day, skill)?;
+        give_skill_cells_on(instance, taker, nurse, day, skill)?;
     }
     Ok(())
 }

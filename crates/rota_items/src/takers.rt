@@ -21,7 +21,7 @@ pub trait Taker {
 
     ghost left: { Value → Event → Self → Type 0 };
 
-    /// Takes the begin of a row of this part. An Err is answered by the taker alone, and ends a drive.
+    /// Takes the begin of a row of this part. Only the taker answers an Err, and it ends a drive.
     fn start_row(&mut self, part: Part) -> Result<(), Self::Fault>
         ensures { MatchResult result
             (λ _. value self.new ≡ step (value self.old) (start_row part))

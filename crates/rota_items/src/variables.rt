@@ -1,8 +1,8 @@
 //! The numbers of a model's variables: those of the cells from 1 on, then the unit variable, then the
 //! slacks.
-ghost use Rattle.std.specs.Prelude.{◌≡◌, ◌≤◌, ◌⊎◌, ◌↔◌, IfSome, IsNone};
+ghost use Rattle.std.specs.Prelude.{◌≡◌, ◌<◌, ◌≤◌, ◌⊎◌, ◌↔◌, ◌^◌, IfSome, IsNone};
 ghost use Rattle.rota_core.specs.InstanceTables.{week_of};
-ghost use Rattle.rota_core.specs.Roster.{InWeek};
+ghost use Rattle.rota_core.specs.Roster.{InWeek, cell};
 ghost use Rattle.rota_items.specs.Cells.{cell_number, unit_number};
 
 use crate::limits::within_limits;
@@ -14,17 +14,29 @@ pub fn cell_var(instance: &Instance, cell: Cell) -> u32
     requires { InWeek (week_of instance.now) cell }
     ensures { result ≡ cell_number (week_of instance.now) cell }
 {
-    let day_place = u32::from(cell.nurse) * 7 + u32::from(cell.day);
-    let shift_place = day_place * u32::from(instance.shifts()) + u32::from(cell.shift);
-    shift_place * u32::from(instance.skills()) + u32::from(cell.skill) + 1
+    within_limits(instance);
+    instance.place(cell) + 1
+}
+
+/// The variable of the first cell of a nurse's day on a shift type. Those of her other cells on the
+/// shift type follow it, then those of her next shift types, then those of her next days.
+pub fn first_var_on(instance: &Instance, nurse: u16, day: u8, shift: u8) -> u32
+    requires nurse_in { nurse < (week_of instance.now).nurses }
+    requires day_in { day < 7 }
+    ensures number { result ≡ cell_number (week_of instance.now) (cell nurse day shift 0) }
+    ensures small { result ≤ 2 ^ 31 }
+{
+    let day_place = u32::from(nurse) * 7 + u32::from(day);
+    let shift_place = day_place * u32::from(instance.shifts()) + u32::from(shift);
+    shift_place * u32::from(instance.skills()) + 1
 }
 
 /// The variable that is true in every solution: it follows those of the cells.
 pub fn unit_var(instance: &Instance) -> u32
     ensures { result ≡ unit_number (week_of instance.now) }
 {
-    let days = 7 * u32::from(instance.nurses());
-    days * u32::from(instance.shifts()) * u32::from(instance.skills()) + 1
+    within_limits(instance);
+    instance.places() + 1
 }
 
 /// The cell of a variable, or `None` for 0, the unit variable, and the numbers above it.
@@ -37,15 +49,5 @@ pub fn var_cell(instance: &Instance, variable: u32) -> Option<Cell>
     if variable == 0 || variable >= unit_var(instance) {
         return None;
     }
-    let place = variable - 1;
-    let skills = u32::from(instance.skills());
-    let shift_place = place / skills;
-    let shifts = u32::from(instance.shifts());
-    let day_place = shift_place / shifts;
-    Some(Cell {
-        nurse: (day_place / 7) as u16,
-        day: (day_place % 7) as u8,
-        shift: (shift_place % shifts) as u8,
-        skill: (place % skills) as u8,
-    })
+    Some(instance.cell(variable - 1))
 }

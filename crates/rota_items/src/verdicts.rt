@@ -1,6 +1,6 @@
 //! What a judge answers.
 
-use rota_core::Rule;
+use rota_core::{Rule, SOFT_RULES};
 
 /// What a judge found of an assignment to a model's variables.
 #[derive(Clone, Copy, PartialEq, Eq, Debug)]
@@ -10,7 +10,7 @@ pub struct Verdict {
     pub unmet: Option<(u32, Rule)>,
     /// The value of the objective.
     pub objective: u64,
-    /// What S1 to S7 are charged, in this order: the weighted shortages of the rule's constraints, the
-    /// weights of the requests that are not granted, and what the history alone has made of the totals.
-    pub costs: [u64; 7],
+    /// What the soft rules are charged, in their order: the weighted shortages of the rule's constraints,
+    /// the weights of the requests that are not granted, and what only the history has made of the totals.
+    pub costs: [u64; SOFT_RULES],
 }

@@ -6,14 +6,15 @@ use Rattle.rota_core.specs.declared.values.Cell.{Cell}
 use Rattle.rota_core.specs.Roster.{InWeek}
 use Rattle.rota_core.specs.RosterTables.{RosterTables, HasShapeOf, cell_place, set_of}
 use Rattle.rota_items.specs.Linear.{objective_value}
-use Rattle.rota_items.specs.Penalty.{penalty}
-use Rattle.rota_items.specs.RuleCharges.{soft_rules}
+use Rattle.rota_core.specs.Rules.{soft_rules}
+use Rattle.rota_items.specs.SoftRules.{penalty}
 use Rattle.rota_items.specs.Verdicts.{IsMet, truth_of}
 use Rattle.rota_items.specs.WeekModel.{model_of, roster_of}
 use Rattle.rota_items.specs.declared.verdicts.Verdict.{Verdict}
 use Rattle.solver_text.specs.Answers.{Meaning}
 use Rattle.rota_pb.specs.Decoded.{FindsRoster, IsDecoded}
-use Rattle.rota_pb.proofs.SameCells.{keeps-alike, penalty-alike, rule_cost-alike}
+use Rattle.rota_items.proofs.AlikeRosters.{keeps-alike}
+use Rattle.rota_items.proofs.SoftRules.EachRule.{penalty-alike, sound-rule}
 
 map-alike : {X Y : Type 0} (f g : X → Y) → ((x : X) → f x ≡ g x) → (xs : List X) → map f xs ≡ map g xs
 map-alike f g same [] = refl
@@ -51,7 +52,7 @@ module _ (week : Week) (meaning : Meaning) (verdict : Verdict) (roster : RosterT
     cells = λ cell in_week. sym (same cell in_week);
     keeps = keeps-alike week _ _ same met.keeps;
     objective = objective;
-    costs = met.costs_rules.costs ∙ map-alike _ _ (rule_cost-alike week _ _ same) soft_rules;
+    costs = met.costs_rules.costs ∙ map-alike _ _ (λ rule. (sound-rule week rule).alike _ _ same) soft_rules;
     sum_of_costs = is_total;
     penalty_is = of_roster;
     penalty_at_most = subst (λ n. n ≤ verdict.objective) (sym (is_total ∙ met.costs_rules.sum_is)) met.penalty_at_most;

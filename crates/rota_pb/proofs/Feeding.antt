@@ -14,7 +14,7 @@ use Rattle.rota_pb.specs.declared.fault.Fault.{Fault}
 use Rattle.rota_pb.specs.declared.fault.Fault.TheVariants.{File, Memory, Write, Read, Answer, NoRoster, Unmet, Breaks}
 use Rattle.rota_pb.specs.AnswerPieces.{FailsAnswer, IsSolved}
 use Rattle.rota_pb.specs.Feeding.{HasTaken, HasTakenAll, FaultTaken, StopsTaking}
-use Rattle.rota_pb.specs.Readers.{Reader}
+use Rattle.rota_pb.specs.Readers.{IsEnded, Reader}
 use Rattle.rota_pb.proofs.WholeFiles.{told_are}
 
 prepend_known-append : (xs ys : List ℕ) (told : Told) → prepend_known (xs ++ ys) told ≡ prepend_known xs (prepend_known ys told)
@@ -72,11 +72,11 @@ module _ (given before left : Told) (old middle new : AnswerState) (pieces : ℕ
 -- ---- the answer that the pieces give
 
 -- the bytes that were taken up to the end are all bytes
-all_taken : (reader : Reader) (taken bytes : List ℕ) → reader.given ≡ prepend_known taken reader.left → IsAtEnd reader.left →
+all_taken : (reader : Reader) (taken bytes : List ℕ) → reader.given ≡ prepend_known taken reader.left → IsEnded reader →
     reader.given ≡ Some bytes → taken ≡ bytes
 all_taken reader taken bytes front at_end told =
     let parts : (rest : List ℕ) × (reader.left ≡ Some rest) × (taken ++ rest ≡ bytes) = told_are reader.given reader.left taken bytes front told in
-    let none : parts.0 ≡ [] = subst IsAtEnd parts.1 at_end in
+    let none : parts.0 ≡ [] = subst IsAtEnd parts.1 at_end.none_left in
     sym (append-nil taken) ∙ ap (λ (rest : List ℕ). taken ++ rest) (sym none) ∙ parts.2
 
 module _ (variables : ℕ) (reader : Reader) (old : AnswerState) (from : LeadsTo variables [] old) where
@@ -124,7 +124,7 @@ module _ (variables : ℕ) (reader : Reader) (old : AnswerState) (from : LeadsTo
         means = λ bytes told.
             subst (λ (text : List ℕ). outcome variables text ≡ Ok (meaning_of solved))
             (all_taken reader all.taken bytes all.front all.at_end told) (ends all.taken (all.leads variables from));
-        sound = all.sound;
+        to_end = record { taken = all.taken; front = all.front; ended = all.at_end; sound = all.sound };
       };
       bits = bits all.taken (all.leads variables from);
     }

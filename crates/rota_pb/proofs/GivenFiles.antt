@@ -1,26 +1,26 @@
 -- A solution file that was read whole, or up to a byte more than it may have.
-use Rattle.std.proofs.Common.{◌≡◌, ℕ, ◌+◌, ◌<◌, List, length}
-use Rattle.std.specs.Io.KnownBytes.{prepend_known, IsAtEnd}
+use Rattle.std.proofs.Common.{ℕ, ◌+◌, List}
 use Rattle.rota_core.specs.InstanceTables.{InstanceTables}
 use Rattle.rota_core.specs.RosterTables.{RosterTables}
 use Rattle.rota_core.specs.declared.fault.FileName.TheVariants as names
 use Rattle.rota_read.specs.Reading.{LONGEST}
 use Rattle.rota_read.specs.SolutionLayout.{solution}
 use Rattle.rota_read.specs.SolutionRows.{SpellsRoster}
-use Rattle.rota_pb.specs.Extending.{IsRosterRead}
+use Rattle.rota_pb.specs.WeekFiles.{IsRosterRead}
 use Rattle.rota_pb.specs.Readers.{Reader}
+use Rattle.rota_pb.specs.WholeRead.{IsReadUpTo}
 use Rattle.rota_pb.proofs.WholeFiles.{is-read}
 
 -- the roster is read that its text spells
-pub roster-read : (tables : InstanceTables) (reader : Reader) (text : List ℕ) → reader.given ≡ prepend_known text reader.left →
-    (length text < LONGEST + 1 → IsAtEnd reader.left) → reader.failed ≡ reader.failed_before → (roster : RosterTables) →
+pub roster-read : (tables : InstanceTables) (reader : Reader) (text : List ℕ) → IsReadUpTo (LONGEST + 1) reader text →
+    (roster : RosterTables) →
     SpellsRoster tables text roster → IsRosterRead tables reader roster
-roster-read tables reader text is at_end sound roster spells = record {
+roster-read tables reader text read roster spells = record {
   spelled = λ bytes told. record {
     rows = spells.rows;
-    spelled = (is-read names.Solution (solution tables.scenario) reader text is at_end sound spells.rows spells.spelled).spelled bytes told;
+    spelled = (is-read names.Solution (solution tables.scenario) reader text read spells.rows spells.spelled).spelled bytes told;
     cells = spells.cells;
   };
   shape = spells.cells.shape;
-  sound = sound;
+  to_end = (is-read names.Solution (solution tables.scenario) reader text read spells.rows spells.spelled).to_end;
 }

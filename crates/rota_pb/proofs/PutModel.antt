@@ -16,7 +16,7 @@ use Rattle.opb_text.specs.Sink.{PutsText}
 use Rattle.opb_text.specs.declared.opb_taker.OpbTaker.{OpbTaker}
 use Rattle.opb_text.specs.declared.sink.Sink.{Sink}
 use Rattle.opb_text.proofs.PutModel.{first_line_failed, objective_failed, model_put}
-use Rattle.opb_text.proofs.WeekRows.{rows_of-are_constraints}
+use Rattle.rota_pb.proofs.WeekRows.{rows_of-are_constraints}
 
 -- the first line that was put is that of the rows
 line : (week : Week) (variables count : ℕ) → variables ≡ (model_of week).variables → count ≡ length (model_of week).constraints →

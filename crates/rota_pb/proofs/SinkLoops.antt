@@ -1,10 +1,8 @@
 -- Texts that go into a sink in a loop.
 use Rattle.std.proofs.Common.{◌≡◌, ℕ, ◌+◌, ◌<◌, List, [], ◌++◌, Result, Ok, Err, refl, sym, ap, ◌∙◌, append_assoc}
 use Rattle.std.specs.Prelude.{IsErr}
-use Rattle.std.proofs.lemmas.List.Concat.{flat_map-append}
 use Rattle.rota_core.specs.declared.ports.PortFault.{PortFault}
 use Rattle.rota_core.specs.declared.ports.Target.{Ghosts}
-use Rattle.rota_core.specs.InstanceTables.{InstanceTables}
 use Rattle.rota_core.specs.Lists.{each_below}
 use Rattle.opb_text.specs.declared.sink.Sink.{Sink}
 use Rattle.opb_text.specs.Sink.{PutsText, stands_for, sink_failed, target_of}
@@ -12,8 +10,6 @@ use Rattle.opb_text.proofs.Told.{append_known-nil}
 use Rattle.opb_text.proofs.PutsTextLemmas.{or_false, puts_exit, puts_stop, puts_then}
 use Rattle.rota_core.proofs.Loops.{each_below-zero, each_below-more}
 use Rattle.rota_items.proofs.Taking.{within as split_at}
-use Rattle.rota_read.specs.SolutionText.{assignment_text}
-use Rattle.rota_pb.specs.RosterRows.{rows_text}
 
 -- the list at i begins what is left of all lists behind those before it
 record WithinLoop {A : Type 0} (i n : ℕ) (f : ℕ → List A) : Type 0 where
@@ -35,12 +31,6 @@ pub record Joins {A : Type 0} (text : List A → List ℕ) : Type 0 where
 
 pub bytes_join : Joins (λ (bytes : List ℕ). bytes)
 bytes_join = record { none = refl; append = λ xs ys. refl }
-
-pub rows_join : (tables : InstanceTables) → Joins (rows_text tables)
-rows_join tables = record {
-  none = refl;
-  append = λ xs ys. flat_map-append (assignment_text tables.scenario) xs ys;
-}
 
 module _ {W : Type 0} {target : Ghosts W} where
   -- nothing is put

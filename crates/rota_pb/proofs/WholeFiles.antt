@@ -1,5 +1,5 @@
 -- A file that was read whole, or up to a byte more than a file may have.
-use Rattle.std.proofs.Common.{◌≡◌, ℕ, ◌+◌, ◌<◌, ◌≤◌, List, [], ◌++◌, length, Option, None, Some, refl, sym, subst, ◌∙◌, ap, arith, length-append}
+use Rattle.std.proofs.Common.{◌≡◌, ℕ, ◌+◌, ◌≤◌, List, [], ◌++◌, length, Option, None, Some, refl, sym, subst, ◌∙◌, ap, arith, length-append}
 use Rattle.std.specs.Io.KnownBytes.{prepend_known, IsAtEnd}
 use Rattle.std.proofs.lemmas.List.{append-nil}
 use Rattle.rota_core.specs.Ports.{Told}
@@ -15,7 +15,7 @@ use Rattle.rota_pb.specs.declared.fault.Fault.TheVariants.{File, Memory, Write, 
 use Rattle.rota_pb.specs.Faults.{FailsCheck, fault_of_file}
 use Rattle.rota_pb.specs.Readers.{Reader}
 use Rattle.rota_pb.specs.WeekFiles.{IsRead}
-use Rattle.rota_pb.specs.WholeRead.{StopsReading}
+use Rattle.rota_pb.specs.WholeRead.{IsReadUpTo, StopsReading}
 
 some_injective : {A : Type 0} (a b : A) → ◌≡◌ {A = Option A} (Some a) (Some b) → a ≡ b
 some_injective a b same = cc
@@ -27,19 +27,18 @@ told_are given None text bytes is told = let h : ◌≡◌ {A = Told} None (Some
 told_are given (Some rest) text bytes is told = (rest, refl, some_injective (text ++ rest) bytes (sym is ∙ told))
 
 module _ {V : Type 0} (name : FileName) (layout : Layout V) (reader : Reader) (text : List ℕ)
-    (is : reader.given ≡ prepend_known text reader.left) (at_end : length text < LONGEST + 1 → IsAtEnd reader.left)
-    (sound : reader.failed ≡ reader.failed_before) where
+    (read : IsReadUpTo (LONGEST + 1) reader text) where
   -- a text that is not too long is the whole file
   whole : length text ≤ LONGEST → (bytes : List ℕ) → reader.given ≡ Some bytes → text ≡ bytes
   whole short bytes told =
-      let parts : (rest : List ℕ) × (reader.left ≡ Some rest) × (text ++ rest ≡ bytes) = told_are reader.given reader.left text bytes is told in
-      let none : parts.0 ≡ [] = subst IsAtEnd parts.1 (at_end (omega arith)) in
+      let parts : (rest : List ℕ) × (reader.left ≡ Some rest) × (text ++ rest ≡ bytes) = told_are reader.given reader.left text bytes read.front told in
+      let none : parts.0 ≡ [] = subst IsAtEnd parts.1 (read.ended (omega arith)).none_left in
       sym (append-nil text) ∙ ap (λ (r : List ℕ). text ++ r) (sym none) ∙ parts.2
 
   -- the file has the fault of what was read: a longer one is too long as that is
   fault-of_file : (fault : TextFault) → HasFault layout text fault → (bytes : List ℕ) → reader.given ≡ Some bytes → HasFault layout bytes fault
   fault-of_file fault (too_long long is_long) bytes told =
-      let parts : (rest : List ℕ) × (reader.left ≡ Some rest) × (text ++ rest ≡ bytes) = told_are reader.given reader.left text bytes is told in
+      let parts : (rest : List ℕ) × (reader.left ≡ Some rest) × (text ++ rest ≡ bytes) = told_are reader.given reader.left text bytes read.front told in
       subst (λ (b : List ℕ). HasFault layout b fault) parts.2 (too_long (omega (arith, length-append text parts.0)) is_long)
   fault-of_file fault (misses_slot short misses) bytes told =
       subst (λ (b : List ℕ). HasFault layout b fault) (whole short bytes told) (misses_slot short misses)
@@ -48,19 +47,24 @@ module _ {V : Type 0} (name : FileName) (layout : Layout V) (reader : Reader) (t
 
   -- why the check of a file fails whose text was read
   pub fails-check : (f : FileFault) → IsFaultOf name layout text f → FailsCheck name layout reader (fault_of_file f)
-  fails-check (refusals.Bad kind file line) is_fault = ((is_fault.0, fault-of_file (record { kind = kind; line = line }) is_fault.1), sound)
-  fails-check refusals.Memory is_fault = sound
+  fails-check (refusals.Bad kind file line) is_fault = ((is_fault.0, fault-of_file (record { kind = kind; line = line }) is_fault.1), record { taken = text; read = read })
+  fails-check refusals.Memory is_fault = read.sound
 
   -- the file is read whose text spells a value
   pub is-read : (value : V) → Spells layout text value → IsRead layout reader value
   is-read value spells = record {
     spelled = λ bytes told. subst (λ (b : List ℕ). Spells layout b value) (whole spells.short bytes told) spells;
-    sound = sound;
+    to_end = record {
+      taken = text;
+      front = read.front;
+      ended = let short = spells.short in read.ended (omega arith);
+      sound = read.sound;
+    };
   }
 
 -- why the check of a file fails that was not read
 pub stops-check : {V : Type 0} (name : FileName) (layout : Layout V) (reader : Reader) (fault : Fault) →
-    StopsReading (LONGEST + 1) reader.given reader.left reader.failed_before reader.failed fault → FailsCheck name layout reader fault
+    StopsReading (LONGEST + 1) reader fault → FailsCheck name layout reader fault
 stops-check name layout reader (File file) stops = absurd stops
 stops-check name layout reader Memory stops = stops
 stops-check name layout reader Write stops = absurd stops

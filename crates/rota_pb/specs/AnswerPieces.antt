@@ -1,12 +1,12 @@
 -- A solver's answer that is read in pieces, to its end.
-use Rattle.std.specs.Prelude.{◌≡◌, ℕ, ◌-◌, ◌≤◌, ◌^◌, true, List, length, Some, Ok, Err}
+use Rattle.std.specs.Prelude.{◌≡◌, ℕ, ◌-◌, ◌≤◌, ◌^◌, List, length, Some, Ok, Err}
 use Rattle.std.specs.Io.KnownBytes.{prepend_known}
 use Rattle.solver_text.specs.declared.outcome.Solved.{Solved}
 use Rattle.solver_text.specs.Answers.{Meaning, outcome}
 use Rattle.solver_text.specs.States.{fault_within, meaning_of}
 use Rattle.rota_pb.specs.declared.fault.Fault.{Fault}
 use Rattle.rota_pb.specs.declared.fault.Fault.TheVariants.{File, Memory, Write, Read, Answer, NoRoster, Unmet, Breaks}
-use Rattle.rota_pb.specs.Readers.{Reader}
+use Rattle.rota_pb.specs.Readers.{FailsBeforeEnd, IsReadToEnd, Reader}
 
 -- an answer is read in at most so many pieces, each of which has a byte
 abbrev pub MOST_PIECES : ℕ
@@ -15,17 +15,22 @@ MOST_PIECES = 2 ^ 64 - 1
 -- the reader was read to its end, and its bytes mean this for so many variables
 pub record IsAnswered (variables : ℕ) (reader : Reader) (meaning : Meaning) : Type 0 where
   pub means : (bytes : List ℕ) → reader.given ≡ Some bytes → outcome variables bytes ≡ Ok meaning
-  pub sound : reader.failed ≡ reader.failed_before
+  pub to_end : IsReadToEnd reader
 
 -- what was read is an answer for so many variables, with a bit for each
 pub record IsSolved (variables : ℕ) (reader : Reader) (solved : Solved) : Type 0 where
   pub answered : IsAnswered variables reader (meaning_of solved)
   pub bits : length solved.bits ≡ variables
 
--- why no end came after the bytes that were taken: the reader failed, or there would have been too many pieces
+-- why no end came after the bytes that were taken: the reader failed before it said one, or there would have been too many pieces
 pub data LacksEnd (reader : Reader) (taken : List ℕ) : Type 0 where
-  by_failure : reader.failed ≡ true → LacksEnd reader taken
-  by_length : MOST_PIECES ≤ length taken → reader.failed ≡ reader.failed_before → LacksEnd reader taken
+  by_failure : FailsBeforeEnd reader → LacksEnd reader taken
+  by_length : MOST_PIECES ≤ length taken → reader.failed ≡ reader.failed_before → reader.ended ≡ reader.ended_before → LacksEnd reader taken
+
+-- no end of the answer came
+pub record HasNoEnd (reader : Reader) : Type 0 where
+  pub taken : List ℕ
+  pub lacks : LacksEnd reader taken
 
 -- no end came after the bytes that were taken, and no fault was judged in them
 pub record StopsUnjudged (variables : ℕ) (reader : Reader) : Type 0 where

@@ -1,31 +1,29 @@
 -- What a run that extends writes.
-use Rattle.std.specs.Prelude.{◌≡◌, ℕ, ◌+◌, ◌<◌, ◌≤◌, pos, Bool, List, [], ◌∷◌, Some, Ok}
-use Rattle.std.specs.Io.KnownBytes.{append_known}
-use Rattle.rota_core.specs.Ports.{Told}
+use Rattle.std.specs.Prelude.{◌≡◌, ℕ, ◌+◌, ◌<◌, ◌≤◌, pos, Bool, List, [], ◌∷◌, Some, Result, Ok, MatchResult}
 use Rattle.rota_core.specs.Lists.{each_below}
 use Rattle.rota_core.specs.Week.{Week}
 use Rattle.rota_core.specs.InstanceTables.{InstanceTables, IsInstance, week_of}
-use Rattle.rota_core.specs.RosterTables.{RosterTables, HasShapeOf, set_of}
+use Rattle.rota_core.specs.RosterTables.{RosterTables, set_of}
 use Rattle.rota_core.specs.declared.values.Cell.{Cell}
 use Rattle.rota_core.specs.declared.fault.FileName.TheVariants as names
 use Rattle.rota_core.specs.Roster.{Roster, InWeek}
 use Rattle.rota_core.specs.HardRules.{KeepsHardRules, FirstBroken}
-use Rattle.rota_items.specs.Penalty.{penalty}
+use Rattle.rota_items.specs.SoftRules.{penalty}
 use Rattle.rota_items.specs.Verdicts.{truth_of}
 use Rattle.rota_items.specs.WeekModel.{model_of, roster_of, extension_of}
 use Rattle.rota_read.specs.SolutionLayout.{solution}
-use Rattle.rota_read.specs.SolutionRows.{SpellsRoster}
-use Rattle.opb_text.specs.Begins.{Begins}
 use Rattle.solver_text.specs.declared.outcome.Status.TheVariants.{Satisfiable}
 use Rattle.solver_text.specs.Answers.{outcome}
 use Rattle.solver_text.specs.AnswerText.{answer_text}
 use Rattle.rota_pb.specs.declared.fault.Fault.{Fault}
 use Rattle.rota_pb.specs.declared.fault.Fault.TheVariants.{File, Memory, Write, Read, Answer, NoRoster, Unmet, Breaks}
-use Rattle.rota_pb.specs.Faults.{FailsCheck}
-use Rattle.rota_pb.specs.Readers.{Reader}
-use Rattle.rota_pb.specs.WeekFiles.{SpellsWeek, StopsAt}
+use Rattle.rota_pb.specs.declared.week_files.Choice.{Choice}
+use Rattle.rota_pb.specs.Faults.{CheckOrWrite, FailsCheck}
+use Rattle.rota_pb.specs.Readers.{Reader, WeekReaders}
+use Rattle.rota_pb.specs.WeekFiles.{IsRosterRead, SpellsWeek, StopsAt}
+use Rattle.rota_pb.specs.Writers.{Writer, WritesText, WritesBeginning}
 
--- the truth values of the variables 1, 2, .. of which there are so many
+-- the truth values of the variables from 1 to count
 abbrev pub truths_to : ℕ → (ℕ → Bool) → List Bool
 truths_to count assignment = each_below count (λ place. assignment (place + 1) ∷ [])
 
@@ -52,45 +50,49 @@ BreaksRule week roster (Answer fault) = ⊥
 BreaksRule week roster (NoRoster status) = ⊥
 BreaksRule week roster (Unmet number) = ⊥
 
--- the roster keeps the hard rules, and a beginning of its extension's answer went out
-pub record BeginsExtension (week : Week) (roster : Roster) (before after : Told) : Type 0 where
-  pub keeps : KeepsHardRules week roster
-  pub begun : Begins after (append_known before (extension_text week roster))
-
--- the given file was read to its end, or to one byte more than a file may have, and spells the roster
-pub record IsRosterRead (tables : InstanceTables) (reader : Reader) (roster : RosterTables) : Type 0 where
-  pub spelled : (bytes : List ℕ) → reader.given ≡ Some bytes → SpellsRoster tables bytes roster
-  pub shape : HasShapeOf (week_of tables) roster
-  pub sound : reader.failed ≡ reader.failed_before
+-- What extending a roster did. The roster keeps the hard rules, and the answer of its extension went out whole; or it breaks one, and the
+-- writer was not touched; or it keeps them, and the writer failed after a beginning of the answer.
+abbrev pub ExtensionOutcome : Week → Roster → Writer → Result (Unit {0}) Fault → Type 0
+ExtensionOutcome week roster out result =
+    MatchResult result (λ _. KeepsHardRules week roster × WritesText out (extension_text week roster))
+    (λ fault. CheckOrWrite fault
+    (BreaksRule week roster fault × out.untouched) (KeepsHardRules week roster × WritesBeginning out (extension_text week roster)))
 
 -- the files spell the tables of a week, and a roster that keeps its hard rules
-pub record SpellsExtended (sce his wee given : Reader) (tables : InstanceTables) (roster : RosterTables) : Type 0 where
-  pub spelled : SpellsWeek sce his wee tables
+pub record SpellsExtended (choice : Choice) (readers : WeekReaders) (given : Reader) (tables : InstanceTables) (roster : RosterTables) : Type 0 where
+  pub spelled : SpellsWeek choice readers tables
   pub roster_read : IsRosterRead tables given roster
   pub keeps : KeepsHardRules (week_of tables) (set_of roster)
 
 -- the answer of the roster's extension went out whole
-pub record WritesExtension (sce his wee given : Reader) (before after : Told) : Type 0 where
+pub record WritesExtension (choice : Choice) (readers : WeekReaders) (given : Reader) (out : Writer) : Type 0 where
   pub tables : InstanceTables
   pub roster : RosterTables
-  pub extended : SpellsExtended sce his wee given tables roster
-  pub written : after ≡ append_known before (extension_text (week_of tables) (set_of roster))
+  pub extended : SpellsExtended choice readers given tables roster
+  pub written : WritesText out (extension_text (week_of tables) (set_of roster))
 
 -- a beginning of that answer went out
-pub record WritesExtensionPart (sce his wee given : Reader) (before after : Told) : Type 0 where
+pub record BeginsExtension (choice : Choice) (readers : WeekReaders) (given : Reader) (out : Writer) : Type 0 where
   pub tables : InstanceTables
   pub roster : RosterTables
-  pub extended : SpellsExtended sce his wee given tables roster
-  pub begun : Begins after (append_known before (extension_text (week_of tables) (set_of roster)))
+  pub extended : SpellsExtended choice readers given tables roster
+  pub begun : WritesBeginning out (extension_text (week_of tables) (set_of roster))
 
 -- The first check that fails gives the fault, and later readers are not touched.
-pub data StopsExtending (sce his wee given : Reader) (fault : Fault) : Type 0 where
-  at_week : StopsAt sce his wee fault → given.untouched → StopsExtending sce his wee given fault
-  at_given : (tables : InstanceTables) → SpellsWeek sce his wee tables →
-      FailsCheck names.Solution (solution tables.scenario) given fault → StopsExtending sce his wee given fault
-  at_roster : (tables : InstanceTables) (roster : RosterTables) → SpellsWeek sce his wee tables →
+pub data StopsExtending (choice : Choice) (readers : WeekReaders) (given : Reader) (fault : Fault) : Type 0 where
+  at_week : StopsAt choice readers fault → given.untouched → StopsExtending choice readers given fault
+  at_given : (tables : InstanceTables) → SpellsWeek choice readers tables →
+      FailsCheck names.Solution (solution tables.scenario) given fault → StopsExtending choice readers given fault
+  at_roster : (tables : InstanceTables) (roster : RosterTables) → SpellsWeek choice readers tables →
       IsRosterRead tables given roster →
-      BreaksRule (week_of tables) (set_of roster) fault → StopsExtending sce his wee given fault
+      BreaksRule (week_of tables) (set_of roster) fault → StopsExtending choice readers given fault
+
+-- What a run that extends did. The answer of the extension went out whole; or a check failed, and the writer was not touched; or the
+-- writer failed after a beginning of the answer.
+abbrev pub ExtendOutcome : Choice → WeekReaders → Reader → Writer → Result (Unit {0}) Fault → Type 0
+ExtendOutcome choice readers given out result =
+    MatchResult result (λ _. WritesExtension choice readers given out)
+    (λ fault. CheckOrWrite fault (StopsExtending choice readers given fault × out.untouched) (BeginsExtension choice readers given out))
 
 -- what the answer of a roster's extension says of the week's model, and of the roster
 pub record IsReadBack (week : Week) (roster : Roster) : Type 0 where

@@ -8,7 +8,7 @@ use Rattle.rota_read.specs.Layout.{Layout}
 use Rattle.rota_read.specs.Files.{HasFault}
 use Rattle.rota_read.specs.Reading.{LONGEST}
 use Rattle.rota_pb.specs.Readers.{Reader}
-use Rattle.rota_pb.specs.WholeRead.{FailsWithin}
+use Rattle.rota_pb.specs.WholeRead.{FailsWithin, IsReadWhole}
 use Rattle.rota_pb.specs.declared.fault.Fault.{Fault}
 use Rattle.rota_pb.specs.declared.fault.Fault.TheVariants.{File, Memory, Write, Read, Answer, NoRoster, Unmet, Breaks}
 
@@ -24,36 +24,25 @@ IsRefused name layout given (refusals.Bad kind file line) =
     ((bytes : List ℕ) → given ≡ Some bytes → HasFault layout bytes (record { kind = kind; line = line }))
 IsRefused name layout given refusals.Memory = ⊥
 
--- Why a file is not taken: its bytes have the fault, or memory ran out, and its source did not fail meanwhile; or its source failed
--- before its end, and before it gave one byte more than a file may have.
+-- Why a file is not taken: it was read whole, and its bytes have the fault; or memory ran out, and its source did not fail meanwhile; or
+-- its source failed before its end, and before it gave one byte more than a file may have.
 abbrev pub FailsCheck : {V : Type 0} → FileName → Layout V → Reader → Fault → Type 0
-FailsCheck name layout reader (File file) = IsRefused name layout reader.given file × (reader.failed ≡ reader.failed_before)
+FailsCheck name layout reader (File file) = IsRefused name layout reader.given file × IsReadWhole reader
 FailsCheck name layout reader Memory = reader.failed ≡ reader.failed_before
-FailsCheck name layout reader Read = FailsWithin (LONGEST + 1) reader.given reader.left reader.failed
+FailsCheck name layout reader Read = FailsWithin (LONGEST + 1) reader
 FailsCheck name layout reader Write = ⊥
 FailsCheck name layout reader (Answer fault) = ⊥
 FailsCheck name layout reader (NoRoster status) = ⊥
 FailsCheck name layout reader (Unmet number) = ⊥
 FailsCheck name layout reader (Breaks rule) = ⊥
 
--- a fact for each fault but a failed write
-abbrev pub OnCheck : Fault → Type 0 → Type 0
-OnCheck Write P = Unit {0}
-OnCheck (File file) P = P
-OnCheck Memory P = P
-OnCheck Read P = P
-OnCheck (Answer fault) P = P
-OnCheck (NoRoster status) P = P
-OnCheck (Unmet number) P = P
-OnCheck (Breaks rule) P = P
-
--- a fact for a failed write
-abbrev pub OnWrite : Fault → Type 0 → Type 0
-OnWrite Write P = P
-OnWrite (File file) P = Unit {0}
-OnWrite Memory P = Unit {0}
-OnWrite Read P = Unit {0}
-OnWrite (Answer fault) P = Unit {0}
-OnWrite (NoRoster status) P = Unit {0}
-OnWrite (Unmet number) P = Unit {0}
-OnWrite (Breaks rule) P = Unit {0}
+-- the first fact for each fault of a check, the second for a failed write
+abbrev pub CheckOrWrite : Fault → Type 0 → Type 0 → Type 0
+CheckOrWrite (File file) check write = check
+CheckOrWrite Memory check write = check
+CheckOrWrite Write check write = write
+CheckOrWrite Read check write = check
+CheckOrWrite (Answer fault) check write = check
+CheckOrWrite (NoRoster status) check write = check
+CheckOrWrite (Unmet number) check write = check
+CheckOrWrite (Breaks rule) check write = check

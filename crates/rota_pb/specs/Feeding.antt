@@ -1,6 +1,6 @@
 -- What feeding an answer with a reader's pieces does.
 use Rattle.std.specs.Prelude.{◌≡◌, ℕ, ◌≤◌, List, [], length, Ok, Err}
-use Rattle.std.specs.Io.KnownBytes.{prepend_known, IsAtEnd}
+use Rattle.std.specs.Io.KnownBytes.{prepend_known}
 use Rattle.rota_core.specs.Ports.{Told}
 use Rattle.solver_text.specs.declared.answer.Answer.{Answer as AnswerState}
 use Rattle.solver_text.specs.declared.outcome.AnswerFault.{AnswerFault}
@@ -8,9 +8,9 @@ use Rattle.solver_text.specs.States.{LeadsTo, fault_within}
 use Rattle.rota_pb.specs.declared.fault.Fault.{Fault}
 use Rattle.rota_pb.specs.declared.fault.Fault.TheVariants.{File, Memory, Write, Read, Answer, NoRoster, Unmet, Breaks}
 use Rattle.rota_pb.specs.AnswerPieces.{LacksEnd}
-use Rattle.rota_pb.specs.Readers.{Reader}
+use Rattle.rota_pb.specs.Readers.{IsEnded, Reader}
 
--- Bytes were taken in so many pieces, each of which had some. They lead from no text to the answer, and no fault was judged in them.
+-- Bytes were taken in this number of pieces, each of which had some. They lead from no text to the answer, and no fault was judged in them.
 pub record HasTaken (given left : Told) (old new : AnswerState) (pieces : ℕ) : Type 0 where
   pub taken : List ℕ
   pub front : given ≡ prepend_known taken left
@@ -22,7 +22,7 @@ pub record HasTaken (given left : Told) (old new : AnswerState) (pieces : ℕ) :
 pub record HasTakenAll (reader : Reader) (old new : AnswerState) : Type 0 where
   pub taken : List ℕ
   pub front : reader.given ≡ prepend_known taken reader.left
-  pub at_end : IsAtEnd reader.left
+  pub at_end : IsEnded reader
   pub leads : (variables : ℕ) → LeadsTo variables [] old → LeadsTo variables taken new
   pub sound : reader.failed ≡ reader.failed_before
 

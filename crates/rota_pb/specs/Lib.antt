@@ -3,11 +3,11 @@ pub mod Decoded
 pub mod Decoding
 pub mod Encoding
 pub mod Extending
+pub mod FaultTexts
 pub mod Faults
 pub mod Feeding
 pub mod Readers
 pub mod Report
-pub mod RosterRows
 pub mod SlackTaker
 pub mod Statuses
 pub mod WeekFiles

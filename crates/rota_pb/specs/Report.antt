@@ -1,7 +1,9 @@
 -- The report on a decoded answer.
-use Rattle.std.specs.Prelude.{ℕ, ◌+◌, ℤ, List, [], ◌++◌, codes, Option, Some, None, slice_index_or}
+use Rattle.std.specs.Prelude.{ℕ, ℤ, List, [], ◌++◌, codes, length, Option, Some, None, slice_index_or}
 use Rattle.rota_core.specs.Lists.{each_below}
 use Rattle.rota_core.specs.Numeral.{numeral, signed_numeral}
+use Rattle.rota_core.specs.Rules.{rule_name, soft_rules}
+use Rattle.rota_core.specs.declared.rule.Rule.TheVariants.{Unit}
 use Rattle.rota_read.specs.SolutionText.{spaced, ended}
 use Rattle.solver_text.specs.Status.{status_words}
 use Rattle.rota_pb.specs.declared.decoded.Decoded.{Decoded}
@@ -10,13 +12,13 @@ use Rattle.rota_pb.specs.declared.decoded.Decoded.{Decoded}
 abbrev pub number_line : List ℕ → ℕ → List ℕ
 number_line name number = ended (spaced name (numeral number))
 
--- the line of the soft rule with this number, from 1
-abbrev pub cost_line : ℕ → ℕ → List ℕ
-cost_line number cost = number_line (codes "S" ++ numeral number) cost
+-- the line of the soft rule at this place
+abbrev pub cost_line : List ℕ → ℕ → List ℕ
+cost_line costs place = number_line (rule_name (slice_index_or soft_rules place Unit)) (slice_index_or costs place 0)
 
--- the lines of S1 to S7
+-- the lines of all soft rules
 unfoldable pub cost_lines : List ℕ → List ℕ
-cost_lines costs = each_below 7 (λ place. cost_line (place + 1) (slice_index_or costs place 0))
+cost_lines costs = each_below (length soft_rules) (cost_line costs)
 
 -- no line where the answer had no o line
 abbrev pub last_o_line : Option ℤ → List ℕ

@@ -1,24 +1,37 @@
--- Why reading a file whole stops.
-use Rattle.std.specs.Prelude.{◌≡◌, ℕ, ◌<◌, Bool, true, List, length}
+-- How a file is read whole, and why that stops.
+use Rattle.std.specs.Prelude.{◌≡◌, ℕ, ◌+◌, ◌<◌, ◌≤◌, List, length}
 use Rattle.std.specs.Io.KnownBytes.{prepend_known}
-use Rattle.rota_core.specs.Ports.{Told}
+use Rattle.rota_read.specs.Reading.{LONGEST}
+use Rattle.rota_pb.specs.Readers.{FailsBeforeEnd, IsEnded, Reader}
 use Rattle.rota_pb.specs.declared.fault.Fault.{Fault}
 use Rattle.rota_pb.specs.declared.fault.Fault.TheVariants.{File, Memory, Write, Read, Answer, NoRoster, Unmet, Breaks}
 
--- the source failed before so many bytes were taken
-pub record FailsWithin (limit : ℕ) (given left : Told) (failed : Bool) : Type 0 where
-  pub taken : List ℕ
-  pub front : given ≡ prepend_known taken left
-  pub short : length taken < limit
-  pub failure : failed ≡ true
+-- these bytes were taken from the source, up to its end or so many, and it did not fail meanwhile
+pub record IsReadUpTo (limit : ℕ) (reader : Reader) (taken : List ℕ) : Type 0 where
+  pub front : reader.given ≡ prepend_known taken reader.left
+  pub at_most : length taken ≤ limit
+  pub ended : length taken < limit → IsEnded reader
+  pub sound : reader.failed ≡ reader.failed_before
 
--- the source failed before so many bytes were taken, or memory ran out while it did not fail
-abbrev pub StopsReading : ℕ → Told → Told → Bool → Bool → Fault → Type 0
-StopsReading limit given left failed_before failed (File file) = ⊥
-StopsReading limit given left failed_before failed Memory = failed ≡ failed_before
-StopsReading limit given left failed_before failed Write = ⊥
-StopsReading limit given left failed_before failed Read = FailsWithin limit given left failed
-StopsReading limit given left failed_before failed (Answer fault) = ⊥
-StopsReading limit given left failed_before failed (NoRoster status) = ⊥
-StopsReading limit given left failed_before failed (Unmet number) = ⊥
-StopsReading limit given left failed_before failed (Breaks rule) = ⊥
+-- the file was read to its end, or to one byte more than a file may have
+pub record IsReadWhole (reader : Reader) : Type 0 where
+  pub taken : List ℕ
+  pub read : IsReadUpTo (LONGEST + 1) reader taken
+
+-- the source failed before its end, and before so many bytes were taken
+pub record FailsWithin (limit : ℕ) (reader : Reader) : Type 0 where
+  pub taken : List ℕ
+  pub front : reader.given ≡ prepend_known taken reader.left
+  pub short : length taken < limit
+  pub fails : FailsBeforeEnd reader
+
+-- the source failed before its end, and before so many bytes were taken, or memory ran out while it did not fail
+abbrev pub StopsReading : ℕ → Reader → Fault → Type 0
+StopsReading limit reader (File file) = ⊥
+StopsReading limit reader Memory = reader.failed ≡ reader.failed_before
+StopsReading limit reader Write = ⊥
+StopsReading limit reader Read = FailsWithin limit reader
+StopsReading limit reader (Answer fault) = ⊥
+StopsReading limit reader (NoRoster status) = ⊥
+StopsReading limit reader (Unmet number) = ⊥
+StopsReading limit reader (Breaks rule) = ⊥

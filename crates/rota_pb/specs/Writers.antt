@@ -1,5 +1,5 @@
 -- What a run did with a writer.
-use Rattle.std.specs.Prelude.{◌≡◌, ℕ, Bool, true, List, Option}
+use Rattle.std.specs.Prelude.{◌≡◌, ℕ, Bool, true, List, MatchResult, Option, Result}
 use Rattle.std.specs.Io.KnownBytes.{append_known}
 use Rattle.rota_core.specs.Ports.{Told, told_len}
 use Rattle.rota_core.specs.declared.ports.Target.{Ghosts}
@@ -33,6 +33,10 @@ pub record WritesText (writer : Writer) (text : List ℕ) : Type 0 where
   pub sound : writer.failed ≡ writer.failed_before
 
 -- the writer failed, and a beginning of the text went out
-pub record FailsWithin (writer : Writer) (text : List ℕ) : Type 0 where
+pub record WritesBeginning (writer : Writer) (text : List ℕ) : Type 0 where
   pub begun : Begins writer.sent (append_known writer.before text)
   pub failure : writer.failed ≡ true
+
+-- the text went out whole, or the writer failed after a beginning of it
+abbrev pub SendsText : {E : Type 0} → Writer → List ℕ → Result (Unit {0}) E → Type 0
+SendsText writer text result = MatchResult result (λ _. WritesText writer text) (λ _. WritesBeginning writer text)

@@ -29,7 +29,7 @@ fn feed_all<A: Source>(source: &mut A, answer: &mut Answer) -> Result<(), Fault>
     Err(Fault::Read)
 }
 
-// The answer that the source gives, for so many variables.
+// The answer that the source gives, for this number of variables.
 pub(crate) fn read_answer<A: Source>(
     alloc: Global,
     variables: u32,

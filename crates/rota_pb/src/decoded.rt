@@ -5,20 +5,21 @@ ghost use Rattle.rota_items.specs.WeekModel.{model_of};
 ghost use Rattle.solver_text.specs.States.{meaning_of};
 ghost use Rattle.rota_pb.specs.Decoded.{IsDecoded, LacksRoster};
 
+use crate::driven::verdict_of;
 use crate::fault::Fault;
-use rota_core::{Instance, Roster};
-use rota_items::judge_bits;
+use rota_core::{Instance, Roster, SOFT_RULES};
+use rota_items::Judge;
 use solver_text::{Solved, Status};
 
 /// The roster of an answer that satisfies the model, and what the roster costs.
 #[derive(Drop)]
 pub struct Decoded {
-    /// The cells whose variable is true. The roster keeps H1 to H4.
+    /// The cells whose variable is true. The roster keeps H1 to H5.
     pub roster: Roster,
     /// The value of the model's objective under the answer, at least the penalty.
     pub objective: u64,
-    /// What the soft rules S1 to S7 of INRC-II charge for the roster, with their weights.
-    pub costs: [u64; 7],
+    /// What each soft rule of INRC-II charges for the roster, with its weight, in their order.
+    pub costs: [u64; SOFT_RULES],
     /// The sum of the costs.
     pub penalty: u64,
     /// The status that the answer named: `Satisfiable` or `Optimum`.
@@ -46,7 +47,7 @@ pub fn decode(instance: &Instance, solved: Solved) -> Result<Decoded, Fault>
     if !matches!(status, Status::Satisfiable | Status::Optimum) {
         return Err(Fault::NoRoster(status));
     }
-    let verdict = judge_bits(instance, &bits);
+    let verdict = verdict_of(instance, Judge::of_bits(instance, &bits));
     if let Some((number, _)) = verdict.unmet {
         return Err(Fault::Unmet(number));
     }

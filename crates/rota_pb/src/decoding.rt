@@ -1,62 +1,59 @@
 //! The run that turns a solver's answer into a solution file and a report.
-ghost use Rattle.std.specs.Prelude.{◌≡◌, IfErr, OnOk};
-ghost use Rattle.rota_pb.specs.Faults.{OnCheck, OnWrite};
-ghost use Rattle.rota_pb.specs.Readers.{reader_of};
+ghost use Rattle.std.specs.Prelude.{◌≡◌, ◌⊎◌, Err};
+ghost use Rattle.rota_pb.specs.declared.fault.Fault.TheVariants.{Read};
+ghost use Rattle.rota_pb.specs.AnswerPieces.{HasNoEnd};
+ghost use Rattle.rota_pb.specs.Decoding.{DecodeOutcome};
+ghost use Rattle.rota_pb.specs.Readers.{OneFailsBeforeEnd, reader_of, week_readers};
 ghost use Rattle.rota_pb.specs.Writers.{writer_of};
-ghost use Rattle.rota_pb.specs.Decoding.{StopsDecoding, WritesPart, WritesSolution};
 
 use crate::answer_pieces::read_answer;
 use crate::decoded::decode;
 use crate::fault::Fault;
 use crate::report::write_report;
-use crate::week_files::read_instance;
+use crate::week_files::{Choice, read_instance};
 use crate::written_solution::write_solution;
 use rota_core::{Source, Target};
 use rota_items::counts;
 use std::alloc::Global;
 
-/// Reads the three files of a week and a solver's answer to the week's model, each to its end, and
-/// writes the solution file of the answer's roster to `sol` and then a report to `report`.
+/// Reads the files of a week and a solver's answer to the week's model, each to its end, and writes
+/// the solution file of the answer's roster to `sol` and then a report to `report`.
 ///
-/// The answer is read in pieces of 4096 bytes and not kept; it may be of any length that comes in less
-/// than 2^64 - 1 pieces.
+/// The files are the scenario, the history, the week's data and, where `choice.fixed` says so, the
+/// solution file of the cells that are held; else `fix_file` is not touched. The answer is read in
+/// pieces of 4096 bytes and not kept; it may be of any length that comes in less than 2^64 - 1 pieces.
 ///
 /// Errors, in this order: `File` with the first fault of the first file that has one, or `LateWeek`
-/// after all three; `Answer` with the answer's first fault; `NoRoster` where its status is neither
-/// `Satisfiable` nor `Optimum`; `Unmet` with the first constraint that it does not satisfy. `Read`
-/// where a reader failed, or the answer had no end, before a fault was found in what had been read;
-/// `Memory` where there was none for a file, or for the answer's bits before it is read. Later readers
-/// are not touched then, and no writer is called. `Write` where a writer failed: what it got begins its
-/// text, and `report` gets nothing before the whole solution is out and flushed.
-pub fn run_decode<S: Source, H: Source, K: Source, A: Source, W: Target, R: Target>(
+/// after the three of the week, before the held cells; `Answer` with the answer's first fault;
+/// `NoRoster` where its status is neither `Satisfiable` nor `Optimum`; `Unmet` with the first
+/// constraint that it does not satisfy. `Read` where a reader failed before it said its end, or the
+/// answer had no end, before a fault was found in what had been read; `Memory` where there was none
+/// for a file, or for the answer's bits before it is read. Later readers are not touched then, and no
+/// writer is called. `Write` where a writer failed: what it got begins its text, and `report` gets
+/// nothing before the whole solution is out and flushed.
+pub fn run_decode<S: Source, H: Source, K: Source, F: Source, A: Source, W: Target, R: Target>(
     alloc: Global,
+    choice: Choice,
     sce: &mut S,
     his: &mut H,
     week: &mut K,
+    fix_file: &mut F,
     answer: &mut A,
     sol: &mut W,
     report: &mut R,
 ) -> Result<(), Fault>
-    // the solution file of the answer's roster went out whole, and then the report
-    ensures ok { OnOk result (WritesSolution
-        (reader_of S.Source sce.old sce.new) (reader_of H.Source his.old his.new) (reader_of K.Source week.old week.new)
+    ensures outcome { DecodeOutcome choice
+        (week_readers
+        (reader_of S.Source sce.old sce.new) (reader_of H.Source his.old his.new)
+        (reader_of K.Source week.old week.new) (reader_of F.Source fix_file.old fix_file.new))
         (reader_of A.Source answer.old answer.new)
-        (writer_of W.Target sol.old sol.new) (writer_of R.Target report.old report.new)) }
-
-    // what came before the first write
-    ensures check { IfErr result (λ fault. OnCheck fault (StopsDecoding
-        (reader_of S.Source sce.old sce.new) (reader_of H.Source his.old his.new) (reader_of K.Source week.old week.new)
-        (reader_of A.Source answer.old answer.new)
-        fault)) }
-    ensures untouched { IfErr result (λ fault. OnCheck fault ((sol.new ≡ sol.old) × (report.new ≡ report.old))) }
-
-    // a failed write
-    ensures begun { IfErr result (λ fault. OnWrite fault (WritesPart
-        (reader_of S.Source sce.old sce.new) (reader_of H.Source his.old his.new) (reader_of K.Source week.old week.new)
-        (reader_of A.Source answer.old answer.new)
-        (writer_of W.Target sol.old sol.new) (writer_of R.Target report.old report.new))) }
+        (writer_of W.Target sol.old sol.new) (writer_of R.Target report.old report.new) result }
+    ensures read { result ≡ Err Read → OneFailsBeforeEnd (week_readers
+        (reader_of S.Source sce.old sce.new) (reader_of H.Source his.old his.new)
+        (reader_of K.Source week.old week.new) (reader_of F.Source fix_file.old fix_file.new))
+        ⊎ HasNoEnd (reader_of A.Source answer.old answer.new) }
 {
-    let instance = read_instance(alloc, sce, his, week)?;
+    let instance = read_instance(alloc, choice, sce, his, week, fix_file)?;
     let solved = read_answer(alloc, counts(&instance).variables, answer)?;
     let decoded = decode(&instance, solved)?;
     write_solution(&instance, &decoded.roster, sol)?;

@@ -1,21 +1,17 @@
 //! Runs that write a model.
-ghost use Rattle.std.specs.Prelude.{◌≡◌, ◌||◌, is_err, true, IsErr, IfErr, OnOk, OnErr};
-ghost use Rattle.std.specs.Io.KnownBytes.{append_known};
-ghost use Rattle.rota_core.specs.Ports.{told_len};
+ghost use Rattle.std.specs.Prelude.{◌≡◌, true, Err, IsErr, IfErr};
 ghost use Rattle.rota_core.specs.InstanceTables.{week_of};
 ghost use Rattle.rota_items.specs.WeekModel.{model_of};
-ghost use Rattle.opb_text.specs.Begins.{Begins};
 ghost use Rattle.opb_text.specs.ModelText.{opb_text};
 ghost use Rattle.opb_text.specs.OpbTaker.{sink_of};
 ghost use Rattle.opb_text.specs.Sink.{PutsText, sink_failed};
-ghost use Rattle.rota_pb.specs.declared.fault.Fault.TheVariants.{Write};
-ghost use Rattle.rota_pb.specs.Faults.{OnCheck, OnWrite};
-ghost use Rattle.rota_pb.specs.Readers.{reader_of};
-ghost use Rattle.rota_pb.specs.WeekFiles.{StopsAt};
-ghost use Rattle.rota_pb.specs.Encoding.{WritesModel, WritesBeginning};
+ghost use Rattle.rota_pb.specs.declared.fault.Fault.TheVariants.{Read, Write};
+ghost use Rattle.rota_pb.specs.Encoding.{EncodeOutcome};
+ghost use Rattle.rota_pb.specs.Readers.{OneFailsBeforeEnd, reader_of, week_readers};
+ghost use Rattle.rota_pb.specs.Writers.{SendsText, writer_of};
 
 use crate::fault::Fault;
-use crate::week_files::read_instance;
+use crate::week_files::{Choice, read_instance};
 use opb_text::{OpbTaker, Sink};
 use rota_core::{Instance, PortFault, Source, Target};
 use rota_items::{counts, drive_constraints, drive_objective};
@@ -33,10 +29,7 @@ fn put_model<W: Target>(instance: &Instance, taker: &mut OpbTaker<W>) -> Result<
 
 // Sends the text of the model, and makes it flushed.
 fn send_model<W: Target>(instance: &Instance, out: &mut W) -> Result<(), PortFault>
-    ensures ok { OnOk result (W.sent out.new ≡ append_known (W.sent out.old) (opb_text (model_of (week_of instance.now)))) }
-    ensures flushed { OnOk result (W.flushed out.new ≡ told_len (W.sent out.new)) }
-    ensures err { OnErr result (Begins (W.sent out.new) (append_known (W.sent out.old) (opb_text (model_of (week_of instance.now))))) }
-    ensures failure { W.has_failed out.new ≡ (W.has_failed out.old || is_err result) }
+    ensures { SendsText (writer_of W.Target out.old out.new) (opb_text (model_of (week_of instance.now))) result }
 {
     let mut taker = OpbTaker::new(Sink::new(out));
     put_model(instance, &mut taker)?;
@@ -49,12 +42,8 @@ fn send_model<W: Target>(instance: &Instance, out: &mut W) -> Result<(), PortFau
 /// Takes no memory. The only error is `Write`, where the writer failed: what went out then begins the
 /// text.
 pub fn encode<W: Target>(instance: &Instance, out: &mut W) -> Result<(), Fault>
-    ensures ok { OnOk result (W.sent out.new ≡ append_known (W.sent out.old) (opb_text (model_of (week_of instance.now)))) }
-    ensures flushed { OnOk result (W.flushed out.new ≡ told_len (W.sent out.new)) }
+    ensures sends { SendsText (writer_of W.Target out.old out.new) (opb_text (model_of (week_of instance.now))) result }
     ensures fault { IfErr result (λ fault. fault ≡ Write) }
-    ensures err { OnErr result (Begins (W.sent out.new) (append_known (W.sent out.old) (opb_text (model_of (week_of instance.now))))) }
-    ensures sound { OnOk result (W.has_failed out.new ≡ W.has_failed out.old) }
-    ensures failure { OnErr result (W.has_failed out.new ≡ true) }
 {
     match send_model(instance, out) {
         Ok(()) => Ok(()),
@@ -62,40 +51,36 @@ pub fn encode<W: Target>(instance: &Instance, out: &mut W) -> Result<(), Fault>
     }
 }
 
-/// Reads the three files of a week, each to its end, and writes the model of the week in the linear
-/// format of the Pseudo-Boolean Competition. Every roster that keeps the hard rules H1 to H4 extends to an
+/// Reads the files of a week, each to its end, and writes the model of the week in the linear format
+/// of the Pseudo-Boolean Competition. Every roster that keeps the hard rules H1 to H5 extends to an
 /// assignment that satisfies the written constraints and whose objective is the roster's penalty, and
 /// every satisfying assignment stands for such a roster, of penalty at most its objective.
 ///
-/// Errors: `File` with the first fault of the first file that has one, or `LateWeek` after all three;
-/// `Read` where a reader failed; `Memory`. Readers after that file are not touched then, and the
-/// writer is not called. `Write` where the writer failed: it got a beginning of the text.
-pub fn run_encode<S: Source, H: Source, K: Source, W: Target>(
+/// The files are the scenario, the history, the week's data and, where `choice.fixed` says so, the
+/// solution file of the cells that are held; else `fix_file` is not touched.
+///
+/// Errors: `File` with the first fault of the first file that has one, or `LateWeek` after the three
+/// of the week, before the held cells; `Read` where a reader failed before it said its end; `Memory`.
+/// Readers after that file are not touched then, and the writer is not called. `Write` where the writer
+/// failed: it got a beginning of the text.
+pub fn run_encode<S: Source, H: Source, K: Source, F: Source, W: Target>(
     alloc: Global,
+    choice: Choice,
     sce: &mut S,
     his: &mut H,
     week: &mut K,
+    fix_file: &mut F,
     out: &mut W,
 ) -> Result<(), Fault>
-    // the text of the week's model, which means the rules, went out whole
-    ensures ok { OnOk result (WritesModel
-        (reader_of S.Source sce.old sce.new) (reader_of H.Source his.old his.new) (reader_of K.Source week.old week.new)
-        (W.sent out.old) (W.sent out.new)) }
-    ensures flushed { OnOk result (W.flushed out.new ≡ told_len (W.sent out.new)) }
-    ensures sound { OnOk result (W.has_failed out.new ≡ W.has_failed out.old) }
-
-    // what came before the first write
-    ensures check { IfErr result (λ fault. OnCheck fault (StopsAt
-        (reader_of S.Source sce.old sce.new) (reader_of H.Source his.old his.new) (reader_of K.Source week.old week.new)
-        fault)) }
-    ensures untouched { IfErr result (λ fault. OnCheck fault (out.new ≡ out.old)) }
-
-    // a failed write
-    ensures begun { IfErr result (λ fault. OnWrite fault (WritesBeginning
-        (reader_of S.Source sce.old sce.new) (reader_of H.Source his.old his.new) (reader_of K.Source week.old week.new)
-        (W.sent out.old) (W.sent out.new))) }
-    ensures write_failed { IfErr result (λ fault. OnWrite fault (W.has_failed out.new ≡ true)) }
+    ensures outcome { EncodeOutcome choice
+        (week_readers
+        (reader_of S.Source sce.old sce.new) (reader_of H.Source his.old his.new)
+        (reader_of K.Source week.old week.new) (reader_of F.Source fix_file.old fix_file.new))
+        (writer_of W.Target out.old out.new) result }
+    ensures read { result ≡ Err Read → OneFailsBeforeEnd (week_readers
+        (reader_of S.Source sce.old sce.new) (reader_of H.Source his.old his.new)
+        (reader_of K.Source week.old week.new) (reader_of F.Source fix_file.old fix_file.new)) }
 {
-    let instance = read_instance(alloc, sce, his, week)?;
+    let instance = read_instance(alloc, choice, sce, his, week, fix_file)?;
     encode(&instance, out)
 }

@@ -1,12 +1,15 @@
 //! Why a run fails, and the status that a program exits with.
 ghost use Rattle.std.specs.Prelude.{◌≡◌};
 ghost use Rattle.rota_pb.specs.Statuses.{exit_status};
+ghost use Rattle.rota_pb.specs.FaultTexts.{fault_text};
 ghost use Rattle.rota_pb.specs.Faults.{fault_of_file};
 ghost use Rattle.rota_pb.specs.declared.fault.Fault.TheVariants.{Answer, Memory};
 
 use rota_core::{FileFault, Rule};
 use solver_text::{AnswerFault, Status};
 use std::alloc::AllocError;
+use std::error::Error;
+use std::fmt;
 
 /// Why a run failed.
 #[derive(Clone, Copy, Debug, PartialEq, Eq)]
@@ -56,6 +59,25 @@ impl From<AllocError> for Fault {
         Fault::Memory
     }
 }
+
+impl fmt::Display for Fault {
+    ghost output = { fault_text };
+
+    fn fmt<W: fmt::Write>(&self, f: &mut fmt::Formatter<W>) -> fmt::Result {
+        match self {
+            Fault::File(fault) => write!(f, "{fault}"),
+            Fault::Memory => f.write_str("out of memory"),
+            Fault::Write => f.write_str("write failed"),
+            Fault::Read => f.write_str("read failed"),
+            Fault::Answer(answer) => write!(f, "answer: {answer}"),
+            Fault::NoRoster(status) => write!(f, "solver found no roster: {}", status.words()),
+            Fault::Unmet(number) => write!(f, "constraint {number} is not satisfied"),
+            Fault::Breaks(rule) => write!(f, "roster breaks {rule}"),
+        }
+    }
+}
+
+impl Error for Fault {}
 
 /// The exit status of a program whose run failed: 1 for a fault of a file or an answer, 3 where a
 /// reader or a writer failed, 4 where memory ran out, 5 where a solver found no roster, 6 where an

@@ -1,21 +1,31 @@
-//! The three files of a week, read whole and checked one after the other.
-ghost use Rattle.std.specs.Prelude.{IfOk, IfErr};
+//! The files of a week, read whole and checked one after the other.
+ghost use Rattle.std.specs.Prelude.{IfOk, IfErr, MatchResult};
 ghost use Rattle.rota_core.specs.declared.fault.FileName.TheVariants as names;
-ghost use Rattle.rota_core.specs.InstanceTables.{HasNumbersOf};
+ghost use Rattle.rota_core.specs.InstanceTables.{HasNumbersOf, IsInstance};
 ghost use Rattle.rota_read.specs.ScenarioLayout.{scenario as scenario_layout};
 ghost use Rattle.rota_read.specs.HistoryLayout.{history as history_layout};
 ghost use Rattle.rota_read.specs.WeekLayout.{week as week_layout};
 ghost use Rattle.rota_pb.specs.Faults.{FailsCheck};
-ghost use Rattle.rota_pb.specs.Readers.{reader_of};
-ghost use Rattle.rota_pb.specs.WeekFiles.{IsRead, SpellsWeek, StopsAt};
+ghost use Rattle.rota_pb.specs.Readers.{reader_of, week_readers};
+ghost use Rattle.rota_pb.specs.WeekFiles.{IsRead, SpellsTables, SpellsWeek, StopsAt, StopsAtTables};
 
 use crate::fault::Fault;
+use crate::given_roster::read_held;
 use crate::whole_read::read_within;
 use rota_core::{History, Instance, Scenario, Source, Week};
 use rota_read::{LONGEST, read_history, read_scenario, read_week};
 use std::alloc::Global;
 
-fn scenario_of<S: Source>(alloc: Global, source: &mut S) -> Result<Scenario, Fault>
+/// What is asked of a run beside its files.
+#[derive(Clone, Copy, Debug, PartialEq, Eq)]
+pub struct Choice {
+    /// What exceeds a total is charged in each week, and not only in the last.
+    pub early: bool,
+    /// The cells of a fix file are held.
+    pub fixed: bool,
+}
+
+fn read_scenario_from<S: Source>(alloc: Global, source: &mut S) -> Result<Scenario, Fault>
     ensures read { IfOk result (IsRead scenario_layout (reader_of S.Source source.old source.new)) }
     ensures fault { IfErr result (FailsCheck names.Scenario scenario_layout (reader_of S.Source source.old source.new)) }
 {
@@ -23,7 +33,7 @@ fn scenario_of<S: Source>(alloc: Global, source: &mut S) -> Result<Scenario, Fau
     Ok(read_scenario(alloc, &text)?)
 }
 
-fn history_of<S: Source>(
+fn read_history_from<S: Source>(
     alloc: Global,
     scenario: &Scenario,
     source: &mut S,
@@ -36,7 +46,11 @@ fn history_of<S: Source>(
     Ok(read_history(alloc, scenario, &text)?)
 }
 
-fn week_of<S: Source>(alloc: Global, scenario: &Scenario, source: &mut S) -> Result<Week, Fault>
+fn read_week_from<S: Source>(
+    alloc: Global,
+    scenario: &Scenario,
+    source: &mut S,
+) -> Result<Week, Fault>
     ensures fits { IfOk result (λ w. HasNumbersOf scenario.now w.nurses w.shifts w.skills) }
     ensures read { IfOk result (IsRead (week_layout scenario.now) (reader_of S.Source source.old source.new)) }
     ensures fault { IfErr result (FailsCheck names.Week (week_layout scenario.now) (reader_of S.Source source.old source.new)) }
@@ -45,21 +59,46 @@ fn week_of<S: Source>(alloc: Global, scenario: &Scenario, source: &mut S) -> Res
     Ok(read_week(alloc, scenario, &text)?)
 }
 
-// The instance that the three files spell. The first check that fails is the answer, and later
-// readers are not touched.
-pub(crate) fn read_instance<S: Source, H: Source, K: Source>(
+// The instance that the three files spell, with no cell held. The first check that fails is the
+// answer, and later readers are not touched.
+fn read_tables<S: Source, H: Source, K: Source>(
     alloc: Global,
+    early: bool,
     sce: &mut S,
     his: &mut H,
     week: &mut K,
 ) -> Result<Instance, Fault>
-    ensures spelled { IfOk result (SpellsWeek
+    ensures limits { IfOk result IsInstance }
+    ensures spelled { IfOk result (SpellsTables early
         (reader_of S.Source sce.old sce.new) (reader_of H.Source his.old his.new) (reader_of K.Source week.old week.new)) }
-    ensures fault { IfErr result (StopsAt
+    ensures fault { IfErr result (StopsAtTables
         (reader_of S.Source sce.old sce.new) (reader_of H.Source his.old his.new) (reader_of K.Source week.old week.new)) }
 {
-    let scenario = scenario_of(alloc, sce)?;
-    let history = history_of(alloc, &scenario, his)?;
-    let week = week_of(alloc, &scenario, week)?;
-    Ok(Instance::join(scenario, history, week)?)
+    let scenario = read_scenario_from(alloc, sce)?;
+    let history = read_history_from(alloc, &scenario, his)?;
+    let week = read_week_from(alloc, &scenario, week)?;
+    Ok(Instance::join(scenario, history, week, early)?)
+}
+
+// The instance that the files of a week spell, with the cells held that the fix file spells, where
+// one is chosen. The first check that fails is the answer, and later readers are not touched.
+pub(crate) fn read_instance<S: Source, H: Source, K: Source, F: Source>(
+    alloc: Global,
+    choice: Choice,
+    sce: &mut S,
+    his: &mut H,
+    week: &mut K,
+    fix_file: &mut F,
+) -> Result<Instance, Fault>
+    ensures { let readers = week_readers
+        (reader_of S.Source sce.old sce.new) (reader_of H.Source his.old his.new)
+        (reader_of K.Source week.old week.new) (reader_of F.Source fix_file.old fix_file.new) in
+        MatchResult result (SpellsWeek choice readers) (StopsAt choice readers) }
+{
+    let instance = read_tables(alloc, choice.early, sce, his, week)?;
+    if choice.fixed {
+        let held = read_held(alloc, &instance, fix_file)?;
+        return Ok(instance.hold(held));
+    }
+    Ok(instance)
 }

@@ -1,12 +1,12 @@
 -- The two ends of a file.
-use Rattle.std.proofs.Common.{◌≡◌, ℕ, ◌≤◌, ◌<◌, true, false, nat_lt, List, Ok, Err, length, refl, ap, ◌∙◌, arith}
+use Rattle.std.proofs.Common.{◌≡◌, ℕ, ◌≤◌, ◌<◌, true, false, nat_lt, List, Result, Ok, Err, length, refl, ap, arith}
 use Rattle.std.proofs.lemmas.Bool.Decides.{nat_tests}
 use Rattle.rota_core.specs.declared.fault.Kind.TheVariants as kinds
+use Rattle.rota_read.specs.declared.fault.Fault.{Fault}
 use Rattle.rota_read.specs.declared.fault.Stop.{Stop}
 use Rattle.rota_read.specs.declared.fault.Stop.TheVariants as stops
-use Rattle.rota_read.specs.Tokens.{Reading}
 use Rattle.rota_read.specs.Layout.{Layout}
-use Rattle.rota_read.specs.Reading.{and_then, read, at_end, begin, opened, read_file, LONGEST, FileFails}
+use Rattle.rota_read.specs.Reading.{and_then, read, at_end, begin, opened, read_file, LONGEST, Fails}
 
 pub not_longer : (n : ℕ) → n ≤ LONGEST → nat_lt LONGEST n ≡ false
 not_longer n h = grind (arith, nat_tests)
@@ -29,11 +29,7 @@ pub read_long : {V : Type 0} (l : Layout V) (text : List ℕ) → LONGEST < leng
 unfolding read_file opened
 read_long l text long = rw (longer (length text) long) refl
 
--- a token stands behind the last slot
-pub end_fails : {V : Type 0} (e : Stop) (l : Layout V) (text : List ℕ) (value : V) (start left : Reading) → opened text ≡ Ok start → read l start ≡ Ok (value, left) → FileFails e (at_end left.rest) → FileFails e (read_file l text)
-unfolding read_file
-end_fails stops.Memory l text value start left start_is found h = tt
-end_fails (stops.Fault f) l text value start left start_is found h =
-    ap (λ r. and_then r (λ start. and_then (read l start) (λ x. and_then (at_end x.1.rest) (λ _. Ok x.0)))) start_is
-    ∙ ap (λ r. and_then r (λ x. and_then (at_end x.1.rest) (λ _. Ok x.0))) found
-    ∙ ap (λ r. and_then r (λ _. Ok value)) h
+-- what is read in front fails
+pub front_fails : {A B : Type 0} (front : Result A Fault) (behind : A → Result B Fault) (e : Stop) → Fails e front → Fails e (and_then front behind)
+front_fails front behind stops.Memory h = tt
+front_fails front behind (stops.Fault f) h = ap (λ r. and_then r behind) h

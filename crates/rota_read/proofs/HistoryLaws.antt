@@ -39,7 +39,7 @@ all_set P [] i x all p = tt
 all_set P (y ∷ xs) zero x all p = (p, all.1)
 all_set P (y ∷ xs) (suc i) x all p = (all.0, all_set P xs i x all.1 p)
 
--- the pasts of so many nurses, of whom so many have one
+-- the pasts of the nurses, of whom i have one
 abbrev Kept : ℕ → ℕ → ℕ → Pasts → Type 0
 Kept nurses shifts i pasts = (length pasts ≡ nurses) × AllByRecursion (λ one. IsPast shifts (unwrap_or one no_past)) pasts × (count_by is_some pasts ≡ i)
 
@@ -146,7 +146,7 @@ history-is_history tables front spelled numbers h =
       past = (length-map rows.0 (λ past. unwrap_or past no_past) ∙ kept.0, all_past (length tables.shifts) rows.0 kept.1);
     })
 
--- a text spells histories alone
+-- a text spells histories only
 pub spells-is_history : (tables : ScenarioTables) (text : List ℕ) (spelled : HistoryTables) → HasLimitedNumbers spelled → Spells (history tables) text spelled → IsHistory spelled
 spells-is_history tables text spelled numbers h = history-is_history tables (tokens text) spelled numbers h.filled
 

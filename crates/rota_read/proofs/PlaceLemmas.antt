@@ -8,7 +8,7 @@ same_bools true b f g = sym (f refl)
 same_bools false true f g = g refl
 same_bools false false f g = refl
 
--- one place of a row of so many
+-- one place of a row of width places
 pub one_place : (row width col k : ℕ) → col < width → (row == k / width && col == k % width) ≡ (nat_le (row * width + col) k && nat_lt k (row * width + col + 1))
 one_place row width col k lt = same_bools (row == k / width && col == k % width) (nat_le (row * width + col) k && nat_lt k (row * width + col + 1)) there back
   where

@@ -22,9 +22,11 @@ use Rattle.rota_read.specs.Reading.{LONGEST}
 use Rattle.rota_read.specs.ScenarioLayout.{setting}
 use Rattle.rota_read.specs.SolutionLayout.{is_same_cell, is_one_cell, assignment_row, solution_heading, solution}
 use Rattle.rota_read.specs.SolutionRows.{SpellsRoster}
-use Rattle.rota_read.specs.SolutionText.{cells_of, name_at, spaced, ended, heading_text, assignment_text, text_of_cells, solution_text}
+use Rattle.rota_read.specs.SolutionText.{name_at, spaced, ended, heading_text, assignment_text, text_of_cells, solution_text}
 use Rattle.rota_read.specs.Tokens.{tokens_from, tokens}
-use Rattle.rota_read.proofs.CellLists.{rises-cells_of, all-cells_of, is_one_cell-cells_of, length-cells_of}
+use Rattle.rota_core.specs.RosterCells.{cells_of}
+use Rattle.rota_core.proofs.CellLists.{rises-cells_of, all-cells_of, length-cells_of}
+use Rattle.rota_read.proofs.CellLists.{is_one_cell-cells_of}
 use Rattle.rota_read.proofs.NamePlaces.{holds-name_at, place_of-name_at}
 use Rattle.rota_read.proofs.PieceLemmas.{FillsAsPiece, piece-bind, piece-end, piece-map, piece-blank, piece-sign, piece-exactly, piece-any_word, piece-number, piece-known_name}
 
@@ -219,3 +221,5 @@ module _ (tables : InstanceTables) (valid : IsInstance tables) where
           let part = whole 1 in
           subst (λ all. Fills layout all value)
           (sym (ap tokens (sym (append-nil text)) ∙ part.3 [] ∙ append-nil part.0)) part.2
+
+pub ruleset roster_texts = (roster_text-spelled)

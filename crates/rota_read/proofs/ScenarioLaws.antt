@@ -46,7 +46,7 @@ none_distinct = tt
 one_more_name : (names : List (List ℕ)) (name : List ℕ) → AreDistinct names → is_among names name ≡ false → AreDistinct (names ++ name ∷ [])
 one_more_name names name distinct new = IsDistinct-push nat_list_eq_equiv names name distinct new
 
--- so many names, which are words and distinct
+-- i names, which are words and distinct
 abbrev Names : ℕ → List (List ℕ) → Type 0
 Names i names = (length names ≡ i) × AllByRecursion IsWord names × AreDistinct names
 
@@ -212,6 +212,6 @@ scenario-is_scenario front tables all h =
       has_skill = nurses.2.5 ∙ ap (λ n. n * sk.0.0) (sym nurses.2.0) ∙ ap (λ k. length nu.0.names * k) (sym skills.1.0);
     })
 
--- a text spells scenarios alone
+-- a text spells scenarios only
 pub spells-is_scenario : (text : List ℕ) (tables : ScenarioTables) → Spells scenario text tables → IsScenario tables
 spells-is_scenario text tables h = scenario-is_scenario (tokens text) tables (tokens-are_tokens text) h.filled

@@ -74,7 +74,7 @@ abbrev AreDemands : Option (List Demand) → Type 0
 AreDemands None = Unit {0}
 AreDemands (Some days) = AllByRecursion IsDemand days
 
--- so many rows, with demands within the limits
+-- rows for this number of pairs, with demands within the limits
 abbrev RowsKept : ℕ → Requirements → Type 0
 RowsKept pairs rows = (length rows ≡ pairs) × All AreDemands rows
 
@@ -149,7 +149,7 @@ week-is_week t front tables counts all h =
       );
     })
 
--- a text spells weeks alone
+-- a text spells weeks only
 pub spells-is_week : (t : ScenarioTables) (text : List ℕ) (tables : WeekTables) → AreWithin t → Spells (week t) text tables → IsWeek tables
 spells-is_week t text tables counts h = week-is_week t (tokens text) tables counts (tokens-are_tokens text) h.filled
 

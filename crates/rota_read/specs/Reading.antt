@@ -22,11 +22,12 @@ read (end v) left = Ok (v, left)
 read (slot s) left = fill s left.last left.rest
 read (l >>= f) left = and_then (read l left) (λ x. read (f x.0) x.1)
 
--- What a function returned, seen by view, and what it left is what reading gives, unless memory ran out.
-abbrev pub Fails : {V : Type 0} → Stop → Result (V × Reading) Fault → Type 0
+-- a function stops with the fault that reading gives, unless memory ran out
+abbrev pub Fails : {V : Type 0} → Stop → Result V Fault → Type 0
 Fails stops.Memory result = Unit {0}
 Fails (stops.Fault f) result = result ≡ Err f
 
+-- What a function returned, seen by view, and what it left is what reading gives, unless memory ran out.
 abbrev pub Reads : {X V : Type 0} → (X → V) → Result X Stop → Reading → Result (V × Reading) Fault → Type 0
 Reads view (Ok x) left result = result ≡ Ok (view x, left)
 Reads view (Err e) left result = Fails e result
@@ -51,10 +52,6 @@ opened text = if nat_lt LONGEST (length text) then Err (record { kind = kinds.Li
 unfoldable pub read_file : {V : Type 0} → Layout V → List ℕ → Result V Fault
 read_file layout text = and_then (opened text) (λ start. and_then (read layout start) (λ x. and_then (at_end x.1.rest) (λ _. Ok x.0)))
 
-abbrev pub FileFails : {V : Type 0} → Stop → Result V Fault → Type 0
-FileFails stops.Memory result = Unit {0}
-FileFails (stops.Fault f) result = result ≡ Err f
-
 abbrev pub ReadsFile : {X V : Type 0} → (X → V) → Result X Stop → Result V Fault → Type 0
 ReadsFile view (Ok x) result = result ≡ Ok (view x)
-ReadsFile view (Err e) result = FileFails e result
+ReadsFile view (Err e) result = Fails e result

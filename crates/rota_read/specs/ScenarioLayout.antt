@@ -36,7 +36,7 @@ place_row names places = do
   place ← known_name names (is_one_of places)
   end (places ++ place ∷ [])
 
--- a count of at most so many, and that many known names
+-- a count of at most `most`, and that many known names
 unfoldable pub known_names : List (List ℕ) → ℕ → Layout (List ℕ)
 known_names names most = do
   count ← number 0 most

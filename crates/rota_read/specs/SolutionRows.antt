@@ -8,7 +8,7 @@ use Rattle.rota_core.specs.Week.{Week}
 use Rattle.rota_read.specs.declared.fault.Fault.{Fault}
 use Rattle.rota_read.specs.declared.fault.Stop.{Stop}
 use Rattle.rota_read.specs.Tokens.{Reading}
-use Rattle.rota_read.specs.Reading.{Fails, FileFails}
+use Rattle.rota_read.specs.Reading.{Fails}
 use Rattle.rota_read.specs.SolutionLayout.{is_one_cell, solution}
 use Rattle.rota_read.specs.Files.{Spells}
 
@@ -30,4 +30,4 @@ ReadsRoster week (Err e) left result = Fails e result
 
 abbrev pub ReadsRosterFile : Week → Result RosterTables Stop → Result (List Cell) Fault → Type 0
 ReadsRosterFile week (Ok roster) result = (rows : List Cell) × HasCells week roster rows × (result ≡ Ok rows)
-ReadsRosterFile week (Err e) result = FileFails e result
+ReadsRosterFile week (Err e) result = Fails e result

@@ -3,22 +3,15 @@ use Rattle.std.specs.Prelude.{ℕ, ◌≤◌, List, [], ◌∷◌, ◌++◌, cod
 use Rattle.std.specs.List.{flat_map}
 use Rattle.rota_core.specs.declared.values.Cell.{Cell}
 use Rattle.rota_core.specs.InstanceTables.{InstanceTables, IsInstance, week_of}
-use Rattle.rota_core.specs.Lists.{each_below, only_if}
 use Rattle.rota_core.specs.Numeral.{numeral}
-use Rattle.rota_core.specs.Roster.{Roster, cell}
+use Rattle.rota_core.specs.Roster.{Roster}
+use Rattle.rota_core.specs.RosterCells.{cells_of}
 use Rattle.rota_core.specs.HardRules.{KeepsOneCell}
 use Rattle.rota_core.specs.RosterTables.{RosterTables, HasShapeOf, set_of}
 use Rattle.rota_core.specs.ScenarioTables.{ScenarioTables}
-use Rattle.rota_core.specs.Week.{Week}
 use Rattle.rota_read.specs.Days.{day_names}
 use Rattle.rota_read.specs.Reading.{LONGEST}
 use Rattle.rota_read.specs.SolutionRows.{SpellsRoster}
-
--- the cells of the roster in the week, by rising number of their variables
-unfoldable pub cells_of : Week → Roster → List Cell
-cells_of week roster =
-    each_below week.nurses (λ n. each_below 7 (λ d. each_below week.shifts (λ s. each_below week.skills (λ k.
-    only_if (roster (cell n d s k)) (cell n d s k)))))
 
 abbrev pub name_at : List (List ℕ) → ℕ → List ℕ
 name_at names place = unwrap_or (slice_get names place) []
@@ -31,7 +24,7 @@ spaced one other = one ++ 32 ∷ other
 abbrev pub ended : List ℕ → List ℕ
 ended line = line ++ 10 ∷ []
 
--- the lines before the assignments, of which there are so many
+-- the lines before the assignments, of which there are `count`
 unfoldable pub heading_text : InstanceTables → ℕ → List ℕ
 heading_text tables count =
     ended (codes "SOLUTION")
@@ -47,9 +40,13 @@ assignment_text tables one =
     (spaced (name_at day_names one.day) (spaced (name_at tables.shifts one.shift) (name_at tables.skills one.skill)))
     )
 
+-- the lines of these cells
+abbrev pub rows_text : InstanceTables → List Cell → List ℕ
+rows_text tables cells = flat_map (assignment_text tables.scenario) cells
+
 -- the solution file of these cells
 unfoldable pub text_of_cells : InstanceTables → List Cell → List ℕ
-text_of_cells tables cells = heading_text tables (length cells) ++ flat_map (assignment_text tables.scenario) cells
+text_of_cells tables cells = heading_text tables (length cells) ++ rows_text tables cells
 
 -- the solution file of a roster
 abbrev pub solution_text : InstanceTables → Roster → List ℕ

@@ -62,7 +62,7 @@ abbrev pub after_row : {S : Type 0} → (S → Layout S) → Bool → S → Layo
 after_row rows true state = rows state
 after_row rows false state = end state
 
--- rows, at most so many, until one says that there are no more
+-- rows, no more than the number, until one says that there are no more
 unfoldable pub repeat_until : {S : Type 0} → ℕ → (S → Layout (Bool × S)) → S → Layout S
 repeat_until zero row state = end state
 repeat_until {S} (suc n) row state = row state >>= (λ (next : Bool × S). after_row (repeat_until n row) next.0 next.1)

@@ -4,7 +4,7 @@ use Rattle.std.specs.Option.{ForSome}
 use Rattle.rota_core.specs.ScenarioTables.{ScenarioTables, Within}
 use Rattle.rota_read.specs.declared.week.RequestRow.{RequestRow}
 
--- a row of requests names a nurse of so many, a shift type of so many or any, and a day
+-- a row of requests names one of the nurses, one of the shift types or any, and a day
 abbrev pub IsRequest : ℕ → ℕ → RequestRow → Type 0
 IsRequest nurses shifts row = (row.nurse < nurses) × ForSome row.shift (λ s. s < shifts) × (row.day < 7)
 

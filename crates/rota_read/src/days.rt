@@ -13,16 +13,13 @@ use rota_core::Kind;
 
 impl<'a> Cursor<'a> {
     /// A day, from 0 for `Mon`.
-    #[tactic(auto, unfolding(crate::specs::Layout::known_name, crate::specs::Reading::read))]
+    #[tactic(auto, using(crate::proofs::NameSteps::known_by_word))]
     pub fn day(&mut self) -> Result<u8, Stop>
         ensures read { Reads (λ d. d) result self.new (read (known_name day_names none_taken) self.old) }
         ensures below { IfOk result (λ d. d < 7) }
     {
-        let token = self.token()?;
-        if token.is_sign() {
-            return Err(token.fault(Kind::OtherWord));
-        }
-        day_named(token.word).ok_or(token.fault(Kind::Unknown))
+        let name = self.word()?;
+        day_named(name.word).ok_or(name.fault(Kind::Unknown))
     }
 }
 

@@ -46,7 +46,7 @@ impl Stop {
 }
 
 /// The rows of a scenario, from the whole text.
-#[tactic(auto, unfolding(crate::specs::Reading::read_file))]
+#[tactic(auto, using(crate::proofs::EndLemmas::front_fails), unfolding(crate::specs::Reading::read_file))]
 fn scenario_parts(alloc: Global, text: &[u8]) -> Result<ScenarioParts, Stop>
     ensures { ReadsFile scenario_of result (read_file scenario text.now) }
 {
@@ -67,6 +67,7 @@ fn scenario_parts(alloc: Global, text: &[u8]) -> Result<ScenarioParts, Stop>
 /// `Bad` is the text's one fault: that of the first token that does not fit its place, with the
 /// token's line, or that of the end, with the last line; a text of more than 4,194,304 bytes has
 /// `Limit` on line 0. `Memory` comes only where memory runs out before a fault was met.
+#[tactic(auto, using(crate::proofs::FileLaws::file_steps))]
 pub fn read_scenario(alloc: Global, text: &[u8]) -> Result<Scenario, FileFault>
     ensures spelled { IfOk result (Spells scenario text.now) }
     ensures fault { IfErr result (IsFaultOf files.Scenario scenario text.now) }
@@ -78,6 +79,7 @@ pub fn read_scenario(alloc: Global, text: &[u8]) -> Result<Scenario, FileFault>
 }
 
 /// A law: every text spells one scenario or has one fault, and never both.
+#[tactic(auto, using(crate::proofs::FileLaws::one_meaning))]
 pub fn each_text_means_one_scenario()
     ensures { OneMeaning scenario }
 {}

@@ -1,7 +1,6 @@
 //! Reads a history file.
 
-ghost use Rattle.std.specs.Prelude.{◌≡◌, ◌<◌, ◌∷◌, codes, length, map, None, unwrap_or, replicate, option_map, IfOk, IfErr};
-ghost use Rattle.rota_core.specs.Names.{place_of};
+ghost use Rattle.std.specs.Prelude.{◌≡◌, ◌<◌, length, map, None, unwrap_or, replicate, IfOk, IfErr};
 ghost use Rattle.rota_core.specs.Parts.{history_of};
 ghost use Rattle.rota_core.specs.Week.{no_past};
 ghost use Rattle.rota_core.specs.InstanceTables.{HasNumbersOf};
@@ -10,13 +9,13 @@ ghost use Rattle.rota_core.specs.declared.fault.FileName.TheVariants as files;
 ghost use Rattle.rota_read.specs.Files.{Spells, IsFaultOf, OneMeaning};
 ghost use Rattle.rota_read.specs.HistoryLayout.{past, has_past, past_row, past_rows, history_heading, history};
 ghost use Rattle.rota_read.specs.HistoryRows.{GivesEachPast, HasLimitedNumbers};
-ghost use Rattle.rota_read.specs.Layout.{known_name, repeat};
+ghost use Rattle.rota_read.specs.Layout.{repeat};
 ghost use Rattle.rota_read.specs.Reading.{read, Reads, read_file, ReadsFile};
 
 use crate::cursor::Cursor;
 use crate::fault::Stop;
 use crate::files::open;
-use rota_core::{FileFault, FileName, History, HistoryParts, Kind, Past, Scenario};
+use rota_core::{FileFault, FileName, History, HistoryParts, Past, Scenario};
 use std::alloc::{AllocError, Global};
 
 /// What a nurse has behind her who never worked.
@@ -37,26 +36,6 @@ fn has_row(pasts: &[Option<Past>], nurse: u16) -> bool
 }
 
 impl<'a> Cursor<'a> {
-    /// The number of a nurse who has no row yet.
-    #[tactic(auto, unfolding(crate::specs::Layout::known_name, crate::specs::Reading::read))]
-    fn nurse_of_row(&mut self, scenario: &Scenario, pasts: &[Option<Past>]) -> Result<u16, Stop>
-        requires { length pasts.now ≡ length scenario.now.nurses }
-        ensures read { Reads (λ n. n) result self.new (read (known_name scenario.now.nurses (has_past pasts.now)) self.old) }
-        ensures below { IfOk result (λ n. n < length scenario.now.nurses) }
-    {
-        let token = self.token()?;
-        if token.is_sign() {
-            return Err(token.fault(Kind::OtherWord));
-        }
-        let Some(nurse) = scenario.find_nurse(token.word) else {
-            return Err(token.fault(Kind::Unknown));
-        };
-        if has_row(pasts, nurse) {
-            return Err(token.fault(Kind::Repeated));
-        }
-        Ok(nurse)
-    }
-
     #[tactic(auto, unfolding(crate::specs::HistoryLayout::past, crate::specs::Reading::read))]
     fn past(&mut self, scenario: &Scenario) -> Result<Past, Stop>
         ensures { Reads (λ p. p) result self.new (read (past scenario.now.shifts) self.old) }
@@ -77,17 +56,19 @@ impl<'a> Cursor<'a> {
         })
     }
 
-    #[tactic(auto, unfolding(crate::specs::HistoryLayout::past_row, crate::specs::Reading::read))]
+    #[tactic(auto, using(crate::proofs::NameSteps::known_taken), unfolding(crate::specs::HistoryLayout::past_row, crate::specs::Reading::read))]
     fn past_row(&mut self, scenario: &Scenario, pasts: &mut [Option<Past>]) -> Result<(), Stop>
         requires { length pasts.old ≡ length scenario.now.nurses }
         ensures { Reads (λ _. pasts.new) result self.new (read (past_row scenario.now pasts.old) self.old) }
     {
-        let nurse = self.nurse_of_row(scenario, pasts)?;
+        let nurse = self.nurse(scenario)?;
+        self.unless_taken(has_row(pasts, nurse))?;
         let past = self.past(scenario)?;
         pasts[usize::from(nurse)] = Some(past);
         Ok(())
     }
 
+    #[tactic(auto, using(crate::proofs::RowSteps::row_steps))]
     fn rows_of_nurses(
         &mut self,
         scenario: &Scenario,
@@ -146,11 +127,7 @@ impl<'a> Cursor<'a> {
 fn no_rows(alloc: Global, count: u16) -> Result<Vec<Option<Past>>, AllocError>
     ensures { IfOk result (λ v. v.items ≡ replicate count None) }
 {
-    let mut pasts = Vec::new(alloc);
-    for _ in 0..count {
-        pasts.push(None)?;
-    }
-    Ok(pasts)
+    vec![in alloc; None; usize::from(count)]
 }
 
 fn each_past(alloc: Global, pasts: &[Option<Past>]) -> Result<Vec<Past>, AllocError>
@@ -164,7 +141,7 @@ fn each_past(alloc: Global, pasts: &[Option<Past>]) -> Result<Vec<Past>, AllocEr
 }
 
 /// The rows of a history, from the whole text.
-#[tactic(auto, unfolding(crate::specs::Reading::read_file))]
+#[tactic(auto, using(crate::proofs::EndLemmas::front_fails), unfolding(crate::specs::Reading::read_file))]
 fn history_parts(alloc: Global, scenario: &Scenario, text: &[u8]) -> Result<HistoryParts, Stop>
     ensures read { ReadsFile history_of result (read_file (history scenario.now) text.now) }
     ensures limits { IfOk result (λ parts. HasLimitedNumbers (history_of parts)) }
@@ -186,6 +163,7 @@ fn history_parts(alloc: Global, scenario: &Scenario, text: &[u8]) -> Result<Hist
 /// `Bad` is the text's one fault: that of the first token that does not fit its place, with the
 /// token's line, or that of the end, with the last line; a text of more than 4,194,304 bytes has
 /// `Limit` on line 0. `Memory` comes only where memory runs out before a fault was met.
+#[tactic(auto, using(crate::proofs::FileLaws::file_steps))]
 pub fn read_history(alloc: Global, scenario: &Scenario, text: &[u8]) -> Result<History, FileFault>
     ensures spelled { IfOk result (Spells (history scenario.now) text.now) }
     ensures numbers { IfOk result (λ h. HasNumbersOf scenario.now h.nurses h.shifts h.skills) }
@@ -198,11 +176,13 @@ pub fn read_history(alloc: Global, scenario: &Scenario, text: &[u8]) -> Result<H
 }
 
 /// A law: for each scenario, every text spells one history or has one fault, and never both.
+#[tactic(auto, using(crate::proofs::FileLaws::one_meaning))]
 pub fn each_text_means_one_history()
     ensures { (tables : ScenarioTables) → OneMeaning (history tables) }
 {}
 
 /// A law: after the rows of a history file each nurse has her past.
+#[tactic(auto, using(crate::proofs::HistoryLaws::gives_each_past))]
 pub fn each_nurse_has_a_past()
     ensures { (tables : ScenarioTables) → GivesEachPast tables }
 {}

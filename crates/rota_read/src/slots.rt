@@ -1,16 +1,14 @@
 //! Reads the slots of a file.
 
-ghost use Rattle.std.specs.Prelude.{◌≡◌, ◌==◌, false, IfOk, ◌<◌, ◌≤◌, ◌∷◌, [], min, length, Some, None, MatchResult, if◌then◌else◌};
+ghost use Rattle.std.specs.Prelude.{◌≡◌, IfOk, ◌≤◌, ◌∷◌, [], min, Some, None, MatchResult, if◌then◌else◌};
 ghost use Rattle.rota_core.specs.declared.fault.Kind.TheVariants.{Ended};
 ghost use Rattle.rota_core.specs.Numeral.{is_decimal, decimal};
-ghost use Rattle.rota_read.specs.Layout.{exactly, number, any_word, new_name, known_name, is_sign_token, is_one_of};
+ghost use Rattle.rota_read.specs.Layout.{exactly, number, any_word, is_sign_token};
 ghost use Rattle.rota_read.specs.Reading.{read, Reads, at_end, ReadsFile};
-ghost use Rattle.rota_core.specs.Names.{bytes_of, is_among};
 
 use crate::cursor::{Cursor, Token};
 use crate::fault::{Fault, Stop};
-use indexmap::IndexSet;
-use rota_core::{Kind, is_name, place_of_name};
+use rota_core::Kind;
 
 /// The greatest number of a file.
 pub const MOST: u16 = 9999;
@@ -29,14 +27,8 @@ fn decimal_of(word: &[u8]) -> Option<u16>
     Some(value as u16)
 }
 
-pub(crate) fn is_taken(taken: &[usize], place: usize) -> bool
-    ensures { result ≡ is_one_of taken.now place }
-{
-    taken.iter().any(|p| *p == place)
-}
-
 impl Token<'_> {
-    pub(crate) fn is_sign(&self) -> bool
+    fn is_sign(&self) -> bool
         ensures { result ≡ is_sign_token self.now.word.now }
     {
         matches!(self.word, [b'(' | b')' | b',' | b'=', ..])
@@ -64,6 +56,19 @@ impl<'a> Cursor<'a> {
             kind: Kind::Ended,
             line: last,
         }))
+    }
+
+    /// The next token, where that is a word.
+    #[tactic(auto, unfolding(crate::specs::Layout::any_word, crate::specs::Reading::read))]
+    pub(crate) fn word(&mut self) -> Result<Token<'a>, Stop>
+        ensures read { Reads (λ t. t.word.now) result self.new (read any_word self.old) }
+        ensures line { IfOk result (λ t. t.line ≡ self.new.last) }
+    {
+        let token = self.token()?;
+        if token.is_sign() {
+            return Err(token.fault(Kind::OtherWord));
+        }
+        Ok(token)
     }
 
     /// The end of the file.
@@ -106,49 +111,9 @@ impl<'a> Cursor<'a> {
     }
 
     /// Any word.
-    #[tactic(auto, unfolding(crate::specs::Layout::any_word, crate::specs::Reading::read))]
     pub fn any_word(&mut self) -> Result<&'a [u8], Stop>
         ensures { Reads (λ w. w.now) result self.new (read any_word self.old) }
     {
-        let token = self.token()?;
-        if token.is_sign() {
-            return Err(token.fault(Kind::OtherWord));
-        }
-        Ok(token.word)
-    }
-
-    /// A word that is none of the names.
-    #[tactic(auto, unfolding(crate::specs::Layout::new_name, crate::specs::Reading::read))]
-    pub fn new_name(&mut self, names: &IndexSet<Vec<u8>>) -> Result<&'a [u8], Stop>
-        ensures read { Reads (λ w. w.now) result self.new (read (new_name (bytes_of names.now)) self.old) }
-        ensures new { IfOk result (λ w. is_among (bytes_of names.now) w.now ≡ false) }
-    {
-        let token = self.token()?;
-        if token.is_sign() {
-            return Err(token.fault(Kind::OtherWord));
-        }
-        if is_name(names, token.word) {
-            return Err(token.fault(Kind::Repeated));
-        }
-        Ok(token.word)
-    }
-
-    /// The place of a name, where it is not among those taken.
-    #[tactic(auto, unfolding(crate::specs::Layout::known_name, crate::specs::Reading::read))]
-    pub fn known_name(&mut self, names: &IndexSet<Vec<u8>>, taken: &[usize]) -> Result<usize, Stop>
-        ensures read { Reads (λ n. n) result self.new (read (known_name (bytes_of names.now) (is_one_of taken.now)) self.old) }
-        ensures below { IfOk result (λ n. n < length (bytes_of names.now)) }
-    {
-        let token = self.token()?;
-        if token.is_sign() {
-            return Err(token.fault(Kind::OtherWord));
-        }
-        let Some(place) = place_of_name(names, token.word) else {
-            return Err(token.fault(Kind::Unknown));
-        };
-        if is_taken(taken, place) {
-            return Err(token.fault(Kind::Repeated));
-        }
-        Ok(place)
+        Ok(self.word()?.word)
     }
 }

@@ -42,6 +42,7 @@ fn append_day(
 }
 
 /// The demands of all pairs of a shift type and a skill, day by day.
+#[tactic(auto, using(crate::proofs::TableLemmas::one_more_row))]
 pub fn demands_of(alloc: Global, rows: &[Option<[Demand; 7]>]) -> Result<Vec<Demand>, AllocError>
     ensures { IfOk result (λ v. v.items ≡ demand_table rows.now) }
 {

@@ -11,7 +11,7 @@ full n e = eq-eqb (n % 10) 0 e
 not_full : (n : ℕ) → 0 < n % 10 → is_full_row n ≡ false
 not_full n some = ne_eqb (n % 10) 0 (λ none. omega arith)
 
--- what the literals and the end put after so many literals
+-- what the literals and the end put after n literals
 abbrev rest_text : ℕ → List Bool → List ℕ
 rest_text n truths = literals_text n truths ++ end_text (n + length truths)
 
@@ -42,7 +42,7 @@ literal_within n truth some next = rw (not_full n some, not_full (n + 1) next) (
 literal_last : (n : ℕ) (truth : Bool) → 0 < n % 10 → (n + 1) % 10 ≡ 0 → literal_text n truth ≡ blank_word n truth ++ 10 ∷ []
 literal_last n truth some next = rw (not_full n some, full (n + 1) next) refl
 
--- the words of the literals after so many
+-- the words of the literals after the first n
 abbrev words_after : ℕ → List Bool → List (List ℕ)
 words_after n truths = literal_words (n + 1) truths
 

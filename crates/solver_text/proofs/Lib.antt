@@ -9,5 +9,6 @@ pub mod ReadLines
 pub mod StayLaws
 pub mod TextLaws
 pub mod TruthLaws
+pub mod WordBytes
 pub mod WordLaws
 pub mod WrittenLiterals

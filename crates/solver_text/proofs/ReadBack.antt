@@ -17,7 +17,7 @@ use Rattle.solver_text.specs.declared.outcome.Status.TheVariants as statuses
 use Rattle.solver_text.proofs.NumeralWords.{IsWord, numeral-is_word, literal-is_word, literal_of-literal_word, number_of-numeral}
 use Rattle.solver_text.proofs.ReadLines.{NoFeed, no_feed, words-behind_blanks, judgements-line, judgements-rows}
 
--- the facts behind these values of the first variables, where so many variables follow
+-- the facts behind these values of the first variables, where `more` variables follow
 abbrev facts_behind : Option Status → Option ℤ → List Bool → ℕ → Facts
 facts_behind status value truths more = record {
   status = status;

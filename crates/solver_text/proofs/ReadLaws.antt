@@ -4,21 +4,23 @@ use Rattle.std.proofs.Math.Seq.{drop-cons}
 use Rattle.std.proofs.lemmas.List.{take_all, drop_all, length-replicate}
 use Rattle.std.specs.Result.{result_err}
 use Rattle.solver_text.specs.Lines.{is_blank, is_line_feed, cut, lines}
-use Rattle.solver_text.specs.Answers.{Facts, Meaning, and_then, at_end, outcome, judged_within, no_facts, judge_all, judgements}
-use Rattle.solver_text.specs.Places.{Place, MOST, start, take_byte, take_bytes, end_line}
-use Rattle.solver_text.specs.States.{facts_of, place_of, Stands, LeadsTo, fault_within, state_after, place_in_line, Moves, Ends, meaning_of}
+use Rattle.solver_text.specs.Answers.{Facts, Meaning, keyword_of, and_then, at_end, outcome, judged_within, no_facts, judge_all, judgements}
+use Rattle.solver_text.specs.LineStates.{LineState, MOST, line_after, skipped, start, take_byte, take_bytes, end_line}
+use Rattle.solver_text.specs.States.{facts_of, line_of, Stands, LeadsTo, fault_within, state_after, line_state_in, Moves, Ends, meaning_of}
 use Rattle.solver_text.specs.declared.outcome.AnswerFault.{AnswerFault}
 use Rattle.solver_text.specs.declared.outcome.AnswerFault.TheVariants as faults
 use Rattle.solver_text.specs.declared.outcome.Status.{Status}
 use Rattle.std.specs.Option.{option_map_or}
-use Rattle.std.specs.Prelude.{IfOk}
+use Rattle.std.specs.Prelude.{IfOk, IsTrue, is_some, not}
 use Rattle.solver_text.proofs.JudgeLaws.{HasLength, length-judge_all}
 use Rattle.solver_text.specs.declared.outcome.Solved.{Solved}
 use Rattle.solver_text.specs.declared.answer.Answer.{Answer}
-use Rattle.solver_text.specs.declared.place.Line.TheVariants as at
+use Rattle.solver_text.specs.declared.line_state.Keyword.{Keyword}
+use Rattle.solver_text.specs.declared.line_state.Line.{Line}
+use Rattle.solver_text.specs.declared.line_state.Line.TheVariants as at
 use Rattle.solver_text.proofs.TextLaws.{state_after-append, outcome-state}
 
-abbrev at_skipped : List ℕ → Place
+abbrev at_skipped : List ℕ → LineState
 at_skipped word = record { line = at.Skipped; word = word }
 
 -- one byte of a line that is skipped
@@ -30,7 +32,7 @@ skipped_at facts word b false false e g not = rw (e, g) refl
 skipped_byte : (facts : Facts) (word : List ℕ) (b : ℕ) (bytes : List ℕ) → is_line_feed b ≡ false → take_bytes facts (at_skipped word) (b ∷ bytes) ≡ take_bytes facts (at_skipped word) bytes
 unfolding take_bytes
 skipped_byte facts word b bytes not =
-    ap (λ (next : Result (Facts × Place) AnswerFault). and_then next (λ s. take_bytes s.0 s.1 bytes)) (skipped_at facts word b (is_line_feed b) (is_blank b) refl refl not)
+    ap (λ (next : Result (Facts × LineState) AnswerFault). and_then next (λ s. take_bytes s.0 s.1 bytes)) (skipped_at facts word b (is_line_feed b) (is_blank b) refl refl not)
 
 not_true : (t : Bool) → (t ≡ true → ⊥) → t ≡ false
 not_true true h = absurd (h refl)
@@ -54,35 +56,59 @@ skipped-line facts word bytes n lt none is =
     ∙ ap (λ (rest : List ℕ). take_bytes facts (at_skipped word) rest) (drop-cons bytes n 0 lt)
     ∙ line_feed facts word (get_or bytes n 0) (drop (suc n) bytes) is
 
+-- a line that begins with another byte than s, o and v is skipped from its beginning on
+starts_skipped : (facts : Facts) (word : List ℕ) (b : ℕ) (feed blank : Bool) → is_line_feed b ≡ feed → is_blank b ≡ blank → keyword_of b ≡ None →
+    take_byte facts (record { line = at.Start; word = word }) b ≡ take_byte facts (at_skipped word) b
+starts_skipped facts word b true blank e g none = rw e refl
+starts_skipped facts word b false blank e g none =
+    let state : Line → Result (Facts × LineState) AnswerFault = λ line. Ok (facts, record { line = line; word = word }) in
+    let line_is : line_after at.Start b ≡ at.Skipped =
+    ap (λ (k : Option Keyword). option_map_or (λ (keyword : Keyword). at.Alone keyword) k at.Skipped) none in
+    not_fed blank g ∙ ap state line_is ∙ sym (skipped_at facts word b false blank e g refl)
+  where
+    not_fed : (t : Bool) → is_blank b ≡ t →
+        take_byte facts (record { line = at.Start; word = word }) b ≡ Ok (facts, record { line = line_after at.Start b; word = word })
+    not_fed true h = rw (e, h) refl
+    not_fed false h = rw (e, h) refl
+
+pub begins-skipped : (facts : Facts) (b : ℕ) (rest : List ℕ) (keyword : Option Keyword) (none : Bool) → keyword ≡ keyword_of b →
+    is_some keyword ≡ not none → IsTrue none → take_bytes facts start (b ∷ rest) ≡ take_bytes facts skipped (b ∷ rest)
+unfolding take_bytes
+begins-skipped facts b rest None none is same holds =
+    ap (λ (next : Result (Facts × LineState) AnswerFault). and_then next (λ s. take_bytes s.0 s.1 rest))
+    (starts_skipped facts [] b (is_line_feed b) (is_blank b) refl refl (sym is))
+begins-skipped facts b rest (Some keyword) true is same holds = absurd cc
+begins-skipped facts b rest (Some keyword) false is same holds = absurd cc
+
 -- a byte more of a piece
-pub taken_on : (facts : Facts) (place : Place) (b : ℕ) (bytes : List ℕ) (next : Facts × Place) → take_byte facts place b ≡ Ok next → take_bytes facts place (b ∷ bytes) ≡ take_bytes next.0 next.1 bytes
+pub taken_on : (facts : Facts) (kept : LineState) (b : ℕ) (bytes : List ℕ) (next : Facts × LineState) → take_byte facts kept b ≡ Ok next → take_bytes facts kept (b ∷ bytes) ≡ take_bytes next.0 next.1 bytes
 unfolding take_bytes
-taken_on facts place b bytes next e = ap (λ (n : Result (Facts × Place) AnswerFault). and_then n (λ s. take_bytes s.0 s.1 bytes)) e
+taken_on facts kept b bytes next e = ap (λ (n : Result (Facts × LineState) AnswerFault). and_then n (λ s. take_bytes s.0 s.1 bytes)) e
 
-pub taken_err : (facts : Facts) (place : Place) (b : ℕ) (bytes : List ℕ) (fault : AnswerFault) → take_byte facts place b ≡ Err fault → take_bytes facts place (b ∷ bytes) ≡ Err fault
+pub taken_err : (facts : Facts) (kept : LineState) (b : ℕ) (bytes : List ℕ) (fault : AnswerFault) → take_byte facts kept b ≡ Err fault → take_bytes facts kept (b ∷ bytes) ≡ Err fault
 unfolding take_bytes
-taken_err facts place b bytes fault e = ap (λ (n : Result (Facts × Place) AnswerFault). and_then n (λ s. take_bytes s.0 s.1 bytes)) e
+taken_err facts kept b bytes fault e = ap (λ (n : Result (Facts × LineState) AnswerFault). and_then n (λ s. take_bytes s.0 s.1 bytes)) e
 
-pub taken_none : (facts : Facts) (place : Place) → take_bytes facts place [] ≡ Ok (facts, place)
+pub taken_none : (facts : Facts) (kept : LineState) → take_bytes facts kept [] ≡ Ok (facts, kept)
 unfolding take_bytes
-taken_none facts place = refl
+taken_none facts kept = refl
 
 -- the state that an answer without a fault stands for
-abbrev stated : Answer → Result (Facts × Place) AnswerFault
-stated answer = Ok (facts_of answer.known, place_of answer)
+abbrev stated : Answer → Result (Facts × LineState) AnswerFault
+stated answer = Ok (facts_of answer.known, line_of answer)
 
-abbrev as_state : Facts → Place → Result (Facts × Place) AnswerFault
-as_state facts place = Ok (facts, place)
+abbrev as_state : Facts → LineState → Result (Facts × LineState) AnswerFault
+as_state facts kept = Ok (facts, kept)
 
 none≢some : {A : Type 0} {x : A} → None ≡ Some x → ⊥
 none≢some e = cc
 
-stated_as : (answer : Answer) (state : Result (Facts × Place) AnswerFault) → answer.fault ≡ None → Stands answer state → state ≡ stated answer
+stated_as : (answer : Answer) (state : Result (Facts × LineState) AnswerFault) → answer.fault ≡ None → Stands answer state → state ≡ stated answer
 stated_as answer (Ok state) e h =
-    ap (λ (facts : Facts). as_state facts state.1) (sym h.1) ∙ ap (λ (place : Place). as_state (facts_of answer.known) place) (sym h.2)
+    ap (λ (facts : Facts). as_state facts state.1) (sym h.1) ∙ ap (λ (kept : LineState). as_state (facts_of answer.known) kept) (sym h.2)
 stated_as answer (Err fault) e h = absurd (none≢some (sym e ∙ h))
 
-failed_as : (answer : Answer) (state : Result (Facts × Place) AnswerFault) (fault : AnswerFault) → answer.fault ≡ Some fault → Stands answer state → state ≡ Err fault
+failed_as : (answer : Answer) (state : Result (Facts × LineState) AnswerFault) (fault : AnswerFault) → answer.fault ≡ Some fault → Stands answer state → state ≡ Err fault
 failed_as answer (Ok state) fault e h = absurd (none≢some (sym h.0 ∙ e))
 failed_as answer (Err other) fault e h = cc
 
@@ -96,48 +122,48 @@ pub fault-of : (variables : ℕ) (text : List ℕ) (answer : Answer) (fault : An
 fault-of variables text answer fault leads e = failed_as answer (state_after variables text) fault e leads.stands
 
 -- the state behind a piece
-pub moved : (variables : ℕ) (text piece : List ℕ) (answer : Answer) → LeadsTo variables text answer → answer.fault ≡ None → state_after variables (text ++ piece) ≡ take_bytes (facts_of answer.known) (place_of answer) piece
+pub moved : (variables : ℕ) (text piece : List ℕ) (answer : Answer) → LeadsTo variables text answer → answer.fault ≡ None → state_after variables (text ++ piece) ≡ take_bytes (facts_of answer.known) (line_of answer) piece
 moved variables text piece answer leads e =
     state_after-append variables text piece (within_most variables leads.few)
-    ∙ ap (λ (s : Result (Facts × Place) AnswerFault). and_then s (λ x. take_bytes x.0 x.1 piece)) (state-of variables text answer leads e)
+    ∙ ap (λ (s : Result (Facts × LineState) AnswerFault). and_then s (λ x. take_bytes x.0 x.1 piece)) (state-of variables text answer leads e)
 
 pub failed : (variables : ℕ) (text piece : List ℕ) (answer : Answer) (fault : AnswerFault) → LeadsTo variables text answer → answer.fault ≡ Some fault → state_after variables (text ++ piece) ≡ Err fault
 failed variables text piece answer fault leads e =
     state_after-append variables text piece (within_most variables leads.few)
-    ∙ ap (λ (s : Result (Facts × Place) AnswerFault). and_then s (λ x. take_bytes x.0 x.1 piece)) (fault-of variables text answer fault leads e)
+    ∙ ap (λ (s : Result (Facts × LineState) AnswerFault). and_then s (λ x. take_bytes x.0 x.1 piece)) (fault-of variables text answer fault leads e)
 
 -- the fault within a text is that of its state
-abbrev drop_state : Result (Facts × Place) AnswerFault → Result (Unit {0}) AnswerFault
+abbrev drop_state : Result (Facts × LineState) AnswerFault → Result (Unit {0}) AnswerFault
 drop_state result = and_then result (λ s. Ok tt)
 
-drop_place : (result : Result Facts AnswerFault) (place : Place) → and_then result (λ facts. Ok tt) ≡ drop_state (and_then result (λ facts. as_state facts place))
-drop_place (Ok facts) place = refl
-drop_place (Err fault) place = refl
+drop_kept : (result : Result Facts AnswerFault) (kept : LineState) → and_then result (λ facts. Ok tt) ≡ drop_state (and_then result (λ facts. as_state facts kept))
+drop_kept (Ok facts) kept = refl
+drop_kept (Err fault) kept = refl
 
-pub fault_within-state : (variables : ℕ) (text : List ℕ) (state : Result (Facts × Place) AnswerFault) → state_after variables text ≡ state → fault_within variables text ≡ drop_state state
-fault_within-state variables text state e = drop_place (judged_within variables text) (place_in_line (lines text).open_part) ∙ ap (λ (s : Result (Facts × Place) AnswerFault). drop_state s) e
+pub fault_within-state : (variables : ℕ) (text : List ℕ) (state : Result (Facts × LineState) AnswerFault) → state_after variables text ≡ state → fault_within variables text ≡ drop_state state
+fault_within-state variables text state e = drop_kept (judged_within variables text) (line_state_in (lines text).open_part) ∙ ap (λ (s : Result (Facts × LineState) AnswerFault). drop_state s) e
 
 -- what a piece leaves and answers
-stands_moved : (result : Result (Unit {0}) AnswerFault) (answer : Answer) (state : Result (Facts × Place) AnswerFault) → Moves result (facts_of answer.known, place_of answer) state → answer.fault ≡ result_err result → Stands answer state
-stands_moved (Ok u) answer state moves e = let P : Result (Facts × Place) AnswerFault → Type 0 = Stands answer in subst P (sym moves) (e, refl, refl)
-stands_moved (Err fault) answer state moves e = let P : Result (Facts × Place) AnswerFault → Type 0 = Stands answer in subst P (sym moves) e
+stands_moved : (result : Result (Unit {0}) AnswerFault) (answer : Answer) (state : Result (Facts × LineState) AnswerFault) → Moves result (facts_of answer.known, line_of answer) state → answer.fault ≡ result_err result → Stands answer state
+stands_moved (Ok u) answer state moves e = let P : Result (Facts × LineState) AnswerFault → Type 0 = Stands answer in subst P (sym moves) (e, refl, refl)
+stands_moved (Err fault) answer state moves e = let P : Result (Facts × LineState) AnswerFault → Type 0 = Stands answer in subst P (sym moves) e
 
-answers_moved : (result : Result (Unit {0}) AnswerFault) (next : Facts × Place) (state : Result (Facts × Place) AnswerFault) → Moves result next state → result ≡ drop_state state
+answers_moved : (result : Result (Unit {0}) AnswerFault) (next : Facts × LineState) (state : Result (Facts × LineState) AnswerFault) → Moves result next state → result ≡ drop_state state
 answers_moved (Ok u) next state moves = sym (ap drop_state moves)
 answers_moved (Err fault) next state moves = sym (ap drop_state moves)
 
-pub leads-moved : (variables : ℕ) (text piece : List ℕ) (before after : Answer) (result : Result (Unit {0}) AnswerFault) → LeadsTo variables text before → before.fault ≡ None → Moves result (facts_of after.known, place_of after) (take_bytes (facts_of before.known) (place_of before) piece) → after.fault ≡ result_err result → LeadsTo variables (text ++ piece) after
+pub leads-moved : (variables : ℕ) (text piece : List ℕ) (before after : Answer) (result : Result (Unit {0}) AnswerFault) → LeadsTo variables text before → before.fault ≡ None → Moves result (facts_of after.known, line_of after) (take_bytes (facts_of before.known) (line_of before) piece) → after.fault ≡ result_err result → LeadsTo variables (text ++ piece) after
 leads-moved variables text piece before after result leads e moves is =
-    let P : Result (Facts × Place) AnswerFault → Type 0 = Stands after in
+    let P : Result (Facts × LineState) AnswerFault → Type 0 = Stands after in
     record { few = leads.few; stands = subst P (sym (moved variables text piece before leads e)) (stands_moved result after _ moves is) }
 
-pub answers-moved : (variables : ℕ) (text piece : List ℕ) (before : Answer) (next : Facts × Place) (result : Result (Unit {0}) AnswerFault) → LeadsTo variables text before → before.fault ≡ None → Moves result next (take_bytes (facts_of before.known) (place_of before) piece) → result ≡ fault_within variables (text ++ piece)
+pub answers-moved : (variables : ℕ) (text piece : List ℕ) (before : Answer) (next : Facts × LineState) (result : Result (Unit {0}) AnswerFault) → LeadsTo variables text before → before.fault ≡ None → Moves result next (take_bytes (facts_of before.known) (line_of before) piece) → result ≡ fault_within variables (text ++ piece)
 answers-moved variables text piece before next result leads e moves =
     answers_moved result next _ moves ∙ sym (fault_within-state variables (text ++ piece) _ (moved variables text piece before leads e))
 
 pub leads-failed : (variables : ℕ) (text piece : List ℕ) (answer : Answer) (fault : AnswerFault) → LeadsTo variables text answer → answer.fault ≡ Some fault → LeadsTo variables (text ++ piece) answer
 leads-failed variables text piece answer fault leads e =
-    let P : Result (Facts × Place) AnswerFault → Type 0 = Stands answer in
+    let P : Result (Facts × LineState) AnswerFault → Type 0 = Stands answer in
     record { few = leads.few; stands = subst P (sym (failed variables text piece answer fault leads e)) e }
 
 pub answers-failed : (variables : ℕ) (text piece : List ℕ) (answer : Answer) (fault : AnswerFault) → LeadsTo variables text answer → answer.fault ≡ Some fault → Err fault ≡ fault_within variables (text ++ piece)
@@ -148,37 +174,37 @@ answers-failed variables text piece answer fault leads e =
 pub ends-failed : (variables : ℕ) (text : List ℕ) (answer : Answer) (fault : AnswerFault) → LeadsTo variables text answer → answer.fault ≡ Some fault → outcome variables text ≡ Err fault
 ends-failed variables text answer fault leads e =
     outcome-state variables text (within_most variables leads.few)
-    ∙ ap (λ (s : Result (Facts × Place) AnswerFault). and_then s (λ x. and_then (end_line x.0 x.1.line x.1.word) at_end)) (fault-of variables text answer fault leads e)
+    ∙ ap (λ (s : Result (Facts × LineState) AnswerFault). and_then s (λ x. and_then (end_line x.0 x.1.line x.1.word) at_end)) (fault-of variables text answer fault leads e)
 
-pub ends-judged : (variables : ℕ) (text : List ℕ) (answer : Answer) (judged : Result Facts AnswerFault) → LeadsTo variables text answer → answer.fault ≡ None → end_line (facts_of answer.known) answer.line answer.word.items ≡ judged → outcome variables text ≡ and_then judged at_end
+pub ends-judged : (variables : ℕ) (text : List ℕ) (answer : Answer) (judged : Result Facts AnswerFault) → LeadsTo variables text answer → answer.fault ≡ None → end_line (facts_of answer.known) (line_of answer).line (line_of answer).word ≡ judged → outcome variables text ≡ and_then judged at_end
 ends-judged variables text answer judged leads e is =
     outcome-state variables text (within_most variables leads.few)
-    ∙ ap (λ (s : Result (Facts × Place) AnswerFault). and_then s (λ x. and_then (end_line x.0 x.1.line x.1.word) at_end)) (state-of variables text answer leads e)
+    ∙ ap (λ (s : Result (Facts × LineState) AnswerFault). and_then s (λ x. and_then (end_line x.0 x.1.line x.1.word) at_end)) (state-of variables text answer leads e)
     ∙ ap (λ (r : Result Facts AnswerFault). and_then r at_end) is
 
 -- no text
-pub starts : (variables : ℕ) (answer : Answer) → variables < 2 ^ 32 → answer.fault ≡ None → facts_of answer.known ≡ no_facts variables → place_of answer ≡ start → LeadsTo variables [] answer
+pub starts : (variables : ℕ) (answer : Answer) → variables < 2 ^ 32 → answer.fault ≡ None → facts_of answer.known ≡ no_facts variables → line_of answer ≡ start → LeadsTo variables [] answer
 unfolding cut judge_all
-starts variables answer few fault facts place = record { few = few; stands = (fault, facts, place) }
+starts variables answer few fault facts kept = record { few = few; stands = (fault, facts, kept) }
 
 -- a line that is skipped, by the first line feed
 abbrev NoFeed : List ℕ → ℕ → Type 0
 NoFeed bytes n = (k : ℕ) → k < n → is_line_feed (get_or bytes k 0) ≡ true → ⊥
 
-pub skips : (before after : Answer) (bytes : List ℕ) (n : ℕ) → before.line ≡ at.Skipped → n < length bytes → NoFeed bytes n → is_line_feed (get_or bytes n 0) ≡ true → after.known ≡ before.known → after.line ≡ at.Start → after.word.items ≡ [] → take_bytes (facts_of before.known) (place_of before) bytes ≡ take_bytes (facts_of after.known) (place_of after) (take (length bytes - (n + 1)) (drop (n + 1) bytes))
-skips before after bytes n skipped lt none is known line word =
+pub skips : (facts : Facts) (kept : LineState) (bytes : List ℕ) (n : ℕ) → kept.line ≡ at.Skipped → n < length bytes → NoFeed bytes n → is_line_feed (get_or bytes n 0) ≡ true → take_bytes facts kept bytes ≡ take_bytes facts start (take (length bytes - (n + 1)) (drop (n + 1) bytes))
+skips facts kept bytes n skipped lt none is =
     let whole : take (length bytes - (n + 1)) (drop (n + 1) bytes) ≡ drop (n + 1) bytes = take_all (length bytes - (n + 1)) (drop (n + 1) bytes) (omega (arith, length-drop (n + 1) bytes)) in
     let next : n + 1 ≡ suc n = omega arith in
-    rw (whole, next, skipped, known, line, word) (skipped-line (facts_of before.known) before.word.items bytes n lt none is)
+    rw (whole, next, skipped) (skipped-line facts kept.word bytes n lt none is)
 
-pub skips_all : (before : Answer) (bytes : List ℕ) → before.line ≡ at.Skipped → NoFeed bytes (length bytes) → take_bytes (facts_of before.known) (place_of before) bytes ≡ take_bytes (facts_of before.known) (place_of before) []
-skips_all before bytes skipped none =
+pub skips_all : (facts : Facts) (kept : LineState) (bytes : List ℕ) → kept.line ≡ at.Skipped → NoFeed bytes (length bytes) → take_bytes facts kept bytes ≡ take_bytes facts kept []
+skips_all facts kept bytes skipped none =
     let all : drop (length bytes) bytes ≡ [] = drop_all (length bytes) bytes (omega arith) in
-    rw skipped (skipped-front (facts_of before.known) before.word.items bytes (length bytes) (omega arith) none ∙ ap (λ (rest : List ℕ). take_bytes (facts_of before.known) (at_skipped before.word.items) rest) all)
+    rw skipped (skipped-front facts kept.word bytes (length bytes) (omega arith) none ∙ ap (λ (rest : List ℕ). take_bytes facts (at_skipped kept.word) rest) all)
 
-pub taken_end : (facts : Facts) (place : Place) (rest : List ℕ) → length rest ≡ 0 → take_bytes facts place rest ≡ Ok (facts, place)
-taken_end facts place [] none = taken_none facts place
-taken_end facts place (b ∷ rest) none = absurd (omega arith)
+pub taken_end : (facts : Facts) (kept : LineState) (rest : List ℕ) → length rest ≡ 0 → take_bytes facts kept rest ≡ Ok (facts, kept)
+taken_end facts kept [] none = taken_none facts kept
+taken_end facts kept (b ∷ rest) none = absurd (omega arith)
 
 -- the bits
 meaning-length : (n : ℕ) (facts : Facts) (status : Option Status) (meaning : Meaning) → length facts.seen_true ≡ n → option_map_or (λ s. Ok (record { status = s; last_o = facts.last_o; truths = facts.seen_true })) status (Err faults.Statuses) ≡ Ok meaning → length meaning.truths ≡ n

@@ -14,7 +14,7 @@ abbrev pub literal_words : ℕ → List Bool → List (List ℕ)
 literal_words variable [] = []
 literal_words variable (truth ∷ truths) = literal_word variable truth ∷ literal_words (variable + 1) truths
 
--- rows of ten, the last with the rest, where there are at most so many rows
+-- rows of ten, the last with the rest, where there are no more rows than the number
 abbrev pub rows_within : {A : Type 0} → ℕ → List A → List (List A)
 rows_within zero xs = []
 rows_within (suc k) [] = []

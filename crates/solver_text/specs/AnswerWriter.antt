@@ -19,28 +19,28 @@ module _ {W : Type 0} {target : Ghosts W} where
   abbrev pub literals_of : AnswerWriter W target → ℕ
   literals_of writer = writer.literals
 
--- a row is full after so many literals
+-- whether a row is full after n literals
 abbrev pub is_full_row : ℕ → Bool
 is_full_row n = n % 10 == 0
 
--- what stands before the literal after so many literals
+-- what stands before the literal after n literals
 abbrev pub row_start : ℕ → List ℕ
 row_start n = if is_full_row n then codes "v" else []
 
--- what stands after so many literals, where the row is full
+-- what stands after n literals, where the row is full
 abbrev pub row_end : ℕ → List ℕ
 row_end n = if is_full_row n then codes "\n" else []
 
--- what the value of the next variable puts after so many literals
+-- what the value of the next variable puts after n literals
 abbrev pub literal_text : ℕ → Bool → List ℕ
 literal_text n truth = row_start n ++ behind_blank (literal_word (n + 1) truth) ++ row_end (n + 1)
 
--- what the values of the next variables put after so many literals
+-- what the values of the next variables put after n literals
 abbrev pub literals_text : ℕ → List Bool → List ℕ
 literals_text n [] = []
 literals_text n (truth ∷ truths) = literal_text n truth ++ literals_text (n + 1) truths
 
--- what the end of the answer puts after so many literals: the end of a row that is not full
+-- what the end of the answer puts after n literals: the end of a row that is not full
 abbrev pub end_text : ℕ → List ℕ
 end_text n = if is_full_row n then [] else codes "\n"
 

@@ -3,6 +3,6 @@ pub mod AnswerText
 pub mod AnswerWriter
 pub mod AnswerLaws
 pub mod Lines
-pub mod Places
+pub mod LineStates
 pub mod States
 pub mod Status

@@ -5,11 +5,11 @@ use Rattle.solver_text.specs.declared.outcome.AnswerFault.{AnswerFault}
 use Rattle.solver_text.specs.declared.outcome.Solved.{Solved}
 use Rattle.solver_text.specs.declared.known.Known.{Known}
 use Rattle.solver_text.specs.declared.answer.Answer.{Answer}
-use Rattle.solver_text.specs.declared.place.Keyword.{Keyword}
-use Rattle.solver_text.specs.declared.place.Line.TheVariants as at
+use Rattle.solver_text.specs.declared.line_state.Keyword.{Keyword}
+use Rattle.solver_text.specs.declared.line_state.Line.TheVariants as at
 use Rattle.solver_text.specs.Lines.{lines, cut, is_blank, ended_words}
 use Rattle.solver_text.specs.Answers.{Facts, Meaning, keyword_of, judged_within, and_then}
-use Rattle.solver_text.specs.Places.{Place, start, skipped, place_in_words}
+use Rattle.solver_text.specs.LineStates.{LineState, start, skipped, line_state_in_words}
 
 abbrev pub facts_of : Known → Facts
 facts_of known = record {
@@ -19,8 +19,8 @@ facts_of known = record {
   seen_false = known.seen_false;
 }
 
-abbrev pub place_of : Answer → Place
-place_of answer = record { line = answer.line; word = answer.word.items }
+abbrev pub line_of : Answer → LineState
+line_of answer = answer.state
 
 -- the fault that the answer keeps, where there was one
 abbrev pub fault_of : Answer → Option AnswerFault
@@ -30,23 +30,23 @@ abbrev pub meaning_of : Solved → Meaning
 meaning_of solved = record { status = solved.status; last_o = solved.last_o; truths = solved.bits }
 
 -- behind a letter
-abbrev pub place_behind_letter : Keyword → List ℕ → Place
-place_behind_letter keyword [] = record { line = at.Alone keyword; word = [] }
-place_behind_letter keyword (b ∷ bytes) =
-    if is_blank b then place_in_words keyword (ended_words (b ∷ bytes)) (cut is_blank (b ∷ bytes)).open_part else skipped
+abbrev pub line_state_behind_letter : Keyword → List ℕ → LineState
+line_state_behind_letter keyword [] = record { line = at.Alone keyword; word = [] }
+line_state_behind_letter keyword (b ∷ bytes) =
+    if is_blank b then line_state_in_words keyword (ended_words (b ∷ bytes)) (cut is_blank (b ∷ bytes)).open_part else skipped
 
--- the place at the end of an open line
-abbrev pub place_in_line : List ℕ → Place
-place_in_line [] = start
-place_in_line (letter ∷ bytes) = option_map_or (λ keyword. place_behind_letter keyword bytes) (keyword_of letter) skipped
+-- what is kept at the end of an open line
+abbrev pub line_state_in : List ℕ → LineState
+line_state_in [] = start
+line_state_in (letter ∷ bytes) = option_map_or (λ keyword. line_state_behind_letter keyword bytes) (keyword_of letter) skipped
 
--- the facts judged within a text and the place at its end, or its fault
-abbrev pub state_after : ℕ → List ℕ → Result (Facts × Place) AnswerFault
-state_after variables text = and_then (judged_within variables text) (λ facts. Ok (facts, place_in_line (lines text).open_part))
+-- the facts judged within a text and what is kept of its last line, or its fault
+abbrev pub state_after : ℕ → List ℕ → Result (Facts × LineState) AnswerFault
+state_after variables text = and_then (judged_within variables text) (λ facts. Ok (facts, line_state_in (lines text).open_part))
 
-abbrev pub Stands : Answer → Result (Facts × Place) AnswerFault → Type 0
+abbrev pub Stands : Answer → Result (Facts × LineState) AnswerFault → Type 0
 Stands answer (Err fault) = answer.fault ≡ Some fault
-Stands answer (Ok state) = (answer.fault ≡ None) × (facts_of answer.known ≡ state.0) × (place_of answer ≡ state.1)
+Stands answer (Ok state) = (answer.fault ≡ None) × (facts_of answer.known ≡ state.0) × (line_of answer ≡ state.1)
 
 -- the text leads to the answer's state
 pub record LeadsTo (variables : ℕ) (text : List ℕ) (answer : Answer) : Type 0 where
@@ -67,6 +67,6 @@ Ends (Ok solved) result = result ≡ Ok (meaning_of solved)
 Ends (Err fault) result = result ≡ Err fault
 
 -- what `take_bytes` answered and left
-abbrev pub Moves : Result (Unit {0}) AnswerFault → Facts × Place → Result (Facts × Place) AnswerFault → Type 0
+abbrev pub Moves : Result (Unit {0}) AnswerFault → Facts × LineState → Result (Facts × LineState) AnswerFault → Type 0
 Moves (Ok u) state moved = moved ≡ Ok state
 Moves (Err fault) state moved = moved ≡ Err fault

@@ -1,16 +1,12 @@
 //! The reader of a solver's answer, in any pieces.
 
-ghost use Rattle.std.specs.Prelude.{◌≡◌, ℕ, ◌<◌, List, [], ◌++◌, length, IfOk, Some, Err, OnOk};
+ghost use Rattle.std.specs.Prelude.{◌≡◌, ℕ, ◌<◌, List, [], ◌++◌, length, IfOk, MatchResult, Some, Err, OnOk};
 
 use crate::known::Known;
+use crate::line_state::{Keyword, Line, LineState, begins_skipped, line_end};
+use crate::literal::{LiteralFront, is_blank};
 use crate::outcome::{AnswerFault, Solved};
-use crate::place::{Keyword, Line, LiteralFront, ObjectiveWords, StatusWords, is_blank};
-use arrayvec::ArrayVec;
-use memchr::memchr;
 use std::alloc::{AllocError, Global};
-
-// A word of 20 bytes or more is no status, and no number of a sign and at most 18 digits.
-const KEPT: usize = 20;
 
 /// A solver's answer that is being read, in any pieces: the `s`, `o` and `v` lines of the output format
 /// of the Pseudo-Boolean Competition (Roussel and Manquinho). Every other line is skipped.
@@ -20,15 +16,14 @@ const KEPT: usize = 20;
 #[derive(Drop)]
 pub struct Answer {
     known: Known,
-    line: Line,
-    word: ArrayVec<u8, KEPT>,
+    state: LineState,
     fault: Option<AnswerFault>,
 }
 
 impl Answer {
     ghost use Rattle.solver_text.specs.Answers.{outcome};
-    ghost use Rattle.solver_text.specs.Places.{take_byte, take_bytes, end_word, end_line, with_line_byte, kept_byte, ended_status, ended_objective};
-    ghost use Rattle.solver_text.specs.States.{facts_of, place_of, fault_of, LeadsTo, fault_within, Gives, Ends, Moves};
+    ghost use Rattle.solver_text.specs.LineStates.{take_byte, take_bytes, end_word, end_line};
+    ghost use Rattle.solver_text.specs.States.{facts_of, line_of, fault_of, LeadsTo, fault_within, Gives, Ends, Moves};
 
     /// An answer of which nothing was read yet, for the variables 1 to `variables`. It fails only for want
     /// of memory.
@@ -37,8 +32,7 @@ impl Answer {
     {
         Ok(Answer {
             known: Known::new(alloc, variables)?,
-            line: Line::Start,
-            word: ArrayVec::new(),
+            state: LineState::start(),
             fault: None,
         })
     }
@@ -82,70 +76,99 @@ impl Answer {
 
     // Takes bytes until there is a fault.
     fn take_bytes(&mut self, piece: &[u8]) -> Result<(), AnswerFault>
-        ensures { Moves result (facts_of self.new.known, place_of self.new)
-            (take_bytes (facts_of self.old.known) (place_of self.old) piece.now) }
+        ensures { Moves result (facts_of self.new.known, line_of self.new)
+            (take_bytes (facts_of self.old.known) (line_of self.old) piece.now) }
     {
         let mut rest = piece;
         while let Some((b, after)) = rest.split_first() {
-            if matches!(self.line, Line::Skipped) {
-                rest = self.skip_line(rest);
-            } else {
-                self.take_byte(*b)?;
-                rest = after;
+            match self.state.line() {
+                Line::Skipped => rest = self.skip_lines(rest),
+                Line::Values(front) => rest = self.take_word(front, rest)?,
+                _ => {
+                    self.take_byte(*b)?;
+                    rest = after;
+                }
             }
         }
         Ok(())
     }
 
-    // Passes over the rest of a line that is skipped, and gives what is behind it.
-    fn skip_line<'p>(&mut self, bytes: &'p [u8]) -> &'p [u8]
-        requires skipped { self.old.line ≡ Line.Skipped }
+    // Takes the rest of a word of a `v` line and the byte behind it, and gives what is behind both.
+    fn take_word<'p>(
+        &mut self,
+        front: LiteralFront,
+        bytes: &'p [u8],
+    ) -> Result<&'p [u8], AnswerFault>
+        requires values { (line_of self.old).line ≡ Line.Values front }
         requires some { 0 < length bytes.now }
-        ensures takes { take_bytes (facts_of self.old.known) (place_of self.old) bytes.now
-            ≡ take_bytes (facts_of self.new.known) (place_of self.new) result.now }
-        ensures shorter { length result.now < length bytes.now }
+        ensures taken { MatchResult result
+            (λ rest. take_bytes (facts_of self.old.known) (line_of self.old) bytes.now
+            ≡ take_bytes (facts_of self.new.known) (line_of self.new) rest.now)
+            (λ fault. take_bytes (facts_of self.old.known) (line_of self.old) bytes.now ≡ Err fault) }
+        ensures shorter { IfOk result (λ rest. length rest.now < length bytes.now) }
     {
-        match memchr(b'\n', bytes) {
-            Some(end) => {
-                self.start_line();
-                &bytes[end + 1..]
+        let (front, behind) = front.read_on(bytes);
+        match behind.split_first() {
+            Some((b, rest)) if is_blank(*b) => {
+                self.known.judge_front(front)?;
+                self.state.go_to(LiteralFront::Empty);
+                Ok(rest)
             }
-            None => &[],
+            Some((b, rest)) => {
+                self.state.go_to(front);
+                self.take_byte(*b)?;
+                Ok(rest)
+            }
+            None => {
+                self.state.go_to(front);
+                Ok(behind)
+            }
         }
     }
 
-    fn start_line(&mut self)
-        ensures known { self.new.known ≡ self.old.known }
-        ensures line { self.new.line ≡ Line.Start }
-        ensures word { self.new.word.items ≡ [] }
-        ensures fault { self.new.fault ≡ self.old.fault }
+    // Passes over the rest of a line that is skipped and over the lines behind it that are, and gives
+    // what is behind them.
+    fn skip_lines<'p>(&mut self, bytes: &'p [u8]) -> &'p [u8]
+        requires skipped { (line_of self.old).line ≡ Line.Skipped }
+        requires some { 0 < length bytes.now }
+        ensures takes { take_bytes (facts_of self.old.known) (line_of self.old) bytes.now
+            ≡ take_bytes (facts_of self.new.known) (line_of self.new) result.now }
+        ensures shorter { length result.now < length bytes.now }
     {
-        self.line = Line::Start;
-        self.word.clear();
+        let mut rest = bytes;
+        while let Some(end) = line_end(rest) {
+            rest = &rest[end + 1..];
+            if !begins_skipped(rest) {
+                self.state.start_again();
+                return rest;
+            }
+            self.state.skip();
+        }
+        &[]
     }
 
     fn take_byte(&mut self, b: u8) -> Result<(), AnswerFault>
-        ensures { Moves result (facts_of self.new.known, place_of self.new)
-            (take_byte (facts_of self.old.known) (place_of self.old) b) }
+        ensures { Moves result (facts_of self.new.known, line_of self.new)
+            (take_byte (facts_of self.old.known) (line_of self.old) b) }
     {
         if b == b'\n' {
             self.end_line()?;
-            self.start_line();
+            self.state.start_again();
             return Ok(());
         }
         if is_blank(b) {
             self.end_word()?;
         }
-        self.step(b);
+        self.state.step(b);
         Ok(())
     }
 
     // Judges the word before a blank.
     fn end_word(&mut self) -> Result<(), AnswerFault>
-        ensures judged { Gives result (facts_of self.new.known) (end_word (facts_of self.old.known) self.old.line) }
-        ensures place { OnOk result (place_of self.new ≡ place_of self.old) }
+        ensures judged { Gives result (facts_of self.new.known) (end_word (facts_of self.old.known) (line_of self.old).line) }
+        ensures place { OnOk result (line_of self.new ≡ line_of self.old) }
     {
-        match self.line {
+        match self.state.line() {
             Line::Values(front) => self.known.judge_front(front),
             _ => Ok(()),
         }
@@ -153,75 +176,21 @@ impl Answer {
 
     // Judges the line before its end.
     fn end_line(&mut self) -> Result<(), AnswerFault>
-        ensures { Gives result (facts_of self.new.known) (end_line (facts_of self.old.known) self.old.line self.old.word.items) }
+        ensures { Gives result (facts_of self.new.known) (end_line (facts_of self.old.known) (line_of self.old).line (line_of self.old).word) }
     {
-        match self.line {
+        match self.state.line() {
             Line::Start | Line::Skipped | Line::Alone(Keyword::Values) => Ok(()),
             Line::Alone(Keyword::Status) => self.known.judge_status(None),
             Line::Alone(Keyword::Objective) => self.known.judge_objective(None),
             Line::Status(words) => {
-                let status = self.ended_status(words).status();
+                let status = self.state.status(words);
                 self.known.judge_status(status)
             }
             Line::Objective(words) => {
-                let value = self.ended_objective(words).value();
+                let value = self.state.value(words);
                 self.known.judge_objective(value)
             }
             Line::Values(front) => self.known.judge_front(front),
-        }
-    }
-
-    fn ended_status(&self, words: StatusWords) -> StatusWords
-        ensures { result ≡ ended_status words self.now.word.items }
-    {
-        if self.word.is_empty() {
-            words
-        } else {
-            words.with_word(self.word.as_slice())
-        }
-    }
-
-    fn ended_objective(&self, words: ObjectiveWords) -> ObjectiveWords
-        ensures { result ≡ ended_objective words self.now.word.items }
-    {
-        if self.word.is_empty() {
-            words
-        } else {
-            words.with_word(self.word.as_slice())
-        }
-    }
-
-    // Goes one byte on in a line.
-    fn step(&mut self, b: u8)
-        ensures place { place_of self.new ≡ with_line_byte self.old.line self.old.word.items b }
-        ensures known { self.new.known ≡ self.old.known }
-    {
-        let blank = is_blank(b);
-        match self.line {
-            Line::Status(words) if blank => self.begin_word(Line::Status(self.ended_status(words))),
-            Line::Objective(words) if blank => self.begin_word(Line::Objective(self.ended_objective(
-                words,
-            ))),
-            Line::Status(_) | Line::Objective(_) => self.keep(b),
-            line => self.line = line.with_byte(b),
-        }
-    }
-
-    fn begin_word(&mut self, line: Line)
-        ensures place { place_of self.new ≡ record { line = line; word = [] } }
-        ensures known { self.new.known ≡ self.old.known }
-    {
-        self.line = line;
-        self.word.clear();
-    }
-
-    // Keeps the byte where there is room.
-    fn keep(&mut self, b: u8)
-        ensures place { place_of self.new ≡ record { line = self.old.line; word = kept_byte self.old.word.items b } }
-        ensures known { self.new.known ≡ self.old.known }
-    {
-        if !self.word.is_full() {
-            self.word.push(b);
         }
     }
 }

@@ -4,9 +4,8 @@ ghost use Rattle.std.specs.Io.KnownBytes.{append_known};
 ghost use Rattle.rota_core.specs.Ports.{told_len};
 ghost use Rattle.opb_text.specs.Begins.{Begins};
 ghost use Rattle.opb_text.specs.Sink.{stands_for, sink_failed, target_of, sent_by, PutsText};
-ghost use Rattle.rota_core.specs.Numeral.{numeral};
-ghost use Rattle.solver_text.specs.AnswerText.{answer_head, behind_blank, literal_word};
-ghost use Rattle.solver_text.specs.AnswerWriter.{literal_text, row_start, row_end, end_text};
+ghost use Rattle.solver_text.specs.AnswerText.{answer_head};
+ghost use Rattle.solver_text.specs.AnswerWriter.{literal_text, end_text};
 
 use opb_text::Sink;
 use rota_core::{PortFault, Target};
@@ -33,39 +32,7 @@ pub struct AnswerWriter<'a, W: Target> {
     literals: u32,
 }
 
-fn put_natural<W: Target>(sink: &mut Sink<W>, number: u64) -> Result<(), PortFault>
-    ensures { PutsText sink.old result (numeral number) sink.new }
-{
-    sink.number(number as i128)
-}
-
-// Puts the letter of a line of values, where a line begins after so many literals.
-fn put_row_start<W: Target>(sink: &mut Sink<W>, literals: u32) -> Result<(), PortFault>
-    ensures takes { PutsText sink.old result (row_start literals) sink.new }
-    ensures for_good { sink_failed sink.old ≡ true → IsErr result }
-{
-    let text: &[u8] = if literals % 10 == 0 { b"v" } else { b"" };
-    sink.put(text)
-}
-
-// Puts the end of a line of values, where it is full after so many literals.
-fn put_row_end<W: Target>(sink: &mut Sink<W>, literals: u64) -> Result<(), PortFault>
-    ensures { PutsText sink.old result (row_end literals) sink.new }
-{
-    let text: &[u8] = if literals % 10 == 0 { b"\n" } else { b"" };
-    sink.put(text)
-}
-
-// Puts a blank and the variable's literal.
-fn put_word<W: Target>(sink: &mut Sink<W>, variable: u64, positive: bool) -> Result<(), PortFault>
-    ensures { PutsText sink.old result (behind_blank (literal_word variable positive)) sink.new }
-{
-    let letter: &[u8] = if positive { b" x" } else { b" -x" };
-    sink.put(letter)?;
-    put_natural(sink, variable)
-}
-
-// Puts the literal of the next variable after so many literals.
+// Puts the literal of the next variable after `literals` others: a line begins after each ten.
 fn put_literal<W: Target>(
     sink: &mut Sink<W>,
     literals: u32,
@@ -75,9 +42,14 @@ fn put_literal<W: Target>(
     ensures for_good { sink_failed sink.old ≡ true → IsErr result }
 {
     let variable = u64::from(literals) + 1;
-    put_row_start(sink, literals)?;
-    put_word(sink, variable, positive)?;
-    put_row_end(sink, variable)
+    let front: &[u8] = match (literals % 10 == 0, positive) {
+        (true, true) => b"v x",
+        (true, false) => b"v -x",
+        (false, true) => b" x",
+        (false, false) => b" -x",
+    };
+    let end: &[u8] = if variable % 10 == 0 { b"\n" } else { b"" };
+    sink.number_between(front, variable, end)
 }
 
 // Puts the lines before the values.
@@ -85,12 +57,10 @@ fn put_head<W: Target>(sink: &mut Sink<W>, objective: u64) -> Result<(), PortFau
     ensures takes { PutsText sink.old result (answer_head objective) sink.new }
     ensures for_good { sink_failed sink.old ≡ true → IsErr result }
 {
-    sink.put(b"o ")?;
-    put_natural(sink, objective)?;
-    sink.put(b"\ns SATISFIABLE\n")
+    sink.number_between(b"o ", objective, b"\ns SATISFIABLE\n")
 }
 
-// Puts the end of the last line of values, where it is not full.
+// Puts the end of the last line of values after `literals` literals, where it is not full.
 fn put_end<W: Target>(sink: &mut Sink<W>, literals: u32) -> Result<(), PortFault>
     ensures takes { PutsText sink.old result (end_text literals) sink.new }
     ensures for_good { sink_failed sink.old ≡ true → IsErr result }

@@ -2,8 +2,8 @@
 
 ghost use Rattle.std.specs.Prelude.{◌≡◌, ◌<◌, ◌^◌, length, MatchResult, IfOk, false, true, slice_set, slice_index_or};
 
+use crate::literal::LiteralFront;
 use crate::outcome::{AnswerFault, Solved, Status};
-use crate::place::LiteralFront;
 use rota_core::Bits;
 use std::alloc::{AllocError, Global};
 
@@ -37,7 +37,7 @@ fn mark(seen: &mut Bits, other: &Bits, place: u32) -> Result<(), AnswerFault>
 
 impl Known {
     ghost use Rattle.solver_text.specs.Answers.{no_facts, judge_status, judge_objective, judge_variable, at_end};
-    ghost use Rattle.solver_text.specs.Places.{judge_front};
+    ghost use Rattle.solver_text.specs.LineStates.{judge_front};
     ghost use Rattle.solver_text.specs.States.{facts_of, Gives, Ends};
 
     pub(crate) fn new(alloc: Global, variables: u32) -> Result<Known, AllocError>

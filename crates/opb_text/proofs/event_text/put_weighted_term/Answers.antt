@@ -1,31 +1,50 @@
 use mir.Syntax.{w64}
-use mir.Val.{SFits}
-use Rattle.std.proofs.Common.{◌≡◌, ℕ, List, ◌++◌, sym, ap, ◌∙◌, subst, append_assoc, rules}
-use Rattle.std.proofs.lemmas.Int.{to_z-of_z}
-use Rattle.std.specs.Prelude.{codes}
-use Rattle.opb_text.specs.ModelText.{coefficient_text}
+use Rattle.std.proofs.Common.{◌≡◌, ℕ, List, [], ◌∷◌, ◌++◌, ℤ, pos, negsuc, ◌<ℤ◌, ◌≤ℤ◌, refl, ap, ◌∙◌, arith, append_assoc}
+use Rattle.std.specs.Prelude.{codes, nat_abs}
+use Rattle.std.proofs.lemmas.Int.{ints, to_z-of_z}
 use Rattle.rota_core.specs.Numeral.{numeral}
-use Rattle.opb_text.specs.Sink.{PutsText}
-use Rattle.opb_text.proofs.PutsTextLemmas.{puts_exit, puts_stop, puts_then}
+use Rattle.opb_text.specs.ModelText.{coefficient_text, term_text}
+use Rattle.opb_text.proofs.PutsTextLemmas.{puts_exit, puts_same, puts_stop, puts_then}
+use Rattle.opb_text.proofs.event_text.put_weighted_term.Goals.{then-coefficient-lt0, else-coefficient-lt0}
 use Rattle.opb_text.proofs.event_text.put_weighted_term.Goals as goal
 
-joined : (coefficient variable : List ℕ) →
-    coefficient ++ (codes " x" ++ variable ++ codes " ") ≡ coefficient ++ codes " x" ++ variable ++ codes " "
-joined coefficient variable =
-    sym (append_assoc coefficient (codes " x" ++ variable) (codes " ")) ∙
-    ap (λ (text : List ℕ). text ++ codes " ") (sym (append_assoc coefficient (codes " x") variable))
+minus : (z : ℤ) → z <ℤ pos 0 → coefficient_text z ≡ 45 ∷ numeral (nat_abs z)
+minus (pos n) negative = absurd (omega (arith, ints))
+minus (negsuc n) negative = refl
 
-pub returns-in_err-put_coefficient : goal.returns-in_err-put_coefficient
-returns-in_err-put_coefficient g c =
-    let fits : SFits w64 c.args.coefficient = search rules in
+plus : (z : ℤ) → pos 0 ≤ℤ z → coefficient_text z ≡ 43 ∷ numeral (nat_abs z)
+plus (pos n) positive = refl
+plus (negsuc n) positive = absurd (omega (arith, ints))
+
+-- the sign and the digits with the letter behind them, and then the variable
+parts : (z : ℤ) (variable : ℕ) (sign digits : List ℕ) → coefficient_text z ≡ sign ++ digits →
+    term_text (z, variable) ≡ (sign ++ digits ++ codes " x") ++ ([] ++ numeral variable ++ codes " ")
+parts z variable sign digits same =
+    ap (λ (text : List ℕ). text ++ codes " x" ++ numeral variable ++ codes " ") same
+    ∙ append_assoc (sign ++ digits ++ codes " x") (numeral variable) (codes " ")
+
+pub returns-in_err-number_between-clause-takes : goal.returns-in_err-number_between-clause-takes
+returns-in_err-number_between-clause-takes g c =
+    let z = c.args.coefficient in
+    let number = c.unsigned_abs.result in
+    let number_is : number ≡ nat_abs z = c.unsigned_abs.ensures.value ∙ ap nat_abs (to_z-of_z w64 z c.ranges.coefficient) in
+    let sign = c.if-coefficient-lt0.sign.now in
+    let same : coefficient_text z ≡ sign ++ numeral number = elim c.if-coefficient-lt0.branch [
+      | then-coefficient-lt0 w ↦ rw (w.sign-is, number_is) (minus z (omega (arith, ints)))
+      | else-coefficient-lt0 w ↦ rw (w.sign-is, number_is) (plus z (omega (arith, ints)))
+    ] in
     puts_exit _ c.from_residual.ensures.0
-    (puts_stop _ (puts_stop _ (puts_stop _ (rw (to_z-of_z w64 c.args.coefficient fits) at c.in_err-put_coefficient.ensures))))
+    (puts_same (parts z c.args.variable sign (numeral number) same) (puts_stop ([] ++ numeral c.args.variable ++ codes " ") c.in_err-number_between.ensures.takes))
 
-pub returns : goal.returns
-returns g c =
-    let fits : SFits w64 c.args.coefficient = search rules in
-    subst (λ (text : List ℕ). PutsText c.args.sink.now c.number_between.result text c.number_between.new.self)
-    (joined (coefficient_text c.args.coefficient) (numeral c.args.variable))
-    (puts_then
-    (rw (to_z-of_z w64 c.args.coefficient fits) at c.in_ok-put_coefficient.ensures)
-    c.number_between.ensures.takes)
+pub returns-clause-takes : goal.returns-clause-takes
+returns-clause-takes g c =
+    let z = c.args.coefficient in
+    let number = c.unsigned_abs.result in
+    let number_is : number ≡ nat_abs z = c.unsigned_abs.ensures.value ∙ ap nat_abs (to_z-of_z w64 z c.ranges.coefficient) in
+    let sign = c.if-coefficient-lt0.sign.now in
+    let same : coefficient_text z ≡ sign ++ numeral number = elim c.if-coefficient-lt0.branch [
+      | then-coefficient-lt0 w ↦ rw (w.sign-is, number_is) (minus z (omega (arith, ints)))
+      | else-coefficient-lt0 w ↦ rw (w.sign-is, number_is) (plus z (omega (arith, ints)))
+    ] in
+    puts_same (parts z c.args.variable sign (numeral number) same)
+    (puts_then c.in_ok-number_between.ensures.takes (rw c.from.ensures at c.number_between-2.ensures.takes))

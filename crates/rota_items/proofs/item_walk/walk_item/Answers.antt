@@ -1,26 +1,22 @@
-use Rattle.std.proofs.Common.{arith, rules}
-use Rattle.rota_core.specs.InstanceTables.{week_of}
-use Rattle.rota_items.proofs.Walking.{walk_exits, walked_where, refused_where, walked_nowhere, fits_where}
-use Rattle.rota_items.specs.ItemValues.{item_of}
+use Rattle.rota_items.proofs.Common.{arith, week_of, item_of}
+use Rattle.rota_items.proofs.Walking.{walk_exits, walk_none, walked_one, fits_one}
 use Rattle.rota_items.proofs.item_walk.walk_item.Goals as goal
 
-pub returns-then-not-there : goal.returns-then-not-there
-returns-then-not-there g c = walked_nowhere g.T.Taker _ _ _ _ _ _ (search rules)
+pub returns-in_default : goal.returns-in_default
+returns-in_default g c = rw c.in_default.is (walk_none g.T.Taker _ _ _ _)
 
-pub take_item-requires-clause-slacks_fit : goal.take_item-requires-clause-slacks_fit
-take_item-requires-clause-slacks_fit g c =
-    let w = c.args in
-    fits_where w.first w.there (item_of (week_of w.instance.now) w.item) (search rules) c.requires.slacks_fit
+pub give_item-requires-clause-slacks_fit : goal.give_item-requires-clause-slacks_fit
+give_item-requires-clause-slacks_fit g c =
+    fits_one c.args.first (item_of (week_of c.args.instance.now) c.in-Some.one) (rw c.in-Some.is at c.requires.slacks_fit)
 
-pub returns-in_err-take_item : goal.returns-in_err-take_item
-returns-in_err-take_item g c =
-    walk_exits g.T.Taker _ _ _ _ _ _ _ c.from_residual.ensures.0
-    (refused_where g.T.Taker _ _ _ _ _ _ _ (search rules) c.in_err-take_item.ensures)
+pub returns-in_err-give_item : goal.returns-in_err-give_item
+returns-in_err-give_item g c =
+    rw c.in-Some.is (walk_exits g.T.Taker _ _ _ _ _ _ _ c.from_residual.ensures.0 c.in_err-give_item.ensures)
 
 pub overflow_add-result : goal.overflow_add-result
 overflow_add-result g c =
-    let w = c.args in
-    omega (arith, fits_where w.first w.there (item_of (week_of w.instance.now) w.item) (search rules) c.requires.slacks_fit)
+    let fit = fits_one c.args.first (item_of (week_of c.args.instance.now) c.in-Some.one) (rw c.in-Some.is at c.requires.slacks_fit) in
+    omega (arith, fit)
 
 pub returns : goal.returns
-returns g c = walked_where g.T.Taker _ _ _ _ _ _ _ _ (search rules) (omega arith) c.in_ok-take_item.ensures
+returns g c = rw c.in-Some.is (walked_one g.T.Taker _ _ _ _ _ _ _ (omega arith) c.in_ok-give_item.ensures)

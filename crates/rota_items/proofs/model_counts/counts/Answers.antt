@@ -1,52 +1,25 @@
-use Rattle.std.proofs.Common.{arith}
-use Rattle.rota_core.specs.InstanceTables.{week_of}
-use Rattle.rota_items.proofs.InstanceLimits.{instance-within_limits}
-use Rattle.rota_items.proofs.ModelLengths.{length-constraints, slack_count-soft_items}
-use Rattle.rota_items.proofs.SlackBound.{variables-below}
+use Rattle.rota_items.proofs.Common.{arith, week_of}
+use Rattle.std.proofs.lemmas.List.{length-append, length-map}
+use Rattle.rota_items.proofs.SlackBound.{length-item_rows}
+use Rattle.rota_items.specs.Cells.{cell_number, first_slack}
+use Rattle.rota_items.specs.HardRows.{rule_rows}
+use Rattle.rota_items.specs.Items.{numbered}
+use Rattle.rota_items.specs.LinearRow.{linear_constraint}
+use Rattle.rota_items.specs.Slacks.{item_rows}
+use Rattle.rota_items.specs.SoftRules.{soft_items}
+use Rattle.rota_items.specs.WeekModel.{hard_rows, numbered_items, numbered_row, rows_of}
 use Rattle.rota_items.proofs.model_counts.counts.Goals as goal
-
-pub overflow_add-result : goal.overflow_add-result
-overflow_add-result c =
-    let week = week_of c.args.instance.now in
-    omega (
-      arith,
-      variables-below week (instance-within_limits c.args.instance.now c.within_limits.ensures),
-      slack_count-soft_items week,
-      c.unit_var.ensures,
-      c.count_optimum_slacks.ensures.number,
-      c.count_consecutive_assignment_items-assignment_runs.ensures.number,
-      c.count_consecutive_day_off_items-day_off_runs.ensures.number,
-      c.count_complete_weekend_items-complete_weekends.ensures.number,
-      c.count_worked_weekend_items-worked_weekends.ensures.number,
-      c.count_assignment_slacks.ensures.number,
-    )
-
-pub returns-clause-variables : goal.returns-clause-variables
-returns-clause-variables c =
-    let week = week_of c.args.instance.now in
-    omega (
-      arith,
-      slack_count-soft_items week,
-      c.unit_var.ensures,
-      c.count_optimum_slacks.ensures.number,
-      c.count_consecutive_assignment_items-assignment_runs.ensures.number,
-      c.count_consecutive_day_off_items-day_off_runs.ensures.number,
-      c.count_complete_weekend_items-complete_weekends.ensures.number,
-      c.count_worked_weekend_items-worked_weekends.ensures.number,
-      c.count_assignment_slacks.ensures.number,
-    )
 
 pub returns-clause-constraints : goal.returns-clause-constraints
 returns-clause-constraints c =
     let week = week_of c.args.instance.now in
     omega (
       arith,
-      length-constraints week,
+      length-map (rows_of week) linear_constraint,
+      length-append (hard_rows week) (item_rows (first_slack week) (numbered_items week)),
+      length-map (rule_rows week) (numbered_row week),
+      length-item_rows (first_slack week) (numbered_items week),
+      length-map (soft_items week) (numbered (cell_number week)),
       c.count_rule_rows.ensures.number,
-      c.count_optimum_items.ensures.number,
-      c.count_consecutive_assignment_items-assignment_runs.ensures.number,
-      c.count_consecutive_day_off_items-day_off_runs.ensures.number,
-      c.count_complete_weekend_items-complete_weekends.ensures.number,
-      c.count_worked_weekend_items-worked_weekends.ensures.number,
-      c.count_assignment_items.ensures.number,
+      c.count_soft_items-soft.ensures.items,
     )

@@ -1,4 +1,4 @@
-use Rattle.rota_items.proofs.Extension.{extension-first_broken}
+use Rattle.rota_items.proofs.FirstBroken.{extension-first_broken}
 use Rattle.rota_items.proofs.model_laws.extension_fails_first_at_first_broken_rule.Goals as goal
 
 pub returns : goal.returns

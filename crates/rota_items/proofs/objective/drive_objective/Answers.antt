@@ -1,5 +1,4 @@
-use Rattle.std.proofs.Common.{◌≡◌, []}
-use Rattle.rota_core.specs.InstanceTables.{week_of}
+use Rattle.rota_items.proofs.Common.{◌≡◌, [], week_of}
 use Rattle.rota_items.proofs.Taking.{exits, row_refused_at_start, row_refused_at_terms, row_closed}
 use Rattle.rota_items.proofs.ObjectiveTaking.{objective_none, objective_refused, objective_some, is_some, row_of}
 use Rattle.rota_items.specs.WeekModel.{objective_terms}
@@ -15,17 +14,17 @@ returns-in_err-start_row g c =
     exits g.T.Taker _ _ _ _ c.from_residual.ensures.0
     (objective_refused g.T.Taker terms _ _ some (row_refused_at_start g.T.Taker (row_of terms) _ _ c.in_err-start_row.ensures))
 
-pub returns-in_err-take_terms : goal.returns-in_err-take_terms
-returns-in_err-take_terms g c =
+pub returns-in_err-give_terms : goal.returns-in_err-give_terms
+returns-in_err-give_terms g c =
     let terms = objective_terms (week_of c.args.instance.now) in
     let some : terms ≡ [] → ⊥ = is_some _ terms c.if-not-has_term.false c.has_term.ensures.1 in
-    exits g.T.Taker _ _ _ _ c.from_residual-in_err-take_terms.ensures.0
+    exits g.T.Taker _ _ _ _ c.from_residual-in_err-give_terms.ensures.0
     (objective_refused g.T.Taker terms _ _ some
-    (row_refused_at_terms g.T.Taker (row_of terms) _ _ _ c.in_ok-start_row.ensures c.in_err-take_terms.ensures))
+    (row_refused_at_terms g.T.Taker (row_of terms) _ _ _ c.in_ok-start_row.ensures c.in_err-give_terms.ensures))
 
 pub returns : goal.returns
 returns g c =
     let terms = objective_terms (week_of c.args.instance.now) in
     let some : terms ≡ [] → ⊥ = is_some _ terms c.if-not-has_term.false c.has_term.ensures.1 in
     objective_some g.T.Taker terms _ _ _ some
-    (row_closed g.T.Taker (row_of terms) _ _ _ _ _ c.in_ok-start_row.ensures c.in_ok-take_terms.ensures c.close_row.ensures)
+    (row_closed g.T.Taker (row_of terms) _ _ _ _ _ c.in_ok-start_row.ensures c.in_ok-give_terms.ensures c.close_row.ensures)

@@ -1,5 +1,5 @@
 use Rattle.std.proofs.lemmas.Result.{MatchResult-weaker}
-use Rattle.rota_core.specs.InstanceTables.{week_of}
+use Rattle.rota_items.proofs.Common.{week_of}
 use Rattle.rota_items.proofs.ObjectiveTaking.{none_taken, some_refused, told_by_refusal}
 use Rattle.rota_items.specs.WeekModel.{objective_terms}
 use Rattle.rota_items.proofs.objective.has_term.Goals as goal
@@ -8,6 +8,6 @@ pub returns : goal.returns
 returns c =
     let terms = objective_terms (week_of c.args.instance.now) in
     rw c.is_err.ensures.value
-    (told_by_refusal c.take_terms.result terms
-    (MatchResult-weaker c.take_terms.result c.take_terms.ensures (λ _ took. none_taken terms took.value_is)
+    (told_by_refusal c.give_terms.result terms
+    (MatchResult-weaker c.give_terms.result c.give_terms.ensures (λ _ took. none_taken terms took.value_is)
     (λ _ refused. some_refused terms _ _ _ refused.are)))

@@ -1,4 +1,4 @@
-use Rattle.rota_items.proofs.Optimum.{weighted-optimum_items}
+use Rattle.rota_items.proofs.SoftRules.OptimalCoverage.{weighted-optimum_items}
 use Rattle.rota_items.proofs.rule_laws.optimum_items_charge_missing_nurses.Goals as goal
 
 pub returns : goal.returns

@@ -1,4 +1,4 @@
-use Rattle.rota_items.proofs.Requests.{value_of-request_terms}
+use Rattle.rota_items.proofs.SoftRules.ShiftOffRequests.{value_of-request_terms}
 use Rattle.rota_items.proofs.rule_laws.request_terms_charge_requests.Goals as goal
 
 pub returns : goal.returns

@@ -1,4 +1,4 @@
-use Rattle.std.proofs.Common.{arith}
+use Rattle.rota_items.proofs.Common.{arith}
 use Rattle.rota_items.proofs.ListLengths.{closed-le}
 use Rattle.rota_items.proofs.run_counts.closed_patterns_of.Goals as goal
 

@@ -1,4 +1,4 @@
-use Rattle.std.proofs.Common.{arith}
+use Rattle.rota_items.proofs.Common.{arith}
 use Rattle.rota_items.specs.RunPatterns.{closed_patterns_on, edge_patterns_on}
 use Rattle.rota_items.proofs.ListLengths.{length-each_below_both}
 use Rattle.rota_items.proofs.run_counts.patterns_of.Goals as goal

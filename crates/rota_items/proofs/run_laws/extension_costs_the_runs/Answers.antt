@@ -1,9 +1,8 @@
-use Rattle.std.proofs.Common.{ap, ◌∙◌}
+use Rattle.rota_items.proofs.Common.{ap, ◌∙◌, run_items}
 use Rattle.std.specs.Prelude.{pos}
 use Rattle.rota_items.proofs.ItemLaw.{value_of-extension}
-use Rattle.rota_items.proofs.PatternDays.{run_items-below}
+use Rattle.rota_items.proofs.TermsHold.{run_items-below}
 use Rattle.rota_items.proofs.RunLaw.{shortages-run_items, weighted_shortages-run_items}
-use Rattle.rota_items.specs.RunItems.{run_items}
 use Rattle.rota_items.proofs.run_laws.extension_costs_the_runs.Goals as goal
 
 pub returns : goal.returns

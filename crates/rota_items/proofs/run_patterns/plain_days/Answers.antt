@@ -1,4 +1,4 @@
-use Rattle.std.proofs.Common.{sym, arith}
+use Rattle.rota_items.proofs.Common.{sym, arith}
 use Rattle.rota_items.proofs.DayPatterns.{count-has, count-lacks}
 use Rattle.rota_items.proofs.run_patterns.plain_days.Goals as goal
 

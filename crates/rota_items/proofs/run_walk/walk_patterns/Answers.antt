@@ -1,9 +1,6 @@
-use Rattle.std.proofs.Common.{arith}
-use Rattle.rota_items.proofs.Walking.{walk_exits, walk_begins, walk_more, walk_ends, walk_refused, fits_within}
+use Rattle.rota_items.proofs.Common.{arith}
+use Rattle.rota_items.proofs.Walking.{walk_exits, walk_refused, fits_within}
 use Rattle.rota_items.proofs.run_walk.walk_patterns.Goals as goal
-
-pub loop-day-init : goal.loop-day-init
-loop-day-init g c = walk_begins g.T.Taker _ _ _ _ _
 
 pub walk_patterns_on-requires-clause-slacks_fit : goal.walk_patterns_on-requires-clause-slacks_fit
 walk_patterns_on-requires-clause-slacks_fit g c =
@@ -13,9 +10,3 @@ pub returns-in_err-next : goal.returns-in_err-next
 returns-in_err-next g c =
     walk_exits g.T.Taker _ _ _ _ _ _ _ c.from_residual.ensures.0
     (walk_refused g.T.Taker _ _ _ _ _ _ _ _ _ _ (omega arith) c.loop-day.invariant c.in_err-next.ensures)
-
-pub loop-day-preserved : goal.loop-day-preserved
-loop-day-preserved g c = walk_more g.T.Taker _ _ _ _ _ _ _ _ _ _ c.loop-day.invariant c.in_ok-next.ensures
-
-pub returns : goal.returns
-returns g c = walk_ends g.T.Taker _ _ _ _ _ _ _ _ _ (omega arith) c.loop-day.invariant

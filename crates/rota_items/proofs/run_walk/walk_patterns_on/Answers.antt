@@ -1,38 +1,47 @@
-use Rattle.std.proofs.Common.{arith}
-use Rattle.rota_core.specs.InstanceTables.{week_of}
+use Rattle.rota_items.proofs.Common.{arith, week_of, runs_of, each_below}
+use Rattle.rota_items.proofs.RunItemLists.{pattern_items-on}
 use Rattle.rota_items.proofs.Walking.{walk_exits, walk_begins, walk_more, walk_ends, walk_refused, walk_stops, walk_then, fits_before, fits_after, fits_within}
-use Rattle.rota_items.specs.ItemPlaces.{closed_items_at, edge_items_on}
-use Rattle.rota_items.specs.ItemValues.{runs_of}
-use Rattle.rota_core.specs.Lists.{each_below}
+use Rattle.rota_items.specs.RunItems.{closed_items_at, edge_items_on}
 use Rattle.rota_items.proofs.run_walk.walk_patterns_on.Goals as goal
 
 pub loop-count-init : goal.loop-count-init
 loop-count-init g c = walk_begins g.T.Taker _ _ _ _ _
 
-pub walk_closed-requires-clause-slacks_fit : goal.walk_closed-requires-clause-slacks_fit
-walk_closed-requires-clause-slacks_fit g c =
+pub walk_pattern-requires-clause-slacks_fit : goal.walk_pattern-requires-clause-slacks_fit
+walk_pattern-requires-clause-slacks_fit g c =
     let w = c.args in
     let runs = runs_of (week_of w.instance.now) w.runs in
-    fits_within g.T.Taker _ _ _ _ _ _ _ _ _ (omega arith) c.loop-count.invariant
-    (fits_before w.first (each_below w.day (closed_items_at runs w.day)) (edge_items_on runs w.day) c.requires.slacks_fit)
+    rw c.closed_before-closed.ensures.pattern
+    (fits_within g.T.Taker _ _ _ _ _ _ _ _ _ (omega arith) c.loop-count.invariant
+    (fits_before w.first (each_below w.day (closed_items_at runs w.day)) (edge_items_on runs w.day)
+    (rw (pattern_items-on runs w.day) at c.requires.slacks_fit)))
 
 pub returns-in_err-next : goal.returns-in_err-next
 returns-in_err-next g c =
+    let runs = runs_of (week_of c.args.instance.now) c.args.runs in
     walk_exits g.T.Taker _ _ _ _ _ _ _ c.from_residual.ensures.0
+    (rw (pattern_items-on runs c.args.day)
     (walk_stops g.T.Taker _ _ _ _ _ _ _
-    (walk_refused g.T.Taker _ _ _ _ _ _ _ _ _ _ (omega arith) c.loop-count.invariant c.in_err-next.ensures))
+    (walk_refused g.T.Taker _ _ _ _ _ _ _ _ _ _ (omega arith) c.loop-count.invariant
+    (rw c.closed_before-closed.ensures.pattern at c.in_err-next.ensures))))
 
 pub loop-count-preserved : goal.loop-count-preserved
-loop-count-preserved g c = walk_more g.T.Taker _ _ _ _ _ _ _ _ _ _ c.loop-count.invariant c.in_ok-next.ensures
+loop-count-preserved g c =
+    walk_more g.T.Taker _ _ _ _ _ _ _ _ _ _ c.loop-count.invariant
+    (rw c.closed_before-closed.ensures.pattern at c.in_ok-next.ensures)
 
-pub walk_edge-requires-clause-slacks_fit : goal.walk_edge-requires-clause-slacks_fit
-walk_edge-requires-clause-slacks_fit g c =
+pub walk_pattern-requires-2-clause-slacks_fit : goal.walk_pattern-requires-2-clause-slacks_fit
+walk_pattern-requires-2-clause-slacks_fit g c =
     let w = c.args in
     let runs = runs_of (week_of w.instance.now) w.runs in
-    fits_after g.T.Taker _ _ _ _ (each_below w.day (closed_items_at runs w.day)) (edge_items_on runs w.day) _ _
-    (walk_ends g.T.Taker _ _ _ _ _ _ _ _ _ (omega arith) c.loop-count.invariant) c.requires.slacks_fit
+    rw c.edge_before-edge.ensures.pattern
+    (fits_after g.T.Taker _ _ _ _ (each_below w.day (closed_items_at runs w.day)) (edge_items_on runs w.day) _ _
+    (walk_ends g.T.Taker _ _ _ _ _ _ _ _ _ (omega arith) c.loop-count.invariant)
+    (rw (pattern_items-on runs w.day) at c.requires.slacks_fit))
 
 pub returns : goal.returns
 returns g c =
-    walk_then g.T.Taker _ _ _ _ _ _ _ _ _ _ (walk_ends g.T.Taker _ _ _ _ _ _ _ _ _ (omega arith) c.loop-count.invariant)
-    c.walk_edge.ensures
+    let runs = runs_of (week_of c.args.instance.now) c.args.runs in
+    rw (pattern_items-on runs c.args.day)
+    (walk_then g.T.Taker _ _ _ _ _ _ _ _ _ _ (walk_ends g.T.Taker _ _ _ _ _ _ _ _ _ (omega arith) c.loop-count.invariant)
+    (rw c.edge_before-edge.ensures.pattern at c.walk_pattern-2.ensures))

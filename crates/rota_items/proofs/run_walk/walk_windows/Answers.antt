@@ -1,21 +1,14 @@
-use Rattle.std.proofs.Common.{arith}
-use Rattle.rota_items.proofs.Walking.{walk_exits, walk_begins, walk_more, walk_ends, walk_refused, fits_within}
+use Rattle.rota_items.proofs.Common.{arith}
+use Rattle.rota_items.proofs.Walking.{walk_exits, walk_refused, fits_within}
 use Rattle.rota_items.proofs.run_walk.walk_windows.Goals as goal
 
-pub loop-day-init : goal.loop-day-init
-loop-day-init g c = walk_begins g.T.Taker _ _ _ _ _
-
-pub walk_window-requires-clause-slacks_fit : goal.walk_window-requires-clause-slacks_fit
-walk_window-requires-clause-slacks_fit g c =
-    fits_within g.T.Taker _ _ _ _ _ _ _ _ _ (omega arith) c.loop-day.invariant c.requires.slacks_fit
+pub walk_pattern-requires-clause-slacks_fit : goal.walk_pattern-requires-clause-slacks_fit
+walk_pattern-requires-clause-slacks_fit g c =
+    rw c.window_on-window.ensures.pattern
+    (fits_within g.T.Taker _ _ _ _ _ _ _ _ _ (omega arith) c.loop-day.invariant c.requires.slacks_fit)
 
 pub returns-in_err-next : goal.returns-in_err-next
 returns-in_err-next g c =
     walk_exits g.T.Taker _ _ _ _ _ _ _ c.from_residual.ensures.0
-    (walk_refused g.T.Taker _ _ _ _ _ _ _ _ _ _ (omega arith) c.loop-day.invariant c.in_err-next.ensures)
-
-pub loop-day-preserved : goal.loop-day-preserved
-loop-day-preserved g c = walk_more g.T.Taker _ _ _ _ _ _ _ _ _ _ c.loop-day.invariant c.in_ok-next.ensures
-
-pub returns : goal.returns
-returns g c = walk_ends g.T.Taker _ _ _ _ _ _ _ _ _ (omega arith) c.loop-day.invariant
+    (walk_refused g.T.Taker _ _ _ _ _ _ _ _ _ _ (omega arith) c.loop-day.invariant
+    (rw c.window_on-window.ensures.pattern at c.in_err-next.ensures))

@@ -1,4 +1,4 @@
-use Rattle.std.proofs.Common.{refl, arith, length-take, ◌∙◌}
+use Rattle.std.proofs.Common.{refl, rules, arith, length-take, ◌∙◌}
 use Rattle.std.proofs.lemmas.Result.{err_from_is_err_and}
 use Rattle.opb_text.proofs.PutsTextLemmas.{or_false}
 use Rattle.rota_pb.specs.Readers.{reader_of}
@@ -6,7 +6,7 @@ use Rattle.rota_pb.proofs.Feeding.{taken_nothing, taken_more, fault_taken}
 use Rattle.rota_pb.proofs.answer_pieces.feed_all.Goals as goal
 
 pub loop-init : goal.loop-init
-loop-init g c = record { taken = taken_nothing _ _; sound = refl }
+loop-init g c = record { taken = taken_nothing _ _; sound = refl; unended = refl }
 
 pub loop-preserved : goal.loop-preserved
 loop-preserved g c = record {
@@ -16,6 +16,7 @@ loop-preserved g c = record {
       (omega (arith, length-take c.in-Ok.count c.read.new.buffer, c.in-Ok.ensures.bound))
       (λ variables text leads. c.in_ok-feed.ensures.leads variables text leads);
   sound = c.in-Ok.ensures.failure ∙ or_false _ ∙ c.loop.invariant.sound;
+  unended = search rules;
 }
 
 pub returns-in_err-feed-clause-fault : goal.returns-in_err-feed-clause-fault

@@ -1,24 +1,22 @@
-use Rattle.std.proofs.lemmas.Result.{on_ok_weaker, IfErr-weaker}
-use Rattle.rota_pb.proofs.Encoded.{writes_model, writes_beginning, on_write, no_check}
+use Rattle.std.proofs.Common.{refl}
+use Rattle.std.proofs.lemmas.Result.{err_from_is_err_and}
+use Rattle.rota_pb.specs.WeekFiles.{StopsAt}
+use Rattle.rota_pb.proofs.Encoded.{begins-model, writes-model}
+use Rattle.rota_pb.proofs.FailedReads.{one_fails}
+use Rattle.rota_pb.proofs.Outcomes.{checked, not_written, sent}
 use Rattle.rota_pb.proofs.encoding.run_encode.Goals as goal
 
-pub returns-clause-ok : goal.returns-clause-ok
-returns-clause-ok g c =
-    on_ok_weaker c.encode.result (λ written. writes_model _ _ _ _ c.in_ok-instance.ensures.spelled _ _ written) c.encode.ensures.ok
+pub returns-in_err-instance-clause-outcome : goal.returns-in_err-instance-clause-outcome
+returns-in_err-instance-clause-outcome g c =
+    let p = err_from_is_err_and c.from_residual.result c.from_residual.ensures.1 in
+    rw (p.1, p.2) (checked (StopsAt _ _) _ (not_written _ _) _ c.in_err-instance.ensures (c.in_err-instance.ensures, refl))
 
-pub returns-clause-sound : goal.returns-clause-sound
-returns-clause-sound g c = c.encode.ensures.sound
+pub returns-clause-outcome : goal.returns-clause-outcome
+returns-clause-outcome g c =
+    sent _ _ _ c.encode.result c.encode.ensures.sends c.encode.ensures.fault (writes-model _ _ _ c.in_ok-instance.ensures _)
+    (begins-model _ _ _ c.in_ok-instance.ensures _)
 
-pub returns-clause-check : goal.returns-clause-check
-returns-clause-check g c = IfErr-weaker c.encode.result _ _ (λ fault is. no_check _ fault is) c.encode.ensures.fault
-
-pub returns-clause-untouched : goal.returns-clause-untouched
-returns-clause-untouched g c = IfErr-weaker c.encode.result _ _ (λ fault is. no_check _ fault is) c.encode.ensures.fault
-
-pub returns-clause-begun : goal.returns-clause-begun
-returns-clause-begun g c =
-    IfErr-weaker c.encode.result _ _
-    (λ fault begun. on_write fault (writes_beginning _ _ _ _ c.in_ok-instance.ensures.spelled _ _ begun)) c.encode.ensures.err
-
-pub returns-clause-write_failed : goal.returns-clause-write_failed
-returns-clause-write_failed g c = IfErr-weaker c.encode.result _ _ (λ fault failed. on_write fault failed) c.encode.ensures.failure
+pub returns-in_err-instance-clause-read : goal.returns-in_err-instance-clause-read
+returns-in_err-instance-clause-read g c =
+    let p = err_from_is_err_and c.from_residual.result c.from_residual.ensures.1 in
+    rw (p.1, p.2) (λ is. one_fails _ _ _ is c.in_err-instance.ensures)

@@ -1,4 +1,3 @@
-use Rattle.std.proofs.Common.{arith}
 use Rattle.std.proofs.lemmas.Result.{err_from_is_err_and}
 use Rattle.rota_core.specs.declared.fault.FileName.TheVariants as names
 use Rattle.rota_read.specs.SolutionLayout.{solution}
@@ -16,12 +15,10 @@ pub returns-in_err-read_solution-clause-fault : goal.returns-in_err-read_solutio
 returns-in_err-read_solution-clause-fault g c =
     let p = err_from_is_err_and c.from_residual-in_err-read_solution.result c.from_residual-in_err-read_solution.ensures.1 in
     rw (p.1, p.2)
-    (fails-check names.Solution (solution c.args.instance.now.scenario) (reader_of g.S.Source c.args.source.now c.read_within.new.source) _
-    c.in_ok-text.ensures.bytes (λ short. c.in_ok-text.ensures.end (omega (arith, short, c.in_ok-text.text.ok))) c.in_ok-text.ensures.sound _
+    (fails-check names.Solution (solution c.args.instance.now.scenario) (reader_of g.S.Source c.args.source.now c.read_within.new.source) _ c.in_ok-text.ensures.read _
     (rw (← c.deref.ensures.value) c.in_err-read_solution.ensures.fault))
 
 pub returns-clause-read : goal.returns-clause-read
 returns-clause-read g c =
-    roster-read c.args.instance.now (reader_of g.S.Source c.args.source.now c.read_within.new.source) _
-    c.in_ok-text.ensures.bytes (λ short. c.in_ok-text.ensures.end (omega (arith, short, c.in_ok-text.text.ok))) c.in_ok-text.ensures.sound _
+    roster-read c.args.instance.now (reader_of g.S.Source c.args.source.now c.read_within.new.source) _ c.in_ok-text.ensures.read _
     (rw (← c.deref.ensures.value) c.in_ok-read_solution.ensures.spelled)

@@ -1,4 +1,4 @@
-use Rattle.std.proofs.Common.{arith}
+use Rattle.std.proofs.Common.{◌∙◌, arith}
 use Rattle.rota_pb.proofs.SinkLoops.{bytes_join, loop_none, loop_more, loop_all, loop_exit}
 use Rattle.rota_pb.specs.Report.{cost_lines}
 use Rattle.rota_pb.proofs.report.put_cost_lines.Goals as goal
@@ -6,13 +6,16 @@ use Rattle.rota_pb.proofs.report.put_cost_lines.Goals as goal
 pub loop-place-init : goal.loop-place-init
 loop-place-init g c = loop_none bytes_join _ _
 
-pub returns-in_err-put_cost_line : goal.returns-in_err-put_cost_line
+pub returns-in_err-put_number_line : goal.returns-in_err-put_number_line
 unfolding cost_lines
-returns-in_err-put_cost_line g c =
-    loop_exit bytes_join _ _ _ _ c.from_residual.ensures.0 (omega arith) c.loop-place.invariant (rw c.from.ensures at c.in_err-put_cost_line.ensures)
+returns-in_err-put_number_line g c =
+    loop_exit bytes_join _ _ _ _ c.from_residual.ensures.0 (omega arith) c.loop-place.invariant
+    (rw (c.as_bytes.ensures.value ∙ c.name.ensures) at c.in_err-put_number_line.ensures)
 
 pub loop-place-preserved : goal.loop-place-preserved
-loop-place-preserved g c = loop_more bytes_join _ _ c.loop-place.invariant (rw c.from.ensures at c.in_ok-put_cost_line.ensures)
+loop-place-preserved g c =
+    loop_more bytes_join _ _ c.loop-place.invariant
+    (rw (c.as_bytes.ensures.value ∙ c.name.ensures) at c.in_ok-put_number_line.ensures)
 
 pub returns : goal.returns
 unfolding cost_lines

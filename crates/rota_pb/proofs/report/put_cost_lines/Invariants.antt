@@ -1,6 +1,5 @@
-use Rattle.std.proofs.Common.{◌+◌, Ok}
+use Rattle.std.proofs.Common.{Ok}
 use Rattle.rota_core.specs.Lists.{each_below}
-use Rattle.std.specs.Prelude.{slice_index_or}
 use Rattle.rota_pb.specs.Report.{cost_line}
 use Rattle.opb_text.specs.Sink.{PutsText}
 use Rattle.rota_pb.proofs.report.put_cost_lines.Given as goal
@@ -8,4 +7,4 @@ use Rattle.rota_pb.proofs.report.put_cost_lines.Given as goal
 abbrev pub invariant-loop-place : goal.invariant-loop-place
 invariant-loop-place g l =
     let w = l.fn in
-    PutsText w.sink (Ok tt) (each_below l.place (λ i. cost_line (i + 1) (slice_index_or w.costs i 0))) l.sink
+    PutsText w.sink (Ok tt) (each_below l.place (cost_line w.costs)) l.sink

@@ -1,10 +1,11 @@
 use Rattle.std.proofs.Common.{◌∙◌}
 use Rattle.rota_core.specs.InstanceTables.{week_of}
 use Rattle.rota_core.specs.RosterTables.{set_of}
-use Rattle.rota_read.specs.SolutionText.{cells_of, text_of_cells}
+use Rattle.rota_core.specs.RosterCells.{cells_of}
+use Rattle.rota_read.specs.SolutionText.{text_of_cells}
 use Rattle.opb_text.proofs.PutsTextLemmas.{puts_exit, puts_stop, puts_then}
-use Rattle.rota_pb.specs.RosterRows.{rows_text}
-use Rattle.rota_pb.proofs.RosterCount.{count-cells_of}
+use Rattle.rota_read.specs.SolutionText.{rows_text}
+use Rattle.rota_core.proofs.RosterCount.{count-cells_of}
 use Rattle.rota_pb.proofs.written_solution.put_solution.Goals as goal
 
 pub returns-in_err-put_heading-clause-takes : goal.returns-in_err-put_heading-clause-takes
@@ -21,4 +22,4 @@ unfolding text_of_cells
 returns-clause-takes g c =
     let week = week_of c.args.instance.now in
     let counted = c.count.ensures.count ∙ count-cells_of week c.args.roster.now c.requires.shape c.count.ensures.within in
-    puts_then (rw counted at c.in_ok-put_heading.ensures.takes) c.put_nurses.ensures.takes
+    puts_then (rw counted at c.in_ok-put_heading.ensures.takes) c.put_assignments.ensures

@@ -1,7 +1,6 @@
-use Rattle.rota_core.specs.declared.fault.FileName.TheVariants.{Scenario}
 use Rattle.rota_core.specs.Parts.{scenario_of}
 use Rattle.rota_read.specs.ScenarioLayout.{scenario}
-use Rattle.rota_read.proofs.FileLaws.{spells-read, fault_in-read}
+use Rattle.rota_read.proofs.FileLaws.{spells-read}
 use Rattle.rota_read.proofs.ScenarioLaws.{spells-is_scenario}
 use Rattle.rota_read.proofs.files.read_scenario.Goals as goal
 
@@ -10,6 +9,3 @@ of_parts-requires c = spells-is_scenario c.args.text.now (scenario_of c.in-Ok.pa
 
 pub returns-in-Ok-clause-spelled : goal.returns-in-Ok-clause-spelled
 returns-in-Ok-clause-spelled c = rw c.of_parts.ensures (spells-read scenario c.args.text.now (scenario_of c.in-Ok.parts) c.in-Ok.ensures)
-
-pub returns-in-Err-clause-fault : goal.returns-in-Err-clause-fault
-returns-in-Err-clause-fault c = rw c.in_file.ensures (fault_in-read scenario c.args.text.now Scenario c.in-Err.stop c.in-Err.ensures)

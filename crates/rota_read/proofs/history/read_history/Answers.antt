@@ -1,7 +1,6 @@
-use Rattle.rota_core.specs.declared.fault.FileName.TheVariants.{History}
 use Rattle.rota_core.specs.Parts.{history_of}
 use Rattle.rota_read.specs.HistoryLayout.{history}
-use Rattle.rota_read.proofs.FileLaws.{spells-read, fault_in-read}
+use Rattle.rota_read.proofs.FileLaws.{spells-read}
 use Rattle.rota_read.proofs.HistoryLaws.{spells-is_history, spells-HasNumbersOf}
 use Rattle.rota_read.proofs.history.read_history.Goals as goal
 
@@ -13,6 +12,3 @@ returns-in-Ok-clause-spelled c = rw c.of_parts.ensures (spells-read (history c.a
 
 pub returns-in-Ok-clause-numbers : goal.returns-in-Ok-clause-numbers
 returns-in-Ok-clause-numbers c = rw c.of_parts.ensures (spells-HasNumbersOf c.args.scenario.now c.args.text.now (history_of c.in-Ok.parts) (spells-read (history c.args.scenario.now) c.args.text.now (history_of c.in-Ok.parts) c.in-Ok.ensures.read))
-
-pub returns-in-Err-clause-fault : goal.returns-in-Err-clause-fault
-returns-in-Err-clause-fault c = rw c.in_file.ensures (fault_in-read (history c.args.scenario.now) c.args.text.now History c.in-Err.stop c.in-Err.ensures.read)

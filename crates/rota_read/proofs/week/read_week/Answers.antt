@@ -1,7 +1,6 @@
-use Rattle.rota_core.specs.declared.fault.FileName.TheVariants.{Week}
 use Rattle.rota_core.specs.Parts.{week_tables_of}
 use Rattle.rota_read.specs.WeekLayout.{week}
-use Rattle.rota_read.proofs.FileLaws.{spells-read, fault_in-read}
+use Rattle.rota_read.proofs.FileLaws.{spells-read}
 use Rattle.rota_read.proofs.WeekLaws.{spells-is_week, spells-HasNumbersOf}
 use Rattle.rota_read.proofs.week.read_week.Goals as goal
 
@@ -13,6 +12,3 @@ returns-in-Ok-clause-spelled c = rw c.of_parts.ensures (spells-read (week c.args
 
 pub returns-in-Ok-clause-numbers : goal.returns-in-Ok-clause-numbers
 returns-in-Ok-clause-numbers c = rw c.of_parts.ensures (spells-HasNumbersOf c.args.scenario.now c.args.text.now (week_tables_of c.in-Ok.parts) (spells-read (week c.args.scenario.now) c.args.text.now (week_tables_of c.in-Ok.parts) c.in-Ok.ensures.read))
-
-pub returns-in-Err-clause-fault : goal.returns-in-Err-clause-fault
-returns-in-Err-clause-fault c = rw c.in_file.ensures (fault_in-read (week c.args.scenario.now) c.args.text.now Week c.in-Err.stop c.in-Err.ensures.read)

@@ -1,0 +1,99 @@
+//! The examples with which the libraries open, line for line: `tests/documents.sh` compares them.
+use crate::week_files::{ONE_NURSE_ONE_SHIFT, RUN_IN_THE_HISTORY, instance_of};
+use opb_text::{OpbTaker, Sink};
+use rota_core::{Cell, FileFault, MemoryTarget, Pace, Roster, Rule};
+use rota_items::{Counts, Judge, Part, Taker, drive_constraints, drive_objective};
+use rota_read::{read_history, read_scenario};
+use solver_text::{Answer, Status};
+use std::test::Fail;
+
+#[test]
+fn example_of_rota_core(rt: HostRuntime) -> Result<(), Fail> {
+    let alloc = rt.alloc();
+    let instance = instance_of(alloc, &ONE_NURSE_ONE_SHIFT)?;
+    let mut roster = Roster::new(alloc, &instance)?;
+    if let (Some(nurse), Some(shift), Some(skill)) = (
+        instance.find_nurse(b"Ann"),
+        instance.find_shift(b"Day"),
+        instance.find_skill(b"Nurse"),
+    ) {
+        roster.put(Cell {
+            nurse,
+            day: 6,
+            shift,
+            skill,
+        });
+    }
+    for cell in roster.cells() {
+        assert_eq!(rt; cell.day, 6);
+    }
+    assert_eq!(rt; roster.count(), 1);
+    Ok(())
+}
+
+#[test]
+fn example_of_rota_read(rt: HostRuntime) -> Result<(), Fail> {
+    let (alloc, text) = (rt.alloc(), ONE_NURSE_ONE_SHIFT.scenario);
+    let scenario = read_scenario(alloc, text)?;
+    assert_eq!(rt; scenario.name(), b"s1".as_slice());
+    if let Err(fault) = read_history(alloc, &scenario, b"HISTORY\n0 s1\n") {
+        let line = format!(in alloc; "{fault}")?;
+        assert_eq!(rt; line.as_str(), "history line 2: end of file");
+    }
+    Ok(())
+}
+
+#[test]
+fn example_of_rota_items(rt: HostRuntime) -> Result<(), Fail> {
+    let instance = instance_of(rt.alloc(), &RUN_IN_THE_HISTORY)?;
+    let mut roster = Roster::new(rt.alloc(), &instance)?;
+    roster.put(Cell {
+        nurse: 0,
+        day: 0,
+        shift: 0,
+        skill: 0,
+    });
+    let mut judge = Judge::of_roster(&instance, &roster);
+    drive_objective(&instance, &mut judge)?;
+    drive_constraints(&instance, &mut judge)?;
+    let verdict = judge.verdict();
+    for (rule, cost) in Rule::SOFT.into_iter().zip(verdict.costs) {
+        let wanted = if rule == Rule::S2 { 30 } else { 0 };
+        assert_eq!(rt; cost, wanted, "{rule}");
+    }
+    assert!(rt; verdict.unmet.is_none());
+    Ok(())
+}
+
+#[test]
+fn example_of_opb_text(rt: HostRuntime) -> Result<(), Fail> {
+    let alloc = rt.alloc();
+    let mut target = MemoryTarget::new(alloc, 100, Pace::new(100, None))?;
+    let mut taker = OpbTaker::new(Sink::new(&mut target));
+    taker.first_line(Counts {
+        variables: 2,
+        constraints: 1,
+    })?;
+    taker.start_row(Part::Hard(Rule::H1))?;
+    taker.term(-1, 1)?;
+    taker.term(-1, 2)?;
+    taker.close_row(-1)?;
+    taker.finish()?;
+    let text = b"* #variable= 2 #constraint= 1\n-1 x1 -1 x2 >= -1 ;\n";
+    assert_eq!(rt; target.bytes(), text.as_slice());
+    Ok(())
+}
+
+#[test]
+fn example_of_solver_text(rt: HostRuntime) -> Result<(), Fail> {
+    let alloc = rt.alloc();
+    let mut answer = Answer::new(alloc, 3)?;
+    answer.feed(b"s OPTIMUM FOUND\nv x1 -x")?;
+    answer.feed(b"2 x3\n")?;
+    let solved = answer.finish()?;
+    assert_eq!(rt; solved.status, Status::Optimum);
+    for place in solved.bits.true_places() {
+        assert!(rt; place == 0 || place == 2);
+    }
+    Ok(())
+}

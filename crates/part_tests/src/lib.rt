@@ -1,0 +1,39 @@
+//! Tests of the public calls that runs are made of: tables, rosters, numbers, rows, answers and ports.
+#![tactic(auto)]
+
+// Answers of solvers, whole and in pieces.
+#[cfg(test)]
+mod answers;
+// The numbers of a small week's cells.
+#[cfg(test)]
+mod cells;
+// A taker that fails at each event in turn: no further event comes.
+#[cfg(test)]
+mod events;
+// The examples with which the libraries open.
+#[cfg(test)]
+mod examples;
+// Ports over memory.
+#[cfg(test)]
+mod memory_ports;
+// The judge beside the plain programs, on rosters made at random.
+#[cfg(test)]
+mod random_rosters;
+// Want of memory while tables, rosters and answers are made.
+#[cfg(test)]
+mod refused_tables;
+// The numbers of windows and patterns, and what is charged early.
+#[cfg(test)]
+mod run_counts;
+// The standard library's readers and writers as ports.
+#[cfg(test)]
+mod std_ports;
+// Rosters, truth values and names.
+#[cfg(test)]
+mod tables;
+// The files of small weeks.
+#[cfg(test)]
+mod week_files;
+// Answers that are written.
+#[cfg(test)]
+mod written_answers;

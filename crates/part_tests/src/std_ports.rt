@@ -1,0 +1,191 @@
+//! The standard library's readers and writers as ports: nothing is tried again after an error, short reads and
+//! writes are passed on, and each flush is.
+ghost use Rattle.std.specs.Prelude.{◌≡◌, ◌≤◌, IfOk};
+
+use rota_core::{FromRead, PortFault, Source, Target, ToWrite};
+use std::io;
+use std::io::{ErrorKind, Read, Write};
+use std::test::Fail;
+
+#[test]
+fn readers_and_writers_are_ports(rt: HostRuntime) -> Result<(), Fail> {
+    let mut buffer = [0; 4];
+    let mut source = FromRead::new(b"text".as_slice());
+    assert!(rt; (source.read(&mut buffer), buffer) == (Ok(4), *b"text"));
+    let mut text = Vec::new(rt.alloc());
+    let mut target = ToWrite::new(&mut text);
+    assert!(rt; target.write(b"text") == Ok(4) && target.flush() == Ok(()));
+    assert!(rt; text.as_slice() == b"text".as_slice());
+    Ok(())
+}
+
+/// What a port does at a call.
+#[derive(Clone, Copy)]
+enum Step {
+    /// It moves this many bytes, or as many as there are.
+    Moves(usize),
+    /// It fails.
+    Fails(ErrorKind),
+}
+
+/// A reader and a writer that does these steps one after another, and counts its calls and its flushes.
+#[derive(Drop)]
+struct Scripted<'a> {
+    steps: &'a [Step],
+    calls: &'a mut u32,
+    flushes: &'a mut u32,
+}
+
+impl Scripted<'_> {
+    /// Does the next step on this many bytes.
+    fn step(&mut self, most: usize) -> io::Result<usize>
+        ensures { IfOk result (λ n. n ≤ most) }
+    {
+        *self.calls = self.calls.saturating_add(1);
+        let Some((step, rest)) = self.steps.split_first() else {
+            return Err(io::Error::from(ErrorKind::Other));
+        };
+        self.steps = rest;
+        match *step {
+            Step::Moves(count) => Ok(count.min(most)),
+            Step::Fails(kind) => Err(io::Error::from(kind)),
+        }
+    }
+}
+
+impl Read for Scripted<'_> {
+    fn read(&mut self, buf: &mut [u8]) -> io::Result<usize> {
+        self.step(buf.len())
+    }
+}
+
+impl Write for Scripted<'_> {
+    fn write(&mut self, buf: &[u8]) -> io::Result<usize> {
+        self.step(buf.len())
+    }
+
+    fn flush(&mut self) -> io::Result<()> {
+        *self.flushes = self.flushes.saturating_add(1);
+        self.step(0)?;
+        Ok(())
+    }
+}
+
+const KINDS: [ErrorKind; 3] = [
+    ErrorKind::Interrupted,
+    ErrorKind::WouldBlock,
+    ErrorKind::Other,
+];
+
+// A short read is passed on. After an error, `Interrupted` too, the reader is not called again.
+#[test]
+fn reader_is_not_called_after_an_error(rt: HostRuntime) {
+    for kind in KINDS {
+        let (mut calls, mut flushes) = (0, 0);
+        let steps = [
+            Step::Moves(3),
+            Step::Moves(9),
+            Step::Fails(kind),
+            Step::Moves(4),
+        ];
+        let mut source = FromRead::new(Scripted {
+            steps: &steps,
+            calls: &mut calls,
+            flushes: &mut flushes,
+        });
+        let mut buffer = [0; 4];
+        let read = [
+            source.read(&mut buffer),
+            source.read(&mut buffer),
+            source.read(&mut buffer),
+            source.read(&mut buffer),
+        ];
+        assert!(rt; read == [Ok(3), Ok(4), Err(PortFault), Err(PortFault)]);
+        assert!(rt; calls == 3);
+    }
+}
+
+// An empty buffer moves nothing, is no failure, and leaves the port sound: the reader is not called.
+#[test]
+fn reader_of_an_empty_buffer(rt: HostRuntime) {
+    let (mut calls, mut flushes) = (0, 0);
+    let mut source = FromRead::new(Scripted {
+        steps: &[Step::Moves(1)],
+        calls: &mut calls,
+        flushes: &mut flushes,
+    });
+    let empty: &mut [u8] = &mut [];
+    assert!(rt; source.read(empty) == Ok(0));
+    assert!(rt; source.read(&mut [0; 4]) == Ok(1));
+}
+
+// What a writer answers to pieces of four bytes, and to a flush after them; then how often it was called and
+// flushed.
+#[derive(Clone, Copy, PartialEq, Eq, Debug)]
+struct Written {
+    answers: [Result<usize, PortFault>; 3],
+    flush: Result<(), PortFault>,
+    calls: u32,
+    flushes: u32,
+}
+
+fn write_pieces(steps: &[Step]) -> Written {
+    let (mut calls, mut flushes) = (0, 0);
+    let mut target = ToWrite::new(Scripted {
+        steps,
+        calls: &mut calls,
+        flushes: &mut flushes,
+    });
+    let answers = [
+        target.write(b"text"),
+        target.write(b""),
+        target.write(b"text"),
+    ];
+    let flush = target.flush();
+    Written {
+        answers,
+        flush,
+        calls,
+        flushes,
+    }
+}
+
+// Short writes are passed on, an empty piece is no failure and not passed on, and a flush is passed on once.
+#[test]
+fn writer_takes_pieces(rt: HostRuntime) {
+    let end = write_pieces(&[Step::Moves(3), Step::Moves(1), Step::Moves(0)]);
+    assert!(rt; end.answers == [Ok(3), Ok(0), Ok(1)] && end.flush == Ok(()));
+    assert!(rt; end.calls == 3 && end.flushes == 1);
+}
+
+// After an error, `Interrupted` too, the writer is neither called nor flushed again; taking nothing of a piece
+// is an error.
+#[test]
+fn writer_is_not_called_after_an_error(rt: HostRuntime) {
+    let failed = Err(PortFault);
+    for kind in KINDS {
+        let end = write_pieces(&[Step::Fails(kind), Step::Moves(4), Step::Moves(4)]);
+        assert!(rt; end.answers == [failed; 3] && end.flush == Err(PortFault));
+        assert!(rt; end.calls == 1 && end.flushes == 0);
+    }
+    let end = write_pieces(&[Step::Moves(0), Step::Moves(4)]);
+    assert!(rt; end.answers == [failed; 3] && end.flush == Err(PortFault));
+    assert!(rt; end.calls == 1 && end.flushes == 0);
+}
+
+// A flush that fails is not tried again.
+#[test]
+fn failed_flush_is_for_good(rt: HostRuntime) {
+    for kind in KINDS {
+        let (mut calls, mut flushes) = (0, 0);
+        let steps = [Step::Fails(kind), Step::Moves(0)];
+        let mut target = ToWrite::new(Scripted {
+            steps: &steps,
+            calls: &mut calls,
+            flushes: &mut flushes,
+        });
+        let flushed = [target.flush(), target.flush()];
+        assert!(rt; flushed == [Err(PortFault); 2] && target.write(b"text") == Err(PortFault));
+        assert!(rt; calls == 1 && flushes == 1);
+    }
+}

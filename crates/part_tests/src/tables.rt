@@ -1,0 +1,58 @@
+//! Rosters, truth values and names.
+use crate::week_files::{ONE_NURSE_ONE_SHIFT, instance_of};
+use indexmap::IndexSet;
+use rota_core::{Bits, Cell, Instance, Roster, add_name, is_name, place_of_name};
+use std::alloc::Global;
+use std::test::Fail;
+
+#[test]
+fn names_have_places(rt: HostRuntime) -> Result<(), Fail> {
+    let mut names = IndexSet::new(rt.alloc());
+    add_name(rt.alloc(), &mut names, b"Ann")?;
+    assert!(rt; place_of_name(&names, b"Ann") == Some(0) && !is_name(&names, b"Bob"));
+    Ok(())
+}
+
+const SATURDAY: Cell = Cell {
+    nurse: 0,
+    day: 5,
+    shift: 0,
+    skill: 0,
+};
+
+const SUNDAY: Cell = Cell { day: 6, ..SATURDAY };
+
+// A cell that is put twice is in the roster once.
+fn is_set(alloc: Global, instance: &Instance) -> bool {
+    let Ok(mut roster) = Roster::new(alloc, instance) else {
+        return false;
+    };
+    let is_new = (roster.put(SUNDAY), roster.put(SUNDAY));
+    let has = (roster.has(SUNDAY), roster.has(SATURDAY));
+    is_new == (true, false) && has == (true, false) && roster.count() == 1
+}
+
+// The bits of Saturday's cell and beyond the cells are true.
+fn is_of_bits(alloc: Global, instance: &Instance) -> bool {
+    if instance.nurses() != 1 || instance.shifts() != 1 || instance.skills() != 1 {
+        return false;
+    }
+    let Ok(mut bits) = Bits::new(alloc, 9) else {
+        return false;
+    };
+    bits.set(5);
+    bits.set(8);
+    let seen = (bits.len(), bits.get(5), bits.get(6));
+    let roster = Roster::of_bits(bits, instance);
+    seen == (9, true, false) && roster.has(SATURDAY) && !roster.has(SUNDAY) && roster.count() == 1
+}
+
+#[test]
+fn rosters_are_sets_and_bits(rt: HostRuntime) {
+    match instance_of(rt.alloc(), &ONE_NURSE_ONE_SHIFT) {
+        Ok(instance) => {
+            assert!(rt; is_set(rt.alloc(), &instance) && is_of_bits(rt.alloc(), &instance));
+        }
+        Err(_) => panic!(rt; "no week"),
+    }
+}

@@ -1,0 +1,125 @@
+//! The files of small weeks.
+ghost use Rattle.rota_core.specs.InstanceTables.{HasNumbersOf};
+
+use rota_core::{FileFault, Instance, Scenario, Week};
+use rota_read::{read_history, read_scenario, read_week};
+use std::alloc::Global;
+
+/// The three files of a week.
+#[derive(Clone, Copy)]
+pub struct WeekFiles {
+    pub scenario: &'static [u8],
+    pub history: &'static [u8],
+    pub week: &'static [u8],
+}
+
+pub const ONE_NURSE_ONE_SHIFT: WeekFiles = WeekFiles {
+    scenario: b"SCENARIO = s1
+WEEKS = 2
+SKILLS = 1
+Nurse
+SHIFT_TYPES = 1
+Day (1,9)
+FORBIDDEN_SHIFT_TYPES_SUCCESSIONS
+Day 0
+CONTRACTS = 1
+Full (1,9) (1,9) (1,9) 9 0
+NURSES = 1
+Ann Full 1 Nurse
+",
+    history: b"HISTORY
+0 s1
+NURSE_HISTORY
+Ann 0 0 None 0 0 0
+",
+    week: b"WEEK_DATA
+s1
+REQUIREMENTS
+SHIFT_OFF_REQUESTS = 0
+",
+};
+
+/// Ann worked on two days before Monday, and should work on at most two days in a row.
+pub const RUN_IN_THE_HISTORY: WeekFiles = WeekFiles {
+    scenario: b"SCENARIO = s1
+WEEKS = 2
+SKILLS = 1
+Nurse
+SHIFT_TYPES = 1
+Day (1,9)
+FORBIDDEN_SHIFT_TYPES_SUCCESSIONS
+Day 0
+CONTRACTS = 1
+Full (1,9) (1,2) (1,9) 9 0
+NURSES = 1
+Ann Full 1 Nurse
+",
+    history: b"HISTORY
+0 s1
+NURSE_HISTORY
+Ann 2 0 Day 2 2 0
+",
+    ..ONE_NURSE_ONE_SHIFT
+};
+
+/// Two nurses, three shift types and two skills.
+pub const TWO_NURSES: WeekFiles = WeekFiles {
+    scenario: b"SCENARIO = s1
+WEEKS = 2
+SKILLS = 2
+Head Nurse
+SHIFT_TYPES = 3
+Early (1,9) Late (1,9) Night (1,9)
+FORBIDDEN_SHIFT_TYPES_SUCCESSIONS
+Early 0
+Late 1 Early
+Night 2 Early Late
+CONTRACTS = 1
+Full (1,9) (1,9) (1,9) 9 0
+NURSES = 2
+Ann Full 2 Head Nurse
+Bob Full 1 Nurse
+",
+    history: b"HISTORY
+0 s1
+NURSE_HISTORY
+Ann 1 0 Night 1 1 0
+Bob 0 0 None 0 0 0
+",
+    week: b"WEEK_DATA
+s1
+REQUIREMENTS
+Early Head (1,1) (0,0) (0,0) (0,0) (0,0) (0,0) (0,0)
+SHIFT_OFF_REQUESTS = 0
+",
+};
+
+/// The instance of the scenario, after this history.
+fn after(
+    alloc: Global,
+    scenario: Scenario,
+    history: &[u8],
+    week: Week,
+    early: bool,
+) -> Result<Instance, FileFault>
+    requires { HasNumbersOf scenario week.nurses week.shifts week.skills }
+{
+    let history = read_history(alloc, &scenario, history)?;
+    Instance::join(scenario, history, week, early)
+}
+
+/// The instance that the files spell, with `early`.
+pub fn early_instance_of(
+    alloc: Global,
+    files: &WeekFiles,
+    early: bool,
+) -> Result<Instance, FileFault> {
+    let scenario = read_scenario(alloc, files.scenario)?;
+    let week = read_week(alloc, &scenario, files.week)?;
+    after(alloc, scenario, files.history, week, early)
+}
+
+/// The instance that the files spell.
+pub fn instance_of(alloc: Global, files: &WeekFiles) -> Result<Instance, FileFault> {
+    early_instance_of(alloc, files, false)
+}

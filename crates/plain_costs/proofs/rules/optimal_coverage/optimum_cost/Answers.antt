@@ -1,0 +1,27 @@
+use Rattle.std.proofs.Common.{ℕ, ◌*◌, ap, arith}
+use Rattle.plain_costs.proofs.LoopSums.{adds-none, adds-more, adds-inner, added, inner}
+use Rattle.plain_costs.proofs.rules.optimal_coverage.optimum_cost.Goals as goal
+
+pub loop-day-init : goal.loop-day-init
+loop-day-init c = adds-none _ _ _
+
+pub loop-shift-init : goal.loop-shift-init
+loop-shift-init c = adds-none _ _ _
+
+pub loop-skill-init : goal.loop-skill-init
+loop-skill-init c = adds-none _ _ _
+
+pub loop-skill-preserved : goal.loop-skill-preserved
+loop-skill-preserved c =
+    adds-more _ _ _ _ _ _ c.loop-skill.invariant c.missing_nurses-missing.ensures.number c.missing_nurses-missing.ensures.few
+
+pub loop-shift-preserved : goal.loop-shift-preserved
+loop-shift-preserved c =
+    adds-inner _ _ _ _ _ _ _ _ _ c.loop-shift.invariant c.loop-skill.invariant (inner _ _ _ (omega arith)) (omega arith)
+
+pub loop-day-preserved : goal.loop-day-preserved
+loop-day-preserved c =
+    adds-inner _ _ _ _ _ _ _ _ _ c.loop-day.invariant c.loop-shift.invariant (inner _ _ _ (omega arith)) (omega arith)
+
+pub returns : goal.returns
+returns c = ap (λ (sum : ℕ). 30 * sum) (added _ _ _ _ _ c.loop-day.invariant (omega arith))

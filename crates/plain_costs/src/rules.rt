@@ -1,0 +1,68 @@
+//! What the soft rules charge for a roster.
+ghost use Rattle.std.specs.Prelude.{◌≡◌, map};
+ghost use Rattle.rota_core.specs.InstanceTables.{week_of};
+ghost use Rattle.rota_core.specs.RosterTables.{HasShapeOf, set_of};
+ghost use Rattle.rota_core.specs.Rules.{soft_rules};
+ghost use Rattle.rota_items.specs.SoftRules.{penalty, rule_cost};
+
+// A nurse who works on only one day of the weekend.
+mod complete_weekends;
+// Runs on a shift type and runs of working days.
+mod consecutive_assignments;
+// Runs of days off.
+mod consecutive_days_off;
+// Nurses below the optimal number.
+mod optimal_coverage;
+// Cells that request rows ask to be free of.
+mod shift_off_requests;
+// Assignments outside the limits of a total.
+mod total_assignments;
+// Weekends above the greatest number.
+mod worked_weekends;
+
+use crate::rules::complete_weekends::complete_weekend_cost;
+use crate::rules::consecutive_assignments::consecutive_assignment_cost;
+use crate::rules::consecutive_days_off::consecutive_day_off_cost;
+use crate::rules::optimal_coverage::optimum_cost;
+use crate::rules::shift_off_requests::request_cost;
+use crate::rules::total_assignments::assignment_cost;
+use crate::rules::worked_weekends::worked_weekend_cost;
+use rota_core::{Instance, Roster, Rule, SOFT_RULES};
+
+/// What the roster costs by the rule, which is nothing by a rule that is not soft.
+pub fn rule_cost(instance: &Instance, roster: &Roster, rule: Rule) -> u64
+    requires { HasShapeOf (week_of instance.now) roster.now }
+    ensures { result ≡ rule_cost (week_of instance.now) (set_of roster.now) rule }
+{
+    match rule {
+        Rule::S1 => optimum_cost(instance, roster),
+        Rule::S2 => consecutive_assignment_cost(instance, roster),
+        Rule::S3 => consecutive_day_off_cost(instance, roster),
+        Rule::S4 => request_cost(instance, roster),
+        Rule::S5 => complete_weekend_cost(instance, roster),
+        Rule::S6 => assignment_cost(instance, roster),
+        Rule::S7 => worked_weekend_cost(instance, roster),
+        _ => 0,
+    }
+}
+
+/// What the roster costs by each soft rule, in their order.
+pub fn rule_costs(instance: &Instance, roster: &Roster) -> [u64; SOFT_RULES]
+    requires { HasShapeOf (week_of instance.now) roster.now }
+    ensures { result ≡ map (rule_cost (week_of instance.now) (set_of roster.now)) soft_rules }
+{
+    Rule::SOFT.map(|rule| rule_cost(instance, roster, rule))
+}
+
+/// What the roster costs in its week.
+pub fn penalty(instance: &Instance, roster: &Roster) -> u64
+    requires { HasShapeOf (week_of instance.now) roster.now }
+    ensures { result ≡ penalty (week_of instance.now) (set_of roster.now) }
+{
+    let _within_limits = instance.nurses();
+    let mut sum = 0;
+    for rule in Rule::SOFT {
+        sum += rule_cost(instance, roster, rule);
+    }
+    sum
+}

@@ -1,0 +1,57 @@
+-- The cell at each place.
+use Rattle.std.proofs.Common.{◌≡◌, ℕ, ◌+◌, ◌*◌, ◌/◌, ◌%◌, ◌<◌, zero, suc, ap, ◌∙◌, arith}
+use Rattle.std.proofs.lemmas.Nat.{div-mul-add, mod-mul-add, div-add-mod'}
+use Rattle.std.proofs.Math.Nat.{div-lt_iff_lt-mul, mod-lt}
+use Rattle.rota_core.specs.Roster.{cell}
+use Rattle.rota_core.specs.RosterTables.{cell_at, cell_place, place_count}
+
+-- at the place of a cell there is that cell
+pub cell_at-place : (shifts skills n d s k : ℕ) → d < 7 → s < shifts → k < skills
+    → cell_at shifts skills (((n * 7 + d) * shifts + s) * skills + k) ≡ cell n d s k
+cell_at-place S K n d s k d_in s_in k_in =
+    let place = ((n * 7 + d) * S + s) * K + k in
+    let skills : place % K ≡ k = mod-mul-add ((n * 7 + d) * S + s) K k k_in in
+    let above : place / K ≡ (n * 7 + d) * S + s = div-mul-add ((n * 7 + d) * S + s) K k k_in in
+    let shifts : place / K % S ≡ s = ap (λ p. p % S) above ∙ mod-mul-add (n * 7 + d) S s s_in in
+    let days_above : place / K / S ≡ n * 7 + d = ap (λ p. p / S) above ∙ div-mul-add (n * 7 + d) S s s_in in
+    let days : place / K / S % 7 ≡ d = ap (λ p. p % 7) days_above ∙ mod-mul-add n 7 d d_in in
+    let nurses : place / K / S / 7 ≡ n = ap (λ p. p / 7) days_above ∙ div-mul-add n 7 d d_in in
+    λ i. cell (nurses i) (days i) (shifts i) (skills i)
+
+-- a product above a number has no factor 0
+some_rows : (p a w : ℕ) → p < a * w → 0 < w
+some_rows p a zero below = absurd (omega arith)
+some_rows p a (suc w) below = omega arith
+
+-- the row of a place, where a row has w places
+row-below : (p a w : ℕ) → p < a * w → p / w < a
+row-below p a w below = (div-lt_iff_lt-mul (some_rows p a w below)).1 below
+
+column-below : (p a w : ℕ) → p < a * w → p % w < w
+column-below p a w below = mod-lt p (some_rows p a w below)
+
+module _ (nurses shifts skills place : ℕ) (below : place < place_count nurses shifts skills) where
+  shift_row : place / skills < 7 * nurses * shifts
+  shift_row = row-below place (7 * nurses * shifts) skills below
+
+  day_row : place / skills / shifts < nurses * 7
+  day_row = let row = row-below (place / skills) (7 * nurses) shifts shift_row in omega (arith, row)
+
+  pub cell_at-nurse : (cell_at shifts skills place).nurse < nurses
+  cell_at-nurse = row-below (place / skills / shifts) nurses 7 day_row
+
+  pub cell_at-day : (cell_at shifts skills place).day < 7
+  cell_at-day = column-below (place / skills / shifts) nurses 7 day_row
+
+  pub cell_at-shift : (cell_at shifts skills place).shift < shifts
+  cell_at-shift = column-below (place / skills) (7 * nurses) shifts shift_row
+
+  pub cell_at-skill : (cell_at shifts skills place).skill < skills
+  cell_at-skill = column-below place (7 * nurses * shifts) skills below
+
+-- the cell at a place has that place
+pub place-cell_at : (shifts skills place : ℕ) → cell_place shifts skills (cell_at shifts skills place) ≡ place
+place-cell_at shifts skills place =
+    ap (λ p. (p * shifts + place / skills % shifts) * skills + place % skills) (div-add-mod' (place / skills / shifts) 7) ∙
+    ap (λ p. p * skills + place % skills) (div-add-mod' (place / skills) shifts) ∙
+    div-add-mod' place skills

@@ -1,0 +1,15 @@
+use Rattle.std.proofs.Common.{ap, ◌∙◌}
+use Rattle.rota_core.specs.RosterCells.{cells_in}
+use Rattle.rota_core.proofs.CellsByPlace.{cells-at_places, places-within}
+use Rattle.rota_core.proofs.roster.Roster.cells.Goals as goal
+
+pub at-requires : goal.at-requires
+at-requires c =
+    let r = c.self.inside in
+    rw (c.true_places_below.ensures, c.count_of_places-count.ensures) (places-within r.nurses r.shifts r.skills r.bits c.self.invariant)
+
+pub returns : goal.returns
+returns c =
+    let r = c.self.inside in
+    rw (c.at.ensures, c.true_places_below.ensures, c.count_of_places-count.ensures)
+    (cells-at_places r.nurses r.shifts r.skills r.bits ∙ ap cells_in c.self.view_is)

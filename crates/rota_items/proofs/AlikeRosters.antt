@@ -1,0 +1,88 @@
+-- Rosters with the same cells in a week keep the same hard rules, and what their costs depend on is the same.
+use Rattle.rota_items.proofs.LogicWords.{◌≡◌, ℕ, zero, suc, ◌+◌, ◌<◌, ◌≤◌, Bool, if◌then◌else◌, refl, sym, ap, ◌∙◌, subst, arith, nat_lt}
+use Rattle.rota_items.proofs.ModelWords.{Cell, is_on, works, nurses_at, KeepsCompetitionRules, KeepsHardRules, Roster, InWeek, Has, cell, Week}
+use Rattle.rota_core.specs.declared.values.Span.{Span}
+use Rattle.rota_core.specs.Below.{any_below, count_below}
+use Rattle.rota_items.proofs.SumsBelow.{sum_below-same}
+use Rattle.rota_items.proofs.ListSums.{sum_by-same}
+use Rattle.rota_items.proofs.EachPattern.{on-week}
+use Rattle.rota_items.specs.Runs.{run_cost, run_over, run_under, run_length_before, is_over, missing_on, week_days}
+
+any_below-alike : (n : ℕ) (p q : ℕ → Bool) → ((i : ℕ) → i < n → p i ≡ q i) → any_below n p ≡ any_below n q
+unfolding any_below
+any_below-alike zero p q same = refl
+any_below-alike (suc n) p q same = rw (any_below-alike n p q (λ i below. same i (omega arith)), same n (omega arith)) refl
+
+abbrev one_if : Bool → ℕ
+one_if test = if test then 1 else 0
+
+pub count_below-alike : (n : ℕ) (p q : ℕ → Bool) → ((i : ℕ) → i < n → p i ≡ q i) → count_below n p ≡ count_below n q
+count_below-alike n p q same = sum_below-same n _ _ (λ i below. ap one_if (same i below))
+
+-- ---- runs of days
+
+module _ (p q : ℕ → Bool) (same : (d : ℕ) → d < 7 → p d ≡ q d) (history : ℕ) where
+  length_before-alike : (d : ℕ) → d ≤ 7 → run_length_before p history d ≡ run_length_before q history d
+  length_before-alike zero in_week = refl
+  length_before-alike (suc d) in_week = rw (same d (omega arith), length_before-alike d (omega arith)) refl
+
+  over-alike : (maximum d : ℕ) → d < 7 → is_over p history maximum d ≡ is_over q history maximum d
+  over-alike maximum d in_week = ap (nat_lt maximum) (length_before-alike (suc d) (omega arith))
+
+  missing-alike : (minimum d : ℕ) → d < 7 → missing_on p history minimum d ≡ missing_on q history minimum d
+  missing-alike minimum d in_week = rw (same d in_week, length_before-alike d (omega arith)) refl
+
+  pub run_cost-alike : (limits : Span) → run_cost p history limits ≡ run_cost q history limits
+  unfolding run_over run_under
+  run_cost-alike limits =
+      let over =
+      sum_by-same (λ d. one_if (is_over p history limits.max d)) (λ d. one_if (is_over q history limits.max d)) week_days
+      (on-week (λ d. one_if (is_over p history limits.max d) ≡ one_if (is_over q history limits.max d))
+      (λ d in_week. ap one_if (over-alike limits.max d in_week))) in
+      let under =
+      sum_by-same (missing_on p history limits.min) (missing_on q history limits.min) week_days
+      (on-week (λ d. missing_on p history limits.min d ≡ missing_on q history limits.min d) (missing-alike limits.min)) in
+      omega (arith, over, under)
+
+-- ---- rosters
+
+abbrev pub AreAlike : Week → Roster → Roster → Type 0
+AreAlike week one other = (cell : Cell) → InWeek week cell → one cell ≡ other cell
+
+module _ (week : Week) (one other : Roster) (same : AreAlike week one other) where
+  pub same_cell : (n d s k : ℕ) → n < week.nurses → d < 7 → s < week.shifts → k < week.skills → one (cell n d s k) ≡ other (cell n d s k)
+  same_cell n d s k n_in d_in s_in k_in =
+      same (cell n d s k) (record { nurse_in = n_in; day_in = d_in; shift_in = s_in; skill_in = k_in })
+
+  pub on-alike : (n s d : ℕ) → n < week.nurses → s < week.shifts → d < 7 → is_on week one n s d ≡ is_on week other n s d
+  on-alike n s d n_in s_in d_in = any_below-alike week.skills _ _ (λ k k_in. same_cell n d s k n_in d_in s_in k_in)
+
+  pub works-alike : (n d : ℕ) → n < week.nurses → d < 7 → works week one n d ≡ works week other n d
+  works-alike n d n_in d_in = any_below-alike week.shifts _ _ (λ s s_in. on-alike n s d n_in s_in d_in)
+
+  pub nurses-alike : (d s k : ℕ) → d < 7 → s < week.shifts → k < week.skills → nurses_at week one d s k ≡ nurses_at week other d s k
+  nurses-alike d s k d_in s_in k_in = count_below-alike week.nurses _ _ (λ n n_in. same_cell n d s k n_in d_in s_in k_in)
+
+  has-alike : (c : Cell) → Has week other c → Has week one c
+  has-alike c has = record { in_week = has.in_week; in_roster = same c has.in_week ∙ has.in_roster }
+
+  competition-alike : KeepsCompetitionRules week one → KeepsCompetitionRules week other
+  competition-alike keeps = record {
+    one_cell = λ c d has_c has_d. keeps.one_cell c d (has-alike c has_c) (has-alike d has_d);
+    minimum = λ d s k d_in s_in k_in.
+        subst (λ count. (week.demand d s k).minimum ≤ count) (nurses-alike d s k d_in s_in k_in) (keeps.minimum d s k d_in s_in k_in);
+    succession = record {
+      from_history = λ n s t n_in t_in last on.
+          keeps.succession.from_history n s t n_in t_in last (on-alike n t 0 n_in t_in (omega arith) ∙ on);
+      in_week = λ n d s t n_in d_in s_in t_in first second.
+          keeps.succession.in_week n d s t n_in d_in s_in t_in
+          (on-alike n s d n_in s_in (omega arith) ∙ first) (on-alike n t (d + 1) n_in t_in (omega arith) ∙ second);
+    };
+    skills = λ c has. keeps.skills c (has-alike c has);
+  }
+
+  pub keeps-alike : KeepsHardRules week one → KeepsHardRules week other
+  keeps-alike keeps = record {
+    of_competition = competition-alike keeps.of_competition;
+    held = λ c has. sym (same c has.in_week) ∙ keeps.held c has;
+  }

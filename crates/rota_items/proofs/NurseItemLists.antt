@@ -1,0 +1,62 @@
+-- The items of rules that charge each nurse, and items of one slack.
+use Rattle.std.proofs.Common.{◌≡◌, ℕ, zero, suc, Bool, true, false, if◌then◌else◌, List, [], ◌∷◌, ◌++◌, length, refl, arith}
+use Rattle.std.specs.List.{AllByRecursion}
+use Rattle.std.proofs.lemmas.List.Sums.{sum_by-cons}
+use Rattle.rota_core.proofs.Loops.{AllByRecursion-append, AllByRecursion-each_below}
+use Rattle.rota_core.specs.Lists.{each_below}
+use Rattle.rota_core.specs.Week.{Week}
+use Rattle.rota_core.specs.declared.rule.Rule.{Rule}
+use Rattle.rota_core.specs.declared.rule.Rule.TheVariants.{S1}
+use Rattle.rota_core.specs.declared.values.Cell.{Cell}
+use Rattle.rota_items.specs.Items.{Item}
+use Rattle.rota_items.specs.NurseItems.{nurse_items}
+use Rattle.rota_items.specs.RunItems.{Runs, pattern_items, run_items}
+use Rattle.rota_items.specs.RunPatterns.{Pattern, patterns, windows}
+use Rattle.rota_items.specs.Slacks.{slack_count}
+use Rattle.rota_items.specs.SoftRules.{items_of_rule}
+use Rattle.rota_items.specs.rules.ConsecutiveAssignments.{assignment_runs_of, shift_runs, work_runs}
+
+pub none-each_below : {A : Type 0} (n : ℕ) → [] ≡ each_below n (λ _. let none : List A = [] in none)
+unfolding each_below
+none-each_below zero = refl
+none-each_below {A} (suc n) = rw (← none-each_below {A = A} n) refl
+
+pub rule_items-are : (week : Week) (rule : Rule) → (rule ≡ S1 → ⊥) →
+    items_of_rule week rule ≡ each_below week.nurses (nurse_items week rule)
+rule_items-are week S1 other = absurd (other refl)
+rule_items-are week _ other = refl
+
+-- ---- items of one slack
+
+abbrev pub HasOneSlack : Item Cell → Type 0
+HasOneSlack item = item.slacks ≡ 1
+
+one_slack-each : (items : List (Item Cell)) → AllByRecursion HasOneSlack items → slack_count items ≡ length items
+one_slack-each [] all = refl
+one_slack-each (item ∷ items) all =
+    omega (arith, sum_by-cons (λ (i : Item Cell). i.slacks) item items, all.0, one_slack-each items all.1)
+
+pub one_slack-where : (test : Bool) (items : List (Item Cell)) → AllByRecursion HasOneSlack items →
+    slack_count (if test then items else []) ≡ length (if test then items else [])
+one_slack-where true items all = one_slack-each items all
+one_slack-where false items all = refl
+
+have_one-patterns : (runs : Runs Cell) (all : List Pattern) → AllByRecursion HasOneSlack (pattern_items runs all)
+have_one-patterns runs [] = tt
+have_one-patterns runs (pattern ∷ rest) = (refl, have_one-patterns runs rest)
+
+have_one-runs : (runs : Runs Cell) → AllByRecursion HasOneSlack (run_items runs)
+have_one-runs runs = have_one-patterns runs (windows runs.history runs.limits ++ patterns runs.history runs.limits)
+
+pub one_slack-runs : (runs : Runs Cell) → slack_count (run_items runs) ≡ length (run_items runs)
+one_slack-runs runs = one_slack-each (run_items runs) (have_one-runs runs)
+
+pub one_slack-assignments : (week : Week) (n : ℕ) → slack_count (assignment_runs_of week n) ≡ length (assignment_runs_of week n)
+one_slack-assignments week n =
+    one_slack-each (assignment_runs_of week n)
+    (AllByRecursion-append HasOneSlack (each_below week.shifts (λ s. run_items (shift_runs week n s))) (run_items (work_runs week n))
+    (AllByRecursion-each_below HasOneSlack week.shifts (λ s. run_items (shift_runs week n s))
+    (λ s _. have_one-runs (shift_runs week n s)))
+    (have_one-runs (work_runs week n)))
+
+pub ruleset items_of_nurses = (rule_items-are)

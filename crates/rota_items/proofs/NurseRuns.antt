@@ -1,0 +1,61 @@
+-- What the items of a nurse's runs charge on a roster with one cell a day, and how much runs cost.
+use Rattle.rota_items.proofs.LogicWords.{◌≡◌, ℕ, ◌-◌, ◌*◌, ◌<◌, ◌≤◌, Bool, not, true, false, cond, ap, ◌∙◌, arith, list_any, All-from_recursion, count_by-le-length, sum_by-le}
+use Rattle.rota_items.proofs.ModelWords.{KeepsOneCell, is_off, is_on, works, Roster, Week, Rule, Cell, on_cells, work_cells, weighted_shortages}
+use Rattle.rota_core.specs.declared.values.Span.{Span}
+use Rattle.rota_items.proofs.CellCounts.{any-on, any-works, any-work_cells}
+use Rattle.rota_items.proofs.EachPattern.{on-week}
+use Rattle.rota_items.proofs.RunLaw.{weighted_shortages-run_items}
+use Rattle.rota_items.proofs.SoftRules.NurseProperties.{of_nurse-on, one-at_work}
+use Rattle.rota_items.specs.RunItems.{Property, Present, Absent, Runs, run_items}
+use Rattle.rota_items.specs.Runs.{week_days, is_over, missing_on, ends_run, run_length_before, run_over, run_under, run_cost}
+
+abbrev runs_with : Rule → ℕ → Property Cell → ℕ → Span → Runs Cell
+runs_with rule weight property history limits =
+    record { rule = rule; weight = weight; property = property; history = history; limits = limits }
+
+abbrev cost_with : ℕ → ℕ → Span → (ℕ → Bool) → ℕ
+cost_with weight history limits has = weight * run_cost has history limits
+
+module _ (week : Week) (roster : Roster) (one : KeepsOneCell week roster) (n : ℕ) (n_in : n < week.nurses) (rule : Rule) (weight : ℕ) where
+  pub weighted-on_runs : (s : ℕ) → s < week.shifts → (history : ℕ) (limits : Span) →
+      weighted_shortages roster (run_items (runs_with rule weight (Present (on_cells week n s)) history limits)) ≡
+      weight * run_cost (is_on week roster n s) history limits
+  weighted-on_runs s s_in history limits =
+      weighted_shortages-run_items (runs_with rule weight (Present (on_cells week n s)) history limits) roster
+      ((of_nurse-on week n n_in s s_in).one roster one) ∙
+      ap (cost_with weight history limits) (any-on week roster n s)
+
+  pub weighted-work_runs : (history : ℕ) (limits : Span) →
+      weighted_shortages roster (run_items (runs_with rule weight (Present (work_cells week n)) history limits)) ≡
+      weight * run_cost (works week roster n) history limits
+  weighted-work_runs history limits =
+      weighted_shortages-run_items (runs_with rule weight (Present (work_cells week n)) history limits) roster
+      (one-at_work week n n_in roster one) ∙
+      ap (cost_with weight history limits) (any-works week roster n)
+
+  none-works : ◌≡◌ {A = ℕ → Bool} (λ d. not (list_any roster (work_cells week n d))) (is_off week roster n)
+  none-works = λ i. λ d. not (any-work_cells week roster n d i)
+
+  pub weighted-off_runs : (history : ℕ) (limits : Span) →
+      weighted_shortages roster (run_items (runs_with rule weight (Absent (work_cells week n)) history limits)) ≡
+      weight * run_cost (is_off week roster n) history limits
+  weighted-off_runs history limits =
+      weighted_shortages-run_items (runs_with rule weight (Absent (work_cells week n)) history limits) roster
+      (one-at_work week n n_in roster one) ∙
+      ap (cost_with weight history limits) none-works
+
+missing-le : (b : Bool) (minimum length : ℕ) → cond b (minimum - length) 0 ≤ minimum
+missing-le true minimum length = omega arith
+missing-le false minimum length = omega arith
+
+pub run_cost-le : (has : ℕ → Bool) (history : ℕ) (limits : Span) → limits.min ≤ 9999 → run_cost has history limits ≤ 70000
+unfolding run_over run_under
+run_cost-le has history limits small =
+    omega (
+      arith,
+      count_by-le-length (is_over has history limits.max) week_days,
+      sum_by-le (missing_on has history limits.min) 9999 week_days
+          (All-from_recursion (λ d. missing_on has history limits.min d ≤ 9999) week_days
+          (on-week (λ d. missing_on has history limits.min d ≤ 9999)
+          (λ d _. omega (arith, missing-le (ends_run has history d) limits.min (run_length_before has history d))))),
+    )

@@ -1,0 +1,115 @@
+-- What is shown of each soft rule holds of all items.
+use Rattle.rota_items.proofs.LogicWords.{◌≡◌, ℕ, ◌+◌, ◌*◌, Bool, ◌&&◌, true, false, List, [], ◌∷◌, refl, arith, sym, ◌∙◌, pos, ◌+ℤ◌, AllByRecursion, flat_map, sum_by, ints, sum_by-append, sum_by-cons, AllByRecursion-append}
+use Rattle.rota_items.proofs.ModelWords.{KeepsCompetitionRules, Roster, Week, Rule, Cell, Item, shortage, weighted_shortages, value_of, soft_rules, cell_terms, cell_terms_of_rule, constant, constant_of_rule, is_soft, items_of_rule, penalty, rule_cost, soft_items}
+use Rattle.std.specs.List.{list_all}
+use Rattle.std.proofs.lemmas.List.{append-nil}
+use Rattle.rota_core.specs.declared.rule.Rule.TheVariants.{S1, S2, S3, S4, S5, S6, S7}
+use Rattle.rota_items.proofs.AlikeRosters.{AreAlike}
+use Rattle.rota_items.proofs.ListAll.{all-weaker}
+use Rattle.rota_items.proofs.ListSums.{sum_by-each-same}
+use Rattle.rota_items.proofs.NurseItemLists.{none-each_below}
+use Rattle.rota_items.proofs.PatternItems.{value_of-append}
+use Rattle.rota_items.proofs.SoftRules.CompleteWeekends.{sound-complete_weekends}
+use Rattle.rota_items.proofs.SoftRules.ConsecutiveAssignments.{sound-consecutive_assignments}
+use Rattle.rota_items.proofs.SoftRules.ConsecutiveDaysOff.{sound-consecutive_days_off}
+use Rattle.rota_items.proofs.SoftRules.OptimalCoverage.{sound-optimal_coverage}
+use Rattle.rota_items.proofs.SoftRules.ShiftOffRequests.{sound-shift_off_requests}
+use Rattle.rota_items.proofs.SoftRules.Sound.{IsItemSound, IsSoftRuleSound}
+use Rattle.rota_items.proofs.SoftRules.TotalAssignments.{sound-total_assignments}
+use Rattle.rota_items.proofs.SoftRules.WorkedWeekends.{sound-worked_weekends}
+use Rattle.rota_items.specs.rules.ShiftOffRequests.{request_terms}
+
+pub both_true : (x y : Bool) → (x && y) ≡ true → (x ≡ true) × (y ≡ true)
+both_true true y both = (refl, both)
+both_true false y both = (cc, cc)
+
+module _ (week : Week) where
+  -- ---- rule by rule
+
+  -- a rule that is not soft charges nothing
+  charges_nothing : (rule : Rule) → items_of_rule week rule ≡ [] → constant_of_rule week rule ≡ 0 →
+      ((roster : Roster) → rule_cost week roster rule ≡ 0) → cell_terms_of_rule week rule ≡ [] → IsSoftRuleSound week rule
+  charges_nothing rule no_items no_constant no_cost no_terms = record {
+    items = rw no_items tt;
+    few = λ _. rw no_items (omega arith);
+    constant_most = λ _. rw no_constant (omega arith);
+    cost_most = λ _ roster. rw (no_cost roster) (omega arith);
+    charges = λ roster _. rw (no_items, no_constant, no_cost roster, no_terms) refl;
+    alike = λ one other _. no_cost one ∙ sym (no_cost other);
+  }
+
+  pub sound-rule : (rule : Rule) → IsSoftRuleSound week rule
+  sound-rule S1 = sound-optimal_coverage week
+  sound-rule S2 = sound-consecutive_assignments week
+  sound-rule S3 = sound-consecutive_days_off week
+  sound-rule S4 = sound-shift_off_requests week
+  sound-rule S5 = sound-complete_weekends week
+  sound-rule S6 = sound-total_assignments week
+  sound-rule S7 = sound-worked_weekends week
+  sound-rule rule = charges_nothing rule (sym (none-each_below week.nurses)) refl (λ _. refl) refl
+
+  -- ---- all items
+
+  module _ (P : Item Cell → Type 0) where
+    on-items : ((rule : Rule) → is_soft rule ≡ true → AllByRecursion P (items_of_rule week rule)) →
+        (rules : List Rule) → list_all is_soft rules ≡ true → AllByRecursion P (flat_map (items_of_rule week) rules)
+    on-items each [] soft = tt
+    on-items each (rule ∷ rules) soft =
+        let both : (is_soft rule ≡ true) × (list_all is_soft rules ≡ true) = both_true (is_soft rule) (list_all is_soft rules) soft in
+        AllByRecursion-append P (items_of_rule week rule) (flat_map (items_of_rule week) rules) (each rule both.0)
+        (on-items each rules both.1)
+
+    pub of_sound : (rule : Rule) → ((item : Item Cell) → IsItemSound week rule item → P item) →
+        (items : List (Item Cell)) → AllByRecursion (IsItemSound week rule) items → AllByRecursion P items
+    of_sound rule = all-weaker (IsItemSound week rule) P
+
+    -- what sound items of soft rules have
+    pub each-item : ((rule : Rule) (item : Item Cell) → is_soft rule ≡ true → IsItemSound week rule item → P item) →
+        AllByRecursion P (soft_items week)
+    each-item each =
+        on-items (λ rule soft. of_sound rule (λ item. each rule item soft) (items_of_rule week rule) (sound-rule rule).items)
+        soft_rules refl
+
+  -- ---- sums
+
+  pub sum_by-soft_items : (f : Item Cell → ℕ) (rules : List Rule) →
+      sum_by f (flat_map (items_of_rule week) rules) ≡ sum_by (λ rule. sum_by f (items_of_rule week rule)) rules
+  sum_by-soft_items f [] = refl
+  sum_by-soft_items f (rule ∷ rules) =
+      omega (
+        arith,
+        sum_by-append f (items_of_rule week rule) (flat_map (items_of_rule week) rules),
+        sum_by-cons (λ rule. sum_by f (items_of_rule week rule)) rule rules,
+        sum_by-soft_items f rules,
+      )
+
+  -- what the items of these rules, their parts of the constant and their terms on cells charge is what the rules cost
+  charges-of : (roster : Roster) → KeepsCompetitionRules week roster → (rules : List Rule) →
+      pos (weighted_shortages roster (flat_map (items_of_rule week) rules) + sum_by (constant_of_rule week) rules) +ℤ
+      value_of roster (flat_map (cell_terms_of_rule week) rules) ≡
+      pos (sum_by (rule_cost week roster) rules)
+  charges-of roster keeps [] = refl
+  charges-of roster keeps (rule ∷ rules) =
+      omega (
+        arith,
+        ints,
+        sum_by-append (λ (item : Item Cell). item.weight * shortage roster item) (items_of_rule week rule)
+            (flat_map (items_of_rule week) rules),
+        sum_by-cons (constant_of_rule week) rule rules,
+        sum_by-cons (rule_cost week roster) rule rules,
+        value_of-append roster (cell_terms_of_rule week rule) (flat_map (cell_terms_of_rule week) rules),
+        (sound-rule rule).charges roster keeps,
+        charges-of roster keeps rules,
+      )
+
+  pub charges-penalty : (roster : Roster) → KeepsCompetitionRules week roster →
+      pos (weighted_shortages roster (soft_items week) + constant week) +ℤ value_of roster (cell_terms week) ≡
+      pos (penalty week roster)
+  charges-penalty roster keeps = charges-of roster keeps soft_rules
+
+  pub penalty-alike : (one other : Roster) → AreAlike week one other → penalty week one ≡ penalty week other
+  penalty-alike one other same =
+      sum_by-each-same (rule_cost week one) (rule_cost week other) (λ rule. (sound-rule rule).alike one other same) soft_rules
+
+  pub cell_terms-are : cell_terms week ≡ request_terms week
+  cell_terms-are = append-nil (request_terms week)

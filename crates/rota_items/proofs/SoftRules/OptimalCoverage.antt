@@ -1,0 +1,104 @@
+-- The items of the optimal numbers charge the nurses who are missing.
+use Rattle.rota_items.proofs.LogicWords.{◌≡◌, ℕ, ◌-◌, ◌*◌, ◌<◌, ◌≤◌, Bool, true, false, cond, length, refl, ap, ◌∙◌, arith, nat_lt, AllByRecursion, ltb-false, ltb-true, ints, AllByRecursion-each_below, AllByRecursion-only_if, length-each_below, length-only_if}
+use Rattle.rota_items.proofs.ModelWords.{nurses_at, KeepsMinimum, Roster, cell, Week, Cell, demand_cells, Item, shortage, weighted_shortages, IsWithinLimits}
+use Rattle.rota_core.specs.declared.rule.Rule.TheVariants.{S1}
+use Rattle.rota_items.proofs.AlikeRosters.{nurses-alike}
+use Rattle.rota_items.proofs.ListSums.{sum_by-only_if}
+use Rattle.rota_items.proofs.SoftRules.Sound.{IsItemSound, IsSoftRuleSound}
+use Rattle.rota_items.proofs.SoundTerms.{sound-demand}
+use Rattle.rota_items.proofs.SumsBelow.{sum_by-each-times, count_by-each, sum_below-at_most, sum_below-same}
+use Rattle.rota_items.proofs.Values.{lacking}
+use Rattle.rota_items.specs.rules.OptimalCoverage.{optimum_cost, optimum_item, optimum_items, optimum_items_at, optimum_items_of, optimum_items_on, optimum_weight}
+
+module _ (week : Week) where
+  abbrev is_wanted : ℕ → ℕ → ℕ → Bool
+  is_wanted d s k = nat_lt (week.demand d s k).minimum (week.demand d s k).optimal
+
+  -- ---- the cost
+
+  shortage-optimum_item : (roster : Roster) (d s k : ℕ) →
+      shortage roster (optimum_item week d s k) ≡ (week.demand d s k).optimal - nurses_at week roster d s k
+  shortage-optimum_item roster d s k =
+      lacking roster (demand_cells week d s k) (week.demand d s k).optimal ∙
+      ap (λ n. (week.demand d s k).optimal - n) (count_by-each roster week.nurses (λ n. cell n d s k))
+
+  if_wanted : (test : Bool) (minimum optimal nurses missing : ℕ) →
+      nat_lt minimum optimal ≡ test → minimum ≤ nurses → missing ≡ optimal - nurses →
+      cond test (optimum_weight * missing) 0 ≡ optimum_weight * (optimal - nurses)
+  if_wanted true minimum optimal nurses missing wanted enough same = omega arith
+  if_wanted false minimum optimal nurses missing wanted enough same =
+      omega (arith, ltb-false minimum optimal wanted)
+
+  pub weighted-optimum_items : (roster : Roster) → KeepsMinimum week roster →
+      weighted_shortages roster (optimum_items week) ≡ optimum_cost week roster
+  weighted-optimum_items roster met =
+      sum_by-each-times weight 7 optimum_weight _ _ (λ d d_in.
+      sum_by-each-times weight week.shifts optimum_weight _ _ (λ s s_in.
+      sum_by-each-times weight week.skills optimum_weight _ _ (λ k k_in.
+      sum_by-only_if weight (is_wanted d s k) (optimum_item week d s k) ∙
+      if_wanted (is_wanted d s k) (week.demand d s k).minimum (week.demand d s k).optimal (nurses_at week roster d s k)
+      (shortage roster (optimum_item week d s k)) refl (met d s k d_in s_in k_in) (shortage-optimum_item roster d s k))))
+    where
+      weight : Item Cell → ℕ
+      weight item = item.weight * shortage roster item
+
+  -- ---- the items
+
+  sound-item : (d s k : ℕ) → d < 7 → s < week.shifts → k < week.skills → is_wanted d s k ≡ true →
+      IsItemSound week S1 (optimum_item week d s k)
+  sound-item d s k d_in s_in k_in wanted = record {
+    rule_is = refl;
+    terms = sound-demand week d s k d_in s_in k_in;
+    weighs = omega arith;
+    has_slack = omega (arith, ltb-true (week.demand d s k).minimum (week.demand d s k).optimal wanted);
+    small = λ limits. record {
+      weight = omega arith;
+      slacks = omega (arith, limits.optimal d s k);
+      slacks_of_rule = omega (arith, limits.optimal d s k);
+      all_slacks = omega (arith, limits.optimal d s k);
+      degree = limits.optimal d s k;
+    };
+    enough = λ roster keeps. omega (arith, shortage-optimum_item roster d s k, keeps.minimum d s k d_in s_in k_in);
+  }
+
+  sound-items : AllByRecursion (IsItemSound week S1) (optimum_items week)
+  sound-items =
+      AllByRecursion-each_below (IsItemSound week S1) 7 _ (λ d d_in.
+      AllByRecursion-each_below (IsItemSound week S1) week.shifts _ (λ s s_in.
+      AllByRecursion-each_below (IsItemSound week S1) week.skills (optimum_items_at week d s) (λ k k_in.
+      AllByRecursion-only_if (IsItemSound week S1) (is_wanted d s k) (optimum_item week d s k)
+      (sound-item d s k d_in s_in k_in))))
+
+  few-items : IsWithinLimits week → length (optimum_items week) ≤ 7 * 256
+  few-items limits =
+      length-each_below 7 256 (optimum_items_of week) (λ d _.
+      omega (
+        arith,
+        limits.shifts,
+        length-each_below week.shifts 16 (optimum_items_on week d) (λ s _.
+            omega (
+              arith,
+              limits.skills,
+              length-each_below week.skills 1 (optimum_items_at week d s) (λ k _. length-only_if _ _),
+            )),
+      ))
+
+  pub sound-optimal_coverage : IsSoftRuleSound week S1
+  sound-optimal_coverage = record {
+    items = sound-items;
+    few = λ limits. omega (arith, few-items limits);
+    constant_most = λ _. omega arith;
+    cost_most = λ limits roster.
+        omega (
+          arith,
+          sum_below-at_most 7 7 2559744 _ (omega arith) (λ d.
+              sum_below-at_most week.shifts 16 159984 _ limits.shifts (λ s.
+              sum_below-at_most week.skills 16 9999 (λ k. (week.demand d s k).optimal - nurses_at week roster d s k) limits.skills
+              (λ k. omega (arith, limits.optimal d s k)))),
+        );
+    charges = λ roster keeps. omega (arith, ints, weighted-optimum_items roster keeps.minimum);
+    alike = λ one other same.
+        ap (λ sum. optimum_weight * sum)
+        (sum_below-same 7 _ _ (λ d d_in. sum_below-same week.shifts _ _ (λ s s_in. sum_below-same week.skills _ _ (λ k k_in.
+        ap (λ count. (week.demand d s k).optimal - count) (nurses-alike week one other same d s k d_in s_in k_in)))));
+  }

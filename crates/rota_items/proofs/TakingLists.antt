@@ -1,0 +1,48 @@
+-- How what a taker took grows in a loop over a list, and in one over held cells.
+use Rattle.std.proofs.Common.{◌≡◌, ℕ, suc, ◌+◌, ◌<◌, ◌≤◌, List, [], ◌∷◌, ◌++◌, map, get_or, take, drop, length, refl, sym, ap, ◌∙◌, arith}
+use Rattle.std.proofs.Math.Seq.{drop-cons, take-suc}
+use Rattle.std.proofs.lemmas.List.{append-nil, map-append, take_all, take-append-drop}
+use Rattle.std.proofs.lemmas.List.Concat.{flat_map-append}
+use Rattle.std.specs.List.{flat_map}
+use Rattle.rota_core.specs.Week.{Week}
+use Rattle.rota_items.specs.CellEvents.{cell_row_events}
+use Rattle.rota_items.specs.Events.{Event}
+use Rattle.rota_items.specs.Takes.{Took, Refused}
+use Rattle.rota_items.specs.hard.Held.{h5_row}
+use Rattle.rota_items.specs.declared.takers.Taker.{Ghosts}
+use Rattle.rota_items.proofs.Taking.{Joins, both, go_on, rows_join, stop}
+
+-- the lists of the elements before one, of it, and of those after it
+pub flat_map-next : {X A : Type 0} (f : X → List A) (xs : List X) (i : ℕ) (other : X) → i < length xs →
+    flat_map f (take (i + 1) xs) ≡ flat_map f (take i xs) ++ f (get_or xs i other)
+flat_map-next f xs i other below =
+    let next : i + 1 ≡ suc i = omega arith in
+    rw (next, take-suc xs i other below, flat_map-append f (take i xs) (get_or xs i other ∷ []), append-nil (f (get_or xs i other))) refl
+
+pub flat_map-split : {X A : Type 0} (f : X → List A) (xs : List X) (i : ℕ) (other : X) → i < length xs →
+    flat_map f xs ≡ flat_map f (take i xs) ++ (f (get_or xs i other) ++ flat_map f (drop (suc i) xs))
+flat_map-split f xs i other below =
+    ap (flat_map f) (sym (take-append-drop i xs)) ∙
+    flat_map-append f (take i xs) (drop i xs) ∙
+    ap (λ ys. flat_map f (take i xs) ++ flat_map f ys) (drop-cons xs i other below)
+
+module _ {S F : Type 0} (T : Ghosts S F) {A : Type 0} {h : List A → List Event} (joins : Joins h) {X : Type 0} (f : X → List A) (xs : List X) where
+  pub list_more : (i : ℕ) (other : X) (s t u : S) → i < length xs → Took T (h (flat_map f (take i xs))) s t →
+      Took T (h (f (get_or xs i other))) t u → Took T (h (flat_map f (take (i + 1) xs))) s u
+  list_more i other s t u below before here = rw (flat_map-next f xs i other below) (both T joins _ _ s t u before here)
+
+  pub list_refused : (i : ℕ) (other : X) (s t u : S) → i < length xs → Took T (h (flat_map f (take i xs))) s t →
+      Refused T (h (f (get_or xs i other))) t u → Refused T (h (flat_map f xs)) s u
+  list_refused i other s t u below before here =
+      rw (flat_map-split f xs i other below) (go_on T joins _ _ s t u before (stop T joins _ _ t u here))
+
+  pub list_all : (i : ℕ) (s t : S) → length xs ≤ i → Took T (h (flat_map f (take i xs))) s t → Took T (h (flat_map f xs)) s t
+  list_all i s t all taken = rw (take_all i xs all) at taken
+
+-- what makes events of held cells, cell by cell
+pub held_join : (week : Week) → Joins (λ cells. cell_row_events week (map h5_row cells))
+held_join week = record {
+  none = (rows_join week).none;
+  append = λ xs ys.
+      ap (cell_row_events week) (map-append h5_row xs ys) ∙ (rows_join week).append (map h5_row xs) (map h5_row ys);
+}

@@ -1,0 +1,15 @@
+use Rattle.rota_items.proofs.Taking.{exits, cell_row_refused_at_start, cell_row_refused_at_terms, cell_row_closed}
+use Rattle.rota_items.proofs.hard.one_cell.give_h1_row.Goals as goal
+
+pub returns-in_err-start_row : goal.returns-in_err-start_row
+returns-in_err-start_row g c =
+    exits g.T.Taker _ _ _ _ c.from_residual.ensures.0 (cell_row_refused_at_start g.T.Taker _ _ _ _ c.in_err-start_row.ensures)
+
+pub returns-in_err-give_work : goal.returns-in_err-give_work
+returns-in_err-give_work g c =
+    exits g.T.Taker _ _ _ _ c.from_residual-in_err-give_work.ensures.0
+    (cell_row_refused_at_terms g.T.Taker _ _ _ _ _ c.in_ok-start_row.ensures c.in_err-give_work.ensures)
+
+pub returns : goal.returns
+returns g c =
+    cell_row_closed g.T.Taker _ _ _ _ _ _ _ c.in_ok-start_row.ensures c.in_ok-give_work.ensures c.close_row.ensures

@@ -1,0 +1,12 @@
+use Rattle.rota_items.proofs.Common.{◌≡◌, ℕ, ◌+◌, ◌*◌, ◌≤◌, length, week_of, each_below}
+use Rattle.rota_items.specs.hard.Succession.{h3_rows_at, h3_rows_after}
+use Rattle.rota_items.proofs.hard.succession.count_successions.Given as goal
+
+abbrev pub invariant-loop-second : goal.invariant-loop-second
+invariant-loop-second l =
+    ((n d : ℕ) → l.pairs ≡ l.initial.pairs + length (each_below l.second (h3_rows_at (week_of l.fn.instance) n d l.first))) ×
+    (l.pairs ≤ l.initial.pairs + l.second)
+
+abbrev pub invariant-loop-first : goal.invariant-loop-first
+invariant-loop-first l =
+    ((n d : ℕ) → l.pairs ≡ length (each_below l.first (h3_rows_after (week_of l.fn.instance) n d))) × (l.pairs ≤ l.first * 16)

@@ -1,0 +1,9 @@
+use Rattle.rota_items.proofs.Common.{[], ◌∷◌, week_of, sum_events, each_below, Took}
+use Rattle.rota_core.specs.Roster.{cell}
+use Rattle.rota_items.specs.declared.sums.Sign.TheVariants.{Minus}
+use Rattle.rota_items.proofs.sums.give_skill_cells_on.Given as goal
+
+abbrev pub invariant-loop-shift : goal.invariant-loop-shift
+invariant-loop-shift g l =
+    let week = week_of l.fn.instance in
+    Took g.T.Taker (sum_events week Minus (each_below l.shift (λ s. cell l.fn.nurse l.fn.day s l.fn.skill ∷ []))) l.fn.taker l.taker

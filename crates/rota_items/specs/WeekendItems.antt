@@ -1,0 +1,14 @@
+-- The item of a weekend pattern.
+use Rattle.std.specs.Prelude.{ℕ, List}
+use Rattle.rota_core.specs.declared.rule.Rule.{Rule}
+use Rattle.rota_core.specs.declared.values.Cell.{Cell}
+use Rattle.rota_core.specs.Week.{Week}
+use Rattle.rota_items.specs.Cells.{work_cells}
+use Rattle.rota_items.specs.Items.{Item}
+use Rattle.rota_items.specs.RunItems.{Present, pattern_item}
+use Rattle.rota_items.specs.RunPatterns.{PatternDay}
+
+-- the nurse's Saturday and Sunday are not both as these days say
+abbrev pub weekend_item : Rule → ℕ → Week → ℕ → List PatternDay → Item Cell
+weekend_item rule weight week n days =
+    pattern_item rule weight (Present (work_cells week n)) (record { days = days; units = 1 })

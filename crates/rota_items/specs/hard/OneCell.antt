@@ -1,0 +1,19 @@
+-- H1: at most one cell of a nurse's day.
+use Rattle.std.specs.Prelude.{ℕ, negsuc, List, [], ◌∷◌}
+use Rattle.rota_core.specs.declared.values.Cell.{Cell}
+use Rattle.rota_core.specs.declared.rule.Rule.TheVariants.{H1}
+use Rattle.rota_core.specs.Week.{Week}
+use Rattle.rota_core.specs.Lists.{each_below}
+use Rattle.rota_items.specs.declared.part.Part.TheVariants.{Hard}
+use Rattle.rota_items.specs.Cells.{work_cells}
+use Rattle.rota_items.specs.Linear.{times}
+use Rattle.rota_items.specs.LinearRow.{LinearRow}
+
+abbrev pub h1_row : Week → ℕ → ℕ → LinearRow Cell
+h1_row week n d = record { part = Hard H1; terms = times (negsuc 0) (work_cells week n d); degree = negsuc 0 }
+
+abbrev pub h1_rows_of : Week → ℕ → List (LinearRow Cell)
+h1_rows_of week n = each_below 7 (λ d. h1_row week n d ∷ [])
+
+abbrev pub h1_rows : Week → List (LinearRow Cell)
+h1_rows week = each_below week.nurses (h1_rows_of week)

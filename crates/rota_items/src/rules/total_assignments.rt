@@ -1,0 +1,199 @@
+//! S6, total assignments: assignments outside the limits of the nurse's total.
+ghost use Rattle.std.specs.Prelude.{◌≡◌, ◌<◌, ◌≤◌, ◌&&◌, nat_lt, IfSome, length};
+ghost use Rattle.rota_core.specs.InstanceTables.{week_of};
+ghost use Rattle.rota_items.specs.CountedTotals.{greatest_totals_count, least_totals_count};
+ghost use Rattle.rota_items.specs.ItemEvents.{SlacksFit, Walks};
+ghost use Rattle.rota_items.specs.ItemValues.{IsSumOf, item_of, items_given};
+ghost use Rattle.rota_items.specs.Slacks.{slack_count};
+ghost use Rattle.rota_items.specs.rules.TotalAssignments.{assignments_above, constant_of_assignments, greatest_total_item, greatest_totals_of, least_total_item, least_totals_of, still_allowed, still_wanted, totals_of, wanted_beyond_days};
+
+use crate::counted_totals::{excess_before_counts, greatest_totals_count, least_totals_count};
+use crate::item_counts::ItemCounts;
+use crate::item_walk::walk_item;
+use crate::limits::DAYS;
+use crate::soft_item::{ItemPart, ItemSum, SoftItem};
+use crate::sums::Sign;
+use crate::takers::Taker;
+use rota_core::{Instance, Rule};
+
+/// What an assignment below the least or above the greatest total costs.
+const WEIGHT: u32 = 20;
+
+/// The assignments that the nurse's least total still asks for.
+fn still_wanted(instance: &Instance, nurse: u16) -> u16
+    requires { nurse < (week_of instance.now).nurses }
+    ensures { result ≡ still_wanted (week_of instance.now) nurse }
+{
+    let least = instance.contract(nurse).total.min;
+    least.saturating_sub(instance.past(nurse).assignments)
+}
+
+/// The assignments that the nurse's greatest total leaves room for.
+fn still_allowed(instance: &Instance, nurse: u16) -> u16
+    requires { nurse < (week_of instance.now).nurses }
+    ensures { result ≡ still_allowed (week_of instance.now) nurse }
+{
+    let greatest = instance.contract(nurse).total.max;
+    greatest.saturating_sub(instance.past(nurse).assignments)
+}
+
+/// Whether the least total counts and asks for more.
+fn asks_for_more(instance: &Instance, nurse: u16) -> bool
+    requires { nurse < (week_of instance.now).nurses }
+    ensures { let week = week_of instance.now in
+        result ≡ (least_totals_count week && nat_lt 0 (still_wanted week nurse)) }
+{
+    least_totals_count(instance) && 0 < still_wanted(instance, nurse)
+}
+
+/// Whether the greatest total counts and the week can exceed it.
+fn can_exceed(instance: &Instance, nurse: u16) -> bool
+    requires { nurse < (week_of instance.now).nurses }
+    ensures { let week = week_of instance.now in
+        result ≡ (greatest_totals_count week && nat_lt (still_allowed week nurse) 7) }
+{
+    greatest_totals_count(instance) && still_allowed(instance, nurse) < u16::from(DAYS)
+}
+
+/// The item of a nurse's least total: as many assignments as are wanted, and at most one a day.
+fn least_total(instance: &Instance, nurse: u16) -> SoftItem
+    requires nurse_in { nurse < (week_of instance.now).nurses }
+    ensures item { let week = week_of instance.now in item_of week result ≡ least_total_item week nurse }
+    ensures sum_in { IsSumOf (week_of instance.now) result.sum }
+    ensures few { result.slacks ≤ 7 }
+{
+    let missing = still_wanted(instance, nurse).min(u16::from(DAYS));
+    SoftItem {
+        rule: Rule::S6,
+        weight: WEIGHT,
+        slacks: u32::from(missing),
+        sum: ItemSum::Total {
+            nurse,
+            sign: Sign::Plus,
+        },
+        degree: i64::from(missing),
+    }
+}
+
+/// The item of a nurse's greatest total: no more assignments than are allowed.
+fn greatest_total(instance: &Instance, nurse: u16) -> SoftItem
+    requires nurse_in { nurse < (week_of instance.now).nurses }
+    ensures item { let week = week_of instance.now in item_of week result ≡ greatest_total_item week nurse }
+    ensures sum_in { IsSumOf (week_of instance.now) result.sum }
+    ensures few { result.slacks ≤ 7 }
+{
+    let room = still_allowed(instance, nurse);
+    SoftItem {
+        rule: Rule::S6,
+        weight: WEIGHT,
+        slacks: u32::from(u16::from(DAYS).saturating_sub(room)),
+        sum: ItemSum::Total {
+            nurse,
+            sign: Sign::Minus,
+        },
+        degree: 0 - i64::from(room),
+    }
+}
+
+/// The item of a nurse's least total, where it counts and asks for more.
+#[tactic(auto, unfolding(rota_core::specs::Lists::only_if))]
+fn too_few(instance: &Instance, nurse: u16) -> Option<SoftItem>
+    requires nurse_in { nurse < (week_of instance.now).nurses }
+    ensures item { let week = week_of instance.now in items_given week result ≡ least_totals_of week nurse }
+    ensures sum_in { IfSome result (λ one. IsSumOf (week_of instance.now) one.sum) }
+    ensures few { IfSome result (λ one. one.slacks ≤ 7) }
+{
+    if !asks_for_more(instance, nurse) {
+        return None;
+    }
+    Some(least_total(instance, nurse))
+}
+
+/// The item of a nurse's greatest total, where it counts and the week can exceed it.
+#[tactic(auto, unfolding(rota_core::specs::Lists::only_if))]
+fn too_many(instance: &Instance, nurse: u16) -> Option<SoftItem>
+    requires nurse_in { nurse < (week_of instance.now).nurses }
+    ensures item { let week = week_of instance.now in items_given week result ≡ greatest_totals_of week nurse }
+    ensures sum_in { IfSome result (λ one. IsSumOf (week_of instance.now) one.sum) }
+    ensures few { IfSome result (λ one. one.slacks ≤ 7) }
+{
+    if !can_exceed(instance, nurse) {
+        return None;
+    }
+    Some(greatest_total(instance, nurse))
+}
+
+/// The items of a nurse's least and of her greatest total.
+pub fn walk<T: Taker>(
+    instance: &Instance,
+    taker: &mut T,
+    part: ItemPart,
+    first: u32,
+    nurse: u16,
+) -> Result<u32, T::Fault>
+    requires nurse_in { nurse < (week_of instance.now).nurses }
+    requires slacks_fit { SlacksFit first (totals_of (week_of instance.now) nurse) }
+    ensures { let week = week_of instance.now in
+        Walks T.Taker part week first (totals_of week nurse) taker.old taker.new result }
+{
+    let least = too_few(instance, nurse);
+    let next = walk_item(instance, taker, part, first, least)?;
+    let greatest = too_many(instance, nurse);
+    walk_item(instance, taker, part, next, greatest)
+}
+
+/// The numbers of a nurse's items and slacks.
+#[tactic(auto, using(crate::proofs::ListLengths::counting))]
+pub fn count(instance: &Instance, nurse: u16) -> ItemCounts
+    requires { nurse < (week_of instance.now).nurses }
+    ensures few_items { result.items ≤ 2 }
+    ensures few_slacks { result.slacks ≤ 14 }
+    ensures items { result.items ≡ length (totals_of (week_of instance.now) nurse) }
+    ensures slacks { result.slacks ≡ slack_count (totals_of (week_of instance.now) nurse) }
+{
+    let least = ItemCounts::of(too_few(instance, nurse));
+    let greatest = ItemCounts::of(too_many(instance, nurse));
+    ItemCounts {
+        items: least.items + greatest.items,
+        slacks: least.slacks + greatest.slacks,
+    }
+}
+
+/// The nurse's assignments that are wanted beyond one for each day of the week.
+fn wanted_beyond_days(instance: &Instance, nurse: u16) -> u64
+    requires { nurse < (week_of instance.now).nurses }
+    ensures few { result ≤ 65535 }
+    ensures number { result ≡ wanted_beyond_days (week_of instance.now) nurse }
+{
+    if !least_totals_count(instance) {
+        return 0;
+    }
+    u64::from(still_wanted(instance, nurse).saturating_sub(u16::from(DAYS)))
+}
+
+/// The nurse's assignments that the history has above her greatest total.
+fn assignments_above(instance: &Instance, nurse: u16) -> u64
+    requires { nurse < (week_of instance.now).nurses }
+    ensures few { result ≤ 65535 }
+    ensures number { result ≡ assignments_above (week_of instance.now) nurse }
+{
+    if !excess_before_counts(instance) {
+        return 0;
+    }
+    let greatest = instance.contract(nurse).total.max;
+    u64::from(instance.past(nurse).assignments.saturating_sub(greatest))
+}
+
+/// What no roster of the week can avoid: assignments that are wanted beyond seven days, and, unless
+/// excess is charged early, those that the history has above the greatest totals.
+#[tactic(auto, using(crate::proofs::ListLengths::counting))]
+pub fn constant(instance: &Instance) -> u64
+    ensures few { result ≤ 3000000000 }
+    ensures number { result ≡ constant_of_assignments (week_of instance.now) }
+{
+    let mut assignments = 0;
+    for nurse in 0..instance.nurses() {
+        assignments += wanted_beyond_days(instance, nurse) + assignments_above(instance, nurse);
+    }
+    u64::from(WEIGHT) * assignments
+}

@@ -1,0 +1,87 @@
+//! S7, worked weekends: those above the nurse's greatest number.
+ghost use Rattle.std.specs.Prelude.{◌≡◌, ◌<◌, ◌≤◌, ◌&&◌, nat_le, length};
+ghost use Rattle.rota_core.specs.InstanceTables.{week_of};
+ghost use Rattle.rota_items.specs.CountedTotals.{greatest_totals_count};
+ghost use Rattle.rota_items.specs.ItemEvents.{SlacksFit, Walks};
+ghost use Rattle.rota_items.specs.rules.WorkedWeekends.{constant_of_weekends, weekends_above, worked_weekends_of};
+
+use crate::counted_totals::{excess_before_counts, greatest_totals_count};
+use crate::soft_item::{DayProperty, ItemPart, RunCharge};
+use crate::takers::Taker;
+use crate::weekend_walk::{saturday, walk_weekend};
+use rota_core::{Instance, Rule};
+
+/// What a worked weekend above the greatest number costs.
+const WEIGHT: u16 = 30;
+
+/// Whether a weekend that the nurse works now is charged: the weekends before are as many as her
+/// contract allows.
+fn is_charged(instance: &Instance, nurse: u16) -> bool
+    requires { nurse < (week_of instance.now).nurses }
+    ensures { let week = week_of instance.now in
+        result ≡ (greatest_totals_count week && nat_le (week.contract nurse).weekends (week.past nurse).weekends) }
+{
+    greatest_totals_count(instance)
+        && instance.contract(nurse).weekends <= instance.past(nurse).weekends
+}
+
+/// Work on Saturday, and on Sunday without Saturday, where it is charged.
+pub fn walk<T: Taker>(
+    instance: &Instance,
+    taker: &mut T,
+    part: ItemPart,
+    first: u32,
+    nurse: u16,
+) -> Result<u32, T::Fault>
+    requires nurse_in { nurse < (week_of instance.now).nurses }
+    requires slacks_fit { SlacksFit first (worked_weekends_of (week_of instance.now) nurse) }
+    ensures { let week = week_of instance.now in
+        Walks T.Taker part week first (worked_weekends_of week nurse) taker.old taker.new result }
+{
+    if !is_charged(instance, nurse) {
+        return Ok(first);
+    }
+    let charge = RunCharge {
+        rule: Rule::S7,
+        weight: WEIGHT,
+        nurse,
+        property: DayProperty::Work,
+    };
+    walk_weekend(instance, taker, part, first, charge, saturday())
+}
+
+/// The number of a nurse's items, each of one slack.
+pub fn count(instance: &Instance, nurse: u16) -> u32
+    requires { nurse < (week_of instance.now).nurses }
+    ensures few { result ≤ 2 }
+    ensures number { result ≡ length (worked_weekends_of (week_of instance.now) nurse) }
+{
+    if is_charged(instance, nurse) { 2 } else { 0 }
+}
+
+/// The nurse's weekends that the history has above her greatest number.
+fn weekends_above(instance: &Instance, nurse: u16) -> u64
+    requires { nurse < (week_of instance.now).nurses }
+    ensures few { result ≤ 65535 }
+    ensures number { result ≡ weekends_above (week_of instance.now) nurse }
+{
+    if !excess_before_counts(instance) {
+        return 0;
+    }
+    let greatest = instance.contract(nurse).weekends;
+    u64::from(instance.past(nurse).weekends.saturating_sub(greatest))
+}
+
+/// What no roster of the week can avoid: the weekends that the history has above the greatest numbers,
+/// unless excess is charged early.
+#[tactic(auto, using(crate::proofs::ListLengths::counting))]
+pub fn constant(instance: &Instance) -> u64
+    ensures few { result ≤ 3000000000 }
+    ensures number { result ≡ constant_of_weekends (week_of instance.now) }
+{
+    let mut weekends = 0;
+    for nurse in 0..instance.nurses() {
+        weekends += weekends_above(instance, nurse);
+    }
+    u64::from(WEIGHT) * weekends
+}

@@ -1,0 +1,36 @@
+//! The verdict of a judge over the whole model of a week.
+ghost use Rattle.std.specs.Prelude.{◌≡◌, ◌++◌};
+ghost use Rattle.std.specs.List.{fold};
+ghost use Rattle.rota_core.specs.InstanceTables.{week_of};
+ghost use Rattle.rota_items.specs.Events.{events};
+ghost use Rattle.rota_items.specs.Judging.{SettlesModel, assignment_in, fresh, judged, roster_in};
+ghost use Rattle.rota_items.specs.Objective.{objective_rows};
+ghost use Rattle.rota_items.specs.Verdicts.{Judges};
+ghost use Rattle.rota_items.specs.WeekModel.{objective_terms, rows_of};
+
+use rota_core::Instance;
+use rota_items::{Judge, Verdict, drive_constraints, drive_objective};
+use std::convert::Infallible;
+
+/// Hands a judge that took nothing yet the model of its instance, and gives its verdict.
+pub(crate) fn verdict_of(instance: &Instance, mut judge: Judge<'_>) -> Verdict
+    requires begun { judge ≡ fresh instance.now judge.subject }
+    ensures judges { let week = week_of instance.now in let subject = judge.entry.subject in
+        Judges week (assignment_in week subject) (roster_in week subject) result }
+    ensures model { SettlesModel (week_of instance.now) judge.entry.subject result }
+{
+    match drive_both(instance, &mut judge) {
+        Ok(()) => judge.verdict(),
+        Err(never) => match never {},
+    }
+}
+
+// Hands the judge the objective, then the constraints.
+fn drive_both(instance: &Instance, judge: &mut Judge<'_>) -> Result<(), Infallible>
+    ensures { let week = week_of instance.now in
+        judge.new ≡ fold judged judge.old
+        (events (objective_rows (objective_terms week)) ++ events (rows_of week)) }
+{
+    drive_objective(instance, judge)?;
+    drive_constraints(instance, judge)
+}

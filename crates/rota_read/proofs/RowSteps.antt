@@ -1,0 +1,53 @@
+-- Reading rows one after the other, as a loop does.
+use Rattle.std.proofs.Common.{◌≡◌, ℕ, suc, ◌+◌, ◌-◌, ◌<◌, ◌≤◌, Bool, Ok, refl, arith}
+use Rattle.rota_read.specs.declared.fault.Stop.{Stop}
+use Rattle.rota_read.specs.Tokens.{Reading}
+use Rattle.rota_read.specs.Layout.{Layout, end, repeat}
+use Rattle.rota_read.specs.Reading.{and_then, read, Fails}
+use Rattle.rota_read.proofs.EndLemmas.{front_fails}
+use Rattle.rota_read.specs.WeekLayout.{after_row, repeat_until}
+
+module _ {S : Type 0} (row : S → Layout S) (state : S) (count i : ℕ) (left : Reading) where
+  -- a row, and those behind it
+  pub next_row : i < count → read (repeat (count - i) row state) left ≡ and_then (read (row state) left) (λ x. read (repeat (count - (i + 1)) row x.0) x.1)
+  unfolding repeat read
+  next_row lt =
+      let k : count - i ≡ suc (count - (i + 1)) = omega arith in
+      rw k refl
+
+  -- a row was not read
+  pub row_fails : (e : Stop) → i < count → Fails e (read (row state) left) → Fails e (read (repeat (count - i) row state) left)
+  row_fails e lt h = rw (next_row lt) (front_fails (read (row state) left) (λ x. read (repeat (count - (i + 1)) row x.0) x.1) e h)
+
+  -- all rows were read
+  pub no_row : count ≤ i → read (repeat (count - i) row state) left ≡ Ok (state, left)
+  unfolding repeat read
+  no_row le =
+      let k : count - i ≡ 0 = omega arith in
+      rw k refl
+
+pub ruleset row_steps = (next_row, no_row, row_fails)
+
+module _ {S : Type 0} (row : S → Layout (Bool × S)) (state : S) (count i : ℕ) (left : Reading) where
+  -- a row, and those behind it where there are more
+  pub next_until : i < count → read (repeat_until (count - i) row state) left ≡ and_then (read (row state) left) (λ x. read (after_row (repeat_until (count - (i + 1)) row) x.0.0 x.0.1) x.1)
+  unfolding repeat_until read
+  next_until lt =
+      let k : count - i ≡ suc (count - (i + 1)) = omega arith in
+      rw k refl
+
+  pub until_fails : (e : Stop) → i < count → Fails e (read (row state) left) → Fails e (read (repeat_until (count - i) row state) left)
+  until_fails e lt h = rw (next_until lt) (front_fails (read (row state) left) (λ x. read (after_row (repeat_until (count - (i + 1)) row) x.0.0 x.0.1) x.1) e h)
+
+  -- as many rows as there may be were read
+  pub no_until : count ≤ i → read (repeat_until (count - i) row state) left ≡ Ok (state, left)
+  unfolding repeat_until read
+  no_until le =
+      let k : count - i ≡ 0 = omega arith in
+      rw k refl
+
+pub read_end : {S : Type 0} (state : S) (left : Reading) → read (end state) left ≡ Ok (state, left)
+unfolding read
+read_end state left = refl
+
+pub ruleset until_steps = (next_until, no_until, until_fails, read_end)

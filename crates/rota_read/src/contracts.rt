@@ -1,0 +1,79 @@
+//! Reads the contracts of a scenario file.
+
+ghost use Rattle.std.specs.Prelude.{◌≡◌, ◌≤◌, ◌+◌, [], length, IfOk, OnOk};
+ghost use Rattle.rota_core.specs.Names.{bytes_of};
+ghost use Rattle.rota_read.specs.Layout.{repeat};
+ghost use Rattle.rota_read.specs.Reading.{read, Reads};
+ghost use Rattle.rota_read.specs.ScenarioLayout.{contract, contract_row, contracts_part};
+ghost use Rattle.rota_read.specs.ScenarioRows.{contracts_of};
+
+use crate::cursor::Cursor;
+use crate::fault::Stop;
+use indexmap::IndexSet;
+use rota_core::{Contract, add_name};
+use std::alloc::Global;
+
+/// The greatest number of contracts.
+pub const MOST_CONTRACTS: u16 = 64;
+
+#[derive(Drop)]
+pub struct ContractRows {
+    pub names: IndexSet<Vec<u8>>,
+    pub contracts: Vec<Contract>,
+}
+
+impl<'a> Cursor<'a> {
+    /// What a contract asks.
+    #[tactic(auto, unfolding(crate::specs::ScenarioLayout::contract, crate::specs::Reading::read))]
+    fn contract(&mut self) -> Result<Contract, Stop>
+        ensures { Reads (λ c. c) result self.new (read contract self.old) }
+    {
+        let total = self.pair()?;
+        let work = self.pair()?;
+        let off = self.pair()?;
+        let weekends = self.number(0, 9999)?;
+        let complete = self.number(0, 1)?;
+        Ok(Contract {
+            total,
+            work,
+            off,
+            weekends,
+            complete: complete == 1,
+        })
+    }
+
+    #[tactic(auto, unfolding(crate::specs::ScenarioLayout::contract_row, crate::specs::Reading::read))]
+    fn contract_row(&mut self, alloc: Global, rows: &mut ContractRows) -> Result<(), Stop>
+        ensures read { Reads (λ _. contracts_of rows.new) result self.new (read (contract_row (contracts_of rows.old)) self.old) }
+        ensures longer { OnOk result (length (bytes_of rows.new.names) ≡ length (bytes_of rows.old.names) + 1) }
+    {
+        let name = self.new_name(&rows.names)?;
+        let contract = self.contract()?;
+        add_name(alloc, &mut rows.names, name)?;
+        Ok(rows.contracts.push(contract)?)
+    }
+
+    #[tactic(auto, using(crate::proofs::RowSteps::row_steps))]
+    fn contract_rows(&mut self, alloc: Global, count: u16) -> Result<ContractRows, Stop>
+        ensures read { Reads contracts_of result self.new (read (repeat count contract_row (record { names = []; contracts = [] })) self.old) }
+        ensures count { IfOk result (λ rows. length (bytes_of rows.names) ≡ count) }
+    {
+        let mut rows = ContractRows {
+            names: IndexSet::new(alloc),
+            contracts: Vec::new(alloc),
+        };
+        for _ in 0..count {
+            self.contract_row(alloc, &mut rows)?;
+        }
+        Ok(rows)
+    }
+
+    #[tactic(auto, unfolding(crate::specs::ScenarioLayout::contracts_part, crate::specs::Reading::read))]
+    pub fn contracts_part(&mut self, alloc: Global) -> Result<ContractRows, Stop>
+        ensures read { Reads contracts_of result self.new (read contracts_part self.old) }
+        ensures few { IfOk result (λ rows. length (bytes_of rows.names) ≤ MOST_CONTRACTS) }
+    {
+        let count = self.setting(b"CONTRACTS", 1, MOST_CONTRACTS)?;
+        self.contract_rows(alloc, count)
+    }
+}

@@ -1,0 +1,128 @@
+//! Reads names: new ones, and known ones by their places.
+
+ghost use Rattle.std.specs.Prelude.{◌≡◌, true, false, ◌<◌, ◌++◌, IfOk, MatchResult, length};
+ghost use Rattle.std.specs.Option.{ForSome};
+ghost use Rattle.rota_core.specs.declared.fault.Kind.TheVariants.{Repeated};
+ghost use Rattle.rota_core.specs.Names.{bytes_of, is_among};
+ghost use Rattle.rota_core.specs.ScenarioTables.{reserved};
+ghost use Rattle.rota_read.specs.Layout.{new_name, known_name, none_taken, is_one_of};
+ghost use Rattle.rota_read.specs.Reading.{read, Reads};
+ghost use Rattle.rota_read.specs.ShiftLayout.{shift_or};
+
+use crate::cursor::Cursor;
+use crate::fault::{Fault, Stop};
+use indexmap::IndexSet;
+use rota_core::{Kind, Scenario, is_name, place_of_name};
+
+pub(crate) fn is_taken(taken: &[usize], place: usize) -> bool
+    ensures { result ≡ is_one_of taken.now place }
+{
+    taken.iter().any(|p| *p == place)
+}
+
+fn is_reserved(word: &[u8]) -> bool
+    ensures { result ≡ is_among reserved word.now }
+{
+    word == b"None".as_slice() || word == b"Any".as_slice()
+}
+
+impl<'a> Cursor<'a> {
+    /// Refuses the name before, where it is taken.
+    pub(crate) fn unless_taken(&self, taken: bool) -> Result<(), Stop>
+        ensures { MatchResult result
+            (λ _. taken ≡ false)
+            (λ e. (taken ≡ true) × (e ≡ Stop.Fault (record { kind = Repeated; line = self.now.last }))) }
+    {
+        if taken {
+            return Err(Stop::Fault(Fault {
+                kind: Kind::Repeated,
+                line: self.last_line(),
+            }));
+        }
+        Ok(())
+    }
+
+    /// A word that is none of the names.
+    #[tactic(auto, using(crate::proofs::NameSteps::new_by_word))]
+    pub fn new_name(&mut self, names: &IndexSet<Vec<u8>>) -> Result<&'a [u8], Stop>
+        ensures read { Reads (λ w. w.now) result self.new (read (new_name (bytes_of names.now)) self.old) }
+        ensures new { IfOk result (λ w. is_among (bytes_of names.now) w.now ≡ false) }
+    {
+        let name = self.word()?;
+        self.unless_taken(is_name(names, name.word))?;
+        Ok(name.word)
+    }
+
+    /// A new name that is not reserved.
+    #[tactic(auto, using(crate::proofs::NameSteps::new_by_word))]
+    pub fn new_shift_name(&mut self, names: &IndexSet<Vec<u8>>) -> Result<&'a [u8], Stop>
+        ensures read { Reads (λ w. w.now) result self.new (read (new_name (reserved ++ bytes_of names.now)) self.old) }
+        ensures new { IfOk result (λ w. is_among (bytes_of names.now) w.now ≡ false) }
+    {
+        let name = self.word()?;
+        self.unless_taken(is_reserved(name.word) || is_name(names, name.word))?;
+        Ok(name.word)
+    }
+
+    /// The place of a name.
+    #[tactic(auto, using(crate::proofs::NameSteps::known_by_word))]
+    pub fn known_name(&mut self, names: &IndexSet<Vec<u8>>) -> Result<usize, Stop>
+        ensures read { Reads (λ n. n) result self.new (read (known_name (bytes_of names.now) none_taken) self.old) }
+        ensures below { IfOk result (λ n. n < length (bytes_of names.now)) }
+    {
+        let name = self.word()?;
+        place_of_name(names, name.word).ok_or(name.fault(Kind::Unknown))
+    }
+
+    /// The number of a nurse.
+    #[tactic(auto, using(crate::proofs::NameSteps::known_by_word))]
+    pub fn nurse(&mut self, scenario: &Scenario) -> Result<u16, Stop>
+        ensures read { Reads (λ n. n) result self.new (read (known_name scenario.now.nurses none_taken) self.old) }
+        ensures below { IfOk result (λ n. n < length scenario.now.nurses) }
+    {
+        let name = self.word()?;
+        scenario
+            .find_nurse(name.word)
+            .ok_or(name.fault(Kind::Unknown))
+    }
+
+    /// The number of a shift type.
+    #[tactic(auto, using(crate::proofs::NameSteps::known_by_word))]
+    pub fn shift(&mut self, scenario: &Scenario) -> Result<u8, Stop>
+        ensures read { Reads (λ s. s) result self.new (read (known_name scenario.now.shifts none_taken) self.old) }
+        ensures below { IfOk result (λ s. s < length scenario.now.shifts) }
+    {
+        let name = self.word()?;
+        scenario
+            .find_shift(name.word)
+            .ok_or(name.fault(Kind::Unknown))
+    }
+
+    /// The number of a skill.
+    #[tactic(auto, using(crate::proofs::NameSteps::known_by_word))]
+    pub fn skill(&mut self, scenario: &Scenario) -> Result<u8, Stop>
+        ensures read { Reads (λ k. k) result self.new (read (known_name scenario.now.skills none_taken) self.old) }
+        ensures below { IfOk result (λ k. k < length scenario.now.skills) }
+    {
+        let name = self.word()?;
+        scenario
+            .find_skill(name.word)
+            .ok_or(name.fault(Kind::Unknown))
+    }
+
+    /// The number of a shift type, or `None` where the word stands.
+    #[tactic(auto, using(crate::proofs::NameSteps::known_by_word), unfolding(crate::specs::ShiftLayout::shift_or, crate::specs::Reading::read))]
+    pub fn shift_or(&mut self, word: &[u8], scenario: &Scenario) -> Result<Option<u8>, Stop>
+        ensures read { Reads (λ s. s) result self.new (read (shift_or word.now scenario.now.shifts) self.old) }
+        ensures below { IfOk result (λ s. ForSome s (λ n. n < length scenario.now.shifts)) }
+    {
+        let name = self.word()?;
+        if name.word == word {
+            return Ok(None);
+        }
+        let Some(shift) = scenario.find_shift(name.word) else {
+            return Err(name.fault(Kind::Unknown));
+        };
+        Ok(Some(shift))
+    }
+}

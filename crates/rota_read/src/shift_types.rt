@@ -1,0 +1,148 @@
+//! Reads the shift types and the forbidden successions of a scenario file.
+
+ghost use Rattle.std.specs.Prelude.{◌≡◌, ◌==◌, ◌≤◌, [], position, IfOk};
+ghost use Rattle.rota_core.specs.Names.{bytes_of};
+ghost use Rattle.rota_read.specs.Layout.{repeat};
+ghost use Rattle.rota_read.specs.Reading.{read, Reads};
+ghost use Rattle.rota_read.specs.ScenarioLayout.{after_shift as after, forbidden_table, shift_row, succession_row, shifts_part, successions_part};
+ghost use Rattle.rota_read.specs.ScenarioRows.{shifts_of, successions_of};
+
+use crate::cursor::Cursor;
+use crate::fault::Stop;
+use crate::names::is_taken;
+use crate::rows::append_marks;
+use crate::slots::MOST;
+use indexmap::IndexSet;
+use rota_core::{Span, add_name};
+use std::alloc::{AllocError, Global};
+
+#[derive(Drop)]
+pub struct ShiftRows {
+    pub names: IndexSet<Vec<u8>>,
+    pub limits: Vec<Span>,
+}
+
+#[derive(Drop)]
+struct SuccessionRows {
+    shifts: Vec<usize>,
+    after: Vec<Vec<usize>>,
+}
+
+impl<'a> Cursor<'a> {
+    #[tactic(auto, unfolding(crate::specs::ScenarioLayout::shift_row, crate::specs::Reading::read))]
+    fn shift_row(&mut self, alloc: Global, rows: &mut ShiftRows) -> Result<(), Stop>
+        ensures { Reads (λ _. shifts_of rows.new) result self.new (read (shift_row (shifts_of rows.old)) self.old) }
+    {
+        let name = self.new_shift_name(&rows.names)?;
+        let limit = self.pair()?;
+        add_name(alloc, &mut rows.names, name)?;
+        Ok(rows.limits.push(limit)?)
+    }
+
+    #[tactic(auto, using(crate::proofs::RowSteps::row_steps))]
+    fn shift_rows(&mut self, alloc: Global, count: u16) -> Result<ShiftRows, Stop>
+        ensures { Reads shifts_of result self.new (read (repeat count shift_row (record { names = []; limits = [] })) self.old) }
+    {
+        let mut rows = ShiftRows {
+            names: IndexSet::new(alloc),
+            limits: Vec::new(alloc),
+        };
+        for _ in 0..count {
+            self.shift_row(alloc, &mut rows)?;
+        }
+        Ok(rows)
+    }
+
+    #[tactic(auto, unfolding(crate::specs::ScenarioLayout::shifts_part, crate::specs::Reading::read))]
+    pub fn shifts_part(&mut self, alloc: Global) -> Result<(u16, ShiftRows), Stop>
+        ensures read { Reads (λ p. (p.0, shifts_of p.1)) result self.new (read shifts_part self.old) }
+        ensures most { IfOk result (λ p. p.0 ≤ MOST) }
+    {
+        let count = self.setting(b"SHIFT_TYPES", 1, 16)?;
+        let rows = self.shift_rows(alloc, count)?;
+        Ok((count, rows))
+    }
+
+    #[tactic(auto, using(crate::proofs::NameSteps::known_taken, std::proofs::lemmas::Grind::common_steps), unfolding(crate::specs::ScenarioLayout::succession_row, crate::specs::Reading::read))]
+    fn succession_row(
+        &mut self,
+        alloc: Global,
+        names: &IndexSet<Vec<u8>>,
+        count: u16,
+        rows: &mut SuccessionRows,
+    ) -> Result<(), Stop>
+        requires { count ≤ MOST }
+        ensures { Reads (λ _. successions_of rows.new) result self.new (read (succession_row (bytes_of names.now) count (successions_of rows.old)) self.old) }
+    {
+        let shift = self.known_name(names)?;
+        self.unless_taken(is_taken(&rows.shifts, shift))?;
+        let after = self.known_names(alloc, names, count)?;
+        rows.shifts.push(shift)?;
+        Ok(rows.after.push(after)?)
+    }
+
+    #[tactic(auto, using(crate::proofs::RowSteps::row_steps))]
+    fn succession_rows(
+        &mut self,
+        alloc: Global,
+        names: &IndexSet<Vec<u8>>,
+        count: u16,
+    ) -> Result<SuccessionRows, Stop>
+        requires { count ≤ MOST }
+        ensures { Reads successions_of result self.new (read (repeat count (succession_row (bytes_of names.now) count) (record { shifts = []; after = [] })) self.old) }
+    {
+        let mut rows = SuccessionRows {
+            shifts: Vec::new(alloc),
+            after: Vec::new(alloc),
+        };
+        for _ in 0..count {
+            self.succession_row(alloc, names, count, &mut rows)?;
+        }
+        Ok(rows)
+    }
+
+    #[tactic(auto, unfolding(crate::specs::ScenarioLayout::successions_part, crate::specs::Reading::read))]
+    pub fn successions_part(
+        &mut self,
+        alloc: Global,
+        names: &IndexSet<Vec<u8>>,
+        count: u16,
+    ) -> Result<Vec<bool>, Stop>
+        requires { count ≤ MOST }
+        ensures { Reads (λ v. v.items) result self.new (read (successions_part (bytes_of names.now) count) self.old) }
+    {
+        self.exactly(b"FORBIDDEN_SHIFT_TYPES_SUCCESSIONS")?;
+        let rows = self.succession_rows(alloc, names, count)?;
+        Ok(forbidden_of(alloc, count, &rows)?)
+    }
+}
+
+fn place_of_shift(shifts: &[usize], shift: usize) -> Option<usize>
+    ensures { result ≡ position (λ p. p == shift) shifts.now }
+{
+    shifts.iter().position(|p| *p == shift)
+}
+
+/// What may not follow a shift type.
+fn after_shift(rows: &SuccessionRows, shift: usize) -> &[usize]
+    ensures { result.now ≡ after (successions_of rows.now) shift }
+{
+    let Some(place) = place_of_shift(&rows.shifts, shift) else {
+        return &[];
+    };
+    match rows.after.get(place) {
+        Some(places) => places,
+        None => &[],
+    }
+}
+
+#[tactic(auto, using(crate::proofs::TableLemmas::one_more_row))]
+fn forbidden_of(alloc: Global, size: u16, rows: &SuccessionRows) -> Result<Vec<bool>, AllocError>
+    ensures { IfOk result (λ v. v.items ≡ forbidden_table size (successions_of rows.now)) }
+{
+    let mut table = Vec::new(alloc);
+    for shift in 0..size {
+        append_marks(&mut table, after_shift(rows, usize::from(shift)), size)?;
+    }
+    Ok(table)
+}

@@ -1,0 +1,271 @@
+//! A port of a run that fails at each of its calls in turn.
+use crate::job_runs::{
+    Ended, NOTHING, PIECE, Paces, Sent, by_bytes, done, end_of, even, refused, whole,
+};
+use crate::jobs::{
+    DECODING, DECODING_HELD, ENCODING, EXTENDING, EXTENDING_HELD, HOLDING, JOBS, Job,
+};
+use rota_core::{FileFault, FileName, Kind, MemorySource, Pace, ToWrite};
+use rota_pb::{Choice, Fault, run_encode, status_of};
+use solver_text::AnswerFault;
+use std::alloc::Global;
+use std::io;
+use std::io::Write;
+use std::process::Abort;
+
+// No port fails.
+fn all_even() -> Paces {
+    Paces {
+        readers: [even(); 5],
+        targets: [even(); 2],
+    }
+}
+
+// The reader of this number has this pace, and the targets have the other.
+fn with_reader(reader: usize, pace: Pace, targets: Pace) -> Paces {
+    let mut paces = Paces {
+        targets: [targets; 2],
+        ..all_even()
+    };
+    if let Some(own) = paces.readers.get_mut(reader) {
+        *own = pace;
+    }
+    paces
+}
+
+// The outcome is the same in pieces of each length, from one byte to the whole text.
+#[test]
+fn runs_in_pieces_of_each_length(rt: HostRuntime) {
+    for job in &JOBS {
+        for length in 1..200 {
+            let pieces = Pace::new(length, None);
+            let paces = Paces {
+                readers: [pieces; 5],
+                targets: [pieces; 2],
+            };
+            assert_eq!(rt;
+                end_of(rt.alloc(), job, &paces),
+                done(job),
+                "pieces of {length}"
+            );
+        }
+    }
+}
+
+// How many calls read the text to its end. The last of them finds nothing.
+fn calls_to_the_end(text: &[u8]) -> u64 {
+    text.len().div_ceil(PIECE) as u64 + 1
+}
+
+// The run ends where the reader fails, and calls no target: one that is called answers `Write`. Where the
+// reader answers all its calls, the run is whole.
+fn check_reader(rt: &impl Abort, alloc: Global, job: &Job, reader: usize, text: &[u8]) {
+    let calls = calls_to_the_end(text);
+    for good_calls in 0..calls {
+        let failing = Pace::new(PIECE, Some(good_calls));
+        let paces = with_reader(reader, failing, by_bytes(0));
+        assert_eq!(rt;
+            end_of(alloc, job, &paces),
+            refused(Fault::Read),
+            "call {good_calls}"
+        );
+    }
+    let paces = with_reader(reader, Pace::new(PIECE, Some(calls)), even());
+    assert_eq!(rt; end_of(alloc, job, &paces), done(job), "reader {reader}");
+}
+
+#[test]
+fn runs_end_where_a_read_fails(rt: HostRuntime) {
+    for job in &JOBS {
+        for (reader, text) in job.inputs.iter().enumerate() {
+            if !text.is_empty() {
+                check_reader(&rt, rt.alloc(), job, reader, text);
+            }
+        }
+    }
+}
+
+// The first target takes a byte a call and fails after this many.
+fn with_first_target(good_calls: u64) -> Paces {
+    Paces {
+        targets: [by_bytes(good_calls), even()],
+        ..all_even()
+    }
+}
+
+fn with_second_target(good_calls: u64) -> Paces {
+    Paces {
+        targets: [even(), by_bytes(good_calls)],
+        ..all_even()
+    }
+}
+
+// This many bytes of the text went out, and none is flushed.
+fn cut_after(bytes: u64) -> Sent {
+    Sent {
+        bytes: bytes as usize,
+        ..NOTHING
+    }
+}
+
+// A target that fails leaves what went out before. Where the flush after the last byte fails, all bytes are out.
+// With one call more, which is the one flush, the run is whole.
+#[test]
+fn runs_end_where_a_write_fails(rt: HostRuntime) {
+    for job in &JOBS {
+        let calls = job.outputs[0].len() as u64;
+        for good_calls in 0..=calls {
+            let cut = Ended {
+                outcome: Err(Fault::Write),
+                sent: [cut_after(good_calls), NOTHING],
+            };
+            let paces = with_first_target(good_calls);
+            assert_eq!(rt; end_of(rt.alloc(), job, &paces), cut);
+        }
+        let paces = with_first_target(calls.saturating_add(1));
+        assert_eq!(rt; end_of(rt.alloc(), job, &paces), done(job));
+    }
+}
+
+// The solution goes out whole before the report gets a byte.
+#[test]
+fn decoding_ends_where_the_report_fails(rt: HostRuntime) {
+    let [solution, report] = DECODING.outputs;
+    let calls = report.len() as u64;
+    for good_calls in 0..=calls {
+        let cut = Ended {
+            outcome: Err(Fault::Write),
+            sent: [whole(solution), cut_after(good_calls)],
+        };
+        let paces = with_second_target(good_calls);
+        assert_eq!(rt; end_of(rt.alloc(), &DECODING, &paces), cut);
+    }
+    let paces = with_second_target(calls.saturating_add(1));
+    assert_eq!(rt; end_of(rt.alloc(), &DECODING, &paces), done(&DECODING));
+}
+
+// The job with another text in place of the input of this number.
+fn with_input(job: Job, place: usize, text: &'static [u8]) -> Job {
+    let mut inputs = job.inputs;
+    if let Some(own) = inputs.get_mut(place) {
+        *own = text;
+    }
+    Job { inputs, ..job }
+}
+
+fn bad(kind: Kind, file: FileName, line: u32) -> Fault {
+    Fault::File(FileFault::Bad { kind, file, line })
+}
+
+// A job with an input of this number that is at fault, the number of a later reader, and the fault.
+const FAULTY: [(Job, (usize, &[u8]), usize, (Kind, FileName, u32)); 7] = [
+    (
+        ENCODING,
+        (0, b"SCENA"),
+        1,
+        (Kind::OtherWord, FileName::Scenario, 1),
+    ),
+    (
+        DECODING,
+        (0, b"SCENA"),
+        2,
+        (Kind::OtherWord, FileName::Scenario, 1),
+    ),
+    (
+        EXTENDING,
+        (0, b"SCENA"),
+        4,
+        (Kind::OtherWord, FileName::Scenario, 1),
+    ),
+    (
+        HOLDING,
+        (1, b"HISTORY 2 s1 NURSE_HISTORY Ann 0 0 None 0 0 0"),
+        3,
+        (Kind::LateWeek, FileName::History, 0),
+    ),
+    (
+        HOLDING,
+        (2, b"WEEK_DATA s1\n("),
+        3,
+        (Kind::OtherWord, FileName::Week, 2),
+    ),
+    (
+        DECODING_HELD,
+        (3, b"SOLUTION 0 s1\nASSIGN"),
+        4,
+        (Kind::OtherWord, FileName::Fixed, 2),
+    ),
+    (
+        EXTENDING_HELD,
+        (3, b"SOLUTION 0 s1\nASSIGN"),
+        4,
+        (Kind::OtherWord, FileName::Fixed, 2),
+    ),
+];
+
+// A later reader that would fail at its first call is not called.
+#[test]
+fn fault_of_an_earlier_file_comes_first(rt: HostRuntime) {
+    for (job, (place, text), reader, (kind, file, line)) in FAULTY {
+        let job = with_input(job, place, text);
+        let paces = with_reader(reader, by_bytes(0), by_bytes(0));
+        let fault = bad(kind, file, line);
+        assert_eq!(rt;
+            end_of(rt.alloc(), &job, &paces),
+            refused(fault),
+            "reader {reader}"
+        );
+    }
+}
+
+// A fault that is judged in what was read comes before the reader's failure.
+#[test]
+fn answer_fails_after_some_bytes(rt: HostRuntime) {
+    let rows: [(&[u8], Fault); 2] = [
+        (b"v x9\n", Fault::Answer(AnswerFault::Range)),
+        (b"v x9", Fault::Read),
+    ];
+    for (answer, fault) in rows {
+        let job = with_input(DECODING, 4, answer);
+        let paces = with_reader(4, Pace::new(200, Some(1)), even());
+        assert_eq!(rt; end_of(rt.alloc(), &job, &paces), refused(fault));
+    }
+}
+
+// A writer that takes nothing of any piece.
+#[derive(Drop)]
+struct TakesNothing;
+
+impl Write for TakesNothing {
+    fn write(&mut self, _buf: &[u8]) -> io::Result<usize> {
+        Ok(0)
+    }
+
+    fn flush(&mut self) -> io::Result<()> {
+        Ok(())
+    }
+}
+
+#[test]
+fn writer_that_takes_nothing(rt: HostRuntime) {
+    let [scenario, history, week, ..] = ENCODING.inputs;
+    let plain = Choice {
+        early: false,
+        fixed: false,
+    };
+    let mut sce = MemorySource::new(scenario, even());
+    let mut his = MemorySource::new(history, even());
+    let mut week = MemorySource::new(week, even());
+    let mut target = ToWrite::new(TakesNothing);
+    let outcome = run_encode(
+        rt.alloc(),
+        plain,
+        &mut sce,
+        &mut his,
+        &mut week,
+        &mut MemorySource::new(b"", by_bytes(0)),
+        &mut target,
+    );
+    assert_eq!(rt; outcome, Err(Fault::Write));
+    assert_eq!(rt; status_of(&Fault::Write), 3);
+}

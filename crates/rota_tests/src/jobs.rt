@@ -1,0 +1,203 @@
+//! What a run reads and writes: one job of each kind, without and with held cells.
+
+/// What a run does.
+#[derive(Clone, Copy, PartialEq, Eq, Debug)]
+pub enum Kind {
+    Encode,
+    Decode,
+    Extend,
+}
+
+/// A run's inputs in the order in which it reads them, and its outputs in the order in which it writes them;
+/// an input or output that it does not have is empty.
+#[derive(Clone, Copy)]
+pub struct Job {
+    pub kind: Kind,
+    /// The scenario, the history, the week, the held cells, and the answer or the given roster.
+    pub inputs: [&'static [u8]; 5],
+    /// The model, or the solution and its report, or the answer.
+    pub outputs: [&'static [u8]; 2],
+}
+
+const SCENARIO: &[u8] = b"SCENARIO = s1
+WEEKS = 2
+SKILLS = 1
+Nurse
+SHIFT_TYPES = 1
+Day (1,9)
+FORBIDDEN_SHIFT_TYPES_SUCCESSIONS
+Day 0
+CONTRACTS = 1
+Full (1,9) (1,9) (1,9) 9 0
+NURSES = 1
+Ann Full 1 Nurse
+";
+
+// No assignment to Day is allowed without a charge: each day's costs 15.
+const CLOSED: &[u8] = b"SCENARIO = s1
+WEEKS = 2
+SKILLS = 1
+Nurse
+SHIFT_TYPES = 1
+Day (1,0)
+FORBIDDEN_SHIFT_TYPES_SUCCESSIONS
+Day 0
+CONTRACTS = 1
+Full (1,9) (1,9) (1,9) 9 0
+NURSES = 1
+Ann Full 1 Nurse
+";
+
+const HISTORY: &[u8] = b"HISTORY
+0 s1
+NURSE_HISTORY
+Ann 0 0 None 0 0 0
+";
+
+const WEEK: &[u8] = b"WEEK_DATA
+s1
+REQUIREMENTS
+SHIFT_OFF_REQUESTS = 0
+";
+
+// One assignment, on Monday.
+const MONDAY: &[u8] = b"SOLUTION
+0 s1
+
+ASSIGNMENTS = 1
+Ann Mon Day Nurse
+";
+
+pub const ENCODING: Job = Job {
+    kind: Kind::Encode,
+    inputs: [SCENARIO, HISTORY, WEEK, b"", b""],
+    outputs: [
+        b"* #variable= 8 #constraint= 8
++1 x8 >= 1 ;
+-1 x1 >= -1 ;
+-1 x2 >= -1 ;
+-1 x3 >= -1 ;
+-1 x4 >= -1 ;
+-1 x5 >= -1 ;
+-1 x6 >= -1 ;
+-1 x7 >= -1 ;
+",
+        b"",
+    ],
+};
+
+/// The answer has lines that say nothing of variables, and each line ends with CR LF.
+pub const DECODING: Job = Job {
+    kind: Kind::Decode,
+    inputs: [
+        SCENARIO,
+        HISTORY,
+        WEEK,
+        b"",
+        b"c hello\r\nd 1 2\r\no 5\r\ns OPTIMUM FOUND\r\nv x1 -x2\r\nv -x3 x1 -x4\r\nv -x5 -x6 x8 \r\n",
+    ],
+    outputs: [
+        MONDAY,
+        b"status OPTIMUM FOUND
+objective 0
+penalty 0
+S1 0
+S2 0
+S3 0
+S4 0
+S5 0
+S6 0
+S7 0
+last o 5
+",
+    ],
+};
+
+pub const EXTENDING: Job = Job {
+    kind: Kind::Extend,
+    inputs: [CLOSED, HISTORY, WEEK, b"", MONDAY],
+    outputs: [
+        b"o 15
+s SATISFIABLE
+v x1 -x2 -x3 -x4 -x5 -x6 -x7 x8 x9 -x10
+v -x11 -x12 -x13 -x14 -x15
+",
+        b"",
+    ],
+};
+
+// The same with Wednesday's assignment, which is held.
+
+const WEDNESDAY: &[u8] = b"SOLUTION
+0 s1
+
+ASSIGNMENTS = 1
+Ann Wed Day Nurse
+";
+
+pub const HOLDING: Job = Job {
+    kind: Kind::Encode,
+    inputs: [SCENARIO, HISTORY, WEEK, WEDNESDAY, b""],
+    outputs: [
+        b"* #variable= 8 #constraint= 9
++1 x8 >= 1 ;
+-1 x1 >= -1 ;
+-1 x2 >= -1 ;
+-1 x3 >= -1 ;
+-1 x4 >= -1 ;
+-1 x5 >= -1 ;
+-1 x6 >= -1 ;
+-1 x7 >= -1 ;
++1 x3 >= 1 ;
+",
+        b"",
+    ],
+};
+
+pub const DECODING_HELD: Job = Job {
+    kind: Kind::Decode,
+    inputs: [
+        SCENARIO,
+        HISTORY,
+        WEEK,
+        WEDNESDAY,
+        b"s SATISFIABLE\nv x8 x3\n",
+    ],
+    outputs: [
+        WEDNESDAY,
+        b"status SATISFIABLE
+objective 0
+penalty 0
+S1 0
+S2 0
+S3 0
+S4 0
+S5 0
+S6 0
+S7 0
+",
+    ],
+};
+
+pub const EXTENDING_HELD: Job = Job {
+    kind: Kind::Extend,
+    inputs: [CLOSED, HISTORY, WEEK, WEDNESDAY, WEDNESDAY],
+    outputs: [
+        b"o 15
+s SATISFIABLE
+v -x1 -x2 x3 -x4 -x5 -x6 -x7 x8 -x9 -x10
+v x11 -x12 -x13 -x14 -x15
+",
+        b"",
+    ],
+};
+
+/// One job of each kind, without and with held cells.
+pub const JOBS: [Job; 6] = [
+    ENCODING,
+    DECODING,
+    EXTENDING,
+    HOLDING,
+    DECODING_HELD,
+    EXTENDING_HELD,
+];

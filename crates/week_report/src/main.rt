@@ -1,0 +1,48 @@
+//! What the public calls find in a week's files, as lines for tests to compare.
+//!
+//!     week_report [--early] [--fix FILE] SCENARIO HISTORY WEEK [SOLUTION]
+//!
+//! It prints the week's tables, how its cells are numbered, and how large its model is, by arithmetic and
+//! by counting. With a solution it prints what the roster costs, by the judge and by the plain programs.
+#![tactic(auto)]
+
+// What a roster costs.
+mod costs;
+// The files, read.
+mod files;
+// The numbers of cells and models.
+mod numbers;
+// The tables that have a row for each nurse, shift type and skill.
+mod tables;
+
+use crate::costs::print_costs;
+use crate::files::{Stop, Words, command_line, instance_of};
+use crate::numbers::print_numbers;
+use crate::tables::print_tables;
+use rota_core::Instance;
+use std::rt::{Env, Files};
+
+fn main(rt: HostRuntime) -> Result<(), Stop> {
+    run(&rt)
+}
+
+fn run<R: Env + Files + Print + AllocGlobal>(rt: &R) -> Result<(), Stop> {
+    let words = command_line(rt)?;
+    match Words::of(words.as_slice()) {
+        Some(words) => report(rt, &words),
+        None => Err(Stop::Words),
+    }
+}
+
+fn report<R: Files + Print + AllocGlobal>(rt: &R, words: &Words<'_>) -> Result<(), Stop> {
+    let instance = instance_of(rt, words)?;
+    match words.solution {
+        Some(solution) => print_costs(rt, &instance, solution),
+        None => print_week(rt, &instance),
+    }
+}
+
+fn print_week<R: Print>(rt: &R, instance: &Instance) -> Result<(), Stop> {
+    print_tables(rt, instance)?;
+    print_numbers(rt, instance)
+}

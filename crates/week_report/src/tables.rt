@@ -1,0 +1,119 @@
+//! The tables of a week: a line for each nurse, shift type and skill, for each skill that a nurse has, each
+//! forbidden succession, and each place at which nurses are demanded or a day off is asked for.
+ghost use Rattle.std.specs.Prelude.{◌<◌};
+ghost use Rattle.rota_core.specs.InstanceTables.{week_of};
+
+use crate::files::Stop;
+use rota_core::{Demand, Instance};
+use std::str::from_utf8;
+
+const NOBODY: Demand = Demand {
+    minimum: 0,
+    optimal: 0,
+};
+
+/// The numbers of the week, and its tables.
+pub fn print_tables<R: Print>(rt: &R, instance: &Instance) -> Result<(), Stop> {
+    println!(rt; "scenario {:?}", from_utf8(instance.scenario_name()))?;
+    println!(rt; "week {} last {}", instance.week(), instance.last_week())?;
+    println!(rt; "early {} held {}", instance.early(), instance.held_count())?;
+    print_skills(rt, instance)?;
+    print_shifts(rt, instance)?;
+    print_nurses(rt, instance)?;
+    print_demands(rt, instance)
+}
+
+/// The name, and its number among the nurses, the shift types and the skills.
+fn print_name<R: Print>(rt: &R, instance: &Instance, name: &[u8]) -> Result<(), Stop> {
+    let nurse = instance.find_nurse(name);
+    let shift = instance.find_shift(name);
+    let skill = instance.find_skill(name);
+    println!(rt; "{:?} {nurse:?} {shift:?} {skill:?}", from_utf8(name))?;
+    Ok(())
+}
+
+/// Each skill: its number and its name.
+fn print_skills<R: Print>(rt: &R, instance: &Instance) -> Result<(), Stop> {
+    for skill in 0..instance.skills() {
+        println!(rt; "skill {skill}")?;
+        print_name(rt, instance, instance.skill_name(skill))?;
+    }
+    Ok(())
+}
+
+/// Each shift type: its number, limits and name, and what may not follow it.
+fn print_shifts<R: Print>(rt: &R, instance: &Instance) -> Result<(), Stop> {
+    for shift in 0..instance.shifts() {
+        println!(rt; "shift {shift} {:?}", instance.limits(shift))?;
+        print_name(rt, instance, instance.shift_name(shift))?;
+        print_successions(rt, instance, shift)?;
+    }
+    Ok(())
+}
+
+/// The shift types that may not follow this one.
+fn print_successions<R: Print>(rt: &R, instance: &Instance, shift: u8) -> Result<(), Stop>
+    requires { shift < (week_of instance.now).shifts }
+{
+    for next in 0..instance.shifts() {
+        if instance.forbidden(shift, next) {
+            println!(rt; "not before {next}")?;
+        }
+    }
+    Ok(())
+}
+
+/// Each nurse: her number, name, contract, history, skills and requests.
+fn print_nurses<R: Print>(rt: &R, instance: &Instance) -> Result<(), Stop> {
+    for nurse in 0..instance.nurses() {
+        println!(rt; "nurse {nurse}")?;
+        print_name(rt, instance, instance.nurse_name(nurse))?;
+        println!(rt; "{:?}", instance.contract(nurse))?;
+        println!(rt; "{:?}", instance.past(nurse))?;
+        print_skills_of(rt, instance, nurse)?;
+        print_requests_of(rt, instance, nurse)?;
+    }
+    Ok(())
+}
+
+/// The skills that the nurse has.
+fn print_skills_of<R: Print>(rt: &R, instance: &Instance, nurse: u16) -> Result<(), Stop>
+    requires { nurse < (week_of instance.now).nurses }
+{
+    for skill in 0..instance.skills() {
+        if instance.has_skill(nurse, skill) {
+            println!(rt; "has skill {skill}")?;
+        }
+    }
+    Ok(())
+}
+
+/// The day and shift type of each cell that request rows of the nurse match, and how many rows do.
+fn print_requests_of<R: Print>(rt: &R, instance: &Instance, nurse: u16) -> Result<(), Stop>
+    requires { nurse < (week_of instance.now).nurses }
+{
+    for day in 0..7 {
+        for shift in 0..instance.shifts() {
+            let rows = instance.requests(nurse, day, shift);
+            if rows > 0 {
+                println!(rt; "off {day} {shift}: {rows}")?;
+            }
+        }
+    }
+    Ok(())
+}
+
+/// The day, shift type and skill of each demand for nurses.
+fn print_demands<R: Print>(rt: &R, instance: &Instance) -> Result<(), Stop> {
+    for day in 0..7 {
+        for shift in 0..instance.shifts() {
+            for skill in 0..instance.skills() {
+                let demand = instance.demand(day, shift, skill);
+                if demand != NOBODY {
+                    println!(rt; "demand {day} {shift} {skill}: {demand:?}")?;
+                }
+            }
+        }
+    }
+    Ok(())
+}

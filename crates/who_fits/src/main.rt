@@ -1,0 +1,98 @@
+//! Prints who could fill each place of a week, with the variable that stands for it in the week's model: a small
+//! program over `rota_core`, `rota_read` and `rota_items` only.
+//!
+//! `who_fits SCENARIO HISTORY WEEK` prints a line for each day, shift type and skill that is asked for. A nurse fits
+//! who has the skill and, on Monday, whose last shift does not forbid the shift type.
+#![tactic(auto)]
+
+ghost use Rattle.std.specs.Prelude.{◌<◌};
+ghost use Rattle.rota_core.specs.InstanceTables.{week_of};
+ghost use Rattle.rota_core.specs.Roster.{InWeek};
+
+use anyhow::{Context, Result, bail};
+use rota_core::{Cell, Instance};
+use rota_items::cell_var;
+use rota_read::{day_name, read_history, read_scenario, read_week};
+use std::io::Write;
+use std::rt::{Env, Files};
+use std::{env, fs, io};
+
+fn main(rt: HostRuntime) -> Result<()> {
+    let words: Vec<String> = env::args(&rt)?.collect(rt.alloc())?;
+    let [_, scenario, history, week] = words.as_slice() else {
+        bail!("give the files of a scenario, a history and a week");
+    };
+    let instance = join(&rt, scenario.as_str(), history.as_str(), week.as_str())?;
+    for day in 0..7 {
+        for shift in 0..instance.shifts() {
+            for skill in 0..instance.skills() {
+                tell_place(&rt, &instance, day, shift, skill)?;
+            }
+        }
+    }
+    Ok(())
+}
+
+/// The week that the three files spell.
+fn join<R: Files + AllocGlobal>(
+    rt: &R,
+    scenario: &str,
+    history: &str,
+    week: &str,
+) -> Result<Instance> {
+    let alloc = rt.alloc();
+    let text = fs::read(rt, scenario).context(format_args!("{scenario}"))?;
+    let scenario = read_scenario(alloc, text.as_slice())?;
+    let text = fs::read(rt, history).context(format_args!("{history}"))?;
+    let history = read_history(alloc, &scenario, text.as_slice())?;
+    let text = fs::read(rt, week).context(format_args!("{week}"))?;
+    let week = read_week(alloc, &scenario, text.as_slice())?;
+    Ok(Instance::join(scenario, history, week, false)?)
+}
+
+/// A line with who fits, where the place is asked for.
+fn tell_place(rt: &impl Print, instance: &Instance, day: u8, shift: u8, skill: u8) -> Result<()>
+    requires day_in { day < 7 }
+    requires shift_in { shift < (week_of instance.now).shifts }
+    requires skill_in { skill < (week_of instance.now).skills }
+{
+    let demand = instance.demand(day, shift, skill);
+    if demand.minimum == 0 && demand.optimal == 0 {
+        return Ok(());
+    }
+    let mut out = io::writer(rt);
+    out.write_all(day_name(day))?;
+    out.write_all(b" ")?;
+    out.write_all(instance.shift_name(shift))?;
+    out.write_all(b" ")?;
+    out.write_all(instance.skill_name(skill))?;
+    write!(out, " ({},{}):", demand.minimum, demand.optimal)?;
+    for nurse in 0..instance.nurses() {
+        let cell = Cell {
+            nurse,
+            day,
+            shift,
+            skill,
+        };
+        if fits(instance, cell) {
+            out.write_all(b" ")?;
+            out.write_all(instance.nurse_name(nurse))?;
+            write!(out, " x{}", cell_var(instance, cell))?;
+        }
+    }
+    out.write_all(b"\n")?;
+    Ok(())
+}
+
+/// Whether the nurse has the skill, and her last shift does not forbid the shift type.
+fn fits(instance: &Instance, cell: Cell) -> bool
+    requires { InWeek (week_of instance.now) cell }
+{
+    let forbidden = match instance.past(cell.nurse).last {
+        Some(last) if cell.day == 0 && last < instance.shifts() => {
+            instance.forbidden(last, cell.shift)
+        }
+        _ => false,
+    };
+    instance.has_skill(cell.nurse, cell.skill) && !forbidden
+}

@@ -1,0 +1,124 @@
+#!/usr/bin/env bash
+# Runs the built program at the greatest sizes: the week with most variables, rosters and requests of as many
+# rows as a file may have, names of a million bytes, long command lines. None of them is out of memory. What
+# is expected stands in docs/formats.md.
+#
+#   tests/great_sizes.sh [PROGRAM..]
+#
+# Without a PROGRAM it takes those that `rt ci` or `make build` left in the program's crate. It takes
+# `week_report` of `rt ci` beside them. Needs bash and the usual tools of a shell.
+. "$(dirname "$0")/program_runs.sh"
+
+# The greatest week: 1000 nurses with all of 16 skills, and 16 shift types.
+skills='a b c d e f g h i j k l m n o p'
+{
+    printf 'SCENARIO = s1\nWEEKS = 2\nSKILLS = 16\n%s\nSHIFT_TYPES = 16\n' "$skills"
+    printf 't%d (1,9)\n' {0..15}
+    echo FORBIDDEN_SHIFT_TYPES_SUCCESSIONS
+    printf 't%d 0\n' {0..15}
+    printf 'CONTRACTS = 1\nFull (1,9) (1,9) (1,9) 9 0\nNURSES = 1000\n'
+    printf "n%d Full 16 $skills\n" {0..999}
+} > "$room/greatest.txt"
+{
+    printf 'HISTORY\n0 s1\nNURSE_HISTORY\n'
+    printf 'n%d 0 0 None 0 0 0\n' {0..999}
+} > "$room/greatest_history.txt"
+greatest=(--sce greatest.txt --his greatest_history.txt --week week.txt)
+
+# rows NUMBER: this many different rows of a solution, first one for each nurse and day in the order in which
+# `decode` writes them, then others.
+rows() {
+    awk -v number="$1" 'BEGIN {
+        split("Mon Tue Wed Thu Fri Sat Sun", days)
+        for (row = 0; row < number; row++)
+            printf "n%d %s t%d p\n", row % 7000 / 7, days[row % 7 + 1], row < 7000 ? 15 : 14
+    }'
+}
+
+# roster NAME NUMBER: a solution file of this many rows.
+roster() {
+    { printf 'SOLUTION\n0 s1\n\nASSIGNMENTS = %s\n' "$2"; rows "$2"; } > "$room/$1"
+}
+
+roster one_a_day 7000
+roster most_rows 9999
+roster too_many_rows 10000
+line breaks_h1 'inrc2pb: roster breaks H1'
+line rows_limit 'inrc2pb: solution line 4: out of limits'
+
+greatest_week() {
+    run 'the greatest week' 0 text nothing encode "${greatest[@]}"
+    [ "$(head -n 1 "$room/out")" = '* #variable= 1792001 #constraint= 7001' ] || complain "$(head -n 1 "$room/out")"
+    [ "$(grep -c '>= .* ;$' "$room/out")" = 7001 ] || complain 'not 7001 rows'
+    reports 'the numbers of the greatest week' text greatest.txt greatest_history.txt week.txt
+    tail -n 4 "$room/out" > "$room/numbers"
+    cat > "$room/wanted" <<'END_OF_NUMBERS'
+last cell 1792000 Some(Cell { nurse: 999, day: 6, shift: 15, skill: 15 })
+unit 1792001 None
+by arithmetic Counts { variables: 1792001, constraints: 7001 }
+by counting Counts { variables: 1792001, constraints: 7001 }
+END_OF_NUMBERS
+    holds numbers wanted
+}
+
+greatest_rosters() {
+    run 'a roster of 7000 rows' 0 text nothing extend "${greatest[@]}" --from one_a_day
+    cp "$room/out" "$room/answer"
+    [ "$(head -n 2 "$room/answer" | tr '\n' /)" = 'o 0/s SATISFIABLE/' ] || complain 'another head'
+    run 'its answer' 0 text nothing decode "${greatest[@]}" --answer answer --sol solution
+    holds solution one_a_day
+    grep -qx 'penalty 0' "$room/out" || complain 'another penalty'
+    run 'a roster of 9999 rows' 6 nothing breaks_h1 extend "${greatest[@]}" --from most_rows
+    reports 'the cells of 9999 rows' text greatest.txt greatest_history.txt week.txt most_rows
+    grep -qx 'cells 9999' "$room/out" || complain 'not 9999 cells'
+    run 'a roster of 10000 rows' 1 nothing rows_limit extend "${greatest[@]}" --from too_many_rows
+}
+
+# Each row asks for Monday off on one shift type: 7000 rows of 1000 nurses on one, 2999 rows of 429 on another,
+# each charged at 16 skills.
+most_requests() {
+    { printf 'WEEK_DATA s1 REQUIREMENTS\nSHIFT_OFF_REQUESTS = 9999\n'; rows 9999 | cut -d ' ' -f 1,3 | awk '{ print $1, $2, "Mon" }'; } > "$room/requests.txt"
+    run '9999 requests' 0 text nothing encode --sce greatest.txt --his greatest_history.txt --week requests.txt
+    sed -n 2p "$room/out" | tr ' ' '\n' | awk '/^\+/ { terms++; sum += $0 }
+        END { exit terms != 16 * (1000 + 429) || sum != 16 * 10 * 9999 }' || complain 'other terms, or another sum'
+}
+
+# A nurse and a scenario with names of a million bytes.
+long_names() {
+    local name
+    name=$(head -c 1000000 /dev/zero | tr '\0' n)
+    printf '%s\n' "s/Ann/$name/" > "$room/longer"
+    for file in scenario.txt history.txt; do sed -f "$room/longer" "$room/$file" > "$room/long_$file"; done
+    printf 'SOLUTION\n0 s1\n\nASSIGNMENTS = 1\n%s Mon Day Nurse\n' "$name" > "$room/long_roster"
+    run 'a long name' 0 text nothing extend --sce long_scenario.txt --his long_history.txt --week week.txt --from long_roster
+    cp "$room/out" "$room/answer"
+    run 'a long name back' 0 text nothing decode --sce long_scenario.txt --his long_history.txt --week week.txt --answer answer --sol solution
+    holds solution long_roster
+    printf '%s\n' "s/s1/$name/" > "$room/longer"
+    for file in scenario history week; do sed -f "$room/longer" "$room/$file.txt" > "$room/named_$file.txt"; done
+    run 'a long name of a scenario' 0 text nothing decode --sce named_scenario.txt --his named_history.txt --week named_week.txt --answer answer --sol solution
+    [ "$(sed -n 2p "$room/solution")" = "0 $name" ] || complain 'another name'
+}
+
+long_command_lines() {
+    local path word words
+    path=$(printf './%.0s' {1..2000})scenario.txt
+    run 'a path of 4000 bytes' 0 text nothing encode --sce "$path" --his history.txt --week week.txt
+    word=$(head -c 100000 /dev/zero | tr '\0' w)
+    run 'a path of 100000 bytes' 3 nothing read_failed encode --sce "$word" --his history.txt --week week.txt
+    run 'an output of 100000 bytes' 3 nothing write_failed encode --sce scenario.txt --his history.txt --week week.txt --opb "$word"
+    run 'an option of 100000 bytes' 2 nothing text encode "--$word"
+    mapfile -t words < <(printf 'w%d\n' {1..20000})
+    run '20000 words' 2 nothing text encode "${words[@]}"
+}
+
+great_sizes() {
+    greatest_week
+    greatest_rosters
+    most_requests
+    long_names
+    long_command_lines
+    rm -f "$room/solution"
+}
+
+for_each_program great_sizes "$@"

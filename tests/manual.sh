@@ -1,0 +1,77 @@
+#!/usr/bin/env bash
+# The manual page, the completion for bash and the built program's help name the same commands and options.
+#
+#   tests/manual.sh [PROGRAM..]
+#
+# Without a PROGRAM it takes those that `rt ci` or `make build` left in the program's crate. Needs bash and the usual
+# tools of a shell; where mandoc or man is installed, the manual page is checked by it too.
+. "$(dirname "$0")/program_runs.sh"
+# shellcheck source=docs/inrc2pb.bash
+. docs/inrc2pb.bash
+
+# The options that the lines on standard input name, in one line.
+options() { grep -oE '(^| |\[)--?[a-z]+' | grep -oE -- '--[a-z]+' | sort -u | tr '\n' ' '; }
+
+# The synopsis of one command in the manual page, as words.
+synopsis() {
+    awk -v command="$1" '
+        /^\.Sh/ { inside = $2 == "SYNOPSIS" }
+        inside && /^\.Nm/ { mine = 0 }
+        inside && $1 == ".Cm" && $2 == command { mine = 1 }
+        inside && mine { gsub(/^\.(Op )?Fl -/, "--"); print }
+    ' docs/inrc2pb.1
+}
+
+# The options that the manual page explains.
+explained() { sed -n '/^\.Sh OPTIONS/,/^\.Sh FILES/s/^\.It Fl \(. , \)\{0,1\}-/--/p' docs/inrc2pb.1; }
+
+# complete WORD..: what the completion offers for the last of these words.
+complete_words() {
+    COMP_WORDS=("$@")
+    COMP_CWORD=$(($# - 1))
+    _inrc2pb
+    printf '%s\n' "${COMPREPLY[@]}" | sort | tr '\n' ' '
+}
+
+is() {
+    what=$1
+    checked=$((checked + 1))
+    [ "$2" = "$3" ] || complain "'$2', not '$3'"
+}
+
+names_the_same() {
+    local command shown all='--version '
+    for command in encode decode extend; do
+        shown=$("$program" $command --help | grep '^ *-' | options)
+        all+=$shown
+        is "synopsis of $command" "$(synopsis $command | options)" "${shown/--help /}"
+        is "completion of $command" "$(complete_words inrc2pb $command --)" "$shown"
+    done
+    is 'options explained' "$(explained | options)" "$(tr ' ' '\n' <<< "$all" | sort -u | sed '/^$/d' | tr '\n' ' ')"
+    shown=$("$program" --help | sed -n 's/^  \([a-z]*\)  [A-Z].*/\1/p' | sort | tr '\n' ' ')
+    is 'commands completed' "$(complete_words inrc2pb '')" "--help --version $shown"
+}
+
+completes() {
+    is 'the rest of a command' "$(complete_words inrc2pb en)" 'encode '
+    is 'the rest of an option' "$(complete_words inrc2pb decode --a)" '--answer '
+    is 'an option once' "$(complete_words inrc2pb extend --sce a --his b --week c --early --)" '--fix --from --help '
+    is 'a file' "$(cd "$room" && touch week.first week.second && complete_words inrc2pb encode --sce week.)" \
+        "$(cd "$room" && echo week.* | tr ' ' '\n' | sort | tr '\n' ' ')"
+}
+
+is_manual() {
+    what='the manual page'
+    if command -v mandoc > /dev/null; then
+        # What it says of other pages depends on the machine.
+        mandoc -Tlint docs/inrc2pb.1 | grep -v ' STYLE: referenced manual not found' && complain 'mandoc complains'
+    fi
+    if command -v man > /dev/null && man --version 2> /dev/null | grep -q man-db; then
+        [ -z "$(LC_ALL=C man --warnings -l -Tascii docs/inrc2pb.1 2>&1 > /dev/null)" ] || complain 'man warns'
+    fi
+}
+
+program=''
+completes
+is_manual
+for_each_program names_the_same "$@"
