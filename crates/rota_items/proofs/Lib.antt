@@ -43,7 +43,6 @@ pub mod PatternItems
 pub mod PenaltyBound
 pub mod RisingCells
 pub mod RisingTerms
-pub mod RuleCharges
 pub mod RunItemLists
 pub mod RunLaw
 pub mod RunLengths
