@@ -103,11 +103,10 @@ module _ (history : ℕ) (limits : Span) where
 
   -- ---- how many
 
-  pub few-run_patterns : length (windows history limits ++ patterns history limits) ≤ 56
+  pub few-run_patterns : length (windows history limits) + length (patterns history limits) ≤ 56
   few-run_patterns =
       omega (
         arith,
-        length-append (windows history limits) (patterns history limits),
         length-each_below 7 1 (windows_on history limits) (λ d _. length-only_if _ _),
         length-each_below 7 7 (patterns_on history limits) few_on,
       )
@@ -120,6 +119,8 @@ module _ (history : ℕ) (limits : Span) where
             length-each_below d 1 (closed_patterns_at limits.min d) (λ k _. length-only_if _ _),
             length-only_if (nat_le 1 (history + d) && nat_lt (history + d) limits.min) (edge_pattern history limits.min d),
           )
+
+pub ruleset run_counting = (few-run_patterns, length-map, length-append)
 
 -- ---- what holds of each day of the week holds of a pattern's days
 

@@ -1,5 +1,5 @@
 -- The items of patterns of a nurse's days are sound.
-use Rattle.rota_items.proofs.LogicWords.{◌≡◌, ℕ, ◌+◌, ◌*◌, ◌<◌, ◌≤◌, List, [], ◌∷◌, ◌++◌, length, refl, arith, ℤ, pos, negsuc, ◌-ℤ◌, count_by, AllByRecursion, ints, length-map}
+use Rattle.rota_items.proofs.LogicWords.{◌≡◌, ℕ, ◌+◌, ◌*◌, ◌<◌, ◌≤◌, List, [], ◌∷◌, ◌++◌, length, refl, arith, ℤ, pos, negsuc, ◌-ℤ◌, count_by, AllByRecursion, ints, length-append, length-map}
 use Rattle.rota_items.proofs.ModelWords.{KeepsOneCell, Roster, InWeek, Week, Rule, Cell, cell_number, on_cells, work_cells, positive_part, IsWithinLimits}
 use Rattle.std.proofs.lemmas.Nat.{mul-le}
 use Rattle.rota_core.proofs.RisesWithin.{RisesWithin}
@@ -114,5 +114,6 @@ few-run_items runs =
       arith,
       length-map (windows runs.history runs.limits ++ patterns runs.history runs.limits)
           (pattern_item runs.rule runs.weight runs.property),
+      length-append (windows runs.history runs.limits) (patterns runs.history runs.limits),
       few-run_patterns runs.history runs.limits,
     )
