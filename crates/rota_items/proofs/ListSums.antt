@@ -1,15 +1,13 @@
 -- Sums and tests over lists.
-use Rattle.std.proofs.Common.{◌≡◌, ℕ, ◌+◌, ◌≤◌, Bool, true, false, cond, List, [], ◌∷◌, map, refl, sym, ap, ◌∙◌, arith, zero-add}
+use Rattle.std.proofs.Common.{◌≡◌, ℕ, ◌+◌, Bool, true, false, cond, List, [], ◌∷◌, map, refl, ap, arith, zero-add}
 use Rattle.std.specs.List.{sum_by, AllByRecursion}
+use Rattle.std.proofs.lemmas.List.Folds.{fold-map}
 use Rattle.std.proofs.lemmas.List.Sums.{sum_by-cons}
 use Rattle.rota_core.specs.Lists.{only_if}
 
 pub sum_by-map : {X Y : Type 0} (f : Y → ℕ) (g : X → Y) (xs : List X) →
     sum_by f (map g xs) ≡ sum_by (λ x. f (g x)) xs
-sum_by-map f g [] = refl
-sum_by-map f g (x ∷ xs) =
-    sum_by-cons f (g x) (map g xs) ∙ ap (λ n. f (g x) + n) (sum_by-map f g xs) ∙
-    sym (sum_by-cons (λ y. f (g y)) x xs)
+sum_by-map f g xs = fold-map (λ sum y. sum + f y) g 0 xs
 
 -- two sums whose terms are the same
 pub sum_by-same : {X : Type 0} (f g : X → ℕ) (xs : List X) →
@@ -18,15 +16,8 @@ sum_by-same f g [] same = refl
 sum_by-same f g (x ∷ xs) same =
     omega (arith, sum_by-cons f x xs, sum_by-cons g x xs, same.0, sum_by-same f g xs same.1)
 
-pub sum_by-each-le : {X : Type 0} (f g : X → ℕ) → ((x : X) → f x ≤ g x) → (xs : List X) → sum_by f xs ≤ sum_by g xs
-sum_by-each-le f g each [] = omega arith
-sum_by-each-le f g each (x ∷ xs) =
-    omega (arith, sum_by-cons f x xs, sum_by-cons g x xs, each x, sum_by-each-le f g each xs)
-
 pub sum_by-each-same : {X : Type 0} (f g : X → ℕ) → ((x : X) → f x ≡ g x) → (xs : List X) → sum_by f xs ≡ sum_by g xs
-sum_by-each-same f g each [] = refl
-sum_by-each-same f g each (x ∷ xs) =
-    omega (arith, sum_by-cons f x xs, sum_by-cons g x xs, each x, sum_by-each-same f g each xs)
+sum_by-each-same f g each xs = ap (λ h. sum_by h xs) (λ i x. each x i)
 
 pub sum_by-only_if : {X : Type 0} (f : X → ℕ) (test : Bool) (x : X) →
     sum_by f (only_if test x) ≡ cond test (f x) 0
