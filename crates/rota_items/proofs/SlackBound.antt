@@ -5,7 +5,7 @@ use Rattle.std.proofs.lemmas.List.Concat.{length-flat_map}
 use Rattle.std.proofs.lemmas.List.Sums.{sum_by-le-sum_by}
 use Rattle.std.proofs.lemmas.Nat.{mul-le}
 use Rattle.std.proofs.Math.Nat.{mul-le-mul}
-use Rattle.rota_items.proofs.HardRules.EachRule.{few-rows}
+use Rattle.rota_items.proofs.HardRules.EachRule.{rows-are}
 use Rattle.rota_items.proofs.SoftRules.EachRule.{of_sound, sound-rule, sum_by-soft_items}
 use Rattle.rota_items.proofs.SoftRules.Sound.{IsItemSound, most_items, most_slacks}
 use Rattle.rota_items.specs.Cells.{cell_count}
@@ -75,7 +75,7 @@ module _ (week : Week) (limits : IsWithinLimits week) where
       omega (
         arith,
         length-append (hard_rows week) (item_rows (first_slack week) (numbered_items week)),
-        few-rows week limits.nurses limits.shifts limits.skills,
+        (rows-are week).few limits,
         length-map (rule_rows week) (numbered_row week),
         length-item_rows (first_slack week) (numbered_items week),
         length-map (soft_items week) (numbered (cell_number week)),
