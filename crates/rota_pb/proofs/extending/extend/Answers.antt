@@ -1,0 +1,15 @@
+use Rattle.std.proofs.Common.{refl}
+use Rattle.rota_pb.proofs.extending.extend.Goals as goal
+
+pub returns-in-Some : goal.returns-in-Some
+returns-in-Some g c = (rw (c.of_roster.ensures, c.in-Some.is) at c.verdict_of-verdict.ensures.model, refl)
+
+pub returns-in-Ok : goal.returns-in-Ok
+returns-in-Ok g c =
+    let extends = rw (c.of_roster.ensures, c.in_default.is) at c.verdict_of-verdict.ensures.model in
+    (extends.keeps, rw extends.objective at c.in-Ok.ensures)
+
+pub returns-in-Err : goal.returns-in-Err
+returns-in-Err g c =
+    let extends = rw (c.of_roster.ensures, c.in_default.is) at c.verdict_of-verdict.ensures.model in
+    (extends.keeps, rw extends.objective at c.in-Err.ensures)
