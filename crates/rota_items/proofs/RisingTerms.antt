@@ -1,6 +1,7 @@
 -- The terms of the model stand by rising variable number.
-use Rattle.rota_items.proofs.LogicWords.{◌≡◌, ℕ, zero, suc, ◌+◌, List, [], ◌∷◌, ◌++◌, subst, arith, ℤ, pos, nat_lt, All, AllByRecursion, range_with_len, All-from_recursion}
-use Rattle.rota_items.proofs.ModelWords.{Week, unit_number, first_slack, constant_terms, cell_terms, constant, Item, Term, Constraint, times, linear_constraint, slack_weights, numbered_terms, objective_terms, numbered_items, model_of}
+use Rattle.rota_items.proofs.LogicWords.{◌≡◌, ℕ, zero, suc, ◌+◌, List, [], ◌∷◌, ◌++◌, subst, arith, ℤ, pos, nat_lt, All, AllByRecursion, range_with_len, All-from_recursion, sum_by-cons}
+use Rattle.rota_items.proofs.ModelWords.{Week, unit_number, first_slack, constant_terms, cell_terms, constant, Item, Term, Constraint, times, linear_constraint, slack_count, slack_weights, soft_items, cell_number, numbered_terms, objective_terms, numbered_items, model_of}
+use Rattle.rota_items.proofs.ItemEventLists.{slack_count-numbered}
 use Rattle.rota_items.proofs.ListAll.{all-weaker}
 use Rattle.rota_items.proofs.ModelRows.{each-constraint, each-model_row}
 use Rattle.rota_core.proofs.RisesWithin.{RisesWithin, widen, rises-append, rises-only_if}
@@ -58,26 +59,28 @@ module _ (week : Week) where
 
   -- ---- the objective
 
-  from_append : (first middle : ℕ) (xs ys : List (Term ℕ)) → RisesWithin variable_of first middle xs → RisesFrom middle ys →
-      RisesFrom first (xs ++ ys)
-  from_append first middle [] [] rises after = tt
-  from_append first middle [] (y ∷ ys) rises after = (omega (arith, rises, after.0), after.1)
-  from_append first middle (x ∷ xs) ys rises after = (rises.0, from_append (variable_of x + 1) middle xs ys rises.1 after)
-
-  rises-slack_weights : (first : ℕ) (some : List (Item ℕ)) → RisesFrom first (slack_weights first some)
-  rises-slack_weights first [] = tt
+  rises-slack_weights : (first : ℕ) (some : List (Item ℕ)) →
+      RisesWithin variable_of first (first + slack_count some) (slack_weights first some)
+  rises-slack_weights first [] = omega arith
   rises-slack_weights first (item ∷ rest) =
-      from_append first (first + item.slacks) (times (pos item.weight) (range_with_len first item.slacks))
+      let end : first + item.slacks + slack_count rest ≡ first + slack_count (item ∷ rest) =
+      omega (arith, sum_by-cons (λ (one : Item ℕ). one.slacks) item rest) in
+      rw (← end)
+      (rises-append variable_of first (first + item.slacks) _ (times (pos item.weight) (range_with_len first item.slacks))
       (slack_weights (first + item.slacks) rest) (rises-range first item.slacks (pos item.weight))
-      (rises-slack_weights (first + item.slacks) rest)
+      (rises-slack_weights (first + item.slacks) rest))
 
-  pub rises-objective : RisesFrom 1 (objective_terms week)
-  rises-objective =
-      from_append 1 (unit_number week) (numbered_terms week (cell_terms week))
-      (constant_terms week ++ slack_weights (first_slack week) (numbered_items week))
+  pub objective-to_last : RisesWithin variable_of 1 ((model_of week).variables + 1) (objective_terms week)
+  objective-to_last =
+      let slacks = slack_weights (first_slack week) (numbered_items week) in
+      let end : first_slack week + slack_count (numbered_items week) ≡ (model_of week).variables + 1 =
+      omega (arith, slack_count-numbered (cell_number week) (soft_items week)) in
+      rises-append variable_of 1 (unit_number week) _ (numbered_terms week (cell_terms week)) (constant_terms week ++ slacks)
       (rises-numbered week 1 (unit_number week) (cell_terms week) (rise-cell_terms week))
-      (from_append (unit_number week) (first_slack week) (constant_terms week)
-      (slack_weights (first_slack week) (numbered_items week))
+      (rises-append variable_of (unit_number week) (first_slack week) _ (constant_terms week) slacks
       (rises-only_if variable_of (unit_number week) (first_slack week) (nat_lt 0 (constant week))
       (pos (constant week), unit_number week) (omega arith) (omega arith))
-      (rises-slack_weights (first_slack week) (numbered_items week)))
+      (rw end at (rises-slack_weights (first_slack week) (numbered_items week))))
+
+  pub rises-objective : RisesFrom 1 (objective_terms week)
+  rises-objective = from_within 1 ((model_of week).variables + 1) (objective_terms week) objective-to_last
