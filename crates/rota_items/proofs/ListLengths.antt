@@ -60,17 +60,6 @@ length-each-is (suc n) long f each =
       each n (omega arith),
     )
 
--- ---- windows and patterns
-
-pub closed-le : (n : ℕ) → n ≤ 5 → n * (11 - n) / 2 ≤ 15
-closed-le zero small = lit≤ tt
-closed-le (suc zero) small = lit≤ tt
-closed-le (suc (suc zero)) small = lit≤ tt
-closed-le (suc (suc (suc zero))) small = lit≤ tt
-closed-le (suc (suc (suc (suc zero)))) small = lit≤ tt
-closed-le (suc (suc (suc (suc (suc zero))))) small = lit≤ tt
-closed-le (suc (suc (suc (suc (suc (suc n)))))) small = absurd (omega arith)
-
 -- what each turn of a loop adds in two parts
 pub length-each_below_both : {A : Type 0} (n : ℕ) (f g : ℕ → List A) →
     length (each_below n (λ i. f i ++ g i)) ≡ length (each_below n f) + length (each_below n g)
