@@ -1,5 +1,5 @@
 -- Sums and tests over the numbers below a number.
-use Rattle.std.proofs.Common.{◌≡◌, ℕ, zero, suc, ◌+◌, ◌*◌, ◌<◌, ◌≤◌, Bool, ◌||◌, true, false, cond, inl, inr, List, [], ◌∷◌, refl, ap, ◌∙◌, arith, zero-add}
+use Rattle.std.proofs.Common.{◌≡◌, ℕ, zero, suc, ◌+◌, ◌*◌, ◌<◌, ◌≤◌, Bool, true, false, cond, inl, inr, List, [], ◌∷◌, refl, ap, ◌∙◌, arith, zero-add}
 use Rattle.std.specs.List.{sum_by, count_by, list_any}
 use Rattle.std.proofs.lemmas.List.Sums.{sum_by-append}
 use Rattle.std.proofs.lemmas.List.Folds.{list_any-append}
@@ -7,7 +7,6 @@ use Rattle.std.proofs.lemmas.Bool.{cases_lt}
 use Rattle.std.proofs.lemmas.Nat.{mul-le}
 use Rattle.rota_core.specs.Below.{sum_below, count_below, any_below}
 use Rattle.rota_core.specs.Lists.{each_below}
-use Rattle.rota_core.proofs.Loops.{last_or_before}
 
 pub sum_below-same : (n : ℕ) (f g : ℕ → ℕ) → ((i : ℕ) → i < n → f i ≡ g i) → sum_below n f ≡ sum_below n g
 unfolding sum_below
@@ -62,12 +61,7 @@ sum_below-one zero f small same = omega arith
 sum_below-one (suc n) f small same =
     elim (cases_lt 0 (f n)) [
       | inl here ↦
-          let none : (i : ℕ) → i < n → f i ≤ 0 = λ i below.
-          elim (cases_lt 0 (f i)) [
-            | inl some ↦ absurd (omega (arith, same i n (omega arith) (omega arith) some here))
-            | inr none ↦ none
-          ] in
-          omega (arith, small n (omega arith), sum_below-within n 0 f none)
+          omega (arith, small n (omega arith), sum_below-within n 0 f (λ i below. grind (arith, same i n)))
       | inr none ↦
           omega (arith, sum_below-one n f (λ i below. small i (omega arith)) (λ i j i_in j_in. same i j (omega arith) (omega arith)))
     ]
