@@ -36,9 +36,9 @@ slack_terms-are coefficient first (suc n) =
     map-range_with_len_more {X = Term ℕ} (λ v. (coefficient, v)) first n (first + n) refl ∙
     ap (λ xs. xs ++ slack_term coefficient first n) (slack_terms-are coefficient first n)
 
-pub range-more : (coefficient : ℤ) (first n : ℕ) →
+pub range_terms-more : (coefficient : ℤ) (first n : ℕ) →
     times coefficient (range_with_len first (n + 1)) ≡ times coefficient (range_with_len first n) ++ (coefficient, first + n) ∷ []
-range-more coefficient first n = map-range_with_len_more {X = Term ℕ} (λ v. (coefficient, v)) first n (first + n) refl
+range_terms-more coefficient first n = map-range_with_len_more {X = Term ℕ} (λ v. (coefficient, v)) first n (first + n) refl
 
 pub number-events : (coefficient : ℤ) (variable : ℕ) → term_events ((coefficient, variable) ∷ []) ≡ term coefficient variable ∷ []
 unfolding term_events
@@ -49,7 +49,7 @@ unfolding term_events
 no-events = refl
 
 -- what a loop over variables that follow one another needs
-pub ruleset ranges = (range-more, term_events-append, number-events, no-events, fold-append, to_z-of_z)
+pub ruleset ranges = (range_terms-more, term_events-append, number-events, no-events, fold-append, to_z-of_z)
 
 module _ {S F : Type 0} (T : Ghosts S F) where
   pub range_refused : (coefficient : ℤ) (first i n : ℕ) (s t u : S) → i < n →

@@ -1,5 +1,5 @@
 -- How a walk over items goes on, item by item and loop by loop.
-use Rattle.std.proofs.Common.{◌≡◌, ℕ, suc, ◌+◌, ◌^◌, ◌<◌, Bool, true, false, List, [], ◌∷◌, ◌++◌, get_or, take, length, Result, if◌then◌else◌, arith}
+use Rattle.std.proofs.Common.{◌≡◌, ℕ, suc, ◌+◌, ◌^◌, ◌<◌, List, [], ◌∷◌, ◌++◌, get_or, take, length, Result, arith}
 use Rattle.std.proofs.lemmas.List.Sums.{fold-append}
 use Rattle.std.proofs.lemmas.Result.{MatchResult-from_err, MatchResult-weaker}
 use Rattle.std.specs.List.{flat_map}
@@ -27,10 +27,6 @@ fits_before first xs ys fit = omega (arith, slack_count-append xs ys)
 
 pub fits_one : (first : ℕ) (item : Item Cell) → SlacksFit first (item ∷ []) → first + item.slacks < 2 ^ 32
 fits_one first item fit = omega (arith, slack_count-cons item [])
-
-pub fits_if : (first : ℕ) (test : Bool) (items : List (Item Cell)) → test ≡ true →
-    SlacksFit first (if test then items else []) → SlacksFit first items
-fits_if first test items holds fit = rw holds at fit
 
 module _ {S F : Type 0} (T : Ghosts S F) where
   -- the exit of a `?`
@@ -108,16 +104,6 @@ module _ {S F : Type 0} (T : Ghosts S F) where
       taken = taken;
       follows = omega (arith, next, slack_count-cons item []);
     }
-
-    -- ---- items, where a test holds
-
-    pub walks_if : (first : ℕ) (test : Bool) (items : List (Item Cell)) (s t : S) (r : Result ℕ F) → test ≡ true →
-        Walks T part week first items s t r → Walks T part week first (if test then items else []) s t r
-    walks_if first test items s t r holds walks = rw holds walks
-
-    pub walked_if_not : (first : ℕ) (test : Bool) (items : List (Item Cell)) (s : S) → test ≡ false →
-        Walked T part week first (if test then items else []) s s first
-    walked_if_not first test items s fails = rw fails (walk_none first s)
 
     -- ---- a loop over a list
 
