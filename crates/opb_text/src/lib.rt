@@ -39,7 +39,3 @@ mod text_laws;
 pub use opb_taker::OpbTaker;
 pub use sink::{Piece, Sink};
 pub use text_laws::{each_text_spells_one_model, events_spell_their_model};
-
-// Rows of tiny models, put event by event, and targets that fail.
-#[cfg(test)]
-mod tests;

@@ -16,6 +16,9 @@ mod examples;
 // Ports over memory.
 #[cfg(test)]
 mod memory_ports;
+// Rows of tiny models, put event by event, and targets that fail.
+#[cfg(test)]
+mod model_texts;
 // The judge beside the plain programs, on rosters made at random.
 #[cfg(test)]
 mod random_rosters;

@@ -1,102 +1,91 @@
 -- The list of a roster's cells: they rise, they are those of the roster, and at most one stands for each nurse and day.
-use Rattle.std.proofs.Common.{◌≡◌, ℕ, ◌+◌, ◌*◌, ◌<◌, ◌≤◌, List, [], ◌∷◌, length, refl, sym, ap, ◌∙◌, arith}
+use Rattle.std.proofs.Common.{◌≢◌, ℕ, ◌+◌, ◌*◌, ◌<◌, ◌≤◌, List, [], ◌∷◌, length, sym, ap, subst, inl, inr, arith}
 use Rattle.std.specs.List.{AllByRecursion}
+use Rattle.std.proofs.lemmas.Bool.{cases_lt}
+use Rattle.std.proofs.lemmas.Nat.{mul-add-lt, same_from_place}
 use Rattle.rota_core.specs.declared.values.Cell.{Cell}
 use Rattle.rota_core.specs.Lists.{only_if}
-use Rattle.rota_core.specs.Roster.{Roster, Has, cell}
-use Rattle.rota_core.specs.RosterCells.{cells_of, cells_of_day, cells_of_nurse, cells_on_shift}
+use Rattle.rota_core.specs.Roster.{Roster, Has}
+use Rattle.rota_core.specs.RosterCells.{cells_of}
 use Rattle.rota_core.specs.HardRules.{KeepsOneCell}
-use Rattle.rota_core.specs.RosterTables.{cell_place}
+use Rattle.rota_core.specs.RosterTables.{cell_at, cell_place, place_count}
 use Rattle.rota_core.specs.Week.{Week}
-use Rattle.rota_core.proofs.Loops.{AllByRecursion-each_below, AllByRecursion-at, AllByRecursion-only_if, holds-where, length-each_below}
-use Rattle.rota_core.proofs.RisesWithin.{RisesWithin, weaken, widen, rises-each, rises-only_if}
+use Rattle.rota_core.proofs.CellPlaces.{cell_at-in, cell_at-place, place-cell_at}
+use Rattle.rota_core.proofs.CellsByPlace.{cell_if_in, cells_of-by_place}
+use Rattle.rota_core.proofs.Loops.{AllByRecursion-each_below, AllByRecursion-at, AllByRecursion-only_if, holds-where}
+use Rattle.rota_core.proofs.RisesWithin.{RisesWithin, rises-each, rises-only_if}
+use Rattle.rota_core.proofs.RosterLemmas.{cell_place-lt}
 
 module _ (week : Week) (roster : Roster) where
   abbrev place : Cell → ℕ
   place = cell_place week.shifts week.skills
 
-  -- ---- they rise
+  abbrev at : ℕ → Cell
+  at = cell_at week.shifts week.skills
 
-  abbrev shift_start : ℕ → ℕ → ℕ → ℕ
-  shift_start n d s = ((n * 7 + d) * week.shifts + s) * week.skills
+  abbrev count : ℕ
+  count = place_count week.nurses week.shifts week.skills
 
-  abbrev day_start : ℕ → ℕ → ℕ
-  day_start n d = (n * 7 + d) * week.shifts * week.skills
+  abbrev turn : ℕ → List Cell
+  turn = cell_if_in week.shifts week.skills roster
 
-  rises-on_shift : (n d s : ℕ) → RisesWithin place (shift_start n d s) (shift_start n d (s + 1)) (cells_on_shift week roster n d s)
-  rises-on_shift n d s =
-      weaken place (shift_start n d s) (shift_start n d s + 0) (shift_start n d (s + 1)) (cells_on_shift week roster n d s) (omega arith)
-      (widen place (shift_start n d s + 0) (shift_start n d s + week.skills) (shift_start n d (s + 1)) (cells_on_shift week roster n d s)
-      (omega arith)
-      (rises-each place week.skills (λ k. only_if (roster (cell n d s k)) (cell n d s k)) (λ k. shift_start n d s + k)
-      (λ k k_in. rises-only_if place (shift_start n d s + k) (shift_start n d s + (k + 1)) (roster (cell n d s k)) (cell n d s k)
-      (omega arith) (omega arith))))
-
-  rises-on_day : (n d : ℕ) → RisesWithin place (day_start n d) (day_start n (d + 1)) (cells_of_day week roster n d)
-  rises-on_day n d =
-      weaken place (day_start n d) (shift_start n d 0) (day_start n (d + 1)) (cells_of_day week roster n d) (omega arith)
-      (widen place (shift_start n d 0) (shift_start n d week.shifts) (day_start n (d + 1)) (cells_of_day week roster n d) (omega arith)
-      (rises-each place week.shifts (cells_on_shift week roster n d) (shift_start n d) (λ s s_in. rises-on_shift n d s)))
-
-  rises-of_nurse : (n : ℕ) → RisesWithin place (day_start n 0) (day_start (n + 1) 0) (cells_of_nurse week roster n)
-  rises-of_nurse n =
-      widen place (day_start n 0) (day_start n 7) (day_start (n + 1) 0) (cells_of_nurse week roster n) (omega arith)
-      (rises-each place 7 (cells_of_day week roster n) (day_start n) (λ d d_in. rises-on_day n d))
-
-  pub rises-cells_of : RisesWithin place (day_start 0 0) (day_start week.nurses 0) (cells_of week roster)
-  unfolding cells_of
-  rises-cells_of = rises-each place week.nurses (cells_of_nurse week roster) (λ n. day_start n 0) (λ n n_in. rises-of_nurse n)
-
-  -- ---- they are those of the roster
-
-  all-on_day : (P : Cell → Type 0) (n d : ℕ) → n < week.nurses → d < 7 →
-      ((one : Cell) → Has week roster one → one.nurse ≡ n → one.day ≡ d → P one) → AllByRecursion P (cells_of_day week roster n d)
-  all-on_day P n d n_in d_in holds =
-      AllByRecursion-each_below P week.shifts (cells_on_shift week roster n d) (λ s s_in.
-      AllByRecursion-each_below P week.skills (λ k. only_if (roster (cell n d s k)) (cell n d s k)) (λ k k_in.
-      AllByRecursion-only_if P (roster (cell n d s k)) (cell n d s k) (λ there.
-      holds (cell n d s k)
-      (record { in_week = record { nurse_in = n_in; day_in = d_in; shift_in = s_in; skill_in = k_in }; in_roster = there })
-      refl refl)))
+  pub rises-cells_of : RisesWithin place 0 count (cells_of week roster)
+  rises-cells_of =
+      subst (RisesWithin place 0 count) (cells_of-by_place week roster)
+      (rises-each place count turn (λ p. p) (λ p p_in.
+      let same = place-cell_at week.shifts week.skills p in
+      rises-only_if place p (p + 1) (roster (at p)) (at p) (omega (arith, same)) (omega (arith, same))))
 
   pub all-cells_of : (P : Cell → Type 0) → ((one : Cell) → Has week roster one → P one) → AllByRecursion P (cells_of week roster)
-  unfolding cells_of
   all-cells_of P holds =
-      AllByRecursion-each_below P week.nurses (cells_of_nurse week roster) (λ n n_in.
-      AllByRecursion-each_below P 7 (cells_of_day week roster n) (λ d d_in.
-      all-on_day P n d n_in d_in (λ one has _ _. holds one has)))
+      subst (AllByRecursion P) (cells_of-by_place week roster)
+      (AllByRecursion-each_below P count turn (λ p p_in.
+      AllByRecursion-only_if P (roster (at p)) (at p) (λ there.
+      holds (at p) (record { in_week = cell_at-in week p p_in; in_roster = there }))))
 
   pub at-cells_of : (P : Cell → Type 0) → AllByRecursion P (cells_of week roster) → (one : Cell) → Has week roster one → P one
-  unfolding cells_of
   at-cells_of P all one has =
-      let in_week = has.in_week in
-      let of_nurse = AllByRecursion-at P week.nurses (cells_of_nurse week roster) all one.nurse in_week.nurse_in in
-      let on_day = AllByRecursion-at P 7 (cells_of_day week roster one.nurse) of_nurse one.day in_week.day_in in
-      let on_shift = AllByRecursion-at P week.shifts (cells_on_shift week roster one.nurse one.day) on_day one.shift in_week.shift_in in
-      let here =
-      AllByRecursion-at P week.skills
-      (λ k. only_if (roster (cell one.nurse one.day one.shift k)) (cell one.nurse one.day one.shift k)) on_shift one.skill in_week.skill_in in
-      holds-where P (roster one) one here has.in_roster
+      let inside = has.in_week in
+      let p_in = cell_place-lt week.nurses week.shifts week.skills one inside.nurse_in inside.day_in inside.shift_in inside.skill_in in
+      let same = cell_at-place week.shifts week.skills one.nurse one.day one.shift one.skill inside.day_in inside.shift_in inside.skill_in in
+      holds-where P (roster one) one
+      (subst (λ other. AllByRecursion P (only_if (roster other) other)) same
+      (AllByRecursion-at P count turn (subst (AllByRecursion P) (sym (cells_of-by_place week roster)) all) (place one) p_in))
+      has.in_roster
 
   -- ---- at most one for each nurse and day
 
-  module _ (one_cell : KeepsOneCell week roster) (n d : ℕ) where
-    abbrev OnDay : Cell → Type 0
-    OnDay one = Has week roster one × (one.nurse ≡ n) × (one.day ≡ d)
+  module _ (one_cell : KeepsOneCell week roster) where
+    -- the number of a cell's day, over all nurses
+    abbrev day : Cell → ℕ
+    day one = one.nurse * 7 + one.day
 
-    at_most_one : (first end : ℕ) (cells : List Cell) → RisesWithin place first end cells → AllByRecursion OnDay cells → length cells ≤ 1
-    at_most_one first end [] rises all = omega arith
-    at_most_one first end (one ∷ []) rises all = omega arith
-    at_most_one first end (one ∷ other ∷ cells) rises all =
-        let this = all.0 in
-        let next = all.1.0 in
-        let same : one ≡ other = one_cell one other this.0 next.0 (this.1 ∙ sym next.1) (this.2 ∙ sym next.2) in
-        absurd (omega (arith, rises.1.0, ap place same))
+    day-later : (one other : Cell) → Has week roster one → Has week roster other → place one < place other → day one < day other
+    day-later one other has next before =
+        elim (cases_lt (day other) (day one)) [
+          | inl after ↦
+              let row = mul-add-lt (day other) week.shifts other.shift (day one) after next.in_week.shift_in in
+              absurd (omega (
+                arith,
+                mul-add-lt (day other * week.shifts + other.shift) week.skills other.skill (week.shifts * day one) row next.in_week.skill_in,
+              ))
+          | inr not_after ↦
+              let apart : day one ≢ day other = λ same.
+              let parts = same_from_place one.nurse one.day other.nurse other.day 7 has.in_week.day_in next.in_week.day_in same in
+              absurd (omega (arith, ap place (one_cell one other has next parts.0 parts.1))) in
+              omega arith
+        ]
 
-  pub length-cells_of : KeepsOneCell week roster → length (cells_of week roster) ≤ week.nurses * (7 * 1)
-  unfolding cells_of
-  length-cells_of one_cell =
-      length-each_below week.nurses (7 * 1) (cells_of_nurse week roster) (λ n n_in.
-      length-each_below 7 1 (cells_of_day week roster n) (λ d d_in.
-      at_most_one one_cell n d (day_start n d) (day_start n (d + 1)) (cells_of_day week roster n d) (rises-on_day n d)
-      (all-on_day (OnDay one_cell n d) n d n_in d_in (λ one has nurse day. (has, nurse, day)))))
+    length-later : (one : Cell) (cells : List Cell) (end : ℕ) → Has week roster one → AllByRecursion (Has week roster) cells →
+        RisesWithin place (place one + 1) end cells → day one + length (one ∷ cells) ≤ week.nurses * 7
+    length-later one [] end has all rises = omega (arith, has.in_week.nurse_in, has.in_week.day_in)
+    length-later one (other ∷ cells) end has all rises =
+        omega (arith, day-later one other has all.0 (omega (arith, rises.0)), length-later other cells end all.0 all.1 rises.1)
+
+    at_most_days : (cells : List Cell) (end : ℕ) → AllByRecursion (Has week roster) cells → RisesWithin place 0 end cells →
+        length cells ≤ week.nurses * 7
+    at_most_days [] end all rises = omega arith
+    at_most_days (one ∷ cells) end all rises = omega (arith, length-later one cells end all.0 all.1 rises.1)
+
+    pub length-cells_of : length (cells_of week roster) ≤ week.nurses * 7
+    length-cells_of = at_most_days (cells_of week roster) count (all-cells_of (Has week roster) (λ _ has. has)) rises-cells_of

@@ -2,8 +2,9 @@
 use Rattle.std.proofs.Common.{◌≡◌, ℕ, ◌+◌, ◌*◌, ◌/◌, ◌%◌, ◌<◌, zero, suc, ap, ◌∙◌, arith}
 use Rattle.std.proofs.lemmas.Nat.{div-mul-add, mod-mul-add, div-add-mod'}
 use Rattle.std.proofs.Math.Nat.{div-lt_iff_lt-mul, mod-lt}
-use Rattle.rota_core.specs.Roster.{cell}
+use Rattle.rota_core.specs.Roster.{InWeek, cell}
 use Rattle.rota_core.specs.RosterTables.{cell_at, cell_place, place_count}
+use Rattle.rota_core.specs.Week.{Week}
 
 -- at the place of a cell there is that cell
 pub cell_at-place : (shifts skills n d s k : ℕ) → d < 7 → s < shifts → k < skills
@@ -30,24 +31,21 @@ row-below p a w below = (div-lt_iff_lt-mul (some_rows p a w below)).1 below
 column-below : (p a w : ℕ) → p < a * w → p % w < w
 column-below p a w below = mod-lt p (some_rows p a w below)
 
-module _ (nurses shifts skills place : ℕ) (below : place < place_count nurses shifts skills) where
-  shift_row : place / skills < 7 * nurses * shifts
-  shift_row = row-below place (7 * nurses * shifts) skills below
+-- the cell at a place of the week lies within the week
+module _ (week : Week) (place : ℕ) (below : place < place_count week.nurses week.shifts week.skills) where
+  shift_row : place / week.skills < 7 * week.nurses * week.shifts
+  shift_row = row-below place (7 * week.nurses * week.shifts) week.skills below
 
-  day_row : place / skills / shifts < nurses * 7
-  day_row = let row = row-below (place / skills) (7 * nurses) shifts shift_row in omega (arith, row)
+  day_row : place / week.skills / week.shifts < week.nurses * 7
+  day_row = omega (arith, row-below (place / week.skills) (7 * week.nurses) week.shifts shift_row)
 
-  pub cell_at-nurse : (cell_at shifts skills place).nurse < nurses
-  cell_at-nurse = row-below (place / skills / shifts) nurses 7 day_row
-
-  pub cell_at-day : (cell_at shifts skills place).day < 7
-  cell_at-day = column-below (place / skills / shifts) nurses 7 day_row
-
-  pub cell_at-shift : (cell_at shifts skills place).shift < shifts
-  cell_at-shift = column-below (place / skills) (7 * nurses) shifts shift_row
-
-  pub cell_at-skill : (cell_at shifts skills place).skill < skills
-  cell_at-skill = column-below place (7 * nurses * shifts) skills below
+  pub cell_at-in : InWeek week (cell_at week.shifts week.skills place)
+  cell_at-in = record {
+    nurse_in = row-below (place / week.skills / week.shifts) week.nurses 7 day_row;
+    day_in = column-below (place / week.skills / week.shifts) week.nurses 7 day_row;
+    shift_in = column-below (place / week.skills) (7 * week.nurses) week.shifts shift_row;
+    skill_in = column-below place (7 * week.nurses * week.shifts) week.skills below;
+  }
 
 -- the cell at a place has that place
 pub place-cell_at : (shifts skills place : ℕ) → cell_place shifts skills (cell_at shifts skills place) ≡ place

@@ -4,7 +4,6 @@ use Rattle.std.specs.List.{AllByRecursion}
 use Rattle.std.proofs.Math.Nat.{suc-mul}
 use Rattle.std.proofs.lemmas.List.{append-nil, append_assoc, length-append}
 use Rattle.std.proofs.lemmas.Bool.{true≢false}
-use Rattle.rota_core.specs.Below.{sum_below}
 use Rattle.rota_core.specs.Lists.{each_below, only_if}
 
 pub each_below-zero : {A : Type 0} (f : ℕ → List A) → each_below 0 f ≡ []
@@ -24,11 +23,6 @@ pub only_if-fails : {A : Type 0} (test : Bool) (x : A) → test ≡ false → on
 unfolding only_if
 only_if-fails true x e = cc
 only_if-fails false x e = refl
-
-pub each_below-front : {A : Type 0} (n : ℕ) (f : ℕ → List A) → each_below (suc n) f ≡ f 0 ++ each_below n (λ i. f (suc i))
-unfolding each_below
-each_below-front zero f = sym (append-nil (f 0))
-each_below-front {A} (suc n) f = ap (λ (xs : List A). xs ++ f (suc n)) (each_below-front n f) ∙ append_assoc (f 0) (each_below n (λ i. f (suc i))) (f (suc n))
 
 each_below-join : {A : Type 0} (m n : ℕ) (f : ℕ → List A) → each_below (m + n) f ≡ each_below m f ++ each_below n (λ j. f (m + j))
 unfolding each_below
@@ -64,11 +58,6 @@ pub last_or_before : (i n : ℕ) → i < suc n → (i ≡ n) ⊎ (i < n)
 last_or_before i n below = grind arith
 
 -- ---- how long
-
-pub length-each : {A : Type 0} (n : ℕ) (f : ℕ → List A) → length (each_below n f) ≡ sum_below n (λ i. length (f i))
-unfolding each_below sum_below
-length-each zero f = refl
-length-each (suc n) f = omega (arith, length-append (each_below n f) (f n), length-each n f)
 
 pub length-each_below : {A : Type 0} (n most : ℕ) (f : ℕ → List A) → ((i : ℕ) → i < n → length (f i) ≤ most) →
     length (each_below n f) ≤ n * most

@@ -1,10 +1,10 @@
 -- A numeral is digits only, which tell its number. It is a word, and what the standard library writes.
-use Rattle.std.proofs.Common.{◌≡◌, ℕ, zero, suc, ◌+◌, ◌*◌, ◌/◌, ◌%◌, ◌^◌, ◌<◌, ◌≤◌, ℤ, pos, negsuc, true, List, [], ◌∷◌, ◌++◌, length, length-append, inl, inr, refl, sym, ap, ◌∙◌, arith, rules}
+use Rattle.std.proofs.Common.{◌≡◌, ℕ, zero, suc, ◌+◌, ◌/◌, ◌%◌, ◌^◌, ◌<◌, ◌≤◌, ℤ, pos, negsuc, Bool, true, List, [], ◌∷◌, ◌++◌, length, length-append, inl, inr, refl, sym, ap, ◌∙◌, arith, rules}
 use Rattle.std.specs.Char.{is_ascii_digit}
 use Rattle.std.specs.Fmt.{decimal as std_decimal, signed_decimal}
 use Rattle.std.specs.List.{list_all}
 use lib.Signed.{mag}
-use Rattle.std.proofs.lemmas.Bool.{cases_lt, and_parts, and_from, le-leb}
+use Rattle.std.proofs.lemmas.Bool.{cases_lt, le-leb}
 use Rattle.std.proofs.lemmas.Bool.Decides.{nat_tests}
 use Rattle.std.proofs.lemmas.Fmt.{AppendsLastDigit, decimal_from_appends_wide, length-decimal-le_wide}
 use Rattle.std.proofs.lemmas.List.Sums.{fold-append}
@@ -38,22 +38,20 @@ pub digits-numeral : (n : ℕ) → AreDigits (numeral n)
 unfolding numeral
 digits-numeral n = digits-within (suc n) n
 
-digit-decimal : (b : ℕ) → 48 ≤ b → b < 58 → is_ascii_digit b ≡ true
-digit-decimal b low high = rw (le-leb 48 b low, le-leb b 57 (omega arith)) refl
-
-digits-decimal : (digits : List ℕ) → AreDigits digits → is_decimal digits ≡ true
-digits-decimal [] these = refl
-digits-decimal (b ∷ digits) these = rw (digit-decimal b these.0 these.1) (digits-decimal digits these.2)
+digits-all : (test : ℕ → Bool) → ((b : ℕ) → 48 ≤ b → b < 58 → test b ≡ true) → (digits : List ℕ) → AreDigits digits →
+    list_all test digits ≡ true
+digits-all test each [] these = refl
+digits-all test each (b ∷ digits) these = rw (each b these.0 these.1) (digits-all test each digits these.2)
 
 pub is_decimal-numeral : (n : ℕ) → is_decimal (numeral n) ≡ true
-is_decimal-numeral n = digits-decimal (numeral n) (digits-numeral n)
+is_decimal-numeral n =
+    digits-all is_ascii_digit (λ b low high. rw (le-leb 48 b low, le-leb b 57 (omega arith)) refl) (numeral n) (digits-numeral n)
 
 some_digit : (k n : ℕ) → 0 < length (numeral_within (suc k) n)
 some_digit k n =
     elim (cases_lt n 10) [
       | inl small ↦ rw (numeral_steps.one k n small) (omega arith)
-      | inr large ↦
-          rw (numeral_steps.more k n large, length-append (numeral_within k (n / 10)) ((48 + n % 10) ∷ [])) (omega arith)
+      | inr large ↦ rw (numeral_steps.more k n large, length-append) (omega arith)
     ]
 
 pub numeral-has_digits : (n : ℕ) → 0 < length (numeral n)
@@ -62,17 +60,14 @@ numeral-has_digits n = some_digit n n
 
 -- ---- their number
 
-last_digit : (digits : List ℕ) (d : ℕ) → decimal (digits ++ (48 + d) ∷ []) ≡ 10 * decimal digits + d
-last_digit digits d = fold-append with_digit 0 digits ((48 + d) ∷ []) ∙ omega arith
-
 decimal-within : (k n : ℕ) → n < k → decimal (numeral_within k n) ≡ n
 decimal-within zero n below = absurd (omega arith)
 decimal-within (suc k) n below =
     elim (cases_lt n 10) [
       | inl small ↦ rw (numeral_steps.one k n small) (omega arith)
       | inr large ↦
-          let front : decimal (numeral_within k (n / 10)) ≡ n / 10 = decimal-within k (n / 10) (omega arith) in
-          rw (numeral_steps.more k n large) (last_digit (numeral_within k (n / 10)) (n % 10) ∙ omega (arith, front))
+          rw (numeral_steps.more k n large, fold-append with_digit 0 (numeral_within k (n / 10)) ((48 + n % 10) ∷ []))
+          (omega (arith, decimal-within k (n / 10) (omega arith)))
     ]
 
 -- the digits of a numeral spell its number
@@ -85,23 +80,17 @@ numeral_injective m n same = sym (decimal-numeral m) ∙ ap decimal same ∙ dec
 
 -- ---- as a word
 
-digit_is_word_byte : (b : ℕ) → is_ascii_digit b ≡ true → is_word_byte b ≡ true
-digit_is_word_byte b digit = grind (arith, nat_tests)
-
-digits_are_word_bytes : (digits : List ℕ) → is_decimal digits ≡ true → list_all is_word_byte digits ≡ true
-digits_are_word_bytes [] all = refl
-digits_are_word_bytes (b ∷ bs) all =
-    let parts = and_parts (is_ascii_digit b) (list_all is_ascii_digit bs) all in
-    and_from (is_word_byte b) (list_all is_word_byte bs) (digit_is_word_byte b parts.0) (digits_are_word_bytes bs parts.1)
+is_word_byte-digit : (b : ℕ) → 48 ≤ b → b < 58 → is_word_byte b ≡ true
+is_word_byte-digit b low high = grind (arith, nat_tests)
 
 pub IsWord-numeral : (n : ℕ) → IsWord (numeral n)
-IsWord-numeral n = (numeral-has_digits n, digits_are_word_bytes (numeral n) (is_decimal-numeral n))
+IsWord-numeral n = (numeral-has_digits n, digits-all is_word_byte is_word_byte-digit (numeral n) (digits-numeral n))
 
 -- ---- as the standard library writes it
 
 below_power : (n : ℕ) → n < 10 ^ suc n
 below_power zero = omega arith
-below_power (suc n) = let less : n < 10 ^ suc n = below_power n in omega arith
+below_power (suc n) = omega (arith, below_power n)
 
 pub numeral_is : (n : ℕ) → n < 10 ^ 64 → std_decimal n ≡ numeral n
 unfolding numeral

@@ -1,9 +1,10 @@
 -- Cells and their places.
 use Rattle.std.proofs.Common.{◌≡◌, ℕ, ◌+◌, ◌*◌, ◌<◌, Bool, true, false, List, length, get_or, set, sym, ap, ◌∙◌, subst, arith}
 use Rattle.std.proofs.lemmas.List.{get_or-take, get_or-set_same, get_or-set_other}
-use Rattle.std.proofs.lemmas.Nat.{mul-add-lt, same_from_place}
+use Rattle.std.proofs.lemmas.Nat.{mul-add-lt}
 use Rattle.rota_core.specs.declared.values.Cell.{Cell}
-use Rattle.rota_core.specs.RosterTables.{RosterTables, InShape, AddsCell, HoldsRoster, cell_place, place_count, roster_tables, set_of}
+use Rattle.rota_core.specs.RosterTables.{RosterTables, InShape, AddsCell, HoldsRoster, cell_at, cell_place, place_count, roster_tables, set_of}
+use Rattle.rota_core.proofs.CellPlaces.{cell_at-place}
 
 -- a cell within the numbers has a place
 pub cell_place-lt : (nurses shifts skills : ℕ) (cell : Cell) → cell.nurse < nurses → cell.day < 7 → cell.shift < shifts → cell.skill < skills
@@ -18,49 +19,51 @@ pub same_cell : (one other : Cell) → one.nurse ≡ other.nurse → one.day ≡
 same_cell one other n d s k = λ i. record { nurse = n i; day = d i; shift = s i; skill = k i }
 
 -- two cells of one place are the same cell
-pub same_from_cell_place : (shifts skills : ℕ) (one other : Cell) → one.day < 7 → one.shift < shifts → one.skill < skills
-    → other.day < 7 → other.shift < shifts → other.skill < skills → cell_place shifts skills one ≡ cell_place shifts skills other → one ≡ other
+same_from_cell_place : (shifts skills : ℕ) (one other : Cell) → one.day < 7 → one.shift < shifts → one.skill < skills →
+    other.day < 7 → other.shift < shifts → other.skill < skills → cell_place shifts skills one ≡ cell_place shifts skills other →
+    one ≡ other
 same_from_cell_place shifts skills one other d s k d' s' k' same =
-    let by_skill = same_from_place ((one.nurse * 7 + one.day) * shifts + one.shift) one.skill ((other.nurse * 7 + other.day) * shifts + other.shift) other.skill skills k k' same in
-    let by_shift = same_from_place (one.nurse * 7 + one.day) one.shift (other.nurse * 7 + other.day) other.shift shifts s s' by_skill.0 in
-    let by_day = same_from_place one.nurse one.day other.nurse other.day 7 d d' by_shift.0 in
-    same_cell one other by_day.0 by_day.1 by_shift.1 by_skill.1
+    sym (cell_at-place shifts skills one.nurse one.day one.shift one.skill d s k) ∙ ap (cell_at shifts skills) same ∙
+    cell_at-place shifts skills other.nurse other.day other.shift other.skill d' s' k'
 
--- a cell of a roster has a place among its truth values
-pub cell_place-in : (nurses shifts skills : ℕ) (bits : List Bool) (t : RosterTables) (cell : Cell) → HoldsRoster nurses shifts skills bits
-    → roster_tables nurses shifts skills bits ≡ t → InShape t cell → cell_place shifts skills cell < length bits
-cell_place-in nurses shifts skills bits t cell holds seen in_t =
-    let h = subst (λ u. InShape u cell) (sym seen) in_t in
-    omega (arith, holds.enough, cell_place-lt nurses shifts skills cell h.nurse_in h.day_in h.shift_in h.skill_in)
+-- a roster whose truth values are seen as tables
+module _ (nurses shifts skills : ℕ) (bits : List Bool) (t : RosterTables) (seen : roster_tables nurses shifts skills bits ≡ t) where
+  seen_in : (cell : Cell) → InShape t cell → InShape (roster_tables nurses shifts skills bits) cell
+  seen_in cell in_t = subst (λ u. InShape u cell) (sym seen) in_t
 
--- a roster's set, read from its truth values
-pub set_of-seen : (nurses shifts skills : ℕ) (bits : List Bool) (t : RosterTables) (cell : Cell)
-    → roster_tables nurses shifts skills bits ≡ t → InShape t cell → get_or bits (cell_place shifts skills cell) false ≡ set_of t cell
-set_of-seen nurses shifts skills bits t cell seen in_t =
-    let h = subst (λ u. InShape u cell) (sym seen) in_t in
-    sym (get_or-take (place_count nurses shifts skills) bits (cell_place shifts skills cell) false
-    (cell_place-lt nurses shifts skills cell h.nurse_in h.day_in h.shift_in h.skill_in)) ∙
-    ap (λ u. set_of u cell) seen
+  place-in : (cell : Cell) → InShape t cell → cell_place shifts skills cell < place_count nurses shifts skills
+  place-in cell in_t =
+      let h = seen_in cell in_t in
+      cell_place-lt nurses shifts skills cell h.nurse_in h.day_in h.shift_in h.skill_in
 
--- one more truth value is one more cell
-pub AddsCell-set : (nurses shifts skills : ℕ) (bits : List Bool) (t : RosterTables) (cell : Cell) → HoldsRoster nurses shifts skills bits
-    → roster_tables nurses shifts skills bits ≡ t → InShape t cell
-    → AddsCell t (roster_tables nurses shifts skills (set bits (cell_place shifts skills cell) true)) cell
-AddsCell-set nurses shifts skills bits t cell holds seen in_t =
-    let h = subst (λ u. InShape u cell) (sym seen) in_t in
-    let place = cell_place shifts skills cell in
-    let in_count = cell_place-lt nurses shifts skills cell h.nurse_in h.day_in h.shift_in h.skill_in in
-    record {
-      same_nurses = ap (λ u. u.nurses) seen;
-      same_shifts = ap (λ u. u.shifts) seen;
-      same_skills = ap (λ u. u.skills) seen;
-      is_there = get_or-take (place_count nurses shifts skills) (set bits place true) place false in_count ∙
-          get_or-set_same bits place true false (cell_place-in nurses shifts skills bits t cell holds seen in_t);
-      others_stay = λ other in_other ne.
-          let o = subst (λ u. InShape u other) (sym seen) in_other in
-          get_or-take (place_count nurses shifts skills) (set bits place true) (cell_place shifts skills other) false
-          (cell_place-lt nurses shifts skills other o.nurse_in o.day_in o.shift_in o.skill_in) ∙
-          get_or-set_other bits place (cell_place shifts skills other) true false
-          (λ same. ne (same_from_cell_place shifts skills other cell o.day_in o.shift_in o.skill_in h.day_in h.shift_in h.skill_in same)) ∙
-          set_of-seen nurses shifts skills bits t other seen in_other;
-    }
+  -- a cell of the roster has a place among the truth values
+  pub cell_place-in : (cell : Cell) → HoldsRoster nurses shifts skills bits → InShape t cell →
+      cell_place shifts skills cell < length bits
+  cell_place-in cell holds in_t = omega (arith, holds.enough, place-in cell in_t)
+
+  -- the roster's set, read from the truth values
+  pub set_of-seen : (cell : Cell) → InShape t cell → get_or bits (cell_place shifts skills cell) false ≡ set_of t cell
+  set_of-seen cell in_t =
+      sym (get_or-take (place_count nurses shifts skills) bits (cell_place shifts skills cell) false (place-in cell in_t)) ∙
+      ap (λ u. set_of u cell) seen
+
+  -- one more truth value is one more cell
+  pub AddsCell-set : (cell : Cell) → HoldsRoster nurses shifts skills bits → InShape t cell →
+      AddsCell t (roster_tables nurses shifts skills (set bits (cell_place shifts skills cell) true)) cell
+  AddsCell-set cell holds in_t =
+      let h = seen_in cell in_t in
+      let place = cell_place shifts skills cell in
+      let count = place_count nurses shifts skills in
+      record {
+        same_nurses = ap (λ u. u.nurses) seen;
+        same_shifts = ap (λ u. u.shifts) seen;
+        same_skills = ap (λ u. u.skills) seen;
+        is_there = get_or-take count (set bits place true) place false (place-in cell in_t) ∙
+            get_or-set_same bits place true false (cell_place-in cell holds in_t);
+        others_stay = λ other in_other ne.
+            let o = seen_in other in_other in
+            get_or-take count (set bits place true) (cell_place shifts skills other) false (place-in other in_other) ∙
+            get_or-set_other bits place (cell_place shifts skills other) true false
+            (λ same. ne (same_from_cell_place shifts skills other cell o.day_in o.shift_in o.skill_in h.day_in h.shift_in h.skill_in same)) ∙
+            set_of-seen other in_other;
+      }

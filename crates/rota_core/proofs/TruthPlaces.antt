@@ -1,5 +1,5 @@
 -- The places of true values, one after another.
-use Rattle.std.proofs.Common.{◌≡◌, ℕ, suc, ◌+◌, ◌-◌, ◌<◌, ◌≤◌, Bool, true, false, List, [], ◌∷◌, get_or, arith}
+use Rattle.std.proofs.Common.{◌≡◌, ℕ, suc, ◌+◌, ◌-◌, ◌<◌, Bool, true, false, List, ◌∷◌, get_or, arith}
 use Rattle.rota_core.specs.Bits.{true_from}
 
 -- a true value's place stands before those after it
@@ -15,8 +15,3 @@ pub true_from-false : (truths : List Bool) (place end : ℕ) → place < end →
 true_from-false truths place end before truth =
     let more : end - place ≡ suc (end - (place + 1)) = omega arith in
     rw (more, truth)
-
-pub true_from-none : (truths : List Bool) (place end : ℕ) → end ≤ place → true_from truths place (end - place) ≡ []
-true_from-none truths place end after =
-    let none : end - place ≡ 0 = omega arith in
-    rw none

@@ -1,13 +1,11 @@
 -- A nurse has at most one cell a day, so the sums over her day are 0 or 1.
-use Rattle.rota_items.proofs.LogicWords.{◌≡◌, ℕ, ◌<◌, ◌≤◌, Bool, ◌||◌, true, false, cond, [], ◌∷◌, refl, ap, ◌∙◌, arith, sym, count_by, list_any, true≢false}
+use Rattle.rota_items.proofs.LogicWords.{◌≡◌, ℕ, ◌<◌, ◌≤◌, Bool, true, false, cond, [], ◌∷◌, refl, ap, ◌∙◌, arith, sym, count_by, list_any, true≢false}
 use Rattle.rota_items.proofs.ModelWords.{KeepsOneCell, KeepsSkills, is_on, works, Roster, cell, Has, Week, Cell, on_cells, work_cells, skill_cells}
+use Rattle.std.proofs.Math.Bool.{or-false}
+use Rattle.std.proofs.lemmas.Bool.{cond-false, false_from_ne_true}
 use Rattle.rota_core.specs.Below.{sum_below, count_below}
 use Rattle.rota_items.proofs.SumsBelow.{sum_by-each-is, count_by-each, sum_below-one, found, list_any-each, any_below-same, sum_below-zero, term-le-sum_below, one-sum_below}
 use Rattle.rota_core.specs.Lists.{each_below}
-
-pub true-from-count : (b : Bool) → 0 < cond b 1 0 → b ≡ true
-true-from-count true some = refl
-true-from-count false some = absurd (omega arith)
 
 pub cond-le : (b : Bool) → cond b 1 0 ≤ 1
 cond-le true = omega arith
@@ -35,7 +33,7 @@ pub has-cell : (week : Week) (roster : Roster) (n d s k : ℕ) →
     Has week roster (cell n d s k)
 has-cell week roster n d s k n_in d_in s_in k_in some = record {
   in_week = record { nurse_in = n_in; day_in = d_in; shift_in = s_in; skill_in = k_in };
-  in_roster = true-from-count (roster (cell n d s k)) some;
+  in_roster = grind arith;
 }
 
 module _ (week : Week) (roster : Roster) (one : KeepsOneCell week roster) (n d : ℕ) (n_in : n < week.nurses) (d_in : d < 7) where
@@ -60,10 +58,6 @@ module _ (week : Week) (roster : Roster) (one : KeepsOneCell week roster) (n d :
       (has-cell week roster n d t there.0 n_in d_in t_in there.1 there.2) refl refl))
 
 -- ---- the tests are those of the lists of cells
-
-or-false : (b : Bool) → (b || false) ≡ b
-or-false true = refl
-or-false false = refl
 
 pub any-on_cells : (week : Week) (roster : Roster) (n s d : ℕ) →
     list_any roster (on_cells week n s d) ≡ is_on week roster n s d
@@ -110,10 +104,6 @@ same_cells week roster n d s k t l small s_in k_in t_in l_in one other =
           (omega (arith, ap (λ s. at s l) shifts_same)),
     )
 
-zero-for_false : (b : Bool) → (b ≡ true → ⊥) → ◌≡◌ {A = ℕ} (cond b 1 0) 0
-zero-for_false true not_true = absurd (not_true refl)
-zero-for_false false not_true = refl
-
 pub skill_count : Week → Roster → ℕ → ℕ → ℕ
 skill_count week roster n k = sum_below 7 (λ d. count_below week.shifts (λ s. roster (cell n d s k)))
 
@@ -131,9 +121,9 @@ unfolding skill_count
 no_skill_cells week roster held n k n_in k_in lacks =
     sum_below-zero 7 (λ d. count_below week.shifts (λ s. roster (cell n d s k))) (λ d d_in.
     sum_below-zero week.shifts (λ s. cond (roster (cell n d s k)) 1 0) (λ s s_in.
-    zero-for_false (roster (cell n d s k)) (λ here.
+    cond-false (roster (cell n d s k)) 1 0 (false_from_ne_true (roster (cell n d s k)) (λ here.
     true≢false (sym (held (cell n d s k)
-    (record { in_week = record { nurse_in = n_in; day_in = d_in; shift_in = s_in; skill_in = k_in }; in_roster = here })) ∙ lacks))))
+    (record { in_week = record { nurse_in = n_in; day_in = d_in; shift_in = s_in; skill_in = k_in }; in_roster = here })) ∙ lacks)))))
 
 pub some_skill_cell : (week : Week) (roster : Roster) (one : Cell) → Has week roster one →
     1 ≤ skill_count week roster one.nurse one.skill

@@ -1,5 +1,5 @@
 -- Rosters extend to assignments at their penalty, and satisfying assignments stand for rosters of no greater one.
-use Rattle.rota_items.proofs.LogicWords.{◌≡◌, ℕ, ◌+◌, ◌*◌, ◌<◌, ◌≤◌, Bool, true, false, cond, List, [], ◌∷◌, ◌++◌, map, refl, sym, ap, subst, ◌∙◌, arith, pos, ◌+ℤ◌, ◌-ℤ◌, ◌≤ℤ◌, nat_lt, All, AllByRecursion, ints, lt-ltb, ltb-false, All-from_recursion, recursion_from_All, AllByRecursion-back, AllByRecursion-append}
+use Rattle.rota_items.proofs.LogicWords.{◌≡◌, ℕ, ◌+◌, ◌*◌, ◌<◌, ◌≤◌, Bool, true, false, cond, List, ◌++◌, refl, sym, ap, subst, ◌∙◌, arith, pos, ◌+ℤ◌, ◌-ℤ◌, ◌≤ℤ◌, nat_lt, All, AllByRecursion, ints, lt-ltb, ltb-false, All-from_recursion, recursion_from_All, AllByRecursion-back, AllByRecursion-append}
 use Rattle.rota_items.proofs.ModelWords.{KeepsCompetitionRules, KeepsHardRules, Roster, InWeek, Week, Cell, cell_number, unit_number, first_slack, constant_terms, cell_terms, constant, penalty, soft_items, Item, positive_part, shortage, weighted_shortages, numbered, Term, Satisfies, value_of, SatisfiesModel, StandBelow, item_constraints, slack_weights, numbered_terms, hard_constraints, numbered_items, objective_terms, roster_of, assignment_of, extension_of, model_of}
 use Rattle.rota_items.proofs.AlikeRosters.{keeps-alike}
 use Rattle.rota_items.proofs.AssignmentOf.{assignment_of-cell, assignment_of-unit}
@@ -8,8 +8,8 @@ use Rattle.rota_items.proofs.ListAll.{all-map, all-weaker}
 use Rattle.rota_items.proofs.ModelParts.{constraints-parts}
 use Rattle.rota_items.proofs.Numbers.{cell_number-below}
 use Rattle.rota_items.proofs.PatternItems.{value_of-append}
-use Rattle.rota_items.proofs.SoftRules.AllItems.{HasEnough, ItemIn, enough-items, in-cell_terms, in-items}
-use Rattle.rota_items.proofs.SoftRules.EachRule.{cell_terms-are, charges-penalty}
+use Rattle.rota_items.proofs.SoftRules.AllItems.{ItemIn, in-cell_terms}
+use Rattle.rota_items.proofs.SoftRules.EachRule.{cell_terms-are, charges-penalty, each-item}
 use Rattle.rota_items.proofs.SoftRules.ShiftOffRequests.{value_of-request_terms, value_of-only_if}
 use Rattle.rota_items.proofs.Satisfied.{hard_constraints-hold, hard_constraints-mean}
 use Rattle.rota_items.proofs.ListSums.{sum_by-map, sum_by-same}
@@ -68,21 +68,11 @@ module _ (week : Week) (assignment : ℕ → Bool) (roster : Roster)
   shortage-of_item item inside =
       ap (λ z. positive_part (item.degree -ℤ z)) (value_of-of_terms item.terms inside)
 
-  weighted-of_items : (some : List (Item Cell)) → AllByRecursion (ItemIn week) some →
-      weighted_shortages assignment (map (numbered (cell_number week)) some) ≡ weighted_shortages roster some
-  weighted-of_items some inside =
-      sum_by-map (λ (item : Item ℕ). item.weight * shortage assignment item) (numbered (cell_number week)) some ∙
-      sum_by-same (λ (item : Item Cell). item.weight * shortage assignment (numbered (cell_number week) item))
-      (λ (item : Item Cell). item.weight * shortage roster item) some
-      (all-weaker (ItemIn week)
-      (λ item. item.weight * shortage assignment (numbered (cell_number week) item) ≡ item.weight * shortage roster item)
-      (λ item in_week. ap (λ n. item.weight * n) (shortage-of_item item in_week)) some inside)
-
-  enough-of_items : (some : List (Item Cell)) → AllByRecursion (ItemIn week) some → AllByRecursion (HasEnough roster) some →
-      AllByRecursion (λ (item : Item ℕ). shortage assignment item ≤ item.slacks) (map (numbered (cell_number week)) some)
-  enough-of_items [] inside enough = tt
-  enough-of_items (x ∷ xs) inside enough =
-      (omega (arith, shortage-of_item x inside.0, enough.0), enough-of_items xs inside.1 enough.1)
+  weighted-of_items : weighted_shortages assignment (numbered_items week) ≡ weighted_shortages roster (soft_items week)
+  weighted-of_items =
+      sum_by-map (λ (item : Item ℕ). item.weight * shortage assignment item) (numbered (cell_number week)) (soft_items week) ∙
+      sum_by-same _ (λ (item : Item Cell). item.weight * shortage roster item) (soft_items week)
+      (each-item week _ (λ rule item soft sound. ap (λ n. item.weight * n) (shortage-of_item item sound.terms.in_week)))
 
 -- ---- the items' variables stand below the slacks
 
@@ -100,9 +90,8 @@ module _ (week : Week) where
   stand-below =
       All-from_recursion (λ (item : Item ℕ). All Below item.terms) (numbered_items week)
       (all-map (λ (item : Item ℕ). All Below item.terms) (numbered (cell_number week)) (soft_items week)
-      (all-weaker (ItemIn week) (λ item. All Below (numbered_terms week item.terms))
-      (λ item inside. All-from_recursion Below (numbered_terms week item.terms) (terms-below item.terms inside)) (soft_items week)
-      (in-items week)))
+      (each-item week _ (λ rule item soft sound.
+      All-from_recursion Below (numbered_terms week item.terms) (terms-below item.terms sound.terms.in_week))))
 
 -- ---- the extension
 
@@ -126,8 +115,13 @@ enough-numbered : (week : Week) (roster : Roster) → KeepsCompetitionRules week
     All (λ (item : Item ℕ). shortage (assignment_of week roster) item ≤ item.slacks) (numbered_items week)
 enough-numbered week roster keeps =
     All-from_recursion (λ (item : Item ℕ). shortage (assignment_of week roster) item ≤ item.slacks) (numbered_items week)
-    (enough-of_items week (assignment_of week roster) roster (assignment_of-cell week roster) (soft_items week) (in-items week)
-    (enough-items week roster keeps))
+    (all-map (λ (item : Item ℕ). shortage (assignment_of week roster) item ≤ item.slacks) (numbered (cell_number week)) (soft_items week)
+    (each-item week _ (λ rule item soft sound.
+    omega (
+      arith,
+      shortage-of_item week (assignment_of week roster) roster (assignment_of-cell week roster) item sound.terms.in_week,
+      sound.enough roster keeps,
+    ))))
 
 pub extension-satisfies : (week : Week) (roster : Roster) → KeepsHardRules week roster →
     SatisfiesModel (extension_of week roster) (model_of week)
@@ -154,8 +148,7 @@ extension-objective week roster keeps =
           (in-cell_terms week),
       value_of-extension (assignment_of week roster) (first_slack week) (numbered_items week) (stand-below week)
           (enough-numbered week roster keeps.of_competition),
-      weighted-of_items week (assignment_of week roster) roster (assignment_of-cell week roster) (soft_items week)
-          (in-items week),
+      weighted-of_items week (assignment_of week roster) roster (assignment_of-cell week roster),
       charges-penalty week roster keeps.of_competition,
     )
 
@@ -186,6 +179,6 @@ module _ (week : Week) (assignment : ℕ → Bool) (all : SatisfiesModel assignm
         value_of-numbered (cell_number week) assignment (cell_terms week),
         weighted_shortages-le assignment (first_slack week) (numbered_items week)
             (All-from_recursion (Satisfies assignment) (item_constraints (first_slack week) (numbered_items week)) parts.1),
-        weighted-of_items week assignment (roster_of week assignment) (λ c inside. refl) (soft_items week) (in-items week),
+        weighted-of_items week assignment (roster_of week assignment) (λ c inside. refl),
         charges-penalty week (roster_of week assignment) hard.1.of_competition,
       )

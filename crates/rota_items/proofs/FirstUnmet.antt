@@ -1,6 +1,6 @@
 -- The first of some rows that fails a test.
 use Rattle.rota_items.proofs.LogicWords.{◌≡◌, ℕ, suc, ◌+◌, Bool, true, false, ◌⊎◌, inl, inr, List, [], ◌∷◌, ◌++◌, map, length, refl, sym, ap, ◌∙◌, arith, Option, Some, None, ℤ, ◌≤ℤ◌, int_le, if◌then◌else◌, IfSome, MatchOption, AllByRecursion, ints, cases_Bool}
-use Rattle.rota_items.proofs.ModelWords.{Week, Rule, Cell, Satisfies, value_of, LinearRow, linear_constraint, numbered_row}
+use Rattle.rota_items.proofs.ModelWords.{Rule, Satisfies, value_of, LinearRow, linear_constraint}
 use Rattle.std.specs.Option.{option_or}
 use Rattle.rota_items.specs.Verdicts.{first_failing, first_unmet, later, rule_of_part}
 
@@ -36,20 +36,6 @@ first_failing-append test (row ∷ rows) more =
         next = omega arith
     either true (Some found) = refl
     either false found = refl
-
--- two tests that say the same of each row
-pub first_failing-same : {X : Type 0} (one other : LinearRow X → Bool) (rows : List (LinearRow X)) →
-    AllByRecursion (λ row. one row ≡ other row) rows → first_failing one rows ≡ first_failing other rows
-first_failing-same one other [] same = refl
-first_failing-same one other (row ∷ rows) same =
-    λ i. if same.0 i then later 1 (first_failing-same one other rows same.1 i) else Some (1, rule_of_part row.part)
-
-pub first_failing-numbered : (week : Week) (test : LinearRow ℕ → Bool) (rows : List (LinearRow Cell)) →
-    first_failing test (map (numbered_row week) rows) ≡ first_failing (λ row. test (numbered_row week row)) rows
-first_failing-numbered week test [] = refl
-first_failing-numbered week test (row ∷ rows) =
-    ap (λ found. if test (numbered_row week row) then later 1 found else Some (1, rule_of_part row.part))
-    (first_failing-numbered week test rows)
 
 -- what holds of the rules of all rows holds of the rule that is named
 pub IfSome-later : (P : Rule → Type 0) (n : ℕ) (found : Named) → IfSome found (λ row. P row.1) → IfSome (later n found) (λ row. P row.1)

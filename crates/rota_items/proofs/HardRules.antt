@@ -3,6 +3,7 @@ pub mod EachRule
 pub mod Held
 pub mod Minimum
 pub mod OneCell
+pub mod RowsAre
 pub mod Skills
 pub mod Sound
 pub mod Succession

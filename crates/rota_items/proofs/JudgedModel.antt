@@ -1,45 +1,138 @@
 -- What a judge makes of the model of a week.
-use Rattle.rota_items.proofs.LogicWords.{◌≡◌, ℕ, ◌+◌, ◌*◌, ◌^◌, ◌<◌, ◌≤◌, Bool, true, false, List, [], ◌∷◌, ◌++◌, map, length, refl, ap, arith, cond, None, ℤ, pos, negsuc, nat_abs, ◌+ℤ◌, ◌≤ℤ◌, if◌then◌else◌, AllByRecursion, fold, sum_by, ints, fold-append, sum_by-append, sum_by-cons, AllByRecursion-append, AllByRecursion-back}
-use Rattle.rota_items.proofs.ModelWords.{Roster, InWeek, set_of, Week, Rule, Cell, cell_number, unit_number, first_slack, Item, numbered, positive_part, weighted_shortages, IsWithinLimits, Term, value_of, times, LinearRow, constant_terms, objective_rows, item_rows, slack_count, slack_variables, slack_weights, cell_terms, constant, items_of_rule, soft_items, rule_rows, hard_rows, numbered_items, numbered_row, numbered_terms, objective_terms, rows_of}
+use Rattle.rota_items.proofs.LogicWords.{◌≡◌, ℕ, ◌+◌, ◌*◌, ◌^◌, ◌<◌, ◌≤◌, Bool, true, List, [], ◌∷◌, ◌++◌, refl, ap, ◌∙◌, cond, arith, pos, negsuc, nat_abs, if◌then◌else◌, AllByRecursion, fold, sum_by, ints, fold-append, sum_by-cons, AllByRecursion-append}
+use Rattle.rota_items.proofs.ModelWords.{Roster, InWeek, set_of, soft_rules, Week, Rule, Cell, cell_number, unit_number, first_slack, Item, numbered, shortage, weighted_shortages, IsWithinLimits, Term, value_of, times, LinearRow, objective_rows, item_rows, slack_variables, slack_weights, cell_terms, constant, items_of_rule, soft_items, rule_rows, hard_rows, numbered_items, numbered_row, numbered_terms, objective_terms, rows_of}
 use Rattle.rota_core.specs.declared.rule.Rule.TheVariants.{Unit as UnitRule}
 use Rattle.rota_items.specs.declared.part.Part.TheVariants.{Objective}
+use Rattle.rota_items.specs.declared.tallies.RowSums.{RowSums}
+use Rattle.rota_items.specs.declared.tallies.Tally.{Tally}
 use Rattle.rota_items.specs.Events.{events, row_events}
-use Rattle.rota_items.specs.Judging.{Subject, assigned, extended, assignment_in, roster_in, capped, no_tally, tallied}
-use Rattle.rota_items.specs.Verdicts.{first_unmet, rule_of_part}
+use Rattle.rota_items.specs.Judging.{Subject, assigned, extended, assignment_in, roster_in, capped, no_sums, no_tally, tallied}
+use Rattle.rota_items.specs.rules.ShiftOffRequests.{request_cost}
+use Rattle.rota_items.specs.Verdicts.{first_unmet}
 use Rattle.rota_items.proofs.Extension.{extension-roster, shortage-of_item, terms-below, value_of-objective, value_of-of_terms}
 use Rattle.rota_items.proofs.FirstUnmet.{later-zero}
 use Rattle.rota_items.proofs.HardRules.EachRule.{each-row}
+use Rattle.rota_items.proofs.ItemEventLists.{slack_count-numbered}
 use Rattle.rota_items.proofs.ItemLaw.{extension-extends}
-use Rattle.rota_items.proofs.JudgedItems.{AreCharged, Follows, IsFit, charge_of, range-within, rows-items}
-use Rattle.rota_items.proofs.JudgedRows.{IsHardRow, IsJudged, Stands, assignment, charge, hard-judged, hard-weightless, is_same, lacks, payment, rows-closed, rows-stand, slacks}
-use Rattle.rota_items.proofs.JudgedTerms.{AtSlacks, Before, counted-before, counted_other, others-at_slacks, others-before, row-tallied}
-use Rattle.rota_items.proofs.ListAll.{all-map, all-weaker}
-use Rattle.rota_items.proofs.ListSums.{sum_by-map}
+use Rattle.rota_items.proofs.JudgedItems.{Follows, IsFit, at_slacks, charge_of, items-come, paid_for, paid_for-is}
+use Rattle.rota_items.proofs.JudgedRows.{Comes, IsHardRow, rows-come, same}
+use Rattle.rota_items.proofs.JudgedTerms.{AtSlacks, counted-before, counted_other, others-at_slacks, others-before, row-tallied}
+use Rattle.rota_items.proofs.ListAll.{all-map}
+use Rattle.rota_items.proofs.ListSums.{sum_by-each-same, sum_by-map, sum_by-same, sum_by-times}
 use Rattle.rota_items.proofs.PenaltyBound.{objective-below}
-use Rattle.rota_items.proofs.RuleCharges.{of_rule, shortage_of, shortages-by_rule}
 use Rattle.rota_items.proofs.SlackBound.{rows-below, variables-below}
 use Rattle.rota_items.proofs.SmallSums.{spread}
-use Rattle.rota_items.proofs.SoftRules.AllItems.{ItemIn, in-cell_terms, in-items}
-use Rattle.rota_items.proofs.SoftRules.EachRule.{each-item}
+use Rattle.rota_items.proofs.SoftRules.AllItems.{in-cell_terms}
+use Rattle.rota_items.proofs.SoftRules.EachRule.{cell_terms-are, each-item, of_sound, sound-rule, sum_by-soft_items}
+use Rattle.rota_items.proofs.SoftRules.ShiftOffRequests.{value_of-request_terms}
 use Rattle.rota_items.proofs.SoundTerms.{AreSound, spread-sound}
-use Rattle.rota_items.proofs.TermsHold.{on-times}
 use Rattle.rota_items.proofs.UnitTerms.{OnCoefficients}
-use Rattle.rota_items.proofs.Weights.{IsPositive, coefficients-positive, value_of-positive}
+use Rattle.rota_items.proofs.Weights.{IsPositive, coefficients-positive}
 
 -- ---- how large the rows are
 
-module _ (week : Week) where
-  pub few-terms : (terms : List (Term Cell)) → AreSound week terms → spread (numbered_terms week terms) ≤ unit_number week
-  few-terms terms sound =
+few-terms : (week : Week) (terms : List (Term Cell)) → AreSound week terms → spread (numbered_terms week terms) ≤ unit_number week
+few-terms week terms sound =
+    omega (
+      arith,
+      sum_by-map (λ (term : Term ℕ). nat_abs term.0) (λ (term : Term Cell). (term.0, cell_number week term.1)) terms,
+      spread-sound week terms sound,
+    )
+
+spread-positive : (terms : List (Term ℕ)) → OnCoefficients IsPositive terms → value_of (λ v. true) terms ≡ pos (spread terms)
+spread-positive [] all = refl
+spread-positive ((pos n, v) ∷ ts) all =
+    omega (arith, ints, sum_by-cons (λ (term : Term ℕ). nat_abs term.0) (pos n, v) ts, spread-positive ts all.1)
+spread-positive ((negsuc n, v) ∷ ts) all = absurd (omega (arith, ints, all.0))
+
+-- what each soft rule has of its own
+abbrev pub of_rule : (Rule → ℕ) → Rule → ℕ
+of_rule f rule = sum_by (λ own. same own rule * f own) soft_rules
+
+module _ (week : Week) (subject : Subject) where
+  abbrev A : ℕ → Bool
+  A = assignment_in week subject
+
+  abbrev roster : Roster
+  roster = roster_in week subject
+
+  pub agrees : (c : Cell) → InWeek week c → A (cell_number week c) ≡ roster c
+  agrees c inside = either subject
+    where
+      either : (given : Subject) → assignment_in week given (cell_number week c) ≡ roster_in week given c
+      either (assigned bits) = refl
+      either (extended tables) = extension-roster week (set_of tables) c inside
+
+  -- ---- the objective
+
+  -- what its row gives but for its slacks, and what they cost
+  abbrev pub given : ℕ
+  given = request_cost week roster + (if A (unit_number week) then constant week else 0)
+
+  abbrev pub paid : ℕ
+  paid = paid_for week subject (first_slack week) (numbered_items week)
+
+  abbrev requests : List (Term ℕ)
+  requests = numbered_terms week (cell_terms week)
+
+  requests-are : value_of A requests ≡ pos (request_cost week roster)
+  requests-are =
+      value_of-of_terms week A roster agrees (cell_terms week) (in-cell_terms week) ∙
+      ap (value_of roster) (cell_terms-are week) ∙ value_of-request_terms week roster
+
+  pub objective-judged : value_of A (objective_terms week) ≡ pos (given + paid)
+  objective-judged =
       omega (
         arith,
-        sum_by-map (λ (term : Term ℕ). nat_abs term.0) (λ (term : Term Cell). (term.0, cell_number week term.1)) terms,
-        spread-sound week terms sound,
+        ints,
+        value_of-objective week A,
+        requests-are,
+        paid_for-is week subject (first_slack week) (numbered_items week),
       )
 
+  weights-at_slacks : (first : ℕ) (items : List (Item ℕ)) → unit_number week < first → AtSlacks week subject (slack_weights first items)
+  weights-at_slacks first [] after = tt
+  weights-at_slacks first (item ∷ items) after =
+      AllByRecursion-append (λ (term : Term ℕ). unit_number week < term.1) (times (pos item.weight) (slack_variables item first))
+      (slack_weights (first + item.slacks) items)
+      (at_slacks week subject (pos item.weight) item first after) (weights-at_slacks (first + item.slacks) items (omega arith))
+
+  given-is : value_of (counted_other week subject) (objective_terms week) ≡ pos given
+  given-is =
+      omega (
+        arith,
+        ints,
+        value_of-objective week (counted_other week subject),
+        others-before week subject requests (terms-below week (cell_terms week) (in-cell_terms week)),
+        requests-are,
+        ap (λ (b : Bool). cond b (constant week) 0) (counted-before week subject (unit_number week) (omega arith)),
+        others-at_slacks week subject (slack_weights (first_slack week) (numbered_items week))
+            (weights-at_slacks (first_slack week) (numbered_items week) (omega arith)),
+      )
+
+  -- ---- what each rule is charged
+
+  abbrev charges : Rule → ℕ
+  charges rule = sum_by (charge_of week subject rule) (numbered_items week)
+
+  pub charges-are : (rule : Rule) → charges rule ≡ of_rule (λ own. weighted_shortages roster (items_of_rule week own)) rule
+  charges-are rule =
+      sum_by-map (charge_of week subject rule) (numbered (cell_number week)) (soft_items week) ∙
+      sum_by-soft_items week (λ item. charge_of week subject rule (numbered (cell_number week) item)) soft_rules ∙
+      sum_by-each-same _ _ of_own soft_rules
+    where
+      of_own : (own : Rule) →
+          sum_by (λ item. charge_of week subject rule (numbered (cell_number week) item)) (items_of_rule week own) ≡
+          same own rule * weighted_shortages roster (items_of_rule week own)
+      of_own own =
+          sum_by-same _ (λ item. same own rule * (item.weight * shortage roster item)) (items_of_rule week own)
+          (of_sound week _ own
+          (λ item sound i. same (sound.rule_is i) rule * (item.weight * shortage-of_item week A roster agrees item sound.terms.in_week i))
+          (items_of_rule week own) (sound-rule week own).items) ∙
+          sum_by-times (same own rule) (λ (item : Item Cell). item.weight * shortage roster item) (items_of_rule week own)
+
 module _ (week : Week) (subject : Subject) (limits : IsWithinLimits week) where
-  abbrev A : ℕ → Bool
-  A = assignment week subject
+  -- ---- each row is small
 
   pub hard-fit : AllByRecursion (IsHardRow week subject) (hard_rows week)
   hard-fit = (
@@ -72,186 +165,55 @@ module _ (week : Week) (subject : Subject) (limits : IsWithinLimits week) where
         );
       }))
 
+  -- ---- the judge finds what stands there
+
+  pub few : given week subject + paid week subject ≤ 700000000000
+  few = omega (arith, ints, objective-judged week subject, objective-below week (assignment_in week subject) limits)
+
+  abbrev pub ComesTo : Tally → List (LinearRow ℕ) → ℕ → (Rule → ℕ) → Type 0
+  ComesTo =
+      Comes week subject (first_unmet (assignment_in week subject) (rows_of week)) (paid week subject) (charges week subject)
+      (given week subject)
+
+  -- no row was closed but for the objective's
+  none-closed : (sums : RowSums) (requests : ℕ) → requests ≡ given week subject →
+      ComesTo (record no_tally { sums = sums; requests_and_constant = requests }) (rows_of week) (paid week subject) (charges week subject)
+  none-closed sums requests is = record {
+    few = omega (arith, rows-below week limits);
+    unmet = later-zero (first_unmet (assignment_in week subject) (rows_of week));
+    slacks = omega arith;
+    before = λ rule. 0;
+    shortages = refl;
+    totals = λ rule. omega arith;
+    requests_are = is;
+  }
+
+  objective-comes : (terms : List (Term ℕ)) → spread terms < 2 ^ 63 → value_of (counted_other week subject) terms ≡ pos (given week subject) →
+      ComesTo (fold (tallied week subject) no_tally (events (objective_rows terms))) (rows_of week) (paid week subject) (charges week subject)
+  unfolding events
+  objective-comes [] small is = none-closed no_sums 0 (omega (arith, ints, is))
+  objective-comes (t ∷ ts) small is =
+      let row : LinearRow ℕ = record { part = Objective; terms = t ∷ ts; degree = pos 0 } in
+      rw (fold-append (tallied week subject) no_tally (row_events row) [], row-tallied week subject no_tally row small, is)
+      (none-closed _ (capped (0 + given week subject)) (omega (arith, few)))
+
   follows-model : (given : Subject) → Follows week given (first_slack week) (numbered_items week)
   follows-model (assigned bits) = tt
-  follows-model (extended roster) = extension-extends _ (first_slack week) (numbered_items week)
+  follows-model (extended tables) = extension-extends _ (first_slack week) (numbered_items week)
 
-  items-charged : AreCharged week subject (first_slack week) (numbered_items week)
-  items-charged =
-      rows-items week subject (first_slack week) (numbered_items week) items-fit (omega arith) (omega (arith, slacks-numbered))
-      (follows-model subject)
-    where
-      slacks-numbered : slack_count (numbered_items week) ≡ slack_count (soft_items week)
-      slacks-numbered = sum_by-map (λ (item : Item ℕ). item.slacks) (numbered (cell_number week)) (soft_items week)
-
-  rows-judged : AllByRecursion (IsJudged week subject) (rows_of week)
-  rows-judged =
-      AllByRecursion-append (IsJudged week subject) (hard_rows week) (item_rows (first_slack week) (numbered_items week))
-      (all-weaker (IsHardRow week subject) (IsJudged week subject) (hard-judged week subject) (hard_rows week) hard-fit) items-charged.judged
-
-  -- what is paid for true slacks, and what each rule is charged for shortages
-  abbrev pub paid : ℕ
-  paid = sum_by (payment week subject) (rows_of week)
-
-  abbrev pub charges : Rule → ℕ
-  charges rule = 0 + sum_by (charge week subject rule) (rows_of week)
-
-  paid-is : value_of A (slack_weights (first_slack week) (numbered_items week)) ≡ pos paid
-  paid-is =
-      omega (
+  pub model-comes :
+      ComesTo (fold (tallied week subject) no_tally (events (objective_rows (objective_terms week)) ++ events (rows_of week))) [] 0 (λ rule. 0)
+  model-comes =
+      let soft : List (LinearRow ℕ) = item_rows (first_slack week) (numbered_items week) in
+      let small : spread (objective_terms week) < 2 ^ 63 = omega (
         arith,
         ints,
-        items-charged.paid,
-        sum_by-append (payment week subject) (hard_rows week) (item_rows (first_slack week) (numbered_items week)),
-        hard-weightless week subject (λ weight row. weight * slacks week subject row) (λ row. omega arith) (hard_rows week) hard-fit,
-      )
-
-  -- ---- the objective
-
-  abbrev requests : List (Term ℕ)
-  requests = numbered_terms week (cell_terms week)
-
-  abbrev weights : List (Term ℕ)
-  weights = slack_weights (first_slack week) (numbered_items week)
-
-  requests-before : Before week subject requests
-  requests-before = terms-below week (cell_terms week) (in-cell_terms week)
-
-  weights-at_slacks : (first : ℕ) (items : List (Item ℕ)) → unit_number week < first → AtSlacks week subject (slack_weights first items)
-  weights-at_slacks first [] after = tt
-  weights-at_slacks first (item ∷ items) after =
-      AllByRecursion-append (λ (term : Term ℕ). unit_number week < term.1) (times (pos item.weight) (slack_variables item first))
-      (slack_weights (first + item.slacks) items)
-      (on-times (λ v. unit_number week < v) (pos item.weight) (slack_variables item first)
-      (range-within (λ v. unit_number week < v) first item.slacks (λ v from to. omega arith)))
-      (weights-at_slacks (first + item.slacks) items (omega arith))
-
-  -- what the objective's row gives but for its slacks
-  abbrev pub given : ℕ
-  given = positive_part (value_of (counted_other week subject) (objective_terms week))
-
-  pub requests-natural : pos 0 ≤ℤ value_of A requests
-  requests-natural =
-      value_of-positive A requests
-      (AllByRecursion-back (λ (term : Term ℕ). IsPositive term.0) requests (constant_terms week ++ weights) (coefficients-positive week)).0
-
-  positive_part-natural : (z : ℤ) → pos 0 ≤ℤ z → pos (positive_part z) ≡ z
-  positive_part-natural (pos n) natural = refl
-  positive_part-natural (negsuc n) natural = absurd (omega (arith, ints, natural))
-
-  pub given-is : pos given ≡ value_of A requests +ℤ pos (if A (unit_number week) then constant week else 0)
-  given-is =
-      let counted : ℕ → Bool = counted_other week subject in
-      let others : value_of counted (objective_terms week) ≡ value_of A requests +ℤ pos (if A (unit_number week) then constant week else 0) =
-      omega (
-        arith,
-        ints,
-        value_of-objective week counted,
-        others-before week subject requests requests-before,
-        ap (λ (b : Bool). cond b (constant week) 0) (counted-before week subject (unit_number week) (omega arith)),
-        others-at_slacks week subject weights (weights-at_slacks (first_slack week) (numbered_items week) (omega arith)),
+        objective-below week (λ v. true) limits,
+        spread-positive (objective_terms week) (coefficients-positive week),
       ) in
-      omega (
-        arith,
-        ints,
-        others,
-        requests-natural,
-        positive_part-natural (value_of counted (objective_terms week)) (omega (arith, ints, others, requests-natural)),
-      )
-
-  spread-positive : (terms : List (Term ℕ)) → OnCoefficients IsPositive terms → value_of (λ v. true) terms ≡ pos (spread terms)
-  spread-positive [] all = refl
-  spread-positive (t ∷ ts) all =
-      omega (
-        arith,
-        ints,
-        sum_by-cons (λ (term : Term ℕ). nat_abs term.0) t ts,
-        own t.0 all.0,
-        spread-positive ts all.1,
-      )
-    where
-      own : (c : ℤ) → IsPositive c → c ≡ pos (nat_abs c)
-      own (pos n) above = refl
-      own (negsuc n) above = absurd (omega (arith, ints, above))
-
-  pub value_of-judged : pos (given + paid) ≡ value_of A (objective_terms week)
-  value_of-judged = omega (arith, ints, value_of-objective week A, paid-is, given-is)
-
-  -- ---- the rows
-
-  objective-stands : (terms : List (Term ℕ)) → spread terms < 2 ^ 63 →
-      Stands week subject (fold (tallied week subject) no_tally (events (objective_rows terms))) 0 None 0 (λ rule. 0)
-      (capped (positive_part (value_of (counted_other week subject) terms)))
-  unfolding events
-  objective-stands [] small =
-      record { constraints = refl; unmet_is = refl; slacks_are = refl; shortages_are = refl; requests_are = refl }
-  objective-stands (t ∷ ts) small =
-      let row : LinearRow ℕ = record { part = Objective; terms = t ∷ ts; degree = pos 0 } in
-      let sum : ℕ = positive_part (value_of (counted_other week subject) (t ∷ ts)) in
-      rw (fold-append (tallied week subject) no_tally (row_events row) [], row-tallied week subject no_tally row small) (record {
-        constraints = refl;
-        unmet_is = refl;
-        slacks_are = refl;
-        shortages_are = refl;
-        requests_are = (let none : 0 + sum ≡ sum = omega arith in ap capped none);
-      })
-
-  spread-objective : spread (objective_terms week) ≤ 700000000000
-  spread-objective =
-      omega (arith, ints, objective-below week (λ v. true) limits, spread-positive (objective_terms week) (coefficients-positive week))
-
-  pub model-stands : Stands week subject
-      (fold (tallied week subject) no_tally (events (objective_rows (objective_terms week)) ++ events (rows_of week)))
-      (0 + length (rows_of week)) (first_unmet A (rows_of week)) (0 + paid) charges (capped given)
-  model-stands =
-      rw (
-        fold-append (tallied week subject) no_tally (events (objective_rows (objective_terms week))) (events (rows_of week)),
-        rows-closed week subject _ (rows_of week) rows-judged,
-        ← later-zero (first_unmet A (rows_of week)),
-      )
-      (rows-stand week subject _ (rows_of week) 0 None 0 (λ rule. 0) (capped given) rows-judged
-      (omega (arith, rows-below week limits))
-      (objective-stands (objective_terms week) (omega (arith, spread-objective))))
-
-  -- ---- what each rule is charged
-
-  abbrev pub roster : Roster
-  roster = roster_in week subject
-
-  cell-truth : (c : Cell) → InWeek week c → A (cell_number week c) ≡ roster c
-  cell-truth c inside = either subject
-    where
-      either : (given : Subject) → assignment_in week given (cell_number week c) ≡ roster_in week given c
-      either (assigned bits) = refl
-      either (extended tables) = extension-roster week (set_of tables) c inside
-
-  pub value_of-requests : value_of A requests ≡ value_of roster (cell_terms week)
-  value_of-requests = value_of-of_terms week A roster cell-truth (cell_terms week) (in-cell_terms week)
-
-  charges-numbered : (rule : Rule) (some : List (Item Cell)) → AllByRecursion (ItemIn week) some →
-      sum_by (charge_of week subject rule) (map (numbered (cell_number week)) some) ≡ sum_by (shortage_of week roster rule) some
-  charges-numbered rule [] inside = refl
-  charges-numbered rule (item ∷ some) inside =
-      omega (
-        arith,
-        sum_by-cons (charge_of week subject rule) (numbered (cell_number week) item) (map (numbered (cell_number week)) some),
-        sum_by-cons (shortage_of week roster rule) item some,
-        ap (λ n. if is_same item.rule rule then item.weight * n else 0) (shortage-of_item week A roster cell-truth item inside.0),
-        charges-numbered rule some inside.1,
-      )
-
-  pub charges-are : (rule : Rule) → charges rule ≡ of_rule (λ own. weighted_shortages roster (items_of_rule week own)) rule
-  charges-are rule =
-      omega (
-        arith,
-        sum_by-append (charge week subject rule) (hard_rows week) (item_rows (first_slack week) (numbered_items week)),
-        hard-weightless week subject (λ weight row. if is_same (rule_of_part row.part) rule then weight * lacks week subject row else 0)
-            (λ row. none (is_same (rule_of_part row.part) rule) (lacks week subject row)) (hard_rows week) hard-fit,
-        items-charged.charged rule,
-        charges-numbered rule (soft_items week) (in-items week),
-        shortages-by_rule week roster rule,
-      )
-    where
-      none : (b : Bool) (n : ℕ) → (if b then 0 * n else 0) ≡ 0
-      none true n = omega arith
-      none false n = refl
+      rw (fold-append (tallied week subject) no_tally (events (objective_rows (objective_terms week))) (events (rows_of week)))
+      (rows-come week subject _ _ _ _ (λ tally. ComesTo tally [] 0 (λ rule. 0)) _ (hard_rows week) soft _ _ hard-fit
+      (λ left comes.
+      items-come week subject _ _ _ _ left (first_slack week) (numbered_items week) items-fit (omega arith)
+      (omega (arith, slack_count-numbered (cell_number week) (soft_items week))) (follows-model subject) comes)
+      (objective-comes (objective_terms week) small (given-is week subject)))

@@ -15,7 +15,6 @@ pub mod EarlyCharges
 pub mod Extension
 pub mod FirstBroken
 pub mod FirstUnmet
-pub mod Given
 pub mod HardRules
 pub mod HeldModel
 pub mod InstanceLimits
@@ -43,10 +42,8 @@ pub mod PatternItems
 pub mod PenaltyBound
 pub mod RisingCells
 pub mod RisingTerms
-pub mod RuleCharges
 pub mod RunItemLists
 pub mod RunLaw
-pub mod RunLengths
 pub mod Satisfied
 pub mod SlackBound
 pub mod SlackTerms

@@ -1,11 +1,13 @@
 -- How large penalties, the constant and the objective are.
-use Rattle.rota_items.proofs.LogicWords.{◌*◌, ◌^◌, ◌<◌, ◌≤◌, length, arith, ◌≡◌, ℕ, zero, suc, ◌+◌, Bool, List, [], ◌∷◌, refl, ap, All-from_recursion, sum_by-le, sum_by-cons, count_by-le-length, pos, ◌≤ℤ◌, sum_by, count_by, range_with_len, ints}
+use Rattle.rota_items.proofs.LogicWords.{◌*◌, ◌^◌, ◌<◌, ◌≤◌, arith, ℕ, ◌+◌, Bool, List, [], ◌∷◌, ap, sum_by-cons, count_by-le-length, pos, ◌≤ℤ◌, sum_by, count_by, ints}
 use Rattle.rota_items.proofs.ModelWords.{Roster, soft_rules, Week, Rule, Cell, Item, shortage, weighted_shortages, numbered, IsWithinLimits, constant, constant_of_rule, items_of_rule, penalty, rule_cost, cell_terms, soft_items, cell_number, unit_number, first_slack, value_of, times, slack_variables, slack_weights, numbered_terms, numbered_items, objective_terms, roster_of}
+use Rattle.std.proofs.lemmas.List.Sums.{sum_by-le-sum_by}
+pub use Rattle.std.proofs.lemmas.List.FromFn.{length-range_with_len as length-range}
 use Rattle.std.proofs.lemmas.Nat.{mul-le}
-use Rattle.rota_items.proofs.ListSums.{sum_by-each-le, sum_by-map}
-use Rattle.rota_items.proofs.SlackBound.{variables-below, items-few}
+use Rattle.rota_items.proofs.ListSums.{sum_by-map}
+use Rattle.rota_items.proofs.SlackBound.{variables-below, items-le, soft_items-le}
 use Rattle.rota_items.proofs.SmallSums.{shortage-least}
-use Rattle.rota_items.proofs.SoftRules.EachRule.{of_sound, sound-rule, cell_terms-are, each-item}
+use Rattle.rota_items.proofs.SoftRules.EachRule.{sound-rule, cell_terms-are}
 use Rattle.rota_items.proofs.SoftRules.Sound.{IsItemSound, most_constant, most_items}
 use Rattle.rota_items.proofs.SoundTerms.{spread-sound}
 use Rattle.std.proofs.Math.Nat.{mul-le-mul_left}
@@ -20,15 +22,15 @@ module _ (week : Week) where
   penalty-below roster limits =
       omega (
         arith,
-        sum_by-each-le (rule_cost week roster) (λ _. 200000000000) (λ rule. (sound-rule week rule).cost_most limits roster)
-            soft_rules,
+        sum_by-le-sum_by (rule_cost week roster) (λ _. 200000000000) soft_rules
+            (λ rule. (sound-rule week rule).cost_most limits roster),
       )
 
   pub constant-few : IsWithinLimits week → constant week ≤ 700000000
   constant-few limits =
       omega (
         arith,
-        sum_by-each-le (constant_of_rule week) most_constant (λ rule. (sound-rule week rule).constant_most limits) soft_rules,
+        sum_by-le-sum_by (constant_of_rule week) most_constant soft_rules (λ rule. (sound-rule week rule).constant_most limits),
       )
 
   -- what an item is charged on any roster
@@ -47,25 +49,14 @@ module _ (week : Week) where
   pub shortages-few : (roster : Roster) (rule : Rule) → IsWithinLimits week →
       weighted_shortages roster (items_of_rule week rule) ≤ most_items rule * (300000 * 33564431)
   shortages-few roster rule limits =
-      omega (
-        arith,
-        sum_by-le (λ (item : Item Cell). item.weight * shortage roster item) (300000 * 33564431) (items_of_rule week rule)
-            (All-from_recursion _ (items_of_rule week rule)
-            (of_sound week (λ item. item.weight * shortage roster item ≤ 300000 * 33564431) rule
-            (λ item sound. charge-few rule item roster limits sound) (items_of_rule week rule) (sound-rule week rule).items)),
-        mul-le (length (items_of_rule week rule)) (300000 * 33564431) (most_items rule) (300000 * 33564431)
-            ((sound-rule week rule).few limits) (omega arith),
-      )
+      items-le week limits (λ item. item.weight * shortage roster item) (λ _. 300000 * 33564431) rule
+      (λ item sound. charge-few rule item roster limits sound)
 
 -- ---- the objective under any assignment
 
 -- what all slacks of an item weigh
 abbrev all_slacks : {X : Type 0} → Item X → ℕ
 all_slacks item = item.weight * item.slacks
-
-pub length-range : (first n : ℕ) → length (range_with_len first n) ≡ n
-length-range first zero = refl
-length-range first (suc n) = ap suc (length-range (first + 1) n)
 
 value_of-slack_weights : (assignment : ℕ → Bool) (first : ℕ) (some : List (Item ℕ)) →
     value_of assignment (slack_weights first some) ≤ℤ pos (sum_by all_slacks some)
@@ -84,15 +75,8 @@ value_of-slack_weights assignment first (x ∷ xs) =
     )
 
 module _ (week : Week) (assignment : ℕ → Bool) (limits : IsWithinLimits week) where
-  slacks-small : sum_by all_slacks (soft_items week) ≤ sum_by most_items soft_rules * 300000
-  slacks-small =
-      omega (
-        arith,
-        sum_by-le (all_slacks {X = Cell}) 300000 (soft_items week)
-            (All-from_recursion (λ (item : Item Cell). all_slacks item ≤ 300000) (soft_items week)
-            (each-item week (λ item. all_slacks item ≤ 300000) (λ _ _ _ sound. (sound.small limits).all_slacks))),
-        items-few week limits,
-      )
+  slacks-small : sum_by all_slacks (soft_items week) ≤ sum_by (λ rule. most_items rule * 300000) soft_rules
+  slacks-small = soft_items-le week limits all_slacks (λ _. 300000) (λ rule item sound. (sound.small limits).all_slacks)
 
   cell_terms-small : value_of assignment (numbered_terms week (cell_terms week)) ≤ℤ pos 200000000000
   cell_terms-small =

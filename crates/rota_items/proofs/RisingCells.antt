@@ -1,17 +1,14 @@
 -- The cells of sums, and the terms of patterns, stand by rising number.
-use Rattle.rota_items.proofs.LogicWords.{◌≡◌, ℕ, suc, ◌+◌, ◌*◌, ◌<◌, ◌≤◌, List, [], ◌∷◌, map, length, sym, subst, arith, ℤ, range_with_len, flat_map}
+use Rattle.rota_items.proofs.LogicWords.{◌≡◌, ℕ, ◌+◌, ◌*◌, ◌<◌, ◌≤◌, List, [], ◌∷◌, map, length, refl, subst, arith, ℤ, range_with_len, flat_map}
 use Rattle.rota_items.proofs.ModelWords.{cell, Week, Cell, on_cells, work_cells, nurse_cells, demand_cells, skill_cells, cell_number, unit_number, Term, times, numbered_terms}
 use Rattle.std.proofs.lemmas.Nat.{mul-add-lt}
 use Rattle.std.proofs.Math.Nat.{mul-le-mul_right}
-use Rattle.rota_core.proofs.RisesWithin.{RisesWithin, weaken, widen, rises-append, rises-each}
+use Rattle.rota_core.proofs.RisesWithin.{RisesWithin, rises-append, rises-blocks, rises-each, rises-in, rises-map}
 use Rattle.rota_core.specs.Lists.{each_below}
 use Rattle.rota_items.specs.RunItems.{Property, variables_on, day_terms}
 use Rattle.rota_items.specs.RunPatterns.{PatternDay}
 
 module _ (week : Week) where
-  abbrev variable : Cell → ℕ
-  variable = cell_number week
-
   -- the first number of a nurse's day
   abbrev pub day_start : ℕ → ℕ → ℕ
   day_start n d = (n * 7 + d) * week.shifts * week.skills + 1
@@ -19,47 +16,43 @@ module _ (week : Week) where
   abbrev pub shift_start : ℕ → ℕ → ℕ → ℕ
   shift_start n d s = ((n * 7 + d) * week.shifts + s) * week.skills + 1
 
-  rises-on_cells : (n s d : ℕ) →
+  pub rises-on_cells : (n s d : ℕ) →
       RisesWithin (cell_number week) (shift_start n d s) (shift_start n d (s + 1)) (on_cells week n s d)
   rises-on_cells n s d =
-      weaken (cell_number week) (shift_start n d s) (shift_start n d s + 0) (shift_start n d (s + 1)) (on_cells week n s d)
-      (omega arith)
-      (widen (cell_number week) (shift_start n d s + 0) (shift_start n d s + week.skills) (shift_start n d (s + 1))
-      (on_cells week n s d) (omega arith)
-      (rises-each (cell_number week) week.skills (λ k. cell n d s k ∷ []) (λ k. shift_start n d s + k)
-      (λ k k_in. (omega arith, omega arith))))
+      rises-blocks (cell_number week) _ _ week.skills (λ k. cell n d s k ∷ []) (λ k. shift_start n d s + k)
+      (omega arith) (omega arith) (λ k k_in. (omega arith, omega arith))
 
   pub rises-work_cells : (n d : ℕ) →
       RisesWithin (cell_number week) (day_start n d) (day_start n (d + 1)) (work_cells week n d)
   rises-work_cells n d =
-      weaken (cell_number week) (day_start n d) (shift_start n d 0) (day_start n (d + 1)) (work_cells week n d) (omega arith)
-      (widen (cell_number week) (shift_start n d 0) (shift_start n d week.shifts) (day_start n (d + 1)) (work_cells week n d)
-      (omega arith)
-      (rises-each (cell_number week) week.shifts (λ s. on_cells week n s d) (shift_start n d)
-      (λ s s_in. rises-on_cells n s d)))
+      rises-blocks (cell_number week) _ _ week.shifts (λ s. on_cells week n s d) (shift_start n d)
+      (omega arith) (omega arith) (λ s s_in. rises-on_cells n s d)
 
   pub rises-nurse_cells : (n : ℕ) →
       RisesWithin (cell_number week) (day_start n 0) (day_start n 7) (nurse_cells week n)
   rises-nurse_cells n =
       rises-each (cell_number week) 7 (λ d. work_cells week n d) (day_start n) (λ d d_in. rises-work_cells n d)
 
+  pub on-keeps : (n s d : ℕ) → s < week.shifts →
+      RisesWithin (cell_number week) (day_start n d) (day_start n (d + 1)) (on_cells week n s d)
+  on-keeps n s d s_in =
+      let later : (n * 7 + d) * week.shifts + (s + 1) ≤ (n * 7 + (d + 1)) * week.shifts = omega arith in
+      rises-in (cell_number week) _ (shift_start n d s) (shift_start n d (s + 1)) _ (on_cells week n s d) (omega arith)
+      (omega (arith, mul-le-mul_right week.skills later)) (rises-on_cells n s d)
+
   pub rises-demand_cells : (d s k : ℕ) → d < 7 → s < week.shifts → k < week.skills →
       RisesWithin (cell_number week) (day_start 0 0) (day_start week.nurses 0) (demand_cells week d s k)
   rises-demand_cells d s k d_in s_in k_in =
       rises-each (cell_number week) week.nurses (λ n. cell n d s k ∷ []) (λ n. day_start n 0) (λ n n_in.
-      let shifts : d * week.shifts + s < week.shifts * 7 = mul-add-lt d week.shifts s 7 d_in s_in in
-      let skills : (d * week.shifts + s) * week.skills + k < week.skills * (week.shifts * 7) =
-      mul-add-lt (d * week.shifts + s) week.skills k (week.shifts * 7) shifts k_in in
-      (omega arith, omega (arith, skills)))
+      let shifts = mul-add-lt d week.shifts s 7 d_in s_in in
+      (omega arith, omega (arith, mul-add-lt (d * week.shifts + s) week.skills k (week.shifts * 7) shifts k_in)))
 
   pub rises-skill_cells : (n k : ℕ) → k < week.skills →
       RisesWithin (cell_number week) (day_start n 0) (day_start n 7) (skill_cells week n k)
   rises-skill_cells n k k_in =
       rises-each (cell_number week) 7 (λ d. each_below week.shifts (λ s. cell n d s k ∷ [])) (day_start n) (λ d d_in.
-      weaken (cell_number week) (day_start n d) (shift_start n d 0) (day_start n (d + 1)) _ (omega arith)
-      (widen (cell_number week) (shift_start n d 0) (shift_start n d week.shifts) (day_start n (d + 1)) _ (omega arith)
-      (rises-each (cell_number week) week.shifts (λ s. cell n d s k ∷ []) (shift_start n d)
-      (λ s s_in. (omega arith, omega arith)))))
+      rises-blocks (cell_number week) _ _ week.shifts (λ s. cell n d s k ∷ []) (shift_start n d) (omega arith) (omega arith)
+      (λ s s_in. (omega arith, omega arith)))
 
   -- ---- terms
 
@@ -71,26 +64,17 @@ module _ (week : Week) where
 
   pub rises-times : (first end : ℕ) (coefficient : ℤ) (cells : List Cell) →
       RisesWithin (cell_number week) first end cells → RisesWithin at first end (times coefficient cells)
-  rises-times first end coefficient [] rises = rises
-  rises-times first end coefficient (c ∷ cs) rises =
-      (rises.0, rises-times (cell_number week c + 1) end coefficient cs rises.1)
+  rises-times first end coefficient cells rises = rises-map at (λ one. (coefficient, one)) first end cells rises
 
   pub rises-numbered : (first end : ℕ) (terms : List (Term Cell)) → RisesWithin at first end terms →
       RisesWithin (λ (term : Term ℕ). term.1) first end (numbered_terms week terms)
-  rises-numbered first end [] rises = rises
-  rises-numbered first end (t ∷ ts) rises = (rises.0, rises-numbered (cell_number week t.1 + 1) end ts rises.1)
-
-  -- the end of the last day of the last nurse is the unit variable
-  pub week_end-le : (n : ℕ) → n < week.nurses → day_start n 7 ≤ unit_number week
-  week_end-le n n_in = omega (arith, mul-le-mul_right week.skills (mul-le-mul_right week.shifts days))
-    where
-      days : n * 7 + 7 ≤ week.nurses * 7
-      days = omega arith
+  rises-numbered first end terms rises =
+      rises-map (λ (term : Term ℕ). term.1) (λ (term : Term Cell). (term.0, cell_number week term.1)) first end terms rises
 
   pub within-block : (first end : ℕ) (terms : List (Term Cell)) → 1 ≤ first → end ≤ unit_number week →
       RisesWithin at first end terms → within terms
   within-block first end terms from up_to rises =
-      weaken at 1 first (unit_number week) terms from (widen at first end (unit_number week) terms up_to rises)
+      rises-in at 1 first end (unit_number week) terms from up_to rises
 
   -- ---- patterns
 
@@ -98,33 +82,28 @@ module _ (week : Week) where
   KeepsToDays n property =
       (d : ℕ) → RisesWithin (cell_number week) (day_start n d) (day_start n (d + 1)) (variables_on property d)
 
-  rises-days : (n : ℕ) (property : Property Cell) → KeepsToDays n property →
-      (first : ℕ) (days : List PatternDay) → map (λ (day : PatternDay). day.day) days ≡ range_with_len first (length days) →
-      RisesWithin at (day_start n first) (day_start n (first + length days)) (flat_map (day_terms property) days)
-  rises-days n property keeps first [] days_are = omega arith
-  rises-days n property keeps first (day ∷ days) days_are =
+  rises-days : (n : ℕ) (property : Property Cell) → KeepsToDays n property → (first end : ℕ) (days : List PatternDay) →
+      map (λ (day : PatternDay). day.day) days ≡ range_with_len first (length days) → end ≡ first + length days →
+      RisesWithin at (day_start n first) (day_start n end) (flat_map (day_terms property) days)
+  rises-days n property keeps first end [] days_are up_to = rw up_to (omega arith)
+  rises-days n property keeps first end (day ∷ days) days_are up_to =
       let here : day.day ≡ first = cc in
       let rest : map (λ (day : PatternDay). day.day) days ≡ range_with_len (first + 1) (length days) = cc in
-      rises-append at (day_start n first) (day_start n (first + 1)) (day_start n (first + suc (length days)))
+      rises-append at (day_start n first) (day_start n (first + 1)) (day_start n end)
       (day_terms property day) (flat_map (day_terms property) days)
       (rises-times (day_start n first) (day_start n (first + 1)) _ (variables_on property day.day)
-      (subst (λ d. RisesWithin (cell_number week) (day_start n first) (day_start n (first + 1)) (variables_on property d))
-      (sym here) (keeps first)))
-      (subst (λ e. RisesWithin at (day_start n (first + 1)) (day_start n e) (flat_map (day_terms property) days))
-      (next first (length days)) (rises-days n property keeps (first + 1) days rest))
-    where
-      next : (a b : ℕ) → a + 1 + b ≡ a + suc b
-      next a b = omega arith
+      (subst (λ d. RisesWithin (cell_number week) (day_start n d) (day_start n (d + 1)) (variables_on property day.day))
+      here (keeps day.day)))
+      (rises-days n property keeps (first + 1) end days rest (omega arith))
 
   pub first_day-from : (n first : ℕ) → 1 ≤ day_start n first
   first_day-from n first = omega arith
 
+  -- the end of the last day of the last nurse is the unit variable
   pub last_day-le : (n e : ℕ) → n < week.nurses → e ≤ 7 → day_start n e ≤ unit_number week
   last_day-le n e n_in in_week =
-      omega (arith, week_end-le n n_in, mul-le-mul_right week.skills (mul-le-mul_right week.shifts days))
-    where
-      days : n * 7 + e ≤ n * 7 + 7
-      days = omega arith
+      let days : n * 7 + e ≤ week.nurses * 7 = omega arith in
+      omega (arith, mul-le-mul_right week.skills (mul-le-mul_right week.shifts days))
 
   pub rises-pattern : (n : ℕ) (property : Property Cell) → n < week.nurses → KeepsToDays n property →
       (first : ℕ) (days : List PatternDay) → map (λ (day : PatternDay). day.day) days ≡ range_with_len first (length days) →
@@ -132,14 +111,4 @@ module _ (week : Week) where
   rises-pattern n property n_in keeps first days days_are in_week =
       within-block (day_start n first) (day_start n (first + length days)) (flat_map (day_terms property) days)
       (first_day-from n first) (last_day-le n (first + length days) n_in in_week)
-      (rises-days n property keeps first days days_are)
-
-  pub on-keeps : (n s d : ℕ) → s < week.shifts →
-      RisesWithin (cell_number week) (day_start n d) (day_start n (d + 1)) (on_cells week n s d)
-  on-keeps n s d s_in =
-      weaken (cell_number week) (day_start n d) (shift_start n d s) (day_start n (d + 1)) (on_cells week n s d) (omega arith)
-      (widen (cell_number week) (shift_start n d s) (shift_start n d (s + 1)) (day_start n (d + 1)) (on_cells week n s d)
-      (omega (arith, later)) (rises-on_cells n s d))
-    where
-      later : ((n * 7 + d) * week.shifts + (s + 1)) * week.skills ≤ ((n * 7 + (d + 1)) * week.shifts) * week.skills
-      later = mul-le-mul_right week.skills (omega arith)
+      (rises-days n property keeps first (first + length days) days days_are refl)

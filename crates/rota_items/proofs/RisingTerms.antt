@@ -1,6 +1,6 @@
 -- The terms of the model stand by rising variable number.
-use Rattle.rota_items.proofs.LogicWords.{◌≡◌, ℕ, zero, suc, ◌+◌, List, [], ◌∷◌, ◌++◌, subst, arith, ℤ, pos, nat_lt, All, AllByRecursion, range_with_len, All-from_recursion}
-use Rattle.rota_items.proofs.ModelWords.{Week, unit_number, first_slack, constant_terms, cell_terms, constant, Item, Term, Constraint, times, linear_constraint, slack_weights, numbered_terms, objective_terms, numbered_items, model_of}
+use Rattle.rota_items.proofs.LogicWords.{◌≡◌, ℕ, zero, suc, ◌+◌, ◌≤◌, List, [], ◌∷◌, ◌++◌, arith, ℤ, pos, nat_lt, All, AllByRecursion, range_with_len, All-from_recursion, sum_by-cons}
+use Rattle.rota_items.proofs.ModelWords.{Week, unit_number, first_slack, slack_count, constant_terms, cell_terms, constant, Item, Term, Constraint, times, linear_constraint, slack_weights, numbered_terms, objective_terms, numbered_items, model_of}
 use Rattle.rota_items.proofs.ListAll.{all-weaker}
 use Rattle.rota_items.proofs.ModelRows.{each-constraint, each-model_row}
 use Rattle.rota_core.proofs.RisesWithin.{RisesWithin, widen, rises-append, rises-only_if}
@@ -22,17 +22,10 @@ from_within first end (t ∷ ts) rises = (rises.0, from_within (t.1 + 1) end ts 
 module _ (week : Week) where
   -- ---- constraints
 
-  rises-range : (first count : ℕ) (coefficient : ℤ) →
-      RisesWithin variable_of first (first + count) (times coefficient (range_with_len first count))
-  rises-range first zero coefficient = omega arith
-  rises-range first (suc n) coefficient = (
-    omega arith,
-    subst (λ e. RisesWithin variable_of (first + 1) e (times coefficient (range_with_len (first + 1) n)))
-        (next first n) (rises-range (first + 1) n coefficient),
-  )
-    where
-      next : (a b : ℕ) → a + 1 + b ≡ a + suc b
-      next a b = omega arith
+  rises-range : (first end count : ℕ) (coefficient : ℤ) → first + count ≤ end →
+      RisesWithin variable_of first end (times coefficient (range_with_len first count))
+  rises-range first end zero coefficient up_to = omega arith
+  rises-range first end (suc n) coefficient up_to = (omega arith, rises-range (first + 1) end n coefficient (omega arith))
 
   pub rises-to_last : AllByRecursion (RisesTo ((model_of week).variables + 1)) (model_of week).constraints
   rises-to_last =
@@ -48,7 +41,7 @@ module _ (week : Week) where
       (times (pos 1) (range_with_len first item.slacks))
       (widen variable_of 1 (unit_number week) first (numbered_terms week item.terms) (omega (arith, after))
       (rises-numbered week 1 (unit_number week) item.terms sound.terms.rise))
-      (rises-range first item.slacks (pos 1)))))
+      (rises-range first (first + item.slacks) item.slacks (pos 1) (omega arith)))))
 
   pub rises-constraints : All HasRisingTerms (model_of week).constraints
   rises-constraints =
@@ -58,26 +51,24 @@ module _ (week : Week) where
 
   -- ---- the objective
 
-  from_append : (first middle : ℕ) (xs ys : List (Term ℕ)) → RisesWithin variable_of first middle xs → RisesFrom middle ys →
-      RisesFrom first (xs ++ ys)
-  from_append first middle [] [] rises after = tt
-  from_append first middle [] (y ∷ ys) rises after = (omega (arith, rises, after.0), after.1)
-  from_append first middle (x ∷ xs) ys rises after = (rises.0, from_append (variable_of x + 1) middle xs ys rises.1 after)
-
-  rises-slack_weights : (first : ℕ) (some : List (Item ℕ)) → RisesFrom first (slack_weights first some)
-  rises-slack_weights first [] = tt
-  rises-slack_weights first (item ∷ rest) =
-      from_append first (first + item.slacks) (times (pos item.weight) (range_with_len first item.slacks))
-      (slack_weights (first + item.slacks) rest) (rises-range first item.slacks (pos item.weight))
-      (rises-slack_weights (first + item.slacks) rest)
+  rises-slack_weights : (first end : ℕ) (some : List (Item ℕ)) → first + slack_count some ≤ end →
+      RisesWithin variable_of first end (slack_weights first some)
+  rises-slack_weights first end [] up_to = omega arith
+  rises-slack_weights first end (item ∷ rest) up_to =
+      let more : slack_count (item ∷ rest) ≡ item.slacks + slack_count rest = sum_by-cons (λ (i : Item ℕ). i.slacks) item rest in
+      rises-append variable_of first (first + item.slacks) end (times (pos item.weight) (range_with_len first item.slacks))
+      (slack_weights (first + item.slacks) rest) (rises-range first _ item.slacks (pos item.weight) (omega arith))
+      (rises-slack_weights (first + item.slacks) end rest (omega arith))
 
   pub rises-objective : RisesFrom 1 (objective_terms week)
   rises-objective =
-      from_append 1 (unit_number week) (numbered_terms week (cell_terms week))
+      let end : ℕ = first_slack week + slack_count (numbered_items week) in
+      from_within 1 end (objective_terms week)
+      (rises-append variable_of 1 (unit_number week) end (numbered_terms week (cell_terms week))
       (constant_terms week ++ slack_weights (first_slack week) (numbered_items week))
       (rises-numbered week 1 (unit_number week) (cell_terms week) (rise-cell_terms week))
-      (from_append (unit_number week) (first_slack week) (constant_terms week)
+      (rises-append variable_of (unit_number week) (first_slack week) end (constant_terms week)
       (slack_weights (first_slack week) (numbered_items week))
       (rises-only_if variable_of (unit_number week) (first_slack week) (nat_lt 0 (constant week))
       (pos (constant week), unit_number week) (omega arith) (omega arith))
-      (rises-slack_weights (first_slack week) (numbered_items week)))
+      (rises-slack_weights (first_slack week) end (numbered_items week) (omega arith))))

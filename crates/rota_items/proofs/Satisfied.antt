@@ -1,7 +1,8 @@
 -- An assignment satisfies the numbered rows exactly where its roster keeps the rules.
-use Rattle.rota_items.proofs.LogicWords.{◌≡◌, ℕ, Bool, true, false, cond, List, [], ◌∷◌, refl, sym, subst, arith, pos, ◌+ℤ◌, ◌≤ℤ◌, AllByRecursion, ints}
+use Rattle.rota_items.proofs.LogicWords.{◌≡◌, ℕ, Bool, true, List, [], ◌∷◌, sym, subst, ◌≤ℤ◌, AllByRecursion}
 use Rattle.rota_items.proofs.ModelWords.{KeepsHardRules, Week, Cell, cell_number, unit_number, rule_rows, Satisfies, value_of, LinearRow, hard_constraints, roster_of}
 use Rattle.rota_items.proofs.HardRules.EachRule.{rule_rows-hold, rule_rows-mean}
+use Rattle.rota_items.proofs.HardRules.Held.{one-where_true}
 use Rattle.rota_items.proofs.HardRules.Sound.{AllHold}
 use Rattle.rota_items.proofs.ItemLaw.{value_of-numbered}
 use Rattle.rota_items.proofs.ModelParts.{hard_constraint, numbered_constraints}
@@ -24,17 +25,10 @@ all_hold week assignment [] all = tt
 all_hold week assignment (row ∷ rows) all =
     (subst (λ z. row.degree ≤ℤ z) (hard-value_of week assignment row) all.0, all_hold week assignment rows all.1)
 
-unit-true : (b : Bool) → pos 1 ≤ℤ (cond b (pos 1) (pos 0) +ℤ pos 0) → b ≡ true
-unit-true true holds = refl
-unit-true false holds = absurd (omega (arith, ints, holds))
-
-pub unit-holds : (b : Bool) → b ≡ true → pos 1 ≤ℤ (cond b (pos 1) (pos 0) +ℤ pos 0)
-unit-holds b is = rw is (omega (arith, ints))
-
 pub hard_constraints-hold : (week : Week) (assignment : ℕ → Bool) → assignment (unit_number week) ≡ true →
     KeepsHardRules week (roster_of week assignment) → AllByRecursion (Satisfies assignment) (hard_constraints week)
 hard_constraints-hold week assignment unit keeps = (
-  unit-holds (assignment (unit_number week)) unit,
+  (one-where_true (assignment (unit_number week))).1 unit,
   satisfied week assignment (rule_rows week) (rule_rows-hold week (roster_of week assignment) keeps),
 )
 
@@ -42,6 +36,6 @@ pub hard_constraints-mean : (week : Week) (assignment : ℕ → Bool) →
     AllByRecursion (Satisfies assignment) (hard_constraints week) →
     (assignment (unit_number week) ≡ true) × KeepsHardRules week (roster_of week assignment)
 hard_constraints-mean week assignment all = (
-  unit-true (assignment (unit_number week)) all.0,
+  (one-where_true (assignment (unit_number week))).0 all.0,
   rule_rows-mean week (roster_of week assignment) (all_hold week assignment (rule_rows week) all.1),
 )

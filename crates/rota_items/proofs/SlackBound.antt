@@ -2,12 +2,12 @@
 use Rattle.rota_items.proofs.LogicWords.{◌≡◌, ℕ, ◌+◌, ◌*◌, ◌^◌, ◌<◌, ◌≤◌, List, [], ◌∷◌, length, refl, arith, sum_by, length-append, length-map, All-from_recursion, sum_by-le}
 use Rattle.rota_items.proofs.ModelWords.{Week, Rule, Cell, cell_number, first_slack, rule_rows, Item, numbered, IsWithinLimits, linear_constraint, item_rows, slack_count, soft_rules, items_of_rule, soft_items, hard_rows, numbered_items, numbered_row, rows_of, model_of}
 use Rattle.std.proofs.lemmas.List.Concat.{length-flat_map}
+use Rattle.std.proofs.lemmas.List.Sums.{sum_by-le-sum_by}
 use Rattle.std.proofs.lemmas.Nat.{mul-le}
 use Rattle.std.proofs.Math.Nat.{mul-le-mul}
-use Rattle.rota_items.proofs.HardRules.EachRule.{few-rows}
-use Rattle.rota_items.proofs.ListSums.{sum_by-each-le}
+use Rattle.rota_items.proofs.HardRules.EachRule.{rows-are}
 use Rattle.rota_items.proofs.SoftRules.EachRule.{of_sound, sound-rule, sum_by-soft_items}
-use Rattle.rota_items.proofs.SoftRules.Sound.{most_items, most_slacks}
+use Rattle.rota_items.proofs.SoftRules.Sound.{IsItemSound, most_items, most_slacks}
 use Rattle.rota_items.specs.Cells.{cell_count}
 
 pub length-item_rows : (first : ℕ) (items : List (Item ℕ)) → length (item_rows first items) ≡ length items
@@ -22,40 +22,41 @@ module _ (week : Week) (limits : IsWithinLimits week) where
       omega (
         arith,
         length-flat_map (items_of_rule week) soft_rules,
-        sum_by-each-le (λ rule. length (items_of_rule week rule)) most_items (λ rule. (sound-rule week rule).few limits)
-            soft_rules,
+        sum_by-le-sum_by (λ rule. length (items_of_rule week rule)) most_items soft_rules (λ rule. (sound-rule week rule).few limits),
       )
 
-  slacks-of_rule : (rule : Rule) → slack_count (items_of_rule week rule) ≤ most_items rule * most_slacks rule
-  slacks-of_rule rule =
-      let items : List (Item Cell) = items_of_rule week rule in
-      omega (
-        arith,
-        sum_by-le (λ (item : Item Cell). item.slacks) (most_slacks rule) items
-            (All-from_recursion (λ (item : Item Cell). item.slacks ≤ most_slacks rule) items
-            (of_sound week (λ item. item.slacks ≤ most_slacks rule) rule (λ item sound. (sound.small limits).slacks_of_rule) items
-            (sound-rule week rule).items)),
-        mul-le (length items) (most_slacks rule) (most_items rule) (most_slacks rule) ((sound-rule week rule).few limits)
-            (omega arith),
-      )
+  module _ (f : Item Cell → ℕ) (most : Rule → ℕ) where
+    -- numbers of items that are no greater than the most sum to no more than so many times the most
+    pub items-le : (rule : Rule) → ((item : Item Cell) → IsItemSound week rule item → f item ≤ most rule) →
+        sum_by f (items_of_rule week rule) ≤ most_items rule * most rule
+    items-le rule each =
+        let items : List (Item Cell) = items_of_rule week rule in
+        omega (
+          arith,
+          sum_by-le f (most rule) items
+              (All-from_recursion _ items (of_sound week (λ item. f item ≤ most rule) rule each items (sound-rule week rule).items)),
+          mul-le (length items) (most rule) (most_items rule) (most rule) ((sound-rule week rule).few limits) (omega arith),
+        )
+
+    pub soft_items-le : ((rule : Rule) (item : Item Cell) → IsItemSound week rule item → f item ≤ most rule) →
+        sum_by f (soft_items week) ≤ sum_by (λ rule. most_items rule * most rule) soft_rules
+    soft_items-le each =
+        omega (
+          arith,
+          sum_by-soft_items week f soft_rules,
+          sum_by-le-sum_by (λ rule. sum_by f (items_of_rule week rule)) (λ rule. most_items rule * most rule) soft_rules
+              (λ rule. items-le rule (each rule)),
+        )
 
   slacks-few : slack_count (soft_items week) ≤ sum_by (λ rule. most_items rule * most_slacks rule) soft_rules
-  slacks-few =
-      omega (
-        arith,
-        sum_by-soft_items week (λ item. item.slacks) soft_rules,
-        sum_by-each-le (λ rule. slack_count (items_of_rule week rule)) (λ rule. most_items rule * most_slacks rule)
-            slacks-of_rule soft_rules,
-      )
+  slacks-few = soft_items-le (λ item. item.slacks) most_slacks (λ rule item sound. (sound.small limits).slacks_of_rule)
 
   -- ---- variables
 
   cells-few : cell_count week ≤ 1792000
   cells-few =
       let days : 7 * week.nurses ≤ 7000 = omega (arith, limits.nurses) in
-      let rows : 7 * week.nurses * week.shifts ≤ 7000 * 16 = mul-le-mul days limits.shifts in
-      let cells : 7 * week.nurses * week.shifts * week.skills ≤ 7000 * 16 * 16 = mul-le-mul rows limits.skills in
-      omega (arith, cells)
+      omega (arith, mul-le-mul (mul-le-mul days limits.shifts) limits.skills)
 
   -- the number after that of the last slack
   pub slack_end-below : first_slack week + slack_count (soft_items week) < 2 ^ 25
@@ -74,7 +75,7 @@ module _ (week : Week) (limits : IsWithinLimits week) where
       omega (
         arith,
         length-append (hard_rows week) (item_rows (first_slack week) (numbered_items week)),
-        few-rows week limits.nurses limits.shifts limits.skills,
+        (rows-are week).few limits,
         length-map (rule_rows week) (numbered_row week),
         length-item_rows (first_slack week) (numbered_items week),
         length-map (soft_items week) (numbered (cell_number week)),

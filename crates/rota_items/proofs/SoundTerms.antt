@@ -31,7 +31,7 @@ module _ (week : Week) where
       )
 
   -- minus the cells of a nurse on these days
-  sound-minus : (n first end : ℕ) (cells : List Cell) → n < week.nurses → end ≤ 7 → AllByRecursion (InWeek week) cells →
+  pub sound-minus : (n first end : ℕ) (cells : List Cell) → n < week.nurses → end ≤ 7 → AllByRecursion (InWeek week) cells →
       RisesWithin (cell_number week) (day_start week n first) (day_start week n end) cells →
       AreSound week (times (negsuc 0) cells)
   sound-minus n first end cells n_in in_week inside rises = record {

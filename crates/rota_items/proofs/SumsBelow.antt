@@ -1,16 +1,13 @@
 -- Sums and tests over the numbers below a number.
-use Rattle.std.proofs.Common.{◌≡◌, ℕ, zero, suc, ◌+◌, ◌*◌, ◌<◌, ◌≤◌, Bool, ◌||◌, true, false, cond, ◌⊎◌, inl, inr, List, [], ◌∷◌, refl, ap, ◌∙◌, arith, zero-add}
+use Rattle.std.proofs.Common.{◌≡◌, ℕ, zero, suc, ◌+◌, ◌*◌, ◌<◌, ◌≤◌, Bool, ◌||◌, true, false, cond, inl, inr, List, [], ◌∷◌, refl, ap, ◌∙◌, arith, zero-add}
 use Rattle.std.specs.List.{sum_by, count_by, list_any}
 use Rattle.std.proofs.lemmas.List.Sums.{sum_by-append}
 use Rattle.std.proofs.lemmas.List.Folds.{list_any-append}
+use Rattle.std.proofs.lemmas.Bool.{cases_lt}
 use Rattle.std.proofs.lemmas.Nat.{mul-le}
 use Rattle.rota_core.specs.Below.{sum_below, count_below, any_below}
 use Rattle.rota_core.specs.Lists.{each_below}
 use Rattle.rota_core.proofs.Loops.{last_or_before}
-
-pub sum_below-none : (f : ℕ → ℕ) → sum_below 0 f ≡ 0
-unfolding sum_below
-sum_below-none f = refl
 
 pub sum_below-same : (n : ℕ) (f g : ℕ → ℕ) → ((i : ℕ) → i < n → f i ≡ g i) → sum_below n f ≡ sum_below n g
 unfolding sum_below
@@ -34,11 +31,14 @@ sum_below-le zero f g le = omega arith
 sum_below-le (suc n) f g le =
     omega (arith, sum_below-le n f g (λ i below. le i (omega arith)), le n (omega arith))
 
-pub sum_below-zero : (n : ℕ) (f : ℕ → ℕ) → ((i : ℕ) → i < n → f i ≡ 0) → sum_below n f ≡ 0
+pub sum_below-within : (n m : ℕ) (f : ℕ → ℕ) → ((i : ℕ) → i < n → f i ≤ m) → sum_below n f ≤ n * m
 unfolding sum_below
-sum_below-zero zero f none = refl
-sum_below-zero (suc n) f none =
-    omega (arith, sum_below-zero n f (λ i below. none i (omega arith)), none n (omega arith))
+sum_below-within zero m f small = omega arith
+sum_below-within (suc n) m f small =
+    omega (arith, sum_below-within n m f (λ i below. small i (omega arith)), small n (omega arith))
+
+pub sum_below-zero : (n : ℕ) (f : ℕ → ℕ) → ((i : ℕ) → i < n → f i ≡ 0) → sum_below n f ≡ 0
+sum_below-zero n f none = omega (arith, sum_below-within n 0 f (λ i below. omega (arith, none i below)))
 
 pub term-le-sum_below : (n : ℕ) (f : ℕ → ℕ) (i : ℕ) → i < n → f i ≤ sum_below n f
 unfolding sum_below
@@ -49,18 +49,14 @@ term-le-sum_below (suc n) f i below =
       | inr before ↦ omega (arith, term-le-sum_below n f i before)
     ]
 
-pub zero_or_more : (n : ℕ) → (n ≡ 0) ⊎ (0 < n)
-zero_or_more zero = inl refl
-zero_or_more (suc n) = inr (omega arith)
-
 -- a sum that is not 0 has a term that is not
 pub found : (n : ℕ) (f : ℕ → ℕ) → 0 < sum_below n f → (i : ℕ) × (i < n) × (0 < f i)
 unfolding sum_below
 found zero f some = absurd (omega arith)
 found (suc n) f some =
-    elim (zero_or_more (f n)) [
-      | inl none ↦ let before : (i : ℕ) × (i < n) × (0 < f i) = found n f (omega arith) in (before.0, omega arith, before.2)
-      | inr here ↦ (n, omega arith, here)
+    elim (cases_lt 0 (f n)) [
+      | inl here ↦ (n, omega arith, here)
+      | inr none ↦ let before : (i : ℕ) × (i < n) × (0 < f i) = found n f (omega arith) in (before.0, omega arith, before.2)
     ]
 
 -- at most one term of 1 gives a sum of at most 1
@@ -69,22 +65,16 @@ pub sum_below-one : (n : ℕ) (f : ℕ → ℕ) → ((i : ℕ) → i < n → f i
 unfolding sum_below
 sum_below-one zero f small same = omega arith
 sum_below-one (suc n) f small same =
-    elim (zero_or_more (f n)) [
-      | inl none ↦
-          omega (
-            arith,
-            sum_below-one n f (λ i below. small i (omega arith)) (λ i j i_below j_below. same i j (omega arith) (omega arith)),
-          )
-      | inr here ↦
-          omega (
-            arith,
-            small n (omega arith),
-            sum_below-zero n f (λ i below.
-                elim (zero_or_more (f i)) [
-                  | inl none ↦ none
-                  | inr some ↦ absurd (omega (arith, same i n (omega arith) (omega arith) some here))
-                ]),
-          )
+    elim (cases_lt 0 (f n)) [
+      | inl here ↦
+          let none : (i : ℕ) → i < n → f i ≤ 0 = λ i below.
+          elim (cases_lt 0 (f i)) [
+            | inl some ↦ absurd (omega (arith, same i n (omega arith) (omega arith) some here))
+            | inr none ↦ none
+          ] in
+          omega (arith, small n (omega arith), sum_below-within n 0 f none)
+      | inr none ↦
+          omega (arith, sum_below-one n f (λ i below. small i (omega arith)) (λ i j i_in j_in. same i j (omega arith) (omega arith)))
     ]
 
 -- where a sum is at most 1, two terms that are not 0 are the same
@@ -106,12 +96,6 @@ one-sum_below (suc n) f one i j i_below j_below some other =
     ]
 
 -- ---- how large
-
-pub sum_below-within : (n m : ℕ) (f : ℕ → ℕ) → ((i : ℕ) → i < n → f i ≤ m) → sum_below n f ≤ n * m
-unfolding sum_below
-sum_below-within zero m f small = omega arith
-sum_below-within (suc n) m f small =
-    omega (arith, sum_below-within n m f (λ i below. small i (omega arith)), small n (omega arith))
 
 pub sum_below-at_most : (n most m : ℕ) (f : ℕ → ℕ) → n ≤ most → ((i : ℕ) → f i ≤ m) → sum_below n f ≤ most * m
 sum_below-at_most n most m f few small =

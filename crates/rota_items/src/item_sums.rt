@@ -99,6 +99,7 @@ fn give_days<T: Taker>(
 }
 
 /// A day that must not have the property, if the pattern has one there.
+#[tactic(auto, using(crate::proofs::DayTerms::day_taking), unfolding(rota_core::specs::Lists::only_if))]
 fn give_day_without<T: Taker>(
     instance: &Instance,
     taker: &mut T,

@@ -51,6 +51,7 @@ fn edge_patterns_of(history: u16, minimum: u16) -> u32
 }
 
 /// The number of the items that charge a nurse's runs.
+#[tactic(auto, using(crate::proofs::EachPattern::run_counting))]
 pub fn count_run_items(runs: NurseRuns) -> u32
     ensures few { result ≤ 56 }
     ensures number { (week : Week) → result ≡ length (run_items (runs_of week runs)) }

@@ -49,6 +49,7 @@ pub fn pattern_item(charge: RunCharge, pattern: DayPattern) -> SoftItem
 
 /// The window of days that ends on a day, one longer than the greatest length, or cut at Monday, where
 /// a run can be too long there.
+#[tactic(auto, unfolding(rota_core::specs::Lists::only_if))]
 pub fn window_on(history: u16, limits: Span, day: u8) -> Option<DayPattern>
     requires { day < 7 }
     ensures days_in { AreInWeek result }
@@ -70,6 +71,7 @@ pub fn window_on(history: u16, limits: Span, day: u8) -> Option<DayPattern>
 
 /// A run of `count` days that begins after Monday and ends before a day, where the least length is
 /// greater.
+#[tactic(auto, unfolding(rota_core::specs::Lists::only_if))]
 pub fn closed_before(minimum: u16, day: u8, count: u8) -> Option<DayPattern>
     requires day_in { day < 7 }
     requires count_in { count < day }
@@ -89,6 +91,7 @@ pub fn closed_before(minimum: u16, day: u8, count: u8) -> Option<DayPattern>
 }
 
 /// A run that fills the week up to a day, and ends before it, where the least length is greater.
+#[tactic(auto, unfolding(rota_core::specs::Lists::only_if))]
 pub fn edge_before(history: u16, minimum: u16, day: u8) -> Option<DayPattern>
     requires { day < 7 }
     ensures days_in { AreInWeek result }

@@ -1,21 +1,23 @@
 -- What a run that decodes did.
-use Rattle.std.proofs.Common.{◌≡◌, ℕ, subst}
+use Rattle.std.proofs.Common.{◌≡◌, ℕ, Result, Ok, Err, subst}
+use Rattle.std.specs.Prelude.{List, IfErr}
 use Rattle.rota_core.specs.InstanceTables.{InstanceTables, week_of}
 use Rattle.rota_core.specs.RosterTables.{set_of}
 use Rattle.rota_read.specs.SolutionText.{solution_text}
 use Rattle.solver_text.specs.declared.outcome.Solved.{Solved}
 use Rattle.rota_pb.specs.declared.decoded.Decoded.{Decoded}
 use Rattle.rota_pb.specs.declared.fault.Fault.{Fault}
+use Rattle.rota_pb.specs.declared.fault.Fault.TheVariants.{Write}
 use Rattle.rota_pb.specs.declared.week_files.Choice.{Choice}
 use Rattle.rota_pb.specs.AnswerPieces.{FailsAnswer, IsSolved}
 use Rattle.rota_pb.specs.Decoded.{IsDecoded, LacksRoster}
-use Rattle.rota_pb.specs.Decoding.{BeginsSolution, DecodesTo, FailsWriting, StopsDecoding, WritesSolution, at_answer, at_report, at_roster, at_solution, variables_of}
+use Rattle.rota_pb.specs.Decoding.{BeginsSolution, DecodeOutcome, DecodesTo, SendsBoth, StopsDecoding, at_answer, at_report, at_roster, variables_of}
 use Rattle.rota_pb.specs.Faults.{CheckOrWrite}
 use Rattle.rota_pb.specs.Readers.{Reader, WeekReaders}
 use Rattle.rota_pb.specs.Report.{report_text}
 use Rattle.rota_pb.specs.WeekFiles.{SpellsWeek}
-use Rattle.rota_pb.specs.Writers.{Writer, WritesBeginning, WritesText}
-use Rattle.rota_pb.proofs.Outcomes.{checked}
+use Rattle.rota_pb.specs.Writers.{SendsText, Writer, WritesText}
+use Rattle.rota_pb.proofs.Outcomes.{checked, failed_write}
 
 module _ (choice : Choice) (readers : WeekReaders) (answer : Reader) (tables : InstanceTables) (spelled : SpellsWeek choice readers tables)
     (variables : ℕ) (are : variables ≡ variables_of tables) where
@@ -50,20 +52,17 @@ module _ (choice : Choice) (readers : WeekReaders) (answer : Reader) (tables : I
         decodes = decodes;
       }
 
-      part : FailsWriting sol report (solution_text tables (set_of decoded.roster)) (report_text decoded) →
-          BeginsSolution choice readers answer sol report
-      part fails = record { tables = tables; decoded = decoded; decodes = decodes_to; fails = fails }
+      -- what both texts sent makes of the run
+      pub written : (r : Result (Unit {0}) Fault) → SendsBoth sol report (solution_text tables (set_of decoded.roster)) (report_text decoded) r →
+          IfErr r (λ fault. fault ≡ Write) → DecodeOutcome choice readers answer sol report r
+      written (Ok u) whole is =
+          record { tables = tables; decoded = decoded; decodes = decodes_to; solution = whole.0; reported = whole.1 }
+      written (Err fault) fails is =
+          failed_write (StopsDecoding choice readers answer fault × sol.untouched × report.untouched) fault is
+          (record { tables = tables; decoded = decoded; decodes = decodes_to; fails = fails })
 
-      -- the writer of the solution failed
-      pub solution_fails : WritesBeginning sol (solution_text tables (set_of decoded.roster)) → report.untouched →
-          BeginsSolution choice readers answer sol report
-      solution_fails begun untouched = part (at_solution begun untouched)
-
-      module _ (whole : WritesText sol (solution_text tables (set_of decoded.roster))) where
-        -- both texts went out whole
-        pub reported : WritesText report (report_text decoded) → WritesSolution choice readers answer sol report
-        reported written = record { tables = tables; decoded = decoded; decodes = decodes_to; solution = whole; reported = written }
-
-        -- the writer of the report failed
-        pub report_fails : WritesBeginning report (report_text decoded) → BeginsSolution choice readers answer sol report
-        report_fails begun = part (at_report whole begun)
+-- a report after a whole solution
+pub both_sent : {sol : Writer} {solution : List ℕ} (report : Writer) (reported : List ℕ) (r : Result (Unit {0}) Fault) →
+    WritesText sol solution → SendsText report reported r → SendsBoth sol report solution reported r
+both_sent report reported (Ok u) whole sends = (whole, sends)
+both_sent report reported (Err fault) whole begun = at_report whole begun

@@ -17,7 +17,7 @@ use Rattle.rota_items.specs.WeekModel.{assignment_of, model_of}
 use Rattle.rota_items.specs.declared.tallies.RowSums.{RowSums}
 use Rattle.rota_items.specs.declared.tallies.Tally.{Tally}
 use Rattle.rota_items.proofs.ItemLaw.{needed-first, needed-after}
-use Rattle.rota_items.proofs.JudgedItems.{IsFit, item-lacks, item-spread, shortage-extended, slacks-at_slacks, slacks-counted}
+use Rattle.rota_items.proofs.JudgedItems.{IsFit, at_slacks, item-lacks, item-spread, shortage-extended, slacks-counted}
 use Rattle.rota_items.proofs.JudgedRows.{IsHardRow}
 use Rattle.rota_items.proofs.JudgedTerms.{opened, row-opened, slacks-before, slacks-of, sums_of}
 use Rattle.rota_items.proofs.SmallSums.{spread}
@@ -117,7 +117,7 @@ module _ (tables : InstanceTables) (roster : RosterTables) where
   item_puts tally n item first after in_model fit =
       row_puts tally n (item_row item first) item.slacks _ (item-spread week subject item first fit)
       (ap positive_part
-      (slacks-of week subject item.terms (times _ (slack_variables item first)) fit.before (slacks-at_slacks week subject item first after) ∙
+      (slacks-of week subject item.terms (times _ (slack_variables item first)) fit.before (at_slacks week subject _ item first after) ∙
       slacks-counted week roster item first after in_model))
       (λ i. ap (nat_lt i) (item-lacks week subject item first fit after ∙ shortage-extended week roster item fit.before))
 

@@ -49,6 +49,11 @@ pub data FailsWriting (sol report : Writer) (solution reported : List ℕ) : Typ
   at_solution : WritesBeginning sol solution → report.untouched → FailsWriting sol report solution reported
   at_report : WritesText sol solution → WritesBeginning report reported → FailsWriting sol report solution reported
 
+-- the solution went out whole and then the report, or a writer failed
+abbrev pub SendsBoth : Writer → Writer → List ℕ → List ℕ → Result (Unit {0}) Fault → Type 0
+SendsBoth sol report solution reported result =
+    MatchResult result (λ _. WritesText sol solution × WritesText report reported) (λ _. FailsWriting sol report solution reported)
+
 -- a beginning of what is to be written went out
 pub record BeginsSolution (choice : Choice) (readers : WeekReaders) (answer : Reader) (sol report : Writer) : Type 0 where
   pub tables : InstanceTables

@@ -1,20 +1,44 @@
 //! The run that turns a solver's answer into a solution file and a report.
-ghost use Rattle.std.specs.Prelude.{◌≡◌, ◌⊎◌, Err};
-ghost use Rattle.rota_pb.specs.declared.fault.Fault.TheVariants.{Read};
+ghost use Rattle.std.specs.Prelude.{◌≡◌, ◌⊎◌, Err, IfErr};
+ghost use Rattle.rota_core.specs.HardRules.{KeepsOneCell};
+ghost use Rattle.rota_core.specs.InstanceTables.{week_of};
+ghost use Rattle.rota_core.specs.RosterTables.{HasShapeOf, set_of};
+ghost use Rattle.rota_read.specs.SolutionText.{solution_text};
+ghost use Rattle.rota_pb.specs.declared.fault.Fault.TheVariants.{Read, Write};
 ghost use Rattle.rota_pb.specs.AnswerPieces.{HasNoEnd};
-ghost use Rattle.rota_pb.specs.Decoding.{DecodeOutcome};
+ghost use Rattle.rota_pb.specs.Decoded.{FindsRoster};
+ghost use Rattle.rota_pb.specs.Decoding.{DecodeOutcome, SendsBoth};
+ghost use Rattle.rota_pb.specs.Report.{report_text};
 ghost use Rattle.rota_pb.specs.Readers.{OneFailsBeforeEnd, reader_of, week_readers};
 ghost use Rattle.rota_pb.specs.Writers.{writer_of};
 
 use crate::answer_pieces::read_answer;
-use crate::decoded::decode;
+use crate::decoded::{Decoded, decode};
 use crate::fault::Fault;
 use crate::report::write_report;
 use crate::week_files::{Choice, read_instance};
 use crate::written_solution::write_solution;
-use rota_core::{Source, Target};
+use rota_core::{Instance, Source, Target};
 use rota_items::counts;
 use std::alloc::Global;
+
+// Writes the solution file of the roster and, once it is out whole and flushed, the report.
+fn write_both<W: Target, R: Target>(
+    instance: &Instance,
+    decoded: &Decoded,
+    sol: &mut W,
+    report: &mut R,
+) -> Result<(), Fault>
+    requires shape { HasShapeOf (week_of instance.now) decoded.now.roster }
+    requires one_cell { KeepsOneCell (week_of instance.now) (set_of decoded.now.roster) }
+    requires finds { FindsRoster decoded.now.status }
+    ensures sends { SendsBoth (writer_of W.Target sol.old sol.new) (writer_of R.Target report.old report.new)
+        (solution_text instance.now (set_of decoded.now.roster)) (report_text decoded.now) result }
+    ensures fault { IfErr result (λ fault. fault ≡ Write) }
+{
+    write_solution(instance, &decoded.roster, sol)?;
+    write_report(decoded, report)
+}
 
 /// Reads the files of a week and a solver's answer to the week's model, each to its end, and writes
 /// the solution file of the answer's roster to `sol` and then a report to `report`.
@@ -56,6 +80,5 @@ pub fn run_decode<S: Source, H: Source, K: Source, F: Source, A: Source, W: Targ
     let instance = read_instance(alloc, choice, sce, his, week, fix_file)?;
     let solved = read_answer(alloc, counts(&instance).variables, answer)?;
     let decoded = decode(&instance, solved)?;
-    write_solution(&instance, &decoded.roster, sol)?;
-    write_report(&decoded, report)
+    write_both(&instance, &decoded, sol, report)
 }

@@ -1,12 +1,12 @@
 -- The items of patterns of a nurse's days are sound.
-use Rattle.rota_items.proofs.LogicWords.{◌≡◌, ℕ, ◌+◌, ◌*◌, ◌<◌, ◌≤◌, List, [], ◌∷◌, ◌++◌, length, refl, arith, ℤ, pos, negsuc, ◌-ℤ◌, count_by, AllByRecursion, ints, length-map}
+use Rattle.rota_items.proofs.LogicWords.{◌≡◌, ℕ, ◌+◌, ◌*◌, ◌<◌, ◌≤◌, List, [], ◌∷◌, ◌++◌, length, refl, arith, ℤ, pos, negsuc, ◌-ℤ◌, count_by, AllByRecursion, ints, length-append, length-map}
 use Rattle.rota_items.proofs.ModelWords.{KeepsOneCell, Roster, InWeek, Week, Rule, Cell, cell_number, on_cells, work_cells, positive_part, IsWithinLimits}
 use Rattle.std.proofs.lemmas.Nat.{mul-le}
 use Rattle.rota_core.proofs.RisesWithin.{RisesWithin}
 use Rattle.rota_items.proofs.CellCounts.{cond-le, count-on_cells, count-work_cells, on_count-le, work_count-le}
 use Rattle.rota_items.proofs.CellsIn.{in-on_cells, in-work_cells}
 use Rattle.rota_items.proofs.DayLaw.{matches}
-use Rattle.rota_items.proofs.EachPattern.{each-pattern, few-run_patterns, on-pattern, window-follows, closed-follows, edge-follows}
+use Rattle.rota_items.proofs.EachPattern.{IsRunPattern, each-pattern, few-run_patterns, on-pattern}
 use Rattle.rota_items.proofs.PatternItems.{shortage-pattern_item}
 use Rattle.rota_items.proofs.RisingCells.{day_start, on-keeps, rises-pattern, rises-work_cells}
 use Rattle.rota_items.proofs.SoftRules.Sound.{IsItemSound, most_slacks}
@@ -97,27 +97,16 @@ module _ (week : Week) (n : ℕ) (runs : Runs Cell) where
   pub sound-run_items : IsOfNurse week n runs.property → 1 ≤ runs.weight → runs.weight ≤ 30 → 1 ≤ most_slacks runs.rule →
       (IsWithinLimits week → runs.limits.min ≤ 9999) → AllByRecursion (IsItemSound week runs.rule) (run_items runs)
   sound-run_items is weighs light slacks small =
-      each (windows runs.history runs.limits ++ patterns runs.history runs.limits)
-      (each-pattern runs.history runs.limits IsPatternSound (record {
-        of_window = λ d d_in. sound _ (window-follows runs.limits.max d d_in) (omega arith) (λ _. omega arith);
-        of_closed = λ d k d_in room from below.
-            sound _ (closed-follows runs.limits.min d k room d_in) (omega arith) (λ limits. omega (arith, small limits));
-        of_edge = λ d d_in below.
-            sound _ (edge-follows runs.history runs.limits.min d d_in) (omega arith) (λ limits. omega (arith, small limits));
-      }))
+      each (windows runs.history runs.limits ++ patterns runs.history runs.limits) (each-pattern runs.history runs.limits)
     where
-      IsPatternSound : Pattern → Type 0
-      IsPatternSound pattern = IsItemSound week runs.rule (pattern_item runs.rule runs.weight runs.property pattern)
-
-      sound : (pattern : Pattern) → DaysFollow pattern → 1 ≤ pattern.units → (IsWithinLimits week → pattern.units ≤ 9999) →
-          IsPatternSound pattern
-      sound pattern follows some few =
-          sound-pattern week runs.rule runs.weight n runs.property is pattern follows weighs light some few slacks
-
-      each : (all : List Pattern) → AllByRecursion IsPatternSound all →
+      each : (all : List Pattern) → AllByRecursion (IsRunPattern runs.limits) all →
           AllByRecursion (IsItemSound week runs.rule) (pattern_items runs all)
       each [] all = tt
-      each (p ∷ ps) all = (all.0, each ps all.1)
+      each (p ∷ ps) all = (
+        sound-pattern week runs.rule runs.weight n runs.property is p all.0.follows weighs light all.0.some
+            (λ limits. omega (arith, all.0.few, small limits)) slacks,
+        each ps all.1,
+      )
 
 pub few-run_items : (runs : Runs Cell) → length (run_items runs) ≤ 56
 few-run_items runs =
@@ -125,5 +114,6 @@ few-run_items runs =
       arith,
       length-map (windows runs.history runs.limits ++ patterns runs.history runs.limits)
           (pattern_item runs.rule runs.weight runs.property),
+      length-append (windows runs.history runs.limits) (patterns runs.history runs.limits),
       few-run_patterns runs.history runs.limits,
     )

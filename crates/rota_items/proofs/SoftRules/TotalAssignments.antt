@@ -7,7 +7,7 @@ use Rattle.rota_items.proofs.AlikeRosters.{count_below-alike, same_cell}
 use Rattle.rota_items.proofs.CellCounts.{cond-le, work_count, work_count-le, count-work_cells}
 use Rattle.rota_items.proofs.CellsIn.{in-nurse_cells}
 use Rattle.rota_items.proofs.ListSums.{sum_by-only_if}
-use Rattle.rota_items.proofs.RisingCells.{day_start, first_day-from, rises-nurse_cells, rises-times, week_end-le, within-block}
+use Rattle.rota_items.proofs.RisingCells.{day_start, first_day-from, last_day-le, rises-nurse_cells, rises-times, within-block}
 use Rattle.rota_items.proofs.SoftRules.GreatestTotals.{charged_excess-le, excess_charged}
 use Rattle.rota_items.proofs.SoftRules.Sound.{IsItemSound, IsSoftRuleSound}
 use Rattle.rota_items.proofs.SoundTerms.{AreSound}
@@ -121,7 +121,7 @@ module _ (week : Week) where
   sound-terms n coefficient n_in units = record {
     in_week = on-times (InWeek week) coefficient (nurse_cells week n) (in-nurse_cells week n n_in);
     rise = within-block week (day_start week n 0) (day_start week n 7) (times coefficient (nurse_cells week n))
-        (first_day-from week n 0) (week_end-le week n n_in)
+        (first_day-from week n 0) (last_day-le week n 7 n_in (omega arith))
         (rises-times week (day_start week n 0) (day_start week n 7) coefficient (nurse_cells week n) (rises-nurse_cells week n));
     units = units;
   }

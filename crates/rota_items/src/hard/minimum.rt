@@ -50,20 +50,8 @@ pub fn give_h2<T: Taker>(instance: &Instance, taker: &mut T) -> Result<(), T::Fa
     Ok(())
 }
 
-/// 1 where the day asks for a nurse on the shift type and with the skill.
-#[tactic(auto, unfolding(rota_core::specs::Lists::only_if))]
-fn count_h2_at(instance: &Instance, day: u8, shift: u8, skill: u8) -> u32
-    requires day_in { day < 7 }
-    requires shift_in { shift < (week_of instance.now).shifts }
-    requires skill_in { skill < (week_of instance.now).skills }
-    ensures few { result ≤ 1 }
-    ensures number { result ≡ length (h2_rows_at (week_of instance.now) day shift skill) }
-{
-    u32::from(instance.demand(day, shift, skill).minimum > 0)
-}
-
 /// The number of rows of H2.
-#[tactic(auto, using(crate::proofs::ListLengths::counting))]
+#[tactic(auto, using(crate::proofs::ListLengths::counting), unfolding(rota_core::specs::Lists::only_if))]
 pub fn count_h2(instance: &Instance) -> u32
     ensures few { result ≤ 1792 }
     ensures number { result ≡ length (h2_rows (week_of instance.now)) }
@@ -72,7 +60,7 @@ pub fn count_h2(instance: &Instance) -> u32
     for day in 0..7 {
         for shift in 0..instance.shifts() {
             for skill in 0..instance.skills() {
-                rows += count_h2_at(instance, day, shift, skill);
+                rows += u32::from(instance.demand(day, shift, skill).minimum > 0);
             }
         }
     }

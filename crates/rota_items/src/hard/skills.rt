@@ -44,19 +44,8 @@ pub fn give_h4<T: Taker>(instance: &Instance, taker: &mut T) -> Result<(), T::Fa
     Ok(())
 }
 
-/// 1 where the nurse lacks the skill.
-#[tactic(auto, unfolding(rota_core::specs::Lists::only_if))]
-fn count_h4_at(instance: &Instance, nurse: u16, skill: u8) -> u32
-    requires nurse_in { nurse < (week_of instance.now).nurses }
-    requires skill_in { skill < (week_of instance.now).skills }
-    ensures few { result ≤ 1 }
-    ensures number { result ≡ length (h4_rows_at (week_of instance.now) nurse skill) }
-{
-    u32::from(!instance.has_skill(nurse, skill))
-}
-
 /// The number of rows of H4.
-#[tactic(auto, using(crate::proofs::ListLengths::counting))]
+#[tactic(auto, using(crate::proofs::ListLengths::counting), unfolding(rota_core::specs::Lists::only_if))]
 pub fn count_h4(instance: &Instance) -> u32
     ensures few { result ≤ 16000 }
     ensures number { result ≡ length (h4_rows (week_of instance.now)) }
@@ -64,7 +53,7 @@ pub fn count_h4(instance: &Instance) -> u32
     let mut rows = 0;
     for nurse in 0..instance.nurses() {
         for skill in 0..instance.skills() {
-            rows += count_h4_at(instance, nurse, skill);
+            rows += u32::from(!instance.has_skill(nurse, skill));
         }
     }
     rows

@@ -1,9 +1,9 @@
 //! H3: no shift type after one that it may not follow.
-ghost use Rattle.std.specs.Prelude.{◌≡◌, ◌<◌, ◌≤◌, ◌+◌, ◌*◌, ℕ, Some, length};
+ghost use Rattle.std.specs.Prelude.{◌≡◌, ◌<◌, ◌≤◌, ◌+◌, ◌*◌, ℕ, length};
 ghost use Rattle.rota_core.specs.InstanceTables.{week_of};
 ghost use Rattle.rota_items.specs.CellEvents.{cell_row_events};
 ghost use Rattle.rota_items.specs.Takes.{Takes};
-ghost use Rattle.rota_items.specs.hard.Succession.{h3_monday_rows, h3_monday_rows_at, h3_rows, h3_rows_at, h3_rows_between, h3_rows_of};
+ghost use Rattle.rota_items.specs.hard.Succession.{h3_monday_rows, h3_monday_rows_at, h3_rows, h3_rows_at, h3_rows_between, h3_rows_of, is_forbidden_after};
 
 use crate::limits::within_limits;
 use crate::part::Part;
@@ -11,23 +11,34 @@ use crate::sums::{Sign, give_on};
 use crate::takers::Taker;
 use rota_core::{Instance, Rule};
 
+/// Whether the nurse may not have the shift type on Monday, after the last one of the history.
+fn forbidden_on_monday(instance: &Instance, nurse: u16, shift: u8) -> bool
+    requires nurse_in { nurse < (week_of instance.now).nurses }
+    requires shift_in { shift < (week_of instance.now).shifts }
+    ensures { let week = week_of instance.now in
+        result ≡ is_forbidden_after week (week.past nurse).last shift }
+{
+    within_limits(instance);
+    match instance.past(nurse).last {
+        None => false,
+        Some(last) => instance.forbidden(last, shift),
+    }
+}
+
 /// Not the shift type on Monday, where it may not follow the last one of the history.
 fn give_h3_monday_row<T: Taker>(
     instance: &Instance,
     taker: &mut T,
     nurse: u16,
-    last: u8,
     shift: u8,
 ) -> Result<(), T::Fault>
     requires nurse_in { nurse < (week_of instance.now).nurses }
-    requires last_in { last < (week_of instance.now).shifts }
     requires shift_in { shift < (week_of instance.now).shifts }
     ensures { let week = week_of instance.now in
-        Takes T.Taker
-        (cell_row_events week (h3_monday_rows_at week nurse last shift))
+        Takes T.Taker (cell_row_events week (h3_monday_rows_at week nurse shift))
         taker.old taker.new result }
 {
-    if !instance.forbidden(last, shift) {
+    if !forbidden_on_monday(instance, nurse, shift) {
         return Ok(());
     }
     taker.start_row(Part::Hard(Rule::H3))?;
@@ -35,38 +46,17 @@ fn give_h3_monday_row<T: Taker>(
     taker.close_row(0)
 }
 
-/// The shift types that a nurse may not have on Monday, after the last one of the history.
+/// The shift types that a nurse may not have on Monday.
 #[tactic(auto, using(crate::proofs::Taking::taking))]
-fn give_h3_after<T: Taker>(
-    instance: &Instance,
-    taker: &mut T,
-    nurse: u16,
-    last: u8,
-) -> Result<(), T::Fault>
-    requires nurse_in { nurse < (week_of instance.now).nurses }
-    requires last_in { last < (week_of instance.now).shifts }
-    ensures { let week = week_of instance.now in
-        Takes T.Taker (cell_row_events week (h3_monday_rows week nurse (Some last)))
-        taker.old taker.new result }
-{
-    for shift in 0..instance.shifts() {
-        give_h3_monday_row(instance, taker, nurse, last, shift)?;
-    }
-    Ok(())
-}
-
-/// The shift types that a nurse may not have on Monday, where she worked on the Sunday before.
 fn give_h3_monday<T: Taker>(instance: &Instance, taker: &mut T, nurse: u16) -> Result<(), T::Fault>
     requires nurse_in { nurse < (week_of instance.now).nurses }
     ensures { let week = week_of instance.now in
-        Takes T.Taker (cell_row_events week (h3_monday_rows week nurse (week.past nurse).last))
-        taker.old taker.new result }
+        Takes T.Taker (cell_row_events week (h3_monday_rows week nurse)) taker.old taker.new result }
 {
-    within_limits(instance);
-    match instance.past(nurse).last {
-        None => Ok(()),
-        Some(last) => give_h3_after(instance, taker, nurse, last),
+    for shift in 0..instance.shifts() {
+        give_h3_monday_row(instance, taker, nurse, shift)?;
     }
+    Ok(())
 }
 
 /// Not both shift types on a day and the next, where the second may not follow the first.
@@ -147,22 +137,8 @@ pub fn give_h3<T: Taker>(instance: &Instance, taker: &mut T) -> Result<(), T::Fa
     Ok(())
 }
 
-/// 1 where the second shift type may not follow the first.
-#[tactic(auto, unfolding(rota_core::specs::Lists::only_if))]
-fn count_forbidden(instance: &Instance, first: u8, second: u8) -> u32
-    requires first_in { first < (week_of instance.now).shifts }
-    requires second_in { second < (week_of instance.now).shifts }
-    ensures few { result ≤ 1 }
-    ensures in_week { let week = week_of instance.now in
-        (n d : ℕ) → result ≡ length (h3_rows_at week n d first second) }
-    ensures on_monday { let week = week_of instance.now in
-        (n : ℕ) → result ≡ length (h3_monday_rows_at week n first second) }
-{
-    u32::from(instance.forbidden(first, second))
-}
-
 /// The number of forbidden successions, from any day to the next.
-#[tactic(auto, using(crate::proofs::ListLengths::counting))]
+#[tactic(auto, using(crate::proofs::ListLengths::counting), unfolding(rota_core::specs::Lists::only_if))]
 fn count_successions(instance: &Instance) -> u32
     ensures few { result ≤ 256 }
     ensures number { (n d : ℕ) → result ≡ length (h3_rows_between (week_of instance.now) n d) }
@@ -170,38 +146,24 @@ fn count_successions(instance: &Instance) -> u32
     let mut pairs = 0;
     for first in 0..instance.shifts() {
         for second in 0..instance.shifts() {
-            pairs += count_forbidden(instance, first, second);
+            pairs += u32::from(instance.forbidden(first, second));
         }
     }
     pairs
 }
 
-/// The number of shift types that may not follow the last one of the history.
-#[tactic(auto, using(crate::proofs::ListLengths::counting))]
-fn count_after(instance: &Instance, last: u8) -> u32
-    requires { last < (week_of instance.now).shifts }
-    ensures few { result ≤ 16 }
-    ensures number { (n : ℕ) → result ≡ length (h3_monday_rows (week_of instance.now) n (Some last)) }
-{
-    let mut rows = 0;
-    for shift in 0..instance.shifts() {
-        rows += count_forbidden(instance, last, shift);
-    }
-    rows
-}
-
 /// The number of shift types that the nurse may not have on Monday.
+#[tactic(auto, using(crate::proofs::ListLengths::counting), unfolding(rota_core::specs::Lists::only_if))]
 fn count_h3_monday(instance: &Instance, nurse: u16) -> u32
     requires { nurse < (week_of instance.now).nurses }
     ensures few { result ≤ 16 }
-    ensures number { let week = week_of instance.now in
-        result ≡ length (h3_monday_rows week nurse (week.past nurse).last) }
+    ensures number { result ≡ length (h3_monday_rows (week_of instance.now) nurse) }
 {
-    within_limits(instance);
-    match instance.past(nurse).last {
-        None => 0,
-        Some(last) => count_after(instance, last),
+    let mut rows = 0;
+    for shift in 0..instance.shifts() {
+        rows += u32::from(forbidden_on_monday(instance, nurse, shift));
     }
+    rows
 }
 
 /// The number of rows of H3.

@@ -2,9 +2,9 @@ use Rattle.std.proofs.Common.{refl, inl, inr}
 use Rattle.std.proofs.lemmas.Result.{err_from_is_err_and}
 use Rattle.rota_pb.specs.Decoding.{at_week}
 use Rattle.rota_pb.specs.WeekFiles.{StopsAt}
-use Rattle.rota_pb.proofs.DecodedRun.{fails_at_answer, fails_at_roster, solution_fails, reported, report_fails}
+use Rattle.rota_pb.proofs.DecodedRun.{fails_at_answer, fails_at_roster, written}
 use Rattle.rota_pb.proofs.FailedReads.{answer_fails, lacks_no_read, one_fails}
-use Rattle.rota_pb.proofs.Outcomes.{checked, failed_write, not_written, sent}
+use Rattle.rota_pb.proofs.Outcomes.{checked, not_written}
 use Rattle.rota_pb.proofs.decoding.run_decode.Goals as goal
 
 pub returns-in_err-instance-clause-outcome : goal.returns-in_err-instance-clause-outcome
@@ -25,21 +25,10 @@ returns-in_err-decoded-clause-outcome g c =
     (fails_at_roster _ _ _ _ c.in_ok-instance.ensures _ c.counts.ensures.variables _ c.in_ok-solved.ensures.solved _ _ _
     c.in_err-decoded.ensures.fault refl refl)
 
-pub returns-in_err-write_solution-clause-outcome : goal.returns-in_err-write_solution-clause-outcome
-returns-in_err-write_solution-clause-outcome g c =
-    let p = err_from_is_err_and c.from_residual-in_err-write_solution.result c.from_residual-in_err-write_solution.ensures.1 in
-    rw (p.1, p.2)
-    (failed_write _ _ c.in_err-write_solution.ensures.fault
-    (solution_fails _ _ _ _ c.in_ok-instance.ensures _ c.counts.ensures.variables _ c.in_ok-solved.ensures.solved _
-    c.in_ok-decoded.ensures.decoded _ _ c.in_err-write_solution.ensures.sends refl))
-
 pub returns-clause-outcome : goal.returns-clause-outcome
 returns-clause-outcome g c =
-    sent _ _ _ c.write_report.result c.write_report.ensures.sends c.write_report.ensures.fault
-    (reported _ _ _ _ c.in_ok-instance.ensures _ c.counts.ensures.variables _ c.in_ok-solved.ensures.solved _
-    c.in_ok-decoded.ensures.decoded _ _ c.in_ok-write_solution.ensures.sends)
-    (report_fails _ _ _ _ c.in_ok-instance.ensures _ c.counts.ensures.variables _ c.in_ok-solved.ensures.solved _
-    c.in_ok-decoded.ensures.decoded _ _ c.in_ok-write_solution.ensures.sends)
+    written _ _ _ _ c.in_ok-instance.ensures _ c.counts.ensures.variables _ c.in_ok-solved.ensures.solved _
+    c.in_ok-decoded.ensures.decoded _ _ c.write_both.result c.write_both.ensures.sends c.write_both.ensures.fault
 
 pub returns-in_err-instance-clause-read : goal.returns-in_err-instance-clause-read
 returns-in_err-instance-clause-read g c =

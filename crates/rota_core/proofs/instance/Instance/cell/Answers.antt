@@ -1,17 +1,12 @@
 use Rattle.rota_core.specs.InstanceTables.{week_of}
-use Rattle.rota_core.proofs.CellPlaces.{cell_at-nurse, cell_at-day, cell_at-shift, cell_at-skill, place-cell_at}
+use Rattle.rota_core.proofs.CellPlaces.{cell_at-in, place-cell_at}
 use Rattle.rota_core.proofs.instance.Instance.cell.Goals as goal
 
 pub returns-clause-in_week : goal.returns-clause-in_week
 returns-clause-in_week c =
     let week = week_of c.args.self.now in
     rw (c.cell_of_place.ensures, c.shifts.ensures.count, c.skills.ensures.count)
-    (record {
-      nurse_in = cell_at-nurse week.nurses week.shifts week.skills c.args.place c.requires;
-      day_in = cell_at-day week.nurses week.shifts week.skills c.args.place c.requires;
-      shift_in = cell_at-shift week.nurses week.shifts week.skills c.args.place c.requires;
-      skill_in = cell_at-skill week.nurses week.shifts week.skills c.args.place c.requires;
-    })
+    (cell_at-in week c.args.place c.requires)
 
 pub returns-clause-place : goal.returns-clause-place
 returns-clause-place c =

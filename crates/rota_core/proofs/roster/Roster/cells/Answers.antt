@@ -1,5 +1,7 @@
-use Rattle.std.proofs.Common.{ap, ◌∙◌}
+use Rattle.std.proofs.Common.{false, sym, ap, ◌∙◌}
+use Rattle.std.proofs.lemmas.List.{get_or-take}
 use Rattle.rota_core.specs.RosterCells.{cells_in}
+use Rattle.rota_core.specs.RosterTables.{roster_tables}
 use Rattle.rota_core.proofs.CellsByPlace.{cells-at_places, places-within}
 use Rattle.rota_core.proofs.roster.Roster.cells.Goals as goal
 
@@ -12,4 +14,5 @@ pub returns : goal.returns
 returns c =
     let r = c.self.inside in
     rw (c.at.ensures, c.true_places_below.ensures, c.count_of_places-count.ensures)
-    (cells-at_places r.nurses r.shifts r.skills r.bits ∙ ap cells_in c.self.view_is)
+    (cells-at_places (roster_tables r.nurses r.shifts r.skills r.bits) r.bits (λ p below. sym (get_or-take _ r.bits p false below)) ∙
+    ap cells_in c.self.view_is)

@@ -5,10 +5,10 @@ use Rattle.rota_core.proofs.roster.Roster.has.Goals as goal
 pub get-requires : goal.get-requires
 get-requires c =
     let r = c.self.inside in
-    rw c.place_of_cell.ensures (cell_place-in r.nurses r.shifts r.skills r.bits _ c.args.cell c.self.invariant c.self.view_is c.requires)
+    rw c.place_of_cell.ensures (cell_place-in r.nurses r.shifts r.skills r.bits _ c.self.view_is c.args.cell c.self.invariant c.requires)
 
 pub returns : goal.returns
 returns c =
     let r = c.self.inside in
     c.get.ensures ∙ ap (λ place. get_or r.bits place false) c.place_of_cell.ensures ∙
-    set_of-seen r.nurses r.shifts r.skills r.bits _ c.args.cell c.self.view_is c.requires
+    set_of-seen r.nurses r.shifts r.skills r.bits _ c.self.view_is c.args.cell c.requires

@@ -8,8 +8,11 @@ use Rattle.rota_items.proofs.hard.held.count_h5.Goals as goal
 
 pub returns-clause-few : goal.returns-clause-few
 returns-clause-few c =
-    let limits = instance-within_limits c.args.instance.now c.within_limits.ensures in
-    omega (arith, c.held_count.ensures, few-cells (week_of c.args.instance.now) limits.nurses limits.shifts limits.skills)
+    omega (
+      arith,
+      c.held_count.ensures,
+      few-cells (week_of c.args.instance.now) (instance-within_limits c.args.instance.now c.within_limits.ensures),
+    )
 
 pub returns-clause-number : goal.returns-clause-number
 returns-clause-number c =

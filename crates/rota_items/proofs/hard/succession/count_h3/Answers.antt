@@ -9,5 +9,5 @@ loop-nurse-preserved c =
     let nurse = c.loop-nurse.nurse in
     let later : length (each_below 6 (h3_rows_between week nurse)) ≡ 6 * c.count_successions-in_week.result =
     length-each-is 6 _ (h3_rows_between week nurse) (λ d _. sym (c.count_successions-in_week.ensures.number nurse d)) in
-    let all = length-append (h3_monday_rows week nurse (week.past nurse).last) (each_below 6 (h3_rows_between week nurse)) in
+    let all = length-append (h3_monday_rows week nurse) (each_below 6 (h3_rows_between week nurse)) in
     grind (arith, counting)

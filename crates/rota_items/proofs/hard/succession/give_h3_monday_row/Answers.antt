@@ -18,5 +18,5 @@ returns g c =
     row_where g.T.Taker _ _ _ _ _ _ (search rules)
     (cell_row_closed g.T.Taker _ _ _ _ _ _ _ c.in_ok-start_row.ensures c.in_ok-give_on.ensures c.close_row.ensures)
 
-pub returns-then-not-forbidden : goal.returns-then-not-forbidden
-returns-then-not-forbidden g c = row_nowhere g.T.Taker _ _ _ _ (search rules)
+pub returns-then-not-forbidden_on_monday : goal.returns-then-not-forbidden_on_monday
+returns-then-not-forbidden_on_monday g c = row_nowhere g.T.Taker _ _ _ _ (search rules)

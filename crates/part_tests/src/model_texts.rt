@@ -1,5 +1,5 @@
 //! Rows of tiny models, put event by event, and targets that fail.
-use crate::{OpbTaker, Sink};
+use opb_text::{OpbTaker, Sink};
 use rota_core::{MemoryTarget, Pace, PortFault, Rule, Target, ToWrite};
 use rota_items::{Counts, Part, Taker};
 use std::alloc::{AllocError, Global};
