@@ -3,8 +3,9 @@ use Rattle.rota_items.proofs.LogicWords.{◌≡◌, ℕ, ◌*◌, Bool, true, fa
 use Rattle.rota_items.proofs.ModelWords.{Roster, soft_rules, Week, Rule, Cell, Item, shortage, weighted_shortages, items_of_rule, soft_items}
 use Rattle.rota_items.proofs.JudgedRows.{is_same}
 use Rattle.rota_items.proofs.ListSums.{sum_by-each-same, sum_by-same}
-use Rattle.rota_items.proofs.SoftRules.EachRule.{both_true, of_sound, sound-rule, sum_by-soft_items}
+use Rattle.rota_items.proofs.SoftRules.EachRule.{of_sound, sound-rule, sum_by-soft_items}
 use Rattle.std.specs.List.{list_all}
+use Rattle.std.proofs.lemmas.Bool.{and_parts}
 use Rattle.rota_core.specs.declared.rule.Rule.TheVariants.{Unit as UnitRule}
 use Rattle.rota_items.specs.SoftRules.{is_soft}
 
@@ -26,7 +27,7 @@ stand-once = each soft_rules refl
     each : (rules : List Rule) → list_all is_soft rules ≡ true → AllByRecursion StandsOnce rules
     each [] soft = tt
     each (rule ∷ rules) soft =
-        let both : (is_soft rule ≡ true) × (list_all is_soft rules ≡ true) = both_true (is_soft rule) (list_all is_soft rules) soft in (
+        let both : (is_soft rule ≡ true) × (list_all is_soft rules ≡ true) = and_parts (is_soft rule) (list_all is_soft rules) soft in (
           λ f. once rule f ∙ ap (λ b. if b then f rule else 0) both.0,
           each rules both.1,
         )

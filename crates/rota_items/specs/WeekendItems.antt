@@ -1,14 +1,20 @@
--- The item of a weekend pattern.
-use Rattle.std.specs.Prelude.{ℕ, List}
+-- The items of a nurse's weekend.
+use Rattle.std.specs.Prelude.{ℕ, List, [], ◌∷◌}
 use Rattle.rota_core.specs.declared.rule.Rule.{Rule}
 use Rattle.rota_core.specs.declared.values.Cell.{Cell}
 use Rattle.rota_core.specs.Week.{Week}
 use Rattle.rota_items.specs.Cells.{work_cells}
 use Rattle.rota_items.specs.Items.{Item}
 use Rattle.rota_items.specs.RunItems.{Present, pattern_item}
-use Rattle.rota_items.specs.RunPatterns.{PatternDay}
+use Rattle.rota_items.specs.RunPatterns.{PatternDay, with_property, without_property}
 
 -- the nurse's Saturday and Sunday are not both as these days say
 abbrev pub weekend_item : Rule → ℕ → Week → ℕ → List PatternDay → Item Cell
 weekend_item rule weight week n days =
     pattern_item rule weight (Present (work_cells week n)) (record { days = days; units = 1 })
+
+-- her Saturday, where its days are these, and her Sunday without Saturday
+abbrev pub weekend_items : Rule → ℕ → Week → ℕ → List PatternDay → List (Item Cell)
+weekend_items rule weight week n on_saturday =
+    weekend_item rule weight week n on_saturday ∷
+    weekend_item rule weight week n (without_property 5 ∷ with_property 6 ∷ []) ∷ []
