@@ -100,20 +100,6 @@ pub sum_by-each-times : {X : Type 0} (f : X → ℕ) (n w : ℕ) (g : ℕ → Li
     ((i : ℕ) → i < n → sum_by f (g i) ≡ w * h i) → sum_by f (each_below n g) ≡ w * sum_below n h
 sum_by-each-times f n w g h each = sum_by-each-is f n g (λ i. w * h i) each ∙ sum_below-times n w h
 
--- and so where a constant is charged besides
-pub with_constant : {X : Type 0} (f : X → ℕ) (n w : ℕ) (g : ℕ → List X) (constant cost : ℕ → ℕ) →
-    ((i : ℕ) → i < n → sum_by f (g i) + w * constant i ≡ w * cost i) →
-    sum_by f (each_below n g) + w * sum_below n constant ≡ w * sum_below n cost
-with_constant f n w g constant cost each =
-    omega (
-      arith,
-      sum_by-each f n g,
-      sum_below-times n w constant,
-      sum_below-times n w cost,
-      sum_below-plus n (λ i. sum_by f (g i)) (λ i. w * constant i),
-      sum_below-same n (λ i. sum_by f (g i) + w * constant i) (λ i. w * cost i) each,
-    )
-
 pub count_by-each : {X : Type 0} (test : X → Bool) (n : ℕ) (x : ℕ → X) →
     count_by test (each_below n (λ i. x i ∷ [])) ≡ count_below n (λ i. test (x i))
 count_by-each test n x =

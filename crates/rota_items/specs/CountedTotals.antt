@@ -1,5 +1,6 @@
 -- Which totals count in a week, and how much of what is above a greatest total.
 use Rattle.std.specs.Prelude.{ℕ, ◌+◌, ◌-◌, Bool, not, ◌&&◌, ◌||◌, if◌then◌else◌}
+use Rattle.rota_core.specs.Roster.{Roster}
 use Rattle.rota_core.specs.Week.{Week}
 
 -- the least totals of assignments count in the last week only
@@ -24,3 +25,13 @@ charged_excess week most before now =
     if week.is_early
     then added_excess most before now
     else if week.is_last then before + now - most else 0
+
+-- a total that is kept from week to week: what stood before a week, what a roster adds, and the greatest total
+pub record CountedTotal : Type 0 where
+  pub before : Week → ℕ
+  pub now : Week → Roster → ℕ
+  pub most : Week → ℕ
+
+abbrev pub charged_total : CountedTotal → Week → Roster → ℕ
+charged_total total week roster =
+    charged_excess week (total.most week) (total.before week) (total.now week roster)

@@ -2,34 +2,25 @@
 use Rattle.std.specs.Prelude.{ℕ, ◌+◌, pos, ℤ, ◌+ℤ◌, Bool, Option, List, []}
 use Rattle.std.specs.List.{flat_map, list_any, position, sum_by}
 use Rattle.rota_core.specs.declared.rule.Rule.{Rule}
-use Rattle.rota_core.specs.declared.rule.Rule.TheVariants.{S1, S2, S3, S4, S5, S6, S7}
+use Rattle.rota_core.specs.declared.rule.Rule.TheVariants.{S1, S4}
 use Rattle.rota_core.specs.declared.values.Cell.{Cell}
+use Rattle.rota_core.specs.Below.{sum_below}
 use Rattle.rota_core.specs.Lists.{each_below}
 use Rattle.rota_core.specs.Roster.{Roster}
 use Rattle.rota_core.specs.Rules.{is_rule, soft_rules}
 use Rattle.rota_core.specs.Week.{Week}
 use Rattle.rota_items.specs.Items.{Item, weighted_shortages}
 use Rattle.rota_items.specs.Linear.{Term, value_of}
-use Rattle.rota_items.specs.NurseItems.{nurse_items}
-use Rattle.rota_items.specs.rules.CompleteWeekends.{complete_weekend_cost}
-use Rattle.rota_items.specs.rules.ConsecutiveAssignments.{consecutive_assignment_cost}
-use Rattle.rota_items.specs.rules.ConsecutiveDaysOff.{consecutive_day_off_cost}
+use Rattle.rota_items.specs.NurseItems.{nurse_constant, nurse_cost, nurse_items}
 use Rattle.rota_items.specs.rules.OptimalCoverage.{optimum_items, optimum_cost}
 use Rattle.rota_items.specs.rules.ShiftOffRequests.{request_terms, request_cost}
-use Rattle.rota_items.specs.rules.TotalAssignments.{constant_of_assignments, assignment_cost}
-use Rattle.rota_items.specs.rules.WorkedWeekends.{constant_of_weekends, worked_weekend_cost}
 
 -- ---- rule by rule
 
 abbrev pub rule_cost : Week → Roster → Rule → ℕ
 rule_cost week roster S1 = optimum_cost week roster
-rule_cost week roster S2 = consecutive_assignment_cost week roster
-rule_cost week roster S3 = consecutive_day_off_cost week roster
 rule_cost week roster S4 = request_cost week roster
-rule_cost week roster S5 = complete_weekend_cost week roster
-rule_cost week roster S6 = assignment_cost week roster
-rule_cost week roster S7 = worked_weekend_cost week roster
-rule_cost week roster _ = 0
+rule_cost week roster rule = sum_below week.nurses (nurse_cost week roster rule)
 
 -- The items whose shortages are charged: those of S1 are of the days' demands, those of the other rules of the nurses.
 abbrev pub items_of_rule : Week → Rule → List (Item Cell)
@@ -38,9 +29,7 @@ items_of_rule week rule = each_below week.nurses (nurse_items week rule)
 
 -- what no roster of this week can avoid: the history has made it so
 abbrev pub constant_of_rule : Week → Rule → ℕ
-constant_of_rule week S6 = constant_of_assignments week
-constant_of_rule week S7 = constant_of_weekends week
-constant_of_rule week _ = 0
+constant_of_rule week rule = sum_below week.nurses (nurse_constant week rule)
 
 -- the objective's terms on cells
 abbrev pub cell_terms_of_rule : Week → Rule → List (Term Cell)

@@ -1,10 +1,8 @@
 //! What weeks that follow one another pay with `--early` for what is above a greatest total.
 ghost use Rattle.std.specs.Prelude.{◌≡◌, ℕ, ◌-◌, ◌≤◌, List, ◌∷◌, All, length, sum};
 ghost use Rattle.std.specs.List.{sum_by};
-ghost use Rattle.rota_items.specs.CountedTotals.{added_excess};
-ghost use Rattle.rota_items.specs.EarlyWeeks.{FollowEarly, RosteredWeek, assignments_in_the_end, early_charges, weekends_in_the_end};
-ghost use Rattle.rota_items.specs.rules.TotalAssignments.{above_greatest_total};
-ghost use Rattle.rota_items.specs.rules.WorkedWeekends.{above_greatest_weekends};
+ghost use Rattle.rota_items.specs.CountedTotals.{CountedTotal, added_excess};
+ghost use Rattle.rota_items.specs.EarlyWeeks.{FollowEarly, RosteredWeek, charged_in, early_charges, total_in_the_end};
 
 /// How much of what is above `limit` the weeks pay for, with `--early`: the total was `start` before the
 /// first of them, and each adds its step.
@@ -30,17 +28,12 @@ pub fn early_excess(limit: u16, start: u16, steps: &[u8]) -> u64
     excess
 }
 
-/// Over weeks that follow one another, what is charged early for a nurse's greatest totals sums up to what
-/// is above them in the end, less what was above them before the first week.
+/// Over weeks that follow one another, what is charged early for a greatest total, of a nurse's assignments
+/// or weekends, sums up to what is above it in the end, less what was above it before the first week.
 pub fn early_weeks_charge_what_they_add()
-    ensures assignments { (n : ℕ) (one : RosteredWeek) (later : List RosteredWeek) →
-        FollowEarly n one later →
-        sum_by (λ (w : RosteredWeek). above_greatest_total w.week w.roster n) (one ∷ later) ≡
-        (assignments_in_the_end n one later - (one.week.contract n).total.max) -
-        ((one.week.past n).assignments - (one.week.contract n).total.max) }
-    ensures weekends { (n : ℕ) (one : RosteredWeek) (later : List RosteredWeek) →
-        FollowEarly n one later →
-        sum_by (λ (w : RosteredWeek). above_greatest_weekends w.week w.roster n) (one ∷ later) ≡
-        (weekends_in_the_end n one later - (one.week.contract n).weekends) -
-        ((one.week.past n).weekends - (one.week.contract n).weekends) }
+    ensures { (total : CountedTotal) (one : RosteredWeek) (later : List RosteredWeek) →
+        FollowEarly total one later →
+        sum_by (charged_in total) (one ∷ later) ≡
+        (total_in_the_end total one later - total.most one.week) -
+        (total.before one.week - total.most one.week) }
 {}

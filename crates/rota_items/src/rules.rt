@@ -7,7 +7,7 @@ ghost use Rattle.rota_items.specs.CellEvents.{cell_term_events};
 ghost use Rattle.rota_items.specs.Cells.{first_slack};
 ghost use Rattle.rota_items.specs.Events.{events, term_events};
 ghost use Rattle.rota_items.specs.ItemEvents.{SlacksFit, Walks, item_events};
-ghost use Rattle.rota_items.specs.NurseItems.{nurse_items};
+ghost use Rattle.rota_items.specs.NurseItems.{nurse_constant, nurse_items};
 ghost use Rattle.rota_items.specs.Slacks.{item_rows, slack_count, slack_weights};
 ghost use Rattle.rota_items.specs.SoftRules.{cell_terms, cell_terms_of_rule, constant, constant_of_rule, items_of_rule, soft_items, soft_place};
 ghost use Rattle.rota_items.specs.Takes.{Takes};
@@ -261,17 +261,31 @@ pub fn count_soft_items(instance: &Instance) -> ItemCounts
 
 // ---- the constant
 
-/// What no roster of the week can avoid of a rule: the history has made it so. It is 0 but for the
-/// rules of totals, in the weeks in which they count.
+/// What no roster of the week can avoid of a rule at a nurse: the history has made it so. It is 0 but
+/// for the rules of totals, in the weeks in which they count.
+fn nurse_constant(instance: &Instance, rule: Rule, nurse: u16) -> u64
+    requires { nurse < (week_of instance.now).nurses }
+    ensures few { result ≤ 3000000 }
+    ensures number { result ≡ nurse_constant (week_of instance.now) rule nurse }
+{
+    match rule {
+        Rule::S6 => total_assignments::constant(instance, nurse),
+        Rule::S7 => worked_weekends::constant(instance, nurse),
+        _ => 0,
+    }
+}
+
+/// What no roster of the week can avoid of a rule: the sum of the nurses' parts.
+#[tactic(auto, using(crate::proofs::ListLengths::counting))]
 pub fn constant_of_rule(instance: &Instance, rule: Rule) -> u64
     ensures number { result ≡ constant_of_rule (week_of instance.now) rule }
     ensures few { result ≤ 3000000000 }
 {
-    match rule {
-        Rule::S6 => total_assignments::constant(instance),
-        Rule::S7 => worked_weekends::constant(instance),
-        _ => 0,
+    let mut sum = 0;
+    for nurse in 0..instance.nurses() {
+        sum += nurse_constant(instance, rule, nurse);
     }
+    sum
 }
 
 /// What no roster of the week can avoid: the sum of the rules' parts.

@@ -1,106 +1,65 @@
 -- The items of the runs on shift types and of working days charge the cost of those runs.
-use Rattle.rota_items.proofs.LogicWords.{◌≡◌, ℕ, ◌+◌, ◌*◌, ◌<◌, ◌≤◌, List, length, arith, refl, pos, AllByRecursion, ints, length-append, sum_by-append, AllByRecursion-append, AllByRecursion-each_below, length-each_below}
-use Rattle.rota_items.proofs.ModelWords.{KeepsOneCell, is_on, works, Roster, Week, Cell, Item, shortage, weighted_shortages, IsWithinLimits, charged}
-use Rattle.rota_core.specs.Below.{sum_below}
+use Rattle.rota_items.proofs.LogicWords.{◌≡◌, ℕ, List, arith, refl, pos, ints, length-append, sum_by-append, AllByRecursion-append, AllByRecursion-each_below, length-each_below}
+use Rattle.rota_items.proofs.ModelWords.{KeepsOneCell, is_on, works, Roster, Week, Cell, Item, charged}
 use Rattle.rota_core.specs.Lists.{each_below}
 use Rattle.rota_core.specs.declared.rule.Rule.TheVariants.{S2}
 use Rattle.rota_items.proofs.AlikeRosters.{on-alike, run_cost-alike, works-alike}
 use Rattle.rota_items.proofs.NurseRuns.{run_cost-le, weighted-on_runs, weighted-work_runs}
 use Rattle.rota_items.proofs.SoftRules.NurseProperties.{few-run_items, of_nurse-on, of_nurse-work, sound-run_items}
-use Rattle.rota_items.proofs.SoftRules.Sound.{IsItemSound, IsSoftRuleSound}
-use Rattle.rota_items.proofs.SumsBelow.{sum_by-each-times, sum_by-each-is, sum_below-at_most, sum_below-times, sum_below-plus, sum_below-same}
+use Rattle.rota_items.proofs.SoftRules.Sound.{IsItemSound, IsNurseRuleSound, charges-nurses, weighted}
+use Rattle.rota_items.proofs.SumsBelow.{sum_by-each-times, sum_below-at_most, sum_below-same}
 use Rattle.rota_items.specs.RunItems.{run_items}
-use Rattle.rota_items.specs.rules.ConsecutiveAssignments.{assignment_runs_of, consecutive_assignment_cost, consecutive_assignment_items, history_on, shift_run_cost, shift_run_weight, shift_runs, work_run_cost, work_run_weight, work_runs}
+use Rattle.rota_items.specs.rules.ConsecutiveAssignments.{consecutive_assignment_cost, history_on, shift_run_cost, shift_run_weight, shift_runs, work_run_weight, work_runs}
 
 module _ (week : Week) where
   abbrev shift_items : ℕ → List (Item Cell)
   shift_items n = each_below week.shifts (λ s. run_items (shift_runs week n s))
 
-  -- ---- the cost
-
-  module _ (roster : Roster) (one : KeepsOneCell week roster) where
-    abbrev weight : Item Cell → ℕ
-    weight item = item.weight * shortage roster item
-
-    weighted-nurse : (n : ℕ) → n < week.nurses →
-        weighted_shortages roster (assignment_runs_of week n) ≡
-        shift_run_weight * sum_below week.shifts (shift_run_cost week roster n) + work_run_weight * work_run_cost week roster n
-    weighted-nurse n n_in =
+  pub sound-consecutive_assignments : IsNurseRuleSound week S2
+  sound-consecutive_assignments = record {
+    items = λ n n_in.
+        AllByRecursion-append (IsItemSound week S2) (shift_items n) (run_items (work_runs week n))
+        (AllByRecursion-each_below (IsItemSound week S2) week.shifts (λ s. run_items (shift_runs week n s)) (λ s s_in.
+        sound-run_items week n (shift_runs week n s) (of_nurse-on week n n_in s s_in) (omega arith) (omega arith) (omega arith)
+        (λ limits. limits.limits s)))
+        (sound-run_items week n (work_runs week n) (of_nurse-work week n n_in) (omega arith) (omega arith) (omega arith)
+        (λ limits. limits.work_limits n));
+    few = λ limits n.
         omega (
           arith,
-          sum_by-append weight (shift_items n) (run_items (work_runs week n)),
-          sum_by-each-times weight week.shifts shift_run_weight (λ s. run_items (shift_runs week n s))
+          limits.shifts,
+          length-append (shift_items n) (run_items (work_runs week n)),
+          length-each_below week.shifts 56 (λ s. run_items (shift_runs week n s)) (λ s _. few-run_items (shift_runs week n s)),
+          few-run_items (work_runs week n),
+        );
+    constant_most = λ _ _. omega arith;
+    cost_most = λ limits roster n.
+        omega (
+          arith,
+          sum_below-at_most week.shifts 16 70000 (shift_run_cost week roster n) limits.shifts (λ s.
+              run_cost-le (is_on week roster n s) (history_on week n s) (week.limits s) (limits.limits s)),
+          run_cost-le (works week roster n) (week.past n).work_run (week.contract n).work (limits.work_limits n),
+        );
+    charges = λ roster one n n_in.
+        omega (
+          arith,
+          sum_by-append (weighted roster) (shift_items n) (run_items (work_runs week n)),
+          sum_by-each-times (weighted roster) week.shifts shift_run_weight (λ s. run_items (shift_runs week n s))
               (shift_run_cost week roster n) (λ s s_in.
               weighted-on_runs week roster one n n_in S2 shift_run_weight s s_in (history_on week n s) (week.limits s)),
           weighted-work_runs week roster one n n_in S2 work_run_weight (week.past n).work_run (week.contract n).work,
-        )
-
-    pub weighted-consecutive_assignment_items :
-        weighted_shortages roster (consecutive_assignment_items week) ≡ consecutive_assignment_cost week roster
-    weighted-consecutive_assignment_items =
-        let on_shifts : ℕ → ℕ = λ n. sum_below week.shifts (shift_run_cost week roster n) in
-        omega (
-          arith,
-          sum_by-each-is weight week.nurses (assignment_runs_of week)
-              (λ n. shift_run_weight * on_shifts n + work_run_weight * work_run_cost week roster n) weighted-nurse,
-          sum_below-plus week.nurses (λ n. shift_run_weight * on_shifts n) (λ n. work_run_weight * work_run_cost week roster n),
-          sum_below-times week.nurses shift_run_weight on_shifts,
-          sum_below-times week.nurses work_run_weight (work_run_cost week roster),
-        )
-
-    pub charged-consecutive_assignments : charged week roster S2 ≡ pos (consecutive_assignment_cost week roster)
-    charged-consecutive_assignments = omega (arith, ints, weighted-consecutive_assignment_items)
-
-  -- ---- the items
-
-  sound-items : AllByRecursion (IsItemSound week S2) (consecutive_assignment_items week)
-  sound-items =
-      AllByRecursion-each_below (IsItemSound week S2) week.nurses (assignment_runs_of week) (λ n n_in.
-      AllByRecursion-append (IsItemSound week S2) (shift_items n) (run_items (work_runs week n))
-      (AllByRecursion-each_below (IsItemSound week S2) week.shifts (λ s. run_items (shift_runs week n s)) (λ s s_in.
-      sound-run_items week n (shift_runs week n s) (of_nurse-on week n n_in s s_in) (omega arith) (omega arith) (omega arith)
-      (λ limits. limits.limits s)))
-      (sound-run_items week n (work_runs week n) (of_nurse-work week n n_in) (omega arith) (omega arith) (omega arith)
-      (λ limits. limits.work_limits n)))
-
-  few-of_nurse : IsWithinLimits week → (n : ℕ) → length (assignment_runs_of week n) ≤ 952
-  few-of_nurse limits n =
-      omega (
-        arith,
-        limits.shifts,
-        length-append (shift_items n) (run_items (work_runs week n)),
-        length-each_below week.shifts 56 (λ s. run_items (shift_runs week n s)) (λ s _. few-run_items (shift_runs week n s)),
-        few-run_items (work_runs week n),
-      )
-
-  pub sound-consecutive_assignments : IsSoftRuleSound week S2
-  sound-consecutive_assignments = record {
-    items = sound-items;
-    few = λ limits.
-        omega (
-          arith,
-          limits.nurses,
-          length-each_below week.nurses 952 (assignment_runs_of week) (λ n _. few-of_nurse limits n),
         );
-    constant_most = λ _. omega arith;
-    cost_most = λ limits roster.
-        omega (
-          arith,
-          sum_below-at_most week.nurses 1000 1120000 (λ n. sum_below week.shifts (shift_run_cost week roster n)) limits.nurses
-              (λ n.
-              sum_below-at_most week.shifts 16 70000 (shift_run_cost week roster n) limits.shifts (λ s.
-              run_cost-le (is_on week roster n s) _ (week.limits s) (limits.limits s))),
-          sum_below-at_most week.nurses 1000 70000 (work_run_cost week roster) limits.nurses (λ n.
-              run_cost-le (works week roster n) _ (week.contract n).work (limits.work_limits n)),
-        );
-    charges = λ roster keeps. charged-consecutive_assignments roster keeps.one_cell;
-    alike = λ one other same.
+    alike = λ one other same n n_in.
         rw (
-          sum_below-same week.nurses _ _ (λ n n_in. sum_below-same week.shifts _ _ (λ s s_in.
+          sum_below-same week.shifts _ _ (λ s s_in.
               run_cost-alike (is_on week one n s) (is_on week other n s)
-              (λ d d_in. on-alike week one other same n s d n_in s_in d_in) (history_on week n s) (week.limits s))),
-          sum_below-same week.nurses _ _ (λ n n_in.
-              run_cost-alike (works week one n) (works week other n) (λ d d_in. works-alike week one other same n d n_in d_in)
-              (week.past n).work_run (week.contract n).work),
+              (λ d d_in. on-alike week one other same n s d n_in s_in d_in) (history_on week n s) (week.limits s)),
+          run_cost-alike (works week one n) (works week other n) (λ d d_in. works-alike week one other same n d n_in d_in)
+              (week.past n).work_run (week.contract n).work,
         ) refl;
   }
+
+  pub charged-consecutive_assignments : (roster : Roster) → KeepsOneCell week roster →
+      charged week roster S2 ≡ pos (consecutive_assignment_cost week roster)
+  charged-consecutive_assignments roster one =
+      omega (arith, ints, charges-nurses week S2 sound-consecutive_assignments roster one)

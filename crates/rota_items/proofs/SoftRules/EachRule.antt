@@ -1,52 +1,66 @@
 -- What is shown of each soft rule holds of all items.
-use Rattle.rota_items.proofs.LogicWords.{◌≡◌, ℕ, ◌+◌, ◌*◌, Bool, ◌&&◌, true, false, List, [], ◌∷◌, refl, arith, sym, ◌∙◌, pos, ◌+ℤ◌, AllByRecursion, flat_map, sum_by, ints, sum_by-append, sum_by-cons, AllByRecursion-append}
-use Rattle.rota_items.proofs.ModelWords.{KeepsCompetitionRules, Roster, Week, Rule, Cell, Item, shortage, weighted_shortages, value_of, soft_rules, cell_terms, cell_terms_of_rule, constant, constant_of_rule, is_soft, items_of_rule, penalty, rule_cost, soft_items}
+use Rattle.rota_items.proofs.LogicWords.{◌≡◌, ℕ, ◌+◌, ◌*◌, Bool, true, List, [], ◌∷◌, refl, ap, arith, pos, ◌+ℤ◌, AllByRecursion, flat_map, sum_by, ints, sum_by-append, sum_by-cons, AllByRecursion-append, AllByRecursion-each_below, length-each_below}
+use Rattle.rota_items.proofs.ModelWords.{KeepsCompetitionRules, Roster, Week, Rule, Cell, Item, weighted_shortages, value_of, soft_rules, cell_terms, cell_terms_of_rule, constant, constant_of_rule, is_soft, items_of_rule, penalty, rule_cost, soft_items}
 use Rattle.std.specs.List.{list_all}
+use Rattle.std.proofs.lemmas.Bool.{and_parts}
 use Rattle.std.proofs.lemmas.List.{append-nil}
 use Rattle.rota_core.specs.declared.rule.Rule.TheVariants.{S1, S2, S3, S4, S5, S6, S7}
 use Rattle.rota_items.proofs.AlikeRosters.{AreAlike}
 use Rattle.rota_items.proofs.ListAll.{all-weaker}
 use Rattle.rota_items.proofs.ListSums.{sum_by-each-same}
-use Rattle.rota_items.proofs.NurseItemLists.{none-each_below}
 use Rattle.rota_items.proofs.PatternItems.{value_of-append}
 use Rattle.rota_items.proofs.SoftRules.CompleteWeekends.{sound-complete_weekends}
 use Rattle.rota_items.proofs.SoftRules.ConsecutiveAssignments.{sound-consecutive_assignments}
 use Rattle.rota_items.proofs.SoftRules.ConsecutiveDaysOff.{sound-consecutive_days_off}
 use Rattle.rota_items.proofs.SoftRules.OptimalCoverage.{sound-optimal_coverage}
 use Rattle.rota_items.proofs.SoftRules.ShiftOffRequests.{sound-shift_off_requests}
-use Rattle.rota_items.proofs.SoftRules.Sound.{IsItemSound, IsSoftRuleSound}
+use Rattle.rota_items.proofs.SoftRules.Sound.{IsItemSound, IsNurseRuleSound, IsSoftRuleSound, charges-nurses, most_constant_of_nurse, most_of_nurse, weighted}
 use Rattle.rota_items.proofs.SoftRules.TotalAssignments.{sound-total_assignments}
 use Rattle.rota_items.proofs.SoftRules.WorkedWeekends.{sound-worked_weekends}
+use Rattle.rota_items.proofs.SumsBelow.{sum_below-at_most, sum_below-same}
+use Rattle.rota_items.specs.NurseItems.{nurse_constant, nurse_cost, nurse_items}
 use Rattle.rota_items.specs.rules.ShiftOffRequests.{request_terms}
-
-pub both_true : (x y : Bool) → (x && y) ≡ true → (x ≡ true) × (y ≡ true)
-both_true true y both = (refl, both)
-both_true false y both = (cc, cc)
 
 module _ (week : Week) where
   -- ---- rule by rule
 
-  -- a rule that is not soft charges nothing
-  charges_nothing : (rule : Rule) → items_of_rule week rule ≡ [] → constant_of_rule week rule ≡ 0 →
-      ((roster : Roster) → rule_cost week roster rule ≡ 0) → cell_terms_of_rule week rule ≡ [] → IsSoftRuleSound week rule
-  charges_nothing rule no_items no_constant no_cost no_terms = record {
-    items = rw no_items tt;
-    few = λ _. rw no_items (omega arith);
-    constant_most = λ _. rw no_constant (omega arith);
-    cost_most = λ _ roster. rw (no_cost roster) (omega arith);
-    charges = λ roster _. rw (no_items, no_constant, no_cost roster, no_terms) refl;
-    alike = λ one other _. no_cost one ∙ sym (no_cost other);
+  pub sound-nurse_rule : (rule : Rule) → IsNurseRuleSound week rule
+  sound-nurse_rule S2 = sound-consecutive_assignments week
+  sound-nurse_rule S3 = sound-consecutive_days_off week
+  sound-nurse_rule S5 = sound-complete_weekends week
+  sound-nurse_rule S6 = sound-total_assignments week
+  sound-nurse_rule S7 = sound-worked_weekends week
+  sound-nurse_rule rule = record {
+    items = λ _ _. tt;
+    few = λ _ _. omega arith;
+    constant_most = λ _ _. omega arith;
+    cost_most = λ _ _ _. omega arith;
+    charges = λ _ _ _ _. refl;
+    alike = λ _ _ _ _ _. refl;
   }
 
   pub sound-rule : (rule : Rule) → IsSoftRuleSound week rule
   sound-rule S1 = sound-optimal_coverage week
-  sound-rule S2 = sound-consecutive_assignments week
-  sound-rule S3 = sound-consecutive_days_off week
   sound-rule S4 = sound-shift_off_requests week
-  sound-rule S5 = sound-complete_weekends week
-  sound-rule S6 = sound-total_assignments week
-  sound-rule S7 = sound-worked_weekends week
-  sound-rule rule = charges_nothing rule (sym (none-each_below week.nurses)) refl (λ _. refl) refl
+  sound-rule rule = let sound = sound-nurse_rule rule in record {
+    items = AllByRecursion-each_below (IsItemSound week rule) week.nurses (nurse_items week rule) sound.items;
+    few = λ limits.
+        omega (
+          arith,
+          limits.nurses,
+          length-each_below week.nurses (most_of_nurse rule) (nurse_items week rule) (λ n _. sound.few limits n),
+        );
+    constant_most = λ limits.
+        sum_below-at_most week.nurses 1000 (most_constant_of_nurse rule) (nurse_constant week rule) limits.nurses
+        (sound.constant_most limits);
+    cost_most = λ limits roster.
+        omega (
+          arith,
+          sum_below-at_most week.nurses 1000 200000000 (nurse_cost week roster rule) limits.nurses (sound.cost_most limits roster),
+        );
+    charges = λ roster keeps. omega (arith, ints, charges-nurses week rule sound roster keeps.one_cell);
+    alike = λ one other same. sum_below-same week.nurses _ _ (sound.alike one other same);
+  }
 
   -- ---- all items
 
@@ -55,7 +69,7 @@ module _ (week : Week) where
         (rules : List Rule) → list_all is_soft rules ≡ true → AllByRecursion P (flat_map (items_of_rule week) rules)
     on-items each [] soft = tt
     on-items each (rule ∷ rules) soft =
-        let both : (is_soft rule ≡ true) × (list_all is_soft rules ≡ true) = both_true (is_soft rule) (list_all is_soft rules) soft in
+        let both : (is_soft rule ≡ true) × (list_all is_soft rules ≡ true) = and_parts (is_soft rule) (list_all is_soft rules) soft in
         AllByRecursion-append P (items_of_rule week rule) (flat_map (items_of_rule week) rules) (each rule both.0)
         (on-items each rules both.1)
 
@@ -93,8 +107,7 @@ module _ (week : Week) where
       omega (
         arith,
         ints,
-        sum_by-append (λ (item : Item Cell). item.weight * shortage roster item) (items_of_rule week rule)
-            (flat_map (items_of_rule week) rules),
+        sum_by-append (weighted roster) (items_of_rule week rule) (flat_map (items_of_rule week) rules),
         sum_by-cons (constant_of_rule week) rule rules,
         sum_by-cons (rule_cost week roster) rule rules,
         value_of-append roster (cell_terms_of_rule week rule) (flat_map (cell_terms_of_rule week) rules),

@@ -7,7 +7,7 @@ use Rattle.rota_items.proofs.CellCounts.{cond-le, count-on_cells, count-work_cel
 use Rattle.rota_items.proofs.CellsIn.{in-on_cells, in-work_cells}
 use Rattle.rota_items.proofs.DayLaw.{matches}
 use Rattle.rota_items.proofs.EachPattern.{IsRunPattern, each-pattern, few-run_patterns, on-pattern}
-use Rattle.rota_items.proofs.PatternItems.{shortage-pattern_item}
+use Rattle.rota_items.proofs.PatternItems.{positive_part_is, shortage-pattern_item}
 use Rattle.rota_items.proofs.RisingCells.{day_start, on-keeps, rises-pattern, rises-work_cells}
 use Rattle.rota_items.proofs.SoftRules.Sound.{IsItemSound, most_slacks}
 use Rattle.rota_items.proofs.TermsHold.{OnVariables, on-days}
@@ -15,16 +15,15 @@ use Rattle.rota_items.proofs.UnitTerms.{units-days}
 use Rattle.rota_items.specs.RunItems.{AtMostOneADay, Property, Present, Absent, Runs, has_property, is_plain, pattern_item, pattern_items, run_items, variables_on}
 use Rattle.rota_items.specs.RunPatterns.{DaysFollow, Pattern, windows, patterns}
 
--- the property is one of a nurse's days, of which at most one cell is true on a roster
-pub record IsOfNurse (week : Week) (n : ℕ) (property : Property Cell) : Type 0 where
+-- the cells are those of a nurse's days, at most one a day true on a roster
+pub record IsOfNurse (week : Week) (n : ℕ) (cells : ℕ → List Cell) : Type 0 where
   pub nurse_in : n < week.nurses
-  pub cells_in : (d : ℕ) → d < 7 → AllByRecursion (InWeek week) (variables_on property d)
-  pub cells_rise : (d : ℕ) →
-      RisesWithin (cell_number week) (day_start week n d) (day_start week n (d + 1)) (variables_on property d)
-  pub one : (roster : Roster) → KeepsOneCell week roster → AtMostOneADay property roster
+  pub cells_in : (d : ℕ) → d < 7 → AllByRecursion (InWeek week) (cells d)
+  pub cells_rise : (d : ℕ) → RisesWithin (cell_number week) (day_start week n d) (day_start week n (d + 1)) (cells d)
+  pub one : (roster : Roster) → KeepsOneCell week roster → AtMostOneADay (Present cells) roster
 
 module _ (week : Week) (n : ℕ) (n_in : n < week.nurses) where
-  pub of_nurse-on : (s : ℕ) → s < week.shifts → IsOfNurse week n (Present (on_cells week n s))
+  pub of_nurse-on : (s : ℕ) → s < week.shifts → IsOfNurse week n (on_cells week n s)
   of_nurse-on s s_in = record {
     nurse_in = n_in;
     cells_in = λ d d_in. in-on_cells week n s d n_in s_in d_in;
@@ -36,7 +35,7 @@ module _ (week : Week) (n : ℕ) (n_in : n < week.nurses) where
   pub one-at_work : (roster : Roster) → KeepsOneCell week roster → AtMostOneADay (Present (work_cells week n)) roster
   one-at_work roster one d d_in = omega (arith, count-work_cells week roster n d, work_count-le week roster one n d n_in d_in)
 
-  pub of_nurse-work : IsOfNurse week n (Present (work_cells week n))
+  pub of_nurse-work : IsOfNurse week n (work_cells week n)
   of_nurse-work = record {
     nurse_in = n_in;
     cells_in = λ d d_in. in-work_cells week n d n_in d_in;
@@ -44,25 +43,7 @@ module _ (week : Week) (n : ℕ) (n_in : n < week.nurses) where
     one = one-at_work;
   }
 
-  pub of_nurse-off : IsOfNurse week n (Absent (work_cells week n))
-  of_nurse-off = record {
-    nurse_in = n_in;
-    cells_in = λ d d_in. in-work_cells week n d n_in d_in;
-    cells_rise = λ d. rises-work_cells week n d;
-    one = one-at_work;
-  }
-
-one_less : (k : ℕ) → positive_part (pos 1 -ℤ pos k) ≤ 9999
-one_less k = small_or_negative (pos 1 -ℤ pos k) k refl
-  where
-    small_or_negative : (z : ℤ) (k : ℕ) → z ≡ pos 1 -ℤ pos k → positive_part z ≤ 9999
-    small_or_negative (pos n) k is = omega (arith, ints, is)
-    small_or_negative (negsuc n) k is = omega arith
-
-some-times : (m n : ℕ) → 1 ≤ m → 1 ≤ n → 1 ≤ m * n
-some-times m n m_some n_some = mul-le 1 1 m n m_some n_some
-
-module _ (week : Week) (rule : Rule) (weight n : ℕ) (property : Property Cell) (is : IsOfNurse week n property) where
+module _ (week : Week) (rule : Rule) (weight n : ℕ) (property : Property Cell) (is : IsOfNurse week n (variables_on property)) where
   pub sound-pattern : (pattern : Pattern) → DaysFollow pattern → 1 ≤ weight → weight ≤ 30 → 1 ≤ pattern.units →
       (IsWithinLimits week → pattern.units ≤ 9999) → 1 ≤ most_slacks rule →
       IsItemSound week rule (pattern_item rule weight property pattern)
@@ -74,7 +55,7 @@ module _ (week : Week) (rule : Rule) (weight n : ℕ) (property : Property Cell)
       rise = rises-pattern week n property is.nurse_in is.cells_rise follows.first pattern.days follows.days_are follows.in_week;
       units = units-days property pattern.days;
     };
-    weighs = some-times weight pattern.units weighs some;
+    weighs = omega (arith, mul-le 1 1 weight pattern.units weighs some);
     has_slack = omega arith;
     small = λ limits.
         let most : weight * pattern.units ≤ 30 * 9999 = mul-le weight pattern.units 30 9999 light (few limits) in record {
@@ -82,7 +63,9 @@ module _ (week : Week) (rule : Rule) (weight n : ℕ) (property : Property Cell)
           slacks = omega arith;
           slacks_of_rule = slacks;
           all_slacks = omega (arith, most);
-          degree = one_less (count_by (is_plain property) pattern.days);
+          degree =
+              (let plain = count_by (is_plain property) pattern.days in
+              omega (arith, positive_part_is (pos 1 -ℤ pos plain) 1 plain (omega (arith, ints))));
         };
     enough = λ roster keeps.
         omega (
@@ -94,7 +77,7 @@ module _ (week : Week) (rule : Rule) (weight n : ℕ) (property : Property Cell)
   }
 
 module _ (week : Week) (n : ℕ) (runs : Runs Cell) where
-  pub sound-run_items : IsOfNurse week n runs.property → 1 ≤ runs.weight → runs.weight ≤ 30 → 1 ≤ most_slacks runs.rule →
+  pub sound-run_items : IsOfNurse week n (variables_on runs.property) → 1 ≤ runs.weight → runs.weight ≤ 30 → 1 ≤ most_slacks runs.rule →
       (IsWithinLimits week → runs.limits.min ≤ 9999) → AllByRecursion (IsItemSound week runs.rule) (run_items runs)
   sound-run_items is weighs light slacks small =
       each (windows runs.history runs.limits ++ patterns runs.history runs.limits) (each-pattern runs.history runs.limits)

@@ -4,7 +4,7 @@ use Rattle.rota_items.proofs.ModelWords.{nurses_at, KeepsMinimum, Roster, cell, 
 use Rattle.rota_core.specs.declared.rule.Rule.TheVariants.{S1}
 use Rattle.rota_items.proofs.AlikeRosters.{nurses-alike}
 use Rattle.rota_items.proofs.ListSums.{sum_by-only_if}
-use Rattle.rota_items.proofs.SoftRules.Sound.{IsItemSound, IsSoftRuleSound}
+use Rattle.rota_items.proofs.SoftRules.Sound.{IsItemSound, IsSoftRuleSound, no_constant, weighted}
 use Rattle.rota_items.proofs.SoundTerms.{sound-demand}
 use Rattle.rota_items.proofs.SumsBelow.{sum_by-each-times, count_by-each, sum_below-at_most, sum_below-same}
 use Rattle.rota_items.proofs.Values.{lacking}
@@ -22,25 +22,18 @@ module _ (week : Week) where
       lacking roster (demand_cells week d s k) (week.demand d s k).optimal ∙
       ap (λ n. (week.demand d s k).optimal - n) (count_by-each roster week.nurses (λ n. cell n d s k))
 
-  if_wanted : (test : Bool) (minimum optimal nurses missing : ℕ) →
-      nat_lt minimum optimal ≡ test → minimum ≤ nurses → missing ≡ optimal - nurses →
-      cond test (optimum_weight * missing) 0 ≡ optimum_weight * (optimal - nurses)
-  if_wanted true minimum optimal nurses missing wanted enough same = omega arith
-  if_wanted false minimum optimal nurses missing wanted enough same =
-      omega (arith, ltb-false minimum optimal wanted)
-
   pub weighted-optimum_items : (roster : Roster) → KeepsMinimum week roster →
       weighted_shortages roster (optimum_items week) ≡ optimum_cost week roster
   weighted-optimum_items roster met =
-      sum_by-each-times weight 7 optimum_weight _ _ (λ d d_in.
-      sum_by-each-times weight week.shifts optimum_weight _ _ (λ s s_in.
-      sum_by-each-times weight week.skills optimum_weight _ _ (λ k k_in.
-      sum_by-only_if weight (is_wanted d s k) (optimum_item week d s k) ∙
-      if_wanted (is_wanted d s k) (week.demand d s k).minimum (week.demand d s k).optimal (nurses_at week roster d s k)
-      (shortage roster (optimum_item week d s k)) refl (met d s k d_in s_in k_in) (shortage-optimum_item roster d s k))))
-    where
-      weight : Item Cell → ℕ
-      weight item = item.weight * shortage roster item
+      sum_by-each-times (weighted roster) 7 optimum_weight _ _ (λ d d_in.
+      sum_by-each-times (weighted roster) week.shifts optimum_weight _ _ (λ s s_in.
+      sum_by-each-times (weighted roster) week.skills optimum_weight _ _ (λ k k_in.
+      grind (
+        arith,
+        sum_by-only_if (weighted roster) (is_wanted d s k) (optimum_item week d s k),
+        met d s k d_in s_in k_in,
+        shortage-optimum_item roster d s k,
+      ))))
 
   -- ---- the items
 
@@ -87,7 +80,7 @@ module _ (week : Week) where
   sound-optimal_coverage = record {
     items = sound-items;
     few = λ limits. omega (arith, few-items limits);
-    constant_most = λ _. omega arith;
+    constant_most = λ _. omega (arith, no_constant week S1 (λ _. refl));
     cost_most = λ limits roster.
         omega (
           arith,
@@ -96,7 +89,8 @@ module _ (week : Week) where
               sum_below-at_most week.skills 16 9999 (λ k. (week.demand d s k).optimal - nurses_at week roster d s k) limits.skills
               (λ k. omega (arith, limits.optimal d s k)))),
         );
-    charges = λ roster keeps. omega (arith, ints, weighted-optimum_items roster keeps.minimum);
+    charges = λ roster keeps.
+        omega (arith, ints, weighted-optimum_items roster keeps.minimum, no_constant week S1 (λ _. refl));
     alike = λ one other same.
         ap (λ sum. optimum_weight * sum)
         (sum_below-same 7 _ _ (λ d d_in. sum_below-same week.shifts _ _ (λ s s_in. sum_below-same week.skills _ _ (λ k k_in.

@@ -1,5 +1,5 @@
 -- The terms on cells charge the request rows that are not granted.
-use Rattle.rota_items.proofs.LogicWords.{◌≡◌, ℕ, zero, suc, ◌+◌, ◌*◌, ◌^◌, ◌<◌, ◌≤◌, Bool, true, false, cond, List, [], refl, ap, ◌∙◌, arith, pos, ◌+ℤ◌, ◌<ℤ◌, nat_lt, AllByRecursion, ltb-false, ints, AllByRecursion-each_below, AllByRecursion-only_if}
+use Rattle.rota_items.proofs.LogicWords.{◌≡◌, ℕ, zero, suc, ◌+◌, ◌*◌, ◌^◌, ◌<◌, ◌≤◌, Bool, true, false, cond, List, [], refl, ap, ◌∙◌, arith, pos, ◌+ℤ◌, ◌<ℤ◌, nat_lt, AllByRecursion, ltb-false, ltb-true, ints, AllByRecursion-each_below, AllByRecursion-only_if}
 use Rattle.rota_items.proofs.ModelWords.{Roster, InWeek, cell, Week, Cell, IsWithinLimits, Term, value_of, items_of_rule}
 use Rattle.rota_core.proofs.RisesWithin.{RisesWithin, weaken, widen, rises-each, rises-only_if}
 use Rattle.rota_core.specs.Below.{sum_below}
@@ -10,7 +10,7 @@ use Rattle.rota_items.proofs.CellsIn.{in_week}
 use Rattle.rota_items.proofs.NurseItemLists.{none-each_below}
 use Rattle.rota_items.proofs.PatternItems.{value_of-append}
 use Rattle.rota_items.proofs.RisingCells.{at, day_start, shift_start, within, within-block}
-use Rattle.rota_items.proofs.SoftRules.Sound.{IsSoftRuleSound}
+use Rattle.rota_items.proofs.SoftRules.Sound.{IsSoftRuleSound, no_constant}
 use Rattle.rota_items.proofs.SumsBelow.{sum_below-at_most, where_in, sum_below-same}
 use Rattle.rota_items.specs.rules.ShiftOffRequests.{request_cost, request_terms, request_terms_on, request_weight}
 
@@ -79,9 +79,6 @@ module _ (week : Week) where
     pub positive : pos 0 <ℤ term.0
     pub small : IsWithinLimits week → term.0 <ℤ pos (2 ^ 30)
 
-  some_of_test : (n : ℕ) → nat_lt 0 n ≡ true → 0 < n
-  some_of_test n test = grind arith
-
   pub sound-request_terms : AllByRecursion IsTermSound (request_terms week)
   sound-request_terms =
       AllByRecursion-each_below IsTermSound week.nurses _ (λ n n_in.
@@ -89,7 +86,7 @@ module _ (week : Week) where
       AllByRecursion-each_below IsTermSound week.shifts (request_terms_on week n d) (λ s s_in.
       AllByRecursion-each_below IsTermSound week.skills _ (λ k k_in.
       AllByRecursion-only_if IsTermSound _ _ (λ test.
-      let some : 0 < week.requests n d s = some_of_test (week.requests n d s) test in record {
+      let some : 0 < week.requests n d s = ltb-true 0 (week.requests n d s) test in record {
         cell_in = in_week week n d s k n_in d_in s_in k_in;
         positive = omega (arith, ints, some);
         small = λ limits. omega (arith, ints, limits.requests n d s);
@@ -137,9 +134,10 @@ module _ (week : Week) where
   sound-shift_off_requests = record {
     items = rw (← no_items) tt;
     few = λ _. rw (← no_items) (omega arith);
-    constant_most = λ _. omega arith;
+    constant_most = λ _. omega (arith, no_constant week S4 (λ _. refl));
     cost_most = λ limits roster. request_cost-le roster limits;
-    charges = λ roster keeps. rw (← no_items) (omega (arith, ints, value_of-request_terms roster));
+    charges = λ roster keeps.
+        rw (← no_items) (omega (arith, ints, value_of-request_terms roster, no_constant week S4 (λ _. refl)));
     alike = λ one other same.
         ap (λ sum. request_weight * sum)
         (sum_below-same week.nurses _ _ (λ n n_in. sum_below-same 7 _ _ (λ d d_in. sum_below-same week.shifts _ _ (λ s s_in.

@@ -1,26 +1,37 @@
 -- What is to be shown of a soft rule and its items.
-use Rattle.rota_items.proofs.LogicWords.{◌≡◌, ℕ, ◌*◌, ◌≤◌, pos, length, AllByRecursion, arith}
-use Rattle.rota_items.proofs.ModelWords.{KeepsCompetitionRules, Roster, Week, Rule, Cell, Item, positive_part, shortage, IsWithinLimits, charged, constant_of_rule, items_of_rule, rule_cost}
+use Rattle.rota_items.proofs.LogicWords.{◌≡◌, ℕ, ◌+◌, ◌*◌, ◌<◌, ◌≤◌, pos, length, AllByRecursion, arith}
+use Rattle.rota_items.proofs.ModelWords.{KeepsCompetitionRules, KeepsOneCell, Roster, Week, Rule, Cell, Item, positive_part, shortage, weighted_shortages, IsWithinLimits, charged, constant_of_rule, items_of_rule, rule_cost}
+use Rattle.rota_core.specs.Below.{sum_below}
+use Rattle.rota_core.specs.Lists.{each_below}
 use Rattle.rota_core.specs.declared.rule.Rule.TheVariants.{S1, S2, S6, S7}
 use Rattle.rota_items.proofs.AlikeRosters.{AreAlike}
 use Rattle.rota_items.proofs.SoundTerms.{AreSound}
+use Rattle.rota_items.proofs.SumsBelow.{sum_by-each, sum_below-plus, sum_below-same, sum_below-zero}
+use Rattle.rota_items.specs.NurseItems.{nurse_constant, nurse_cost, nurse_items}
 
 -- ---- within the limits of a week's numbers
 
--- how many items the rule has, how many slacks each of them, and how great the rule's part of the constant is
+-- how many items a rule has at a nurse, and how great its part of the constant is
+abbrev pub most_of_nurse : Rule → ℕ
+most_of_nurse S2 = 952
+most_of_nurse _ = 56
+
+abbrev pub most_constant_of_nurse : Rule → ℕ
+most_constant_of_nurse S6 = 400000
+most_constant_of_nurse S7 = 300000
+most_constant_of_nurse _ = 0
+
+-- the same for the whole rule, and how many slacks each of its items has
 abbrev pub most_items : Rule → ℕ
 most_items S1 = 1792
-most_items S2 = 952000
-most_items _ = 56000
+most_items rule = 1000 * most_of_nurse rule
+
+abbrev pub most_constant : Rule → ℕ
+most_constant rule = 1000 * most_constant_of_nurse rule
 
 abbrev pub most_slacks : Rule → ℕ
 most_slacks S1 = 9999
 most_slacks _ = 7
-
-abbrev pub most_constant : Rule → ℕ
-most_constant S6 = 400000000
-most_constant S7 = 300000000
-most_constant _ = 0
 
 pub most_items-few : (rule : Rule) → most_items rule ≤ 952000
 most_items-few S1 = omega arith
@@ -31,6 +42,12 @@ pub most_constant-few : (rule : Rule) → most_constant rule ≤ 400000000
 most_constant-few S6 = omega arith
 most_constant-few S7 = omega arith
 most_constant-few _ = omega arith
+
+-- ---- of an item
+
+-- what the item charges on a roster
+abbrev pub weighted : Roster → Item Cell → ℕ
+weighted roster item = item.weight * shortage roster item
 
 pub record IsItemSmall (rule : Rule) (item : Item Cell) : Type 0 where
   pub weight : item.weight ≤ 300000
@@ -48,6 +65,8 @@ pub record IsItemSound (week : Week) (rule : Rule) (item : Item Cell) : Type 0 w
   pub small : IsWithinLimits week → IsItemSmall rule item
   pub enough : (roster : Roster) → KeepsCompetitionRules week roster → shortage roster item ≤ item.slacks
 
+-- ---- of a rule
+
 -- The rule's items are sound and few, and what they charge, with the rule's part of the constant and its terms on cells, is
 -- the rule's cost. Rosters with the same cells in the week cost the same.
 pub record IsSoftRuleSound (week : Week) (rule : Rule) : Type 0 where
@@ -57,3 +76,37 @@ pub record IsSoftRuleSound (week : Week) (rule : Rule) : Type 0 where
   pub cost_most : IsWithinLimits week → (roster : Roster) → rule_cost week roster rule ≤ 200000000000
   pub charges : (roster : Roster) → KeepsCompetitionRules week roster → charged week roster rule ≡ pos (rule_cost week roster rule)
   pub alike : (one other : Roster) → AreAlike week one other → rule_cost week one rule ≡ rule_cost week other rule
+
+-- the same at a nurse, of a rule that charges each
+pub record IsNurseRuleSound (week : Week) (rule : Rule) : Type 0 where
+  pub items : (n : ℕ) → n < week.nurses → AllByRecursion (IsItemSound week rule) (nurse_items week rule n)
+  pub few : IsWithinLimits week → (n : ℕ) → length (nurse_items week rule n) ≤ most_of_nurse rule
+  pub constant_most : IsWithinLimits week → (n : ℕ) → nurse_constant week rule n ≤ most_constant_of_nurse rule
+  pub cost_most : IsWithinLimits week → (roster : Roster) (n : ℕ) → nurse_cost week roster rule n ≤ 200000000
+  pub charges : (roster : Roster) → KeepsOneCell week roster → (n : ℕ) → n < week.nurses →
+      weighted_shortages roster (nurse_items week rule n) + nurse_constant week rule n ≡ nurse_cost week roster rule n
+  pub alike : (one other : Roster) → AreAlike week one other → (n : ℕ) → n < week.nurses →
+      nurse_cost week one rule n ≡ nurse_cost week other rule n
+
+pub no_constant : (week : Week) (rule : Rule) → ((n : ℕ) → nurse_constant week rule n ≡ 0) → constant_of_rule week rule ≡ 0
+no_constant week rule none = sum_below-zero week.nurses (nurse_constant week rule) (λ n _. none n)
+
+module _ (week : Week) (rule : Rule) (sound : IsNurseRuleSound week rule) (roster : Roster) (one : KeepsOneCell week roster) where
+  -- what the nurses' items and their parts of the constant charge is what the nurses cost
+  pub charges-nurses :
+      weighted_shortages roster (each_below week.nurses (nurse_items week rule)) + constant_of_rule week rule ≡
+      sum_below week.nurses (nurse_cost week roster rule)
+  charges-nurses =
+      omega (
+        arith,
+        sum_by-each (weighted roster) week.nurses (nurse_items week rule),
+        sum_below-plus week.nurses (λ n. weighted_shortages roster (nurse_items week rule n)) (nurse_constant week rule),
+        sum_below-same week.nurses _ _ (sound.charges roster one),
+      )
+
+  -- items alone, where the rule has no part of the constant
+  pub charges-items : ((n : ℕ) → nurse_constant week rule n ≡ 0) →
+      weighted_shortages roster (each_below week.nurses (nurse_items week rule)) ≡
+      sum_below week.nurses (nurse_cost week roster rule)
+  charges-items none =
+      omega (arith, charges-nurses, no_constant week rule none)

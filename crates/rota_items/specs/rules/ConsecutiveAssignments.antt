@@ -62,7 +62,10 @@ abbrev pub work_run_cost : Week → Roster → ℕ → ℕ
 work_run_cost week roster n =
     run_cost (works week roster n) (week.past n).work_run (week.contract n).work
 
+-- of a nurse
+abbrev pub consecutive_assignment_cost_of : Week → Roster → ℕ → ℕ
+consecutive_assignment_cost_of week roster n =
+    shift_run_weight * sum_below week.shifts (shift_run_cost week roster n) + work_run_weight * work_run_cost week roster n
+
 abbrev pub consecutive_assignment_cost : Week → Roster → ℕ
-consecutive_assignment_cost week roster =
-    shift_run_weight * sum_below week.nurses (λ n. sum_below week.shifts (shift_run_cost week roster n)) +
-    work_run_weight * sum_below week.nurses (work_run_cost week roster)
+consecutive_assignment_cost week roster = sum_below week.nurses (consecutive_assignment_cost_of week roster)

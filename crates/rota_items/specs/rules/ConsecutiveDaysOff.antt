@@ -32,5 +32,9 @@ abbrev pub off_run_cost : Week → Roster → ℕ → ℕ
 off_run_cost week roster n =
     run_cost (is_off week roster n) (week.past n).off_run (week.contract n).off
 
+-- of a nurse
+abbrev pub consecutive_day_off_cost_of : Week → Roster → ℕ → ℕ
+consecutive_day_off_cost_of week roster n = off_run_weight * off_run_cost week roster n
+
 abbrev pub consecutive_day_off_cost : Week → Roster → ℕ
-consecutive_day_off_cost week roster = off_run_weight * sum_below week.nurses (off_run_cost week roster)
+consecutive_day_off_cost week roster = sum_below week.nurses (consecutive_day_off_cost_of week roster)

@@ -7,7 +7,7 @@ use Rattle.rota_core.specs.Lists.{each_below, only_if}
 use Rattle.rota_core.specs.Roster.{Roster, cell}
 use Rattle.rota_core.specs.Week.{Week}
 use Rattle.rota_items.specs.Cells.{nurse_cells}
-use Rattle.rota_items.specs.CountedTotals.{charged_excess, excess_before_counts, greatest_totals_count, least_totals_count}
+use Rattle.rota_items.specs.CountedTotals.{CountedTotal, charged_total, excess_before_counts, greatest_totals_count, least_totals_count}
 use Rattle.rota_items.specs.Items.{Item}
 use Rattle.rota_items.specs.Linear.{times}
 
@@ -68,9 +68,12 @@ abbrev pub assignments_above : Week → ℕ → ℕ
 assignments_above week n =
     (if excess_before_counts week then (week.past n).assignments - (week.contract n).total.max else 0)
 
+-- of a nurse
+abbrev pub assignment_constant_of : Week → ℕ → ℕ
+assignment_constant_of week n = assignment_weight * (wanted_beyond_days week n + assignments_above week n)
+
 abbrev pub constant_of_assignments : Week → ℕ
-constant_of_assignments week =
-    assignment_weight * sum_below week.nurses (λ n. wanted_beyond_days week n + assignments_above week n)
+constant_of_assignments week = sum_below week.nurses (assignment_constant_of week)
 
 -- ---- the cost
 
@@ -79,18 +82,28 @@ abbrev pub assignments_of : Week → Roster → ℕ → ℕ
 assignments_of week roster n =
     sum_below 7 (λ d. sum_below week.shifts (λ s. count_below week.skills (λ k. roster (cell n d s k))))
 
--- assignments below the least total, and those above the greatest
+-- assignments below the least total
 abbrev pub below_least_total : Week → Roster → ℕ → ℕ
 below_least_total week roster n =
     (if least_totals_count week
     then (week.contract n).total.min - ((week.past n).assignments + assignments_of week roster n)
     else 0)
 
+-- the nurse's assignments as a total, and those above its greatest number
+abbrev pub assignment_total : ℕ → CountedTotal
+assignment_total n = record {
+  before = λ week. (week.past n).assignments;
+  now = λ week roster. assignments_of week roster n;
+  most = λ week. (week.contract n).total.max;
+}
+
 abbrev pub above_greatest_total : Week → Roster → ℕ → ℕ
-above_greatest_total week roster n =
-    charged_excess week (week.contract n).total.max (week.past n).assignments (assignments_of week roster n)
+above_greatest_total week roster n = charged_total (assignment_total n) week roster
+
+-- of a nurse
+abbrev pub assignment_cost_of : Week → Roster → ℕ → ℕ
+assignment_cost_of week roster n =
+    assignment_weight * (below_least_total week roster n + above_greatest_total week roster n)
 
 abbrev pub assignment_cost : Week → Roster → ℕ
-assignment_cost week roster =
-    assignment_weight *
-    sum_below week.nurses (λ n. below_least_total week roster n + above_greatest_total week roster n)
+assignment_cost week roster = sum_below week.nurses (assignment_cost_of week roster)

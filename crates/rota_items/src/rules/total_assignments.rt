@@ -5,7 +5,7 @@ ghost use Rattle.rota_items.specs.CountedTotals.{greatest_totals_count, least_to
 ghost use Rattle.rota_items.specs.ItemEvents.{SlacksFit, Walks};
 ghost use Rattle.rota_items.specs.ItemValues.{IsSumOf, item_of, items_given};
 ghost use Rattle.rota_items.specs.Slacks.{slack_count};
-ghost use Rattle.rota_items.specs.rules.TotalAssignments.{assignments_above, constant_of_assignments, greatest_total_item, greatest_totals_of, least_total_item, least_totals_of, still_allowed, still_wanted, totals_of, wanted_beyond_days};
+ghost use Rattle.rota_items.specs.rules.TotalAssignments.{assignment_constant_of, assignments_above, greatest_total_item, greatest_totals_of, least_total_item, least_totals_of, still_allowed, still_wanted, totals_of, wanted_beyond_days};
 
 use crate::counted_totals::{excess_before_counts, greatest_totals_count, least_totals_count};
 use crate::item_counts::ItemCounts;
@@ -185,16 +185,12 @@ fn assignments_above(instance: &Instance, nurse: u16) -> u64
     u64::from(instance.past(nurse).assignments.saturating_sub(greatest))
 }
 
-/// What no roster of the week can avoid: assignments that are wanted beyond seven days, and, unless
-/// excess is charged early, those that the history has above the greatest totals.
-#[tactic(auto, using(crate::proofs::ListLengths::counting))]
-pub fn constant(instance: &Instance) -> u64
-    ensures few { result ≤ 3000000000 }
-    ensures number { result ≡ constant_of_assignments (week_of instance.now) }
+/// What no roster of the week can avoid of a nurse: assignments that are wanted beyond seven days, and,
+/// unless excess is charged early, those that the history has above the greatest total.
+pub fn constant(instance: &Instance, nurse: u16) -> u64
+    requires { nurse < (week_of instance.now).nurses }
+    ensures few { result ≤ 3000000 }
+    ensures number { result ≡ assignment_constant_of (week_of instance.now) nurse }
 {
-    let mut assignments = 0;
-    for nurse in 0..instance.nurses() {
-        assignments += wanted_beyond_days(instance, nurse) + assignments_above(instance, nurse);
-    }
-    u64::from(WEIGHT) * assignments
+    u64::from(WEIGHT) * (wanted_beyond_days(instance, nurse) + assignments_above(instance, nurse))
 }

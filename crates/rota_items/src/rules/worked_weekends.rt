@@ -3,7 +3,7 @@ ghost use Rattle.std.specs.Prelude.{◌≡◌, ◌<◌, ◌≤◌, ◌&&◌, nat
 ghost use Rattle.rota_core.specs.InstanceTables.{week_of};
 ghost use Rattle.rota_items.specs.CountedTotals.{greatest_totals_count};
 ghost use Rattle.rota_items.specs.ItemEvents.{SlacksFit, Walks};
-ghost use Rattle.rota_items.specs.rules.WorkedWeekends.{constant_of_weekends, weekends_above, worked_weekends_of};
+ghost use Rattle.rota_items.specs.rules.WorkedWeekends.{weekend_constant_of, weekends_above, worked_weekends_of};
 
 use crate::counted_totals::{excess_before_counts, greatest_totals_count};
 use crate::soft_item::{DayProperty, ItemPart, RunCharge};
@@ -73,16 +73,12 @@ fn weekends_above(instance: &Instance, nurse: u16) -> u64
     u64::from(instance.past(nurse).weekends.saturating_sub(greatest))
 }
 
-/// What no roster of the week can avoid: the weekends that the history has above the greatest numbers,
-/// unless excess is charged early.
-#[tactic(auto, using(crate::proofs::ListLengths::counting))]
-pub fn constant(instance: &Instance) -> u64
-    ensures few { result ≤ 3000000000 }
-    ensures number { result ≡ constant_of_weekends (week_of instance.now) }
+/// What no roster of the week can avoid of a nurse: the weekends that the history has above her greatest
+/// number, unless excess is charged early.
+pub fn constant(instance: &Instance, nurse: u16) -> u64
+    requires { nurse < (week_of instance.now).nurses }
+    ensures few { result ≤ 3000000 }
+    ensures number { result ≡ weekend_constant_of (week_of instance.now) nurse }
 {
-    let mut weekends = 0;
-    for nurse in 0..instance.nurses() {
-        weekends += weekends_above(instance, nurse);
-    }
-    u64::from(WEIGHT) * weekends
+    u64::from(WEIGHT) * weekends_above(instance, nurse)
 }

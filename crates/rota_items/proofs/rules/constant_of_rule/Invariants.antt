@@ -1,0 +1,7 @@
+use Rattle.rota_items.proofs.Common.{week_of}
+use Rattle.rota_items.proofs.ListLengths.{SumOfEach}
+use Rattle.rota_items.specs.NurseItems.{nurse_constant}
+use Rattle.rota_items.proofs.rules.constant_of_rule.Given as goal
+
+abbrev pub invariant-loop-nurse : goal.invariant-loop-nurse
+invariant-loop-nurse l = SumOfEach l.nurse 3000000 (nurse_constant (week_of l.fn.instance) l.fn.rule) l.sum
