@@ -8,7 +8,7 @@ ghost use Rattle.inrc2pb.specs.CommandLine.{required_file_rule, subcommand_app};
 use clap::{Arg, ArgAction, Command};
 use std::alloc::{AllocError, Global};
 
-/// The version of the program, which stands here only.
+// The version of the program, which stands here only.
 const VERSION: &str = "0.2.0";
 
 /// The whole command: one of its subcommands has to be named.
@@ -93,7 +93,7 @@ The roster and the answer: inrc2pb(1), docs/formats.md.",
     .arg(required_file(alloc, "from", "The roster, in the form of a solution file"))
 }
 
-/// A subcommand with the options that each of them has; its help ends with `example`.
+// A subcommand with the options that each of them has; its help ends with `example`.
 fn subcommand<'a>(
     alloc: Global,
     name: &'a str,
@@ -120,7 +120,7 @@ fn subcommand<'a>(
         ))
 }
 
-/// The flag `--id`.
+// The flag `--id`.
 fn flag<'a>(alloc: Global, id: &'a str, help: &'a str) -> Arg<'a>
     ensures rule { rule_of result ≡ flag_rule id.entry.now }
     ensures local { result.global ≡ false }
@@ -131,7 +131,7 @@ fn flag<'a>(alloc: Global, id: &'a str, help: &'a str) -> Arg<'a>
         .action(ArgAction::SetTrue)
 }
 
-/// The option `--id FILE`.
+// The option `--id FILE`.
 fn file_option<'a>(alloc: Global, id: &'a str, help: &'a str) -> Arg<'a>
     ensures rule { rule_of result ≡ file_rule id.entry.now }
     ensures local { result.global ≡ false }
@@ -143,7 +143,7 @@ fn file_option<'a>(alloc: Global, id: &'a str, help: &'a str) -> Arg<'a>
         .action(ArgAction::Set)
 }
 
-/// The option `--id FILE`, which has to be given.
+// The option `--id FILE`, which has to be given.
 fn required_file<'a>(alloc: Global, id: &'a str, help: &'a str) -> Arg<'a>
     ensures rule { rule_of result ≡ required_file_rule id.entry.now }
     ensures local { result.global ≡ false }

@@ -62,7 +62,7 @@ fn report_fault(rt: &impl Eprint, fault: &Fault) -> u8
     told(eprintln!(rt; "{}", FaultLine::of(fault)), status_of(fault))
 }
 
-/// The status, also where the line that goes with it could not be written.
+// The status, also where the line that goes with it could not be written.
 fn told(_printed: io::Result<()>, status: u8) -> u8
     ensures { result ≡ status }
 {

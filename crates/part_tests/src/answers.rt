@@ -61,7 +61,7 @@ pub fn in_pieces(alloc: Global, text: &[u8], length: usize) -> Option<Result<Sai
     Some(finished(answer))
 }
 
-/// A text, and its fault.
+// A text, and its fault.
 const FAULTY_ANSWERS: [(&[u8], AnswerFault); 32] = [
     (b"", AnswerFault::Statuses),
     (b"\n\nc s SATISFIABLE\n", AnswerFault::Statuses),
@@ -144,7 +144,7 @@ const SAID_BY_WHOLE: Said = Said {
     values: [true, false, false, false, false, false, false, true],
 };
 
-/// A text, and what it says.
+// A text, and what it says.
 const SOUND_ANSWERS: [(&[u8], Said); 8] = [
     (WHOLE, SAID_BY_WHOLE),
     (

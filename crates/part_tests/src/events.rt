@@ -7,7 +7,7 @@ use rota_core::Instance;
 use rota_items::{Part, Taker, drive_constraints, drive_objective};
 use std::process::Abort;
 
-/// Takes events while it has room, then refuses, and counts its refusals.
+// Takes events while it has room, then refuses, and counts its refusals.
 #[derive(Debug, Clone, Copy, PartialEq, Eq)]
 struct Stopper {
     room: u32,
@@ -56,7 +56,7 @@ impl Taker for Stopper {
     }
 }
 
-/// A drive, of the objective or of the constraints.
+// A drive, of the objective or of the constraints.
 #[derive(Clone, Copy)]
 enum Drive {
     Objective,
@@ -72,21 +72,21 @@ impl Drive {
     }
 }
 
-/// The drive stops at the event that the taker refuses, and the taker is handed no other.
+// The drive stops at the event that the taker refuses, and the taker is handed no other.
 fn stops(drive: Drive, instance: &Instance, room: u32) -> bool {
     let mut stopper = Stopper { room, refusals: 0 };
     let is_refused = drive.over(instance, &mut stopper).is_err();
     is_refused && stopper.room == 0 && stopper.refusals == 1
 }
 
-/// The drive hands over this many events where the taker takes them all.
+// The drive hands over this many events where the taker takes them all.
 fn ends(drive: Drive, instance: &Instance, room: u32) -> bool {
     let mut stopper = Stopper { room, refusals: 0 };
     let is_whole = drive.over(instance, &mut stopper).is_ok();
     is_whole && stopper.room == 0 && stopper.refusals == 0
 }
 
-/// The drive hands over this many events, and stops at each of them where the taker does.
+// The drive hands over this many events, and stops at each of them where the taker does.
 fn check_stops(rt: &impl Abort, drive: Drive, instance: &Instance, events: u32) {
     for room in 0..events {
         assert!(rt; stops(drive, instance, room), "{room} of {events}");

@@ -12,7 +12,7 @@ use rota_core::{Cell, Instance, Roster};
 use std::alloc::{AllocError, Global};
 use std::process::Abort;
 
-/// A week before the last. Some limits have a minimum above their maximum.
+// A week before the last. Some limits have a minimum above their maximum.
 const FIRST_WEEK: WeekFiles = WeekFiles {
     scenario: b"SCENARIO = small
 WEEKS = 2
@@ -52,7 +52,7 @@ Cid Any Sun
 ",
 };
 
-/// The same nurses in the last week.
+// The same nurses in the last week.
 const LAST_WEEK: WeekFiles = WeekFiles {
     history: b"HISTORY
 1 small
@@ -64,14 +64,14 @@ Cid 9 2 Early 4 5 0
     ..FIRST_WEEK
 };
 
-/// Numbers of a linear congruential generator.
+// Numbers of a linear congruential generator.
 #[derive(Drop)]
 struct Numbers {
     state: u32,
 }
 
 impl Numbers {
-    /// The next number, below the bound.
+    // The next number, below the bound.
     fn below(&mut self, bound: u8) -> u8
         requires { 0 < bound }
         ensures { result < bound }
@@ -83,7 +83,7 @@ impl Numbers {
         ((self.state >> 16) % u32::from(bound)) as u8
     }
 
-    /// A roster in which each nurse works on about two of three days.
+    // A roster in which each nurse works on about two of three days.
     fn roster(&mut self, alloc: Global, instance: &Instance) -> Result<Roster, AllocError>
         ensures { IfOk result (λ roster. HasShapeOf (week_of instance.now) roster) }
     {

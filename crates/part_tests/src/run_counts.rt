@@ -4,7 +4,7 @@ use rota_items::{early_excess, patterns_of, windows_of};
 
 const MOST: u16 = u16::MAX;
 
-/// The length of the run before Monday, the limits, and how many windows there are.
+// The length of the run before Monday, the limits, and how many windows there are.
 const WINDOWS: [(u16, (u16, u16), u32); 5] = [
     (9, (1, 5), 7),
     (0, (1, 2), 5),
@@ -20,7 +20,7 @@ fn windows_by_history_and_maximum(rt: HostRuntime) {
     }
 }
 
-/// The length of the run before Monday, the limits, and how many patterns there are.
+// The length of the run before Monday, the limits, and how many patterns there are.
 const PATTERNS: [(u16, (u16, u16), u32); 5] = [
     (1, (3, 9), 11),
     (0, (9, 9), 21),

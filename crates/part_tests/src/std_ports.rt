@@ -19,7 +19,7 @@ fn readers_and_writers_are_ports(rt: HostRuntime) -> Result<(), Fail> {
     Ok(())
 }
 
-/// What a port does at a call.
+// What a port does at a call.
 #[derive(Clone, Copy)]
 enum Step {
     /// It moves this many bytes, or as many as there are.
@@ -28,7 +28,7 @@ enum Step {
     Fails(ErrorKind),
 }
 
-/// A reader and a writer that does these steps one after another, and counts its calls and its flushes.
+// A reader and a writer that does these steps one after another, and counts its calls and its flushes.
 #[derive(Drop)]
 struct Scripted<'a> {
     steps: &'a [Step],
@@ -37,7 +37,7 @@ struct Scripted<'a> {
 }
 
 impl Scripted<'_> {
-    /// Does the next step on this many bytes.
+    // Does the next step on this many bytes.
     fn step(&mut self, most: usize) -> io::Result<usize>
         ensures { IfOk result (λ n. n ≤ most) }
     {

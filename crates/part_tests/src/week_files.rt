@@ -94,7 +94,7 @@ SHIFT_OFF_REQUESTS = 0
 ",
 };
 
-/// The instance of the scenario, after this history.
+// The instance of the scenario, after this history.
 fn after(
     alloc: Global,
     scenario: Scenario,

@@ -15,7 +15,7 @@ const TRUTHS: [bool; 20] = [
     false, true, true, true, true, true,
 ];
 
-/// Puts a literal for each of the values.
+// Puts a literal for each of the values.
 fn put_literals<W: Target>(writer: &mut AnswerWriter<W>, truths: &[bool]) -> Result<(), PortFault>
     requires { phase_of writer.old ≡ Started }
     ensures { phase_of writer.new ≡ Started }
@@ -26,7 +26,7 @@ fn put_literals<W: Target>(writer: &mut AnswerWriter<W>, truths: &[bool]) -> Res
     Ok(())
 }
 
-/// Writes the answer of these values.
+// Writes the answer of these values.
 fn write_answer<W: Target>(out: &mut W, objective: u64, truths: &[bool]) -> Result<(), PortFault> {
     let mut writer = AnswerWriter::new(Sink::new(out));
     writer.start(objective)?;

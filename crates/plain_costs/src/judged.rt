@@ -12,7 +12,7 @@ use rota_core::{Instance, Roster};
 use rota_items::{Judge, Verdict, drive_constraints, drive_objective};
 use std::convert::Infallible;
 
-/// Hands the judge the objective, then the constraints.
+// Hands the judge the objective, then the constraints.
 fn drive(instance: &Instance, judge: &mut Judge<'_>) -> Result<(), Infallible>
     ensures { let week = week_of instance.now in
         judge.new ≡ fold judged judge.old

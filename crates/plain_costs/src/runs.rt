@@ -4,7 +4,7 @@ ghost use Rattle.rota_items.specs.Runs.{day_cost, run_cost, run_length, run_leng
 
 use rota_core::Span;
 
-/// The length of the run on a day, after a run of `before` days.
+// The length of the run on a day, after a run of `before` days.
 fn length_on(has: bool, before: u32) -> u32
     requires { before ≤ 99999 }
     ensures { (property : ℕ → Bool) (history day : ℕ) →
@@ -15,8 +15,8 @@ fn length_on(has: bool, before: u32) -> u32
     if has { before + 1 } else { 0 }
 }
 
-/// What a day costs, after a run of `before` days: 1 where the run is above the maximum, and what a run
-/// that has ended lacks of the minimum.
+// What a day costs, after a run of `before` days: 1 where the run is above the maximum, and what a run
+// that has ended lacks of the minimum.
 fn day_cost(has: bool, before: u32, limits: Span) -> u32
     requires { before ≤ 99999 }
     ensures few { result ≤ 65535 }

@@ -24,7 +24,7 @@ use crate::takers::Taker;
 use crate::variables::unit_var;
 use rota_core::{Instance, Rule};
 
-/// The row that makes the unit variable true.
+// The row that makes the unit variable true.
 fn give_unit<T: Taker>(instance: &Instance, taker: &mut T) -> Result<(), T::Fault>
     ensures { Takes T.Taker (events (unit_row (unit_number (week_of instance.now)) ∷ []))
         taker.old taker.new result }
@@ -34,7 +34,7 @@ fn give_unit<T: Taker>(instance: &Instance, taker: &mut T) -> Result<(), T::Faul
     taker.close_row(1)
 }
 
-/// Hands the taker the rows of the rule, if it is a hard one.
+// Hands the taker the rows of the rule, if it is a hard one.
 fn give_rule<T: Taker>(instance: &Instance, taker: &mut T, rule: Rule) -> Result<(), T::Fault>
     ensures { let week = week_of instance.now in
         Takes T.Taker (cell_row_events week (rows_of_hard_rule week rule)) taker.old taker.new result }
@@ -49,7 +49,7 @@ fn give_rule<T: Taker>(instance: &Instance, taker: &mut T, rule: Rule) -> Result
     }
 }
 
-/// Hands the taker the rows of the hard rules.
+// Hands the taker the rows of the hard rules.
 fn give_rules<T: Taker>(instance: &Instance, taker: &mut T) -> Result<(), T::Fault>
     ensures { let week = week_of instance.now in
         Takes T.Taker (cell_row_events week (rule_rows week)) taker.old taker.new result }
@@ -68,7 +68,7 @@ pub fn give_hard_rows<T: Taker>(instance: &Instance, taker: &mut T) -> Result<()
     give_rules(instance, taker)
 }
 
-/// The number of the rule's rows, 0 where it is no hard rule.
+// The number of the rule's rows, 0 where it is no hard rule.
 fn count_rows_of(instance: &Instance, rule: Rule) -> u32
     ensures few { result ≤ 1792000 }
     ensures number { let week = week_of instance.now in result ≡ length (rows_of_hard_rule week rule) }

@@ -13,7 +13,7 @@ use crate::sums::{Sign, give_demand_cells, give_nurse_cells, give_on, give_work}
 use crate::takers::Taker;
 use rota_core::Instance;
 
-/// The cells that tell whether a nurse's day has the property.
+// The cells that tell whether a nurse's day has the property.
 fn give_property_cells<T: Taker>(
     instance: &Instance,
     taker: &mut T,
@@ -35,7 +35,7 @@ fn give_property_cells<T: Taker>(
     }
 }
 
-/// The sign of a day's cells, where the day must have the property, or must not.
+// The sign of a day's cells, where the day must have the property, or must not.
 fn day_sign(property: DayProperty, has: bool) -> Sign
     ensures { coefficient_of result ≡ (if is_plain_of property has then negsuc 0 else pos 1) }
 {
@@ -47,7 +47,7 @@ fn day_sign(property: DayProperty, has: bool) -> Sign
     if plain { Sign::Minus } else { Sign::Plus }
 }
 
-/// A day of a nurse's pattern, which must have the property, or must not.
+// A day of a nurse's pattern, which must have the property, or must not.
 fn give_day<T: Taker>(
     instance: &Instance,
     taker: &mut T,
@@ -74,7 +74,7 @@ fn give_day<T: Taker>(
     )
 }
 
-/// Days of a nurse that must have the property, from the first up to the end, which is left out.
+// Days of a nurse that must have the property, from the first up to the end, which is left out.
 fn give_days<T: Taker>(
     instance: &Instance,
     taker: &mut T,
@@ -98,7 +98,7 @@ fn give_days<T: Taker>(
     Ok(())
 }
 
-/// A day that must not have the property, if the pattern has one there.
+// A day that must not have the property, if the pattern has one there.
 #[tactic(auto, using(crate::proofs::DayTerms::day_taking), unfolding(rota_core::specs::Lists::only_if))]
 fn give_day_without<T: Taker>(
     instance: &Instance,
@@ -124,7 +124,7 @@ fn give_day_without<T: Taker>(
     }
 }
 
-/// The days of a nurse's pattern.
+// The days of a nurse's pattern.
 fn give_pattern_days<T: Taker>(
     instance: &Instance,
     taker: &mut T,

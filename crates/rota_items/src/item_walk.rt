@@ -12,7 +12,7 @@ use crate::sums::give_range;
 use crate::takers::Taker;
 use rota_core::Instance;
 
-/// The row of an item: its terms, and its slacks from the first on.
+// The row of an item: its terms, and its slacks from the first on.
 fn give_item_row<T: Taker>(
     instance: &Instance,
     taker: &mut T,
@@ -31,7 +31,7 @@ fn give_item_row<T: Taker>(
     taker.close_row(item.degree)
 }
 
-/// The row of an item, or the weights of its slacks.
+// The row of an item, or the weights of its slacks.
 fn give_item<T: Taker>(
     instance: &Instance,
     taker: &mut T,

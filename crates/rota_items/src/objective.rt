@@ -14,11 +14,11 @@ use crate::takers::Taker;
 use crate::variables::unit_var;
 use rota_core::Instance;
 
-/// The refusal of a closed taker.
+// The refusal of a closed taker.
 #[derive(Drop)]
 struct Closed;
 
-/// A taker that refuses each event: what drives it fails exactly where there is an event to hand over.
+// A taker that refuses each event: what drives it fails exactly where there is an event to hand over.
 #[derive(Drop)]
 struct ClosedTaker;
 
@@ -46,7 +46,7 @@ impl Taker for ClosedTaker {
     }
 }
 
-/// The constant, at the unit variable, where it is not 0.
+// The constant, at the unit variable, where it is not 0.
 fn give_constant<T: Taker>(instance: &Instance, taker: &mut T) -> Result<(), T::Fault>
     ensures { Takes T.Taker (term_events (constant_terms (week_of instance.now)))
         taker.old taker.new result }
@@ -59,7 +59,7 @@ fn give_constant<T: Taker>(instance: &Instance, taker: &mut T) -> Result<(), T::
     taker.term(constant as i64, unit_var(instance))
 }
 
-/// The terms of the objective, by rising variable.
+// The terms of the objective, by rising variable.
 fn give_terms<T: Taker>(instance: &Instance, taker: &mut T) -> Result<(), T::Fault>
     ensures { Takes T.Taker (term_events (objective_terms (week_of instance.now)))
         taker.old taker.new result }
@@ -69,7 +69,7 @@ fn give_terms<T: Taker>(instance: &Instance, taker: &mut T) -> Result<(), T::Fau
     give_slack_weights(instance, taker)
 }
 
-/// Whether the objective has a term. It stops at the first one.
+// Whether the objective has a term. It stops at the first one.
 fn has_term(instance: &Instance) -> bool
     ensures { result ≡ nat_lt 0 (length (objective_terms (week_of instance.now))) }
 {

@@ -47,7 +47,7 @@ pub fn soft_place(rule: Rule) -> Option<usize>
 
 // ---- the items
 
-/// The items of a rule that charges each nurse, at a nurse.
+// The items of a rule that charges each nurse, at a nurse.
 #[tactic(auto, using(crate::proofs::Walking::walking))]
 fn walk_nurse<T: Taker>(
     instance: &Instance,
@@ -72,7 +72,7 @@ fn walk_nurse<T: Taker>(
     }
 }
 
-/// The items of a rule that charges each nurse.
+// The items of a rule that charges each nurse.
 #[tactic(auto, using(crate::proofs::Walking::walking))]
 fn walk_nurses<T: Taker>(
     instance: &Instance,
@@ -94,7 +94,7 @@ fn walk_nurses<T: Taker>(
     Ok(next)
 }
 
-/// The items of a rule, whose slacks have the numbers from the first on.
+// The items of a rule, whose slacks have the numbers from the first on.
 #[tactic(auto, using(crate::proofs::NurseItemLists::items_of_nurses))]
 fn walk_rule<T: Taker>(
     instance: &Instance,
@@ -113,7 +113,7 @@ fn walk_rule<T: Taker>(
     }
 }
 
-/// The items of all soft rules, in the order of the rules.
+// The items of all soft rules, in the order of the rules.
 #[tactic(auto, using(crate::proofs::Walking::walking, crate::proofs::ListTotals::listing))]
 fn walk_soft_items<T: Taker>(
     instance: &Instance,
@@ -158,7 +158,7 @@ pub fn give_slack_weights<T: Taker>(instance: &Instance, taker: &mut T) -> Resul
 
 // ---- the objective's terms on cells
 
-/// Hands the taker the terms that a rule has at cells.
+// Hands the taker the terms that a rule has at cells.
 #[tactic(auto, using(crate::proofs::Taking::taking))]
 fn give_cell_terms_of_rule<T: Taker>(
     instance: &Instance,
@@ -188,7 +188,7 @@ pub fn give_cell_terms<T: Taker>(instance: &Instance, taker: &mut T) -> Result<(
 
 // ---- numbers
 
-/// The numbers of a rule's items and slacks at a nurse.
+// The numbers of a rule's items and slacks at a nurse.
 #[tactic(auto, using(crate::proofs::NurseItemLists::items_of_nurses))]
 fn count_nurse(instance: &Instance, rule: Rule, nurse: u16) -> ItemCounts
     requires { nurse < (week_of instance.now).nurses }
@@ -207,7 +207,7 @@ fn count_nurse(instance: &Instance, rule: Rule, nurse: u16) -> ItemCounts
     }
 }
 
-/// The numbers of the items and slacks of a rule that charges each nurse.
+// The numbers of the items and slacks of a rule that charges each nurse.
 #[tactic(auto, using(crate::proofs::ListLengths::counting))]
 fn count_nurses(instance: &Instance, rule: Rule) -> ItemCounts
     ensures few_items { result.items ≤ 952000 }
@@ -227,7 +227,7 @@ fn count_nurses(instance: &Instance, rule: Rule) -> ItemCounts
     ItemCounts { items, slacks }
 }
 
-/// The numbers of a rule's items and slacks.
+// The numbers of a rule's items and slacks.
 #[tactic(auto, using(crate::proofs::NurseItemLists::items_of_nurses))]
 fn count_rule(instance: &Instance, rule: Rule) -> ItemCounts
     ensures few_items { result.items ≤ 952000 }
@@ -261,8 +261,8 @@ pub fn count_soft_items(instance: &Instance) -> ItemCounts
 
 // ---- the constant
 
-/// What no roster of the week can avoid of a rule at a nurse: the history has made it so. It is 0 but
-/// for the rules of totals, in the weeks in which they count.
+// What no roster of the week can avoid of a rule at a nurse: the history has made it so. It is 0 but
+// for the rules of totals, in the weeks in which they count.
 fn nurse_constant(instance: &Instance, rule: Rule, nurse: u16) -> u64
     requires { nurse < (week_of instance.now).nurses }
     ensures few { result ≤ 3000000 }

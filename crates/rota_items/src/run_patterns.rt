@@ -7,7 +7,7 @@ ghost use Rattle.rota_items.specs.RunPatterns.{closed_patterns_at, edge_patterns
 use crate::soft_item::{DayPattern, DayProperty, ItemSum, RunCharge, SoftItem};
 use rota_core::Span;
 
-/// How many of the pattern's days have a sum that must be 1, and not 0.
+// How many of the pattern's days have a sum that must be 1, and not 0.
 fn plain_days(property: DayProperty, pattern: DayPattern) -> u8
     requires days_in { IsInWeek pattern }
     ensures small { result ≤ 7 }
@@ -20,7 +20,7 @@ fn plain_days(property: DayProperty, pattern: DayPattern) -> u8
     }
 }
 
-/// The degree of a pattern's item: with all of its days as the pattern says one slack is missing.
+// The degree of a pattern's item: with all of its days as the pattern says one slack is missing.
 fn pattern_degree(property: DayProperty, pattern: DayPattern) -> i64
     requires days_in { IsInWeek pattern }
     ensures { result ≡ pos 1 -ℤ pos (count_by (λ day. is_plain_of property day.has) (days_of pattern)) }

@@ -37,7 +37,7 @@ pub fn walk_pattern<T: Taker>(
     walk_item(instance, taker, part, first, Some(item))
 }
 
-/// The windows of the week.
+// The windows of the week.
 #[tactic(auto, using(crate::proofs::Walking::walking))]
 fn walk_windows<T: Taker>(
     instance: &Instance,
@@ -60,7 +60,7 @@ fn walk_windows<T: Taker>(
     Ok(next)
 }
 
-/// The runs that end before a day.
+// The runs that end before a day.
 #[tactic(auto, using(crate::proofs::Walking::walking))]
 fn walk_patterns_on<T: Taker>(
     instance: &Instance,
@@ -86,7 +86,7 @@ fn walk_patterns_on<T: Taker>(
     walk_pattern(instance, taker, part, next, runs.charge, edge)
 }
 
-/// The runs that end in the week.
+// The runs that end in the week.
 #[tactic(auto, using(crate::proofs::Walking::walking))]
 fn walk_patterns<T: Taker>(
     instance: &Instance,

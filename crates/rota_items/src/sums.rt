@@ -20,7 +20,7 @@ pub enum Sign {
     Minus,
 }
 
-/// The coefficient of terms of the sign.
+// The coefficient of terms of the sign.
 fn coefficient(sign: Sign) -> i64
     ensures { result ≡ coefficient_of sign }
 {
@@ -148,7 +148,7 @@ pub fn give_demand_cells<T: Taker>(
     Ok(())
 }
 
-/// The cells of a nurse's day that need the skill, each with -1.
+// The cells of a nurse's day that need the skill, each with -1.
 #[tactic(auto, using(crate::proofs::Taking::taking))]
 fn give_skill_cells_on<T: Taker>(
     instance: &Instance,

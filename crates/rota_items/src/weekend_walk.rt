@@ -10,7 +10,7 @@ use crate::soft_item::{DayPattern, ItemPart, RunCharge};
 use crate::takers::Taker;
 use rota_core::Instance;
 
-/// Work on Saturday, and none on Sunday where Saturday is to be alone.
+// Work on Saturday, and none on Sunday where Saturday is to be alone.
 #[tactic(auto, unfolding(rota_core::specs::Lists::only_if))]
 fn saturday(alone: bool) -> DayPattern
     ensures days_in { IsInWeek result }
@@ -25,7 +25,7 @@ fn saturday(alone: bool) -> DayPattern
     }
 }
 
-/// Work on Sunday, and none on Saturday.
+// Work on Sunday, and none on Saturday.
 #[tactic(auto, unfolding(rota_core::specs::Lists::only_if))]
 fn only_sunday() -> DayPattern
     ensures days_in { IsInWeek result }

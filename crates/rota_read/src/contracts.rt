@@ -23,7 +23,7 @@ pub struct ContractRows {
 }
 
 impl<'a> Cursor<'a> {
-    /// What a contract asks.
+    // What a contract asks.
     #[tactic(auto, unfolding(crate::specs::ScenarioLayout::contract, crate::specs::Reading::read))]
     fn contract(&mut self) -> Result<Contract, Stop>
         ensures { Reads (λ c. c) result self.new (read contract self.old) }

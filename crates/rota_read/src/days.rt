@@ -23,7 +23,7 @@ impl<'a> Cursor<'a> {
     }
 }
 
-/// The number of the day with this name, from 0 for `Mon`.
+// The number of the day with this name, from 0 for `Mon`.
 fn day_named(word: &[u8]) -> Option<u8>
     ensures { result ≡ place_of day_names word.now }
 {

@@ -45,7 +45,7 @@ impl Stop {
     }
 }
 
-/// The rows of a scenario, from the whole text.
+// The rows of a scenario, from the whole text.
 #[tactic(auto, using(crate::proofs::EndLemmas::front_fails), unfolding(crate::specs::Reading::read_file))]
 fn scenario_parts(alloc: Global, text: &[u8]) -> Result<ScenarioParts, Stop>
     ensures { ReadsFile scenario_of result (read_file scenario text.now) }

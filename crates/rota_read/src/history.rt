@@ -18,7 +18,7 @@ use crate::files::open;
 use rota_core::{FileFault, FileName, History, HistoryParts, Past, Scenario};
 use std::alloc::{AllocError, Global};
 
-/// What a nurse has behind her who never worked.
+// What a nurse has behind her who never worked.
 const NO_PAST: Past = Past {
     assignments: 0,
     weekends: 0,
@@ -84,7 +84,7 @@ impl<'a> Cursor<'a> {
         Ok(())
     }
 
-    /// The row of each nurse, by nurse.
+    // The row of each nurse, by nurse.
     #[tactic(auto, unfolding(crate::specs::HistoryLayout::past_rows))]
     fn past_rows(&mut self, alloc: Global, scenario: &Scenario) -> Result<Vec<Option<Past>>, Stop>
         ensures { Reads (λ v. v.items) result self.new (read (past_rows scenario.now) self.old) }
@@ -95,7 +95,7 @@ impl<'a> Cursor<'a> {
         Ok(pasts)
     }
 
-    /// The number of the week.
+    // The number of the week.
     #[tactic(auto, unfolding(crate::specs::HistoryLayout::history_heading, crate::specs::Reading::read))]
     fn history_heading(&mut self) -> Result<u16, Stop>
         ensures { Reads (λ n. n) result self.new (read history_heading self.old) }
@@ -140,7 +140,7 @@ fn each_past(alloc: Global, pasts: &[Option<Past>]) -> Result<Vec<Past>, AllocEr
     Ok(each)
 }
 
-/// The rows of a history, from the whole text.
+// The rows of a history, from the whole text.
 #[tactic(auto, using(crate::proofs::EndLemmas::front_fails), unfolding(crate::specs::Reading::read_file))]
 fn history_parts(alloc: Global, scenario: &Scenario, text: &[u8]) -> Result<HistoryParts, Stop>
     ensures read { ReadsFile history_of result (read_file (history scenario.now) text.now) }

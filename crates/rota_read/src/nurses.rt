@@ -24,7 +24,7 @@ pub struct NurseRows {
 }
 
 impl<'a> Cursor<'a> {
-    /// The number of a contract.
+    // The number of a contract.
     fn known_contract(&mut self, contracts: &IndexSet<Vec<u8>>) -> Result<u8, Stop>
         requires { length (bytes_of contracts.now) ≤ MOST_CONTRACTS }
         ensures { Reads (λ n. n) result self.new (read (known_name (bytes_of contracts.now) none_taken) self.old) }

@@ -10,7 +10,7 @@ use rota_core::{Demand, Scenario};
 use std::alloc::{AllocError, Global};
 
 impl<'a> Cursor<'a> {
-    /// A minimum and an optimal number.
+    // A minimum and an optimal number.
     #[tactic(auto, unfolding(crate::specs::WeekLayout::demand, crate::specs::Reading::read))]
     fn demand(&mut self) -> Result<Demand, Stop>
         ensures { Reads (λ d. d) result self.new (read demand self.old) }
@@ -22,7 +22,7 @@ impl<'a> Cursor<'a> {
         })
     }
 
-    /// The demands of Monday to Sunday.
+    // The demands of Monday to Sunday.
     #[tactic(auto, unfolding(crate::specs::WeekLayout::demands_of_days, crate::specs::Reading::read))]
     fn demands_of_days(&mut self) -> Result<[Demand; 7], Stop>
         ensures { Reads (λ d. d) result self.new (read demands_of_days self.old) }
@@ -39,7 +39,7 @@ impl<'a> Cursor<'a> {
         ])
     }
 
-    /// What follows the shift type in a row of requirements.
+    // What follows the shift type in a row of requirements.
     #[tactic(auto, using(crate::proofs::NameSteps::known_taken), unfolding(crate::specs::WeekLayout::requirement, crate::specs::Reading::read))]
     fn requirement(
         &mut self,
@@ -59,7 +59,7 @@ impl<'a> Cursor<'a> {
         Ok(())
     }
 
-    /// One more row of requirements, or the word that ends them: whether there was a row.
+    // One more row of requirements, or the word that ends them: whether there was a row.
     #[tactic(auto, unfolding(crate::specs::WeekLayout::requirement_row, crate::specs::Reading::read))]
     fn requirement_row(
         &mut self,
@@ -109,14 +109,14 @@ impl<'a> Cursor<'a> {
     }
 }
 
-/// One row more than there are pairs of a shift type and a skill.
+// One row more than there are pairs of a shift type and a skill.
 fn most_rows(scenario: &Scenario) -> usize
     ensures { result ≡ most_rows scenario.now }
 {
     usize::from(scenario.shifts()) * usize::from(scenario.skills()) + 1
 }
 
-/// For each pair of a shift type and a skill, that no row has the two.
+// For each pair of a shift type and a skill, that no row has the two.
 fn no_requirements(
     alloc: Global,
     scenario: &Scenario,
@@ -127,7 +127,7 @@ fn no_requirements(
     vec![in alloc; None; pairs]
 }
 
-/// The place of a shift type and a skill among the pairs of these.
+// The place of a shift type and a skill among the pairs of these.
 fn pair_place(scenario: &Scenario, shift: u8, skill: u8) -> usize
     requires shift { shift < length scenario.now.shifts }
     requires skill { skill < length scenario.now.skills }

@@ -123,7 +123,7 @@ fn place_of_shift(shifts: &[usize], shift: usize) -> Option<usize>
     shifts.iter().position(|p| *p == shift)
 }
 
-/// What may not follow a shift type.
+// What may not follow a shift type.
 fn after_shift(rows: &SuccessionRows, shift: usize) -> &[usize]
     ensures { result.now ≡ after (successions_of rows.now) shift }
 {

@@ -13,7 +13,7 @@ use rota_core::Kind;
 /// The greatest number of a file.
 pub const MOST: u16 = 9999;
 
-/// The number that decimal digits stand for, or 10000 where it is more.
+// The number that decimal digits stand for, or 10000 where it is more.
 fn decimal_of(word: &[u8]) -> Option<u16>
     ensures { result ≡ (if is_decimal word.now then Some (min (decimal word.now) 10000) else None) }
 {

@@ -19,7 +19,7 @@ use rota_core::{Cell, FileFault, FileName, Instance, Roster};
 use std::alloc::Global;
 
 impl<'a> Cursor<'a> {
-    /// One more assignment, which is put into the roster.
+    // One more assignment, which is put into the roster.
     #[tactic(auto, using(crate::proofs::NameSteps::known_taken), unfolding(crate::specs::SolutionLayout::assignment_row, crate::specs::Reading::read))]
     fn assignment_row(&mut self, instance: &Instance, roster: &mut Roster) -> Result<Cell, Stop>
         requires { HasShapeOf (week_of instance.now) roster.old }
@@ -43,7 +43,7 @@ impl<'a> Cursor<'a> {
         Ok(cell)
     }
 
-    /// The roster of `count` assignments.
+    // The roster of `count` assignments.
     fn assignment_rows(
         &mut self,
         alloc: Global,
@@ -59,7 +59,7 @@ impl<'a> Cursor<'a> {
         Ok(roster)
     }
 
-    /// The number of the assignments.
+    // The number of the assignments.
     #[tactic(auto, unfolding(crate::specs::SolutionLayout::solution_heading, crate::specs::Reading::read))]
     fn solution_heading(&mut self) -> Result<u16, Stop>
         ensures { Reads (λ n. n) result self.new (read solution_heading self.old) }
@@ -79,7 +79,7 @@ impl<'a> Cursor<'a> {
     }
 }
 
-/// The roster of a solution, from the whole text.
+// The roster of a solution, from the whole text.
 #[tactic(auto, unfolding(crate::specs::Reading::read_file))]
 fn solution_roster(alloc: Global, instance: &Instance, text: &[u8]) -> Result<Roster, Stop>
     ensures { ReadsRosterFile (week_of instance.now) result (read_file (solution instance.now.scenario) text.now) }

@@ -92,7 +92,7 @@ impl<'a> Cursor<'a> {
     }
 }
 
-/// The rows of a week, from the whole text.
+// The rows of a week, from the whole text.
 #[tactic(auto, using(crate::proofs::EndLemmas::front_fails), unfolding(crate::specs::Reading::read_file))]
 fn week_parts(alloc: Global, scenario: &Scenario, text: &[u8]) -> Result<WeekParts, Stop>
     ensures read { ReadsFile week_tables_of result (read_file (week scenario.now) text.now) }

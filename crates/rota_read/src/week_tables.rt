@@ -10,7 +10,7 @@ use crate::week::RequestRow;
 use rota_core::Demand;
 use std::alloc::{AllocError, Global};
 
-/// What is asked for where no row says it.
+// What is asked for where no row says it.
 const NO_DEMAND: Demand = Demand {
     minimum: 0,
     optimal: 0,
@@ -26,7 +26,7 @@ fn demand_on(row: &Option<[Demand; 7]>, day: usize) -> Demand
     }
 }
 
-/// Appends what each row asks for on the day.
+// Appends what each row asks for on the day.
 fn append_day(
     out: &mut Vec<Demand>,
     rows: &[Option<[Demand; 7]>],
@@ -53,7 +53,7 @@ pub fn demands_of(alloc: Global, rows: &[Option<[Demand; 7]>]) -> Result<Vec<Dem
     Ok(demands)
 }
 
-/// Adds one at `count` places, from `first` on.
+// Adds one at `count` places, from `first` on.
 fn add_one(table: &mut Vec<u16>, first: usize, count: usize)
     requires room { first + count ≤ length table.old.items }
     requires small { All (λ n. n < MOST) table.old.items }
@@ -66,7 +66,7 @@ fn add_one(table: &mut Vec<u16>, first: usize, count: usize)
     }
 }
 
-/// Counts a row: for one shift type, or for each.
+// Counts a row: for one shift type, or for each.
 fn count_row(table: &mut Vec<u16>, nurses: u16, shifts: u8, row: RequestRow)
     requires nurses { nurses ≤ 1000 }
     requires shifts { 1 ≤ shifts }

@@ -10,7 +10,7 @@ ghost use Rattle.solver_text.specs.AnswerWriter.{literal_text, end_text};
 use opb_text::Sink;
 use rota_core::{PortFault, Target};
 
-/// What a writer has put so far: nothing, the head and some literals, or the whole answer.
+// What a writer has put so far: nothing, the head and some literals, or the whole answer.
 #[derive(Clone, Copy)]
 enum Phase {
     New,

@@ -19,7 +19,7 @@ pub(crate) struct Facts {
     ghost few: { length seen_true < 2 ^ 32 },
 }
 
-/// Marks the variable at this place, which the other list is not to have.
+// Marks the variable at this place, which the other list is not to have.
 fn mark(seen: &mut Bits, other: &Bits, place: u32) -> Result<(), AnswerFault>
     requires seen { place < length seen.old }
     requires other { place < length other.now }

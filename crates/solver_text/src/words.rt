@@ -68,7 +68,7 @@ impl StatusWords {
 // Up to this many digits always fit the value of an `o` line.
 const MOST_DIGITS: usize = 18;
 
-/// The number that 1 to 18 digits stand for.
+// The number that 1 to 18 digits stand for.
 fn magnitude(digits: &[u8]) -> Option<i64>
     ensures { result ≡ option_map_or (λ n. Some (pos n)) (magnitude_of digits.now) None }
 {

@@ -76,13 +76,13 @@ impl<'a> Words<'a> {
     }
 }
 
-/// The scenario that the file at the path spells.
+// The scenario that the file at the path spells.
 fn scenario_of<R: Files + AllocGlobal>(rt: &R, path: &str) -> Result<Scenario, Stop> {
     let text = fs::read(rt, path)?;
     Ok(read_scenario(rt.alloc(), &text)?)
 }
 
-/// The history that the file at the path spells.
+// The history that the file at the path spells.
 fn history_of<R: Files + AllocGlobal>(
     rt: &R,
     scenario: &Scenario,
@@ -94,7 +94,7 @@ fn history_of<R: Files + AllocGlobal>(
     Ok(read_history(rt.alloc(), scenario, &text)?)
 }
 
-/// The week that the file at the path spells.
+// The week that the file at the path spells.
 fn week_of<R: Files + AllocGlobal>(rt: &R, scenario: &Scenario, path: &str) -> Result<Week, Stop>
     ensures { IfOk result (λ w. HasNumbersOf scenario.now w.nurses w.shifts w.skills) }
 {
@@ -102,7 +102,7 @@ fn week_of<R: Files + AllocGlobal>(rt: &R, scenario: &Scenario, path: &str) -> R
     Ok(read_week(rt.alloc(), scenario, &text)?)
 }
 
-/// The instance of the scenario, after the history at the path.
+// The instance of the scenario, after the history at the path.
 fn after<R: Files + AllocGlobal>(
     rt: &R,
     scenario: Scenario,
@@ -116,14 +116,14 @@ fn after<R: Files + AllocGlobal>(
     Ok(Instance::join(scenario, history, week, early)?)
 }
 
-/// The instance that the three files spell.
+// The instance that the three files spell.
 fn joined<R: Files + AllocGlobal>(rt: &R, words: &Words<'_>) -> Result<Instance, Stop> {
     let scenario = scenario_of(rt, words.scenario)?;
     let week = week_of(rt, &scenario, words.week)?;
     after(rt, scenario, words.history, week, words.early)
 }
 
-/// The instance with the cells of the file at the path held.
+// The instance with the cells of the file at the path held.
 fn holding<R: Files + AllocGlobal>(
     rt: &R,
     instance: Instance,

@@ -8,7 +8,7 @@ use rota_items::{
     Counter, cell_var, counts, drive_constraints, drive_objective, unit_var, var_cell,
 };
 
-/// The last cell of the week.
+// The last cell of the week.
 fn last_cell(instance: &Instance) -> Cell
     ensures { InWeek (week_of instance.now) result }
 {
@@ -20,8 +20,8 @@ fn last_cell(instance: &Instance) -> Cell
     }
 }
 
-/// The number of the last cell and the cell of that number, the unit variable's number and that it has no
-/// cell.
+// The number of the last cell and the cell of that number, the unit variable's number and that it has no
+// cell.
 fn print_variables<R: Print>(rt: &R, instance: &Instance) -> Result<(), Stop> {
     let last = cell_var(instance, last_cell(instance));
     println!(rt; "last cell {last} {:?}", var_cell(instance, last))?;

@@ -23,7 +23,7 @@ pub fn print_tables<R: Print>(rt: &R, instance: &Instance) -> Result<(), Stop> {
     print_demands(rt, instance)
 }
 
-/// The name, and its number among the nurses, the shift types and the skills.
+// The name, and its number among the nurses, the shift types and the skills.
 fn print_name<R: Print>(rt: &R, instance: &Instance, name: &[u8]) -> Result<(), Stop> {
     let nurse = instance.find_nurse(name);
     let shift = instance.find_shift(name);
@@ -32,7 +32,7 @@ fn print_name<R: Print>(rt: &R, instance: &Instance, name: &[u8]) -> Result<(), 
     Ok(())
 }
 
-/// Each skill: its number and its name.
+// Each skill: its number and its name.
 fn print_skills<R: Print>(rt: &R, instance: &Instance) -> Result<(), Stop> {
     for skill in 0..instance.skills() {
         println!(rt; "skill {skill}")?;
@@ -41,7 +41,7 @@ fn print_skills<R: Print>(rt: &R, instance: &Instance) -> Result<(), Stop> {
     Ok(())
 }
 
-/// Each shift type: its number, limits and name, and what may not follow it.
+// Each shift type: its number, limits and name, and what may not follow it.
 fn print_shifts<R: Print>(rt: &R, instance: &Instance) -> Result<(), Stop> {
     for shift in 0..instance.shifts() {
         println!(rt; "shift {shift} {:?}", instance.limits(shift))?;
@@ -51,7 +51,7 @@ fn print_shifts<R: Print>(rt: &R, instance: &Instance) -> Result<(), Stop> {
     Ok(())
 }
 
-/// The shift types that may not follow this one.
+// The shift types that may not follow this one.
 fn print_successions<R: Print>(rt: &R, instance: &Instance, shift: u8) -> Result<(), Stop>
     requires { shift < (week_of instance.now).shifts }
 {
@@ -63,7 +63,7 @@ fn print_successions<R: Print>(rt: &R, instance: &Instance, shift: u8) -> Result
     Ok(())
 }
 
-/// Each nurse: her number, name, contract, history, skills and requests.
+// Each nurse: her number, name, contract, history, skills and requests.
 fn print_nurses<R: Print>(rt: &R, instance: &Instance) -> Result<(), Stop> {
     for nurse in 0..instance.nurses() {
         println!(rt; "nurse {nurse}")?;
@@ -76,7 +76,7 @@ fn print_nurses<R: Print>(rt: &R, instance: &Instance) -> Result<(), Stop> {
     Ok(())
 }
 
-/// The skills that the nurse has.
+// The skills that the nurse has.
 fn print_skills_of<R: Print>(rt: &R, instance: &Instance, nurse: u16) -> Result<(), Stop>
     requires { nurse < (week_of instance.now).nurses }
 {
@@ -88,7 +88,7 @@ fn print_skills_of<R: Print>(rt: &R, instance: &Instance, nurse: u16) -> Result<
     Ok(())
 }
 
-/// The day and shift type of each cell that request rows of the nurse match, and how many rows do.
+// The day and shift type of each cell that request rows of the nurse match, and how many rows do.
 fn print_requests_of<R: Print>(rt: &R, instance: &Instance, nurse: u16) -> Result<(), Stop>
     requires { nurse < (week_of instance.now).nurses }
 {
@@ -103,7 +103,7 @@ fn print_requests_of<R: Print>(rt: &R, instance: &Instance, nurse: u16) -> Resul
     Ok(())
 }
 
-/// The day, shift type and skill of each demand for nurses.
+// The day, shift type and skill of each demand for nurses.
 fn print_demands<R: Print>(rt: &R, instance: &Instance) -> Result<(), Stop> {
     for day in 0..7 {
         for shift in 0..instance.shifts() {

@@ -26,18 +26,18 @@ fn main(rt: HostRuntime) -> Result<()> {
     tell_places(&rt, &instance)
 }
 
-/// The bytes of the file, whose name an error gives.
+// The bytes of the file, whose name an error gives.
 fn bytes_of<R: Files + AllocGlobal>(rt: &R, path: &str) -> Result<Vec<u8>> {
     fs::read(rt, path).context(format_args!("{path}"))
 }
 
-/// The scenario that the file spells.
+// The scenario that the file spells.
 fn scenario_of<R: Files + AllocGlobal>(rt: &R, path: &str) -> Result<Scenario> {
     let text = bytes_of(rt, path)?;
     Ok(read_scenario(rt.alloc(), &text)?)
 }
 
-/// The history that the file spells.
+// The history that the file spells.
 fn history_of<R: Files + AllocGlobal>(rt: &R, scenario: &Scenario, path: &str) -> Result<History>
     ensures { IfOk result (λ h. HasNumbersOf scenario.now h.nurses h.shifts h.skills) }
 {
@@ -45,7 +45,7 @@ fn history_of<R: Files + AllocGlobal>(rt: &R, scenario: &Scenario, path: &str) -
     Ok(read_history(rt.alloc(), scenario, &text)?)
 }
 
-/// The week's data that the file spells.
+// The week's data that the file spells.
 fn data_of<R: Files + AllocGlobal>(rt: &R, scenario: &Scenario, path: &str) -> Result<Week>
     ensures { IfOk result (λ w. HasNumbersOf scenario.now w.nurses w.shifts w.skills) }
 {
@@ -53,7 +53,7 @@ fn data_of<R: Files + AllocGlobal>(rt: &R, scenario: &Scenario, path: &str) -> R
     Ok(read_week(rt.alloc(), scenario, &text)?)
 }
 
-/// The week that the three files spell.
+// The week that the three files spell.
 fn join<R: Files + AllocGlobal>(
     rt: &R,
     scenario: &str,
@@ -66,7 +66,7 @@ fn join<R: Files + AllocGlobal>(
     Ok(Instance::join(scenario, history, week, false)?)
 }
 
-/// The lines of all places that are asked for.
+// The lines of all places that are asked for.
 fn tell_places(rt: &impl Print, instance: &Instance) -> Result<()> {
     for day in 0..7 {
         for shift in 0..instance.shifts() {
@@ -78,7 +78,7 @@ fn tell_places(rt: &impl Print, instance: &Instance) -> Result<()> {
     Ok(())
 }
 
-/// A line with who fits, where the place is asked for.
+// A line with who fits, where the place is asked for.
 fn tell_place(rt: &impl Print, instance: &Instance, day: u8, shift: u8, skill: u8) -> Result<()>
     requires day_in { day < 7 }
     requires shift_in { shift < (week_of instance.now).shifts }
@@ -112,7 +112,7 @@ fn tell_place(rt: &impl Print, instance: &Instance, day: u8, shift: u8, skill: u
     Ok(())
 }
 
-/// Whether the nurse has the skill, and her last shift does not forbid the shift type.
+// Whether the nurse has the skill, and her last shift does not forbid the shift type.
 fn fits(instance: &Instance, cell: Cell) -> bool
     requires { InWeek (week_of instance.now) cell }
 {

@@ -6,7 +6,7 @@ use clap::error::ErrorKind;
 use std::alloc::Global;
 use std::test::Fail;
 
-/// The kind of clap's refusal of the words.
+// The kind of clap's refusal of the words.
 fn refusal(alloc: Global, words: &[&str]) -> Option<ErrorKind> {
     match job(alloc, words) {
         Err(JobFault::Words(error)) => Some(error.kind()),

@@ -7,7 +7,7 @@ use solver_text::{AnswerFault, Status};
 use std::alloc::{AllocError, Global};
 use std::test::Fail;
 
-/// The line of a file's fault.
+// The line of a file's fault.
 fn file_line(alloc: Global, kind: Kind, file: FileName, line: u32) -> Result<String, AllocError> {
     let fault = Fault::File(FileFault::Bad { kind, file, line });
     format!(in alloc; "{}", FaultLine::of(&fault))

@@ -8,7 +8,7 @@ ghost use Rattle.rota_items.specs.rules.CompleteWeekends.{complete_weekend_cost,
 use crate::days::works;
 use rota_core::{Instance, Roster};
 
-/// Whether the nurse's weekends are to be complete, and she works on one of its days alone.
+// Whether the nurse's weekends are to be complete, and she works on one of its days alone.
 fn breaks_weekend(instance: &Instance, roster: &Roster, nurse: u16) -> bool
     requires fits { HasShapeOf (week_of instance.now) roster.now }
     requires nurse_in { nurse < (week_of instance.now).nurses }

@@ -9,7 +9,7 @@ use crate::days::{days_on, days_worked};
 use crate::runs::run_cost;
 use rota_core::{Instance, Roster};
 
-/// How long a run on the shift type the days before Monday left to the nurse.
+// How long a run on the shift type the days before Monday left to the nurse.
 fn history_on(instance: &Instance, nurse: u16, shift: u8) -> u16
     requires { nurse < (week_of instance.now).nurses }
     ensures { result ≡ history_on (week_of instance.now) nurse shift }
@@ -21,7 +21,7 @@ fn history_on(instance: &Instance, nurse: u16, shift: u8) -> u16
     }
 }
 
-/// What the nurse's runs on the shift type cost, before the weight.
+// What the nurse's runs on the shift type cost, before the weight.
 fn shift_run_cost(instance: &Instance, roster: &Roster, nurse: u16, shift: u8) -> u64
     requires fits { HasShapeOf (week_of instance.now) roster.now }
     requires nurse_in { nurse < (week_of instance.now).nurses }
@@ -34,7 +34,7 @@ fn shift_run_cost(instance: &Instance, roster: &Roster, nurse: u16, shift: u8) -
     u64::from(run_cost(&days, history, instance.limits(shift)))
 }
 
-/// What the nurse's runs on all shift types cost, before the weight.
+// What the nurse's runs on all shift types cost, before the weight.
 fn shift_runs_cost(instance: &Instance, roster: &Roster, nurse: u16) -> u64
     requires fits { HasShapeOf (week_of instance.now) roster.now }
     requires nurse_in { nurse < (week_of instance.now).nurses }
@@ -49,7 +49,7 @@ fn shift_runs_cost(instance: &Instance, roster: &Roster, nurse: u16) -> u64
     cost
 }
 
-/// What the nurse's runs of working days cost, before the weight.
+// What the nurse's runs of working days cost, before the weight.
 fn work_run_cost(instance: &Instance, roster: &Roster, nurse: u16) -> u64
     requires fits { HasShapeOf (week_of instance.now) roster.now }
     requires nurse_in { nurse < (week_of instance.now).nurses }

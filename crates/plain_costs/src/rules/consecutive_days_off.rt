@@ -8,7 +8,7 @@ use crate::days::days_off;
 use crate::runs::run_cost;
 use rota_core::{Instance, Roster};
 
-/// What the nurse's runs of days off cost, before the weight.
+// What the nurse's runs of days off cost, before the weight.
 fn off_run_cost(instance: &Instance, roster: &Roster, nurse: u16) -> u64
     requires fits { HasShapeOf (week_of instance.now) roster.now }
     requires nurse_in { nurse < (week_of instance.now).nurses }

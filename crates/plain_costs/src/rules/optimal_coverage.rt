@@ -8,7 +8,7 @@ ghost use Rattle.rota_items.specs.rules.OptimalCoverage.{optimum_cost};
 use crate::days::nurses_at;
 use rota_core::{Instance, Roster};
 
-/// The nurses that the day lacks of its optimal number, on the shift type and with the skill.
+// The nurses that the day lacks of its optimal number, on the shift type and with the skill.
 fn missing_nurses(instance: &Instance, roster: &Roster, day: u8, shift: u8, skill: u8) -> u64
     requires fits { HasShapeOf (week_of instance.now) roster.now }
     requires day_in { day < 7 }

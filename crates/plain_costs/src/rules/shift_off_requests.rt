@@ -8,7 +8,7 @@ ghost use Rattle.rota_items.specs.rules.ShiftOffRequests.{request_cost};
 
 use rota_core::{Cell, Instance, Roster};
 
-/// The request rows that ask for the nurse's day off, where the roster has this cell of it.
+// The request rows that ask for the nurse's day off, where the roster has this cell of it.
 fn broken_requests_at(instance: &Instance, roster: &Roster, cell: Cell) -> u64
     requires fits { HasShapeOf (week_of instance.now) roster.now }
     requires nurse_in { cell.nurse < (week_of instance.now).nurses }
@@ -26,7 +26,7 @@ fn broken_requests_at(instance: &Instance, roster: &Roster, cell: Cell) -> u64
     }
 }
 
-/// The request rows that ask for a day off of the nurse's cells.
+// The request rows that ask for a day off of the nurse's cells.
 fn broken_requests(instance: &Instance, roster: &Roster, nurse: u16) -> u64
     requires fits { HasShapeOf (week_of instance.now) roster.now }
     requires nurse_in { nurse < (week_of instance.now).nurses }

@@ -8,7 +8,7 @@ use crate::days::assignments_of;
 use crate::excess::charged_excess;
 use rota_core::{Instance, Roster};
 
-/// The nurse's assignments so far below the least total of her contract, in the last week only.
+// The nurse's assignments so far below the least total of her contract, in the last week only.
 fn assignments_below(instance: &Instance, nurse: u16, assignments: u16) -> u64
     requires nurse_in { nurse < (week_of instance.now).nurses }
     ensures few { result ≤ 65535 }
@@ -26,7 +26,7 @@ fn assignments_below(instance: &Instance, nurse: u16, assignments: u16) -> u64
     least.saturating_sub(before + u64::from(assignments))
 }
 
-/// The nurse's assignments so far below the least total of her contract, and those above the greatest.
+// The nurse's assignments so far below the least total of her contract, and those above the greatest.
 fn assignments_outside(instance: &Instance, roster: &Roster, nurse: u16) -> u64
     requires fits { HasShapeOf (week_of instance.now) roster.now }
     requires nurse_in { nurse < (week_of instance.now).nurses }

@@ -8,7 +8,7 @@ use crate::days::works;
 use crate::excess::charged_excess;
 use rota_core::{Instance, Roster};
 
-/// The nurse's worked weekends so far above the greatest number of her contract.
+// The nurse's worked weekends so far above the greatest number of her contract.
 fn weekends_above(instance: &Instance, roster: &Roster, nurse: u16) -> u64
     requires fits { HasShapeOf (week_of instance.now) roster.now }
     requires nurse_in { nurse < (week_of instance.now).nurses }

@@ -14,7 +14,7 @@ use crate::sums::{Sign, give_cell};
 use crate::takers::Taker;
 use rota_core::{Cell, Instance, Rule};
 
-/// The cell, where it is held.
+// The cell, where it is held.
 fn give_h5_row<T: Taker>(instance: &Instance, taker: &mut T, cell: Cell) -> Result<(), T::Fault>
     requires { InWeek (week_of instance.now) cell }
     ensures { let week = week_of instance.now in
@@ -29,7 +29,7 @@ fn give_h5_row<T: Taker>(instance: &Instance, taker: &mut T, cell: Cell) -> Resu
     taker.close_row(1)
 }
 
-/// The held cells of a nurse's day.
+// The held cells of a nurse's day.
 #[tactic(auto, using(crate::proofs::Taking::taking))]
 fn give_h5_of_day<T: Taker>(
     instance: &Instance,

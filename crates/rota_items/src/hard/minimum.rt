@@ -10,7 +10,7 @@ use crate::sums::give_demand_cells;
 use crate::takers::Taker;
 use rota_core::{Instance, Rule};
 
-/// The least number of nurses of a day's shift type and skill, where one is asked for.
+// The least number of nurses of a day's shift type and skill, where one is asked for.
 fn give_h2_row<T: Taker>(
     instance: &Instance,
     taker: &mut T,

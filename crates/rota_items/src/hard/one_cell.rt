@@ -10,7 +10,7 @@ use crate::sums::{Sign, give_work};
 use crate::takers::Taker;
 use rota_core::{Instance, Rule};
 
-/// At most one cell of a nurse's day.
+// At most one cell of a nurse's day.
 fn give_h1_row<T: Taker>(
     instance: &Instance,
     taker: &mut T,

@@ -10,7 +10,7 @@ use crate::sums::give_skill_cells;
 use crate::takers::Taker;
 use rota_core::{Instance, Rule};
 
-/// No cell of a nurse that needs the skill, where she lacks it.
+// No cell of a nurse that needs the skill, where she lacks it.
 fn give_h4_row<T: Taker>(
     instance: &Instance,
     taker: &mut T,

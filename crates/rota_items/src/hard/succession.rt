@@ -11,7 +11,7 @@ use crate::sums::{Sign, give_on};
 use crate::takers::Taker;
 use rota_core::{Instance, Rule};
 
-/// Whether the nurse may not have the shift type on Monday, after the last one of the history.
+// Whether the nurse may not have the shift type on Monday, after the last one of the history.
 fn forbidden_on_monday(instance: &Instance, nurse: u16, shift: u8) -> bool
     requires nurse_in { nurse < (week_of instance.now).nurses }
     requires shift_in { shift < (week_of instance.now).shifts }
@@ -25,7 +25,7 @@ fn forbidden_on_monday(instance: &Instance, nurse: u16, shift: u8) -> bool
     }
 }
 
-/// Not the shift type on Monday, where it may not follow the last one of the history.
+// Not the shift type on Monday, where it may not follow the last one of the history.
 fn give_h3_monday_row<T: Taker>(
     instance: &Instance,
     taker: &mut T,
@@ -46,7 +46,7 @@ fn give_h3_monday_row<T: Taker>(
     taker.close_row(0)
 }
 
-/// The shift types that a nurse may not have on Monday.
+// The shift types that a nurse may not have on Monday.
 #[tactic(auto, using(crate::proofs::Taking::taking))]
 fn give_h3_monday<T: Taker>(instance: &Instance, taker: &mut T, nurse: u16) -> Result<(), T::Fault>
     requires nurse_in { nurse < (week_of instance.now).nurses }
@@ -59,7 +59,7 @@ fn give_h3_monday<T: Taker>(instance: &Instance, taker: &mut T, nurse: u16) -> R
     Ok(())
 }
 
-/// Not both shift types on a day and the next, where the second may not follow the first.
+// Not both shift types on a day and the next, where the second may not follow the first.
 fn give_h3_row<T: Taker>(
     instance: &Instance,
     taker: &mut T,
@@ -86,7 +86,7 @@ fn give_h3_row<T: Taker>(
     taker.close_row(-1)
 }
 
-/// The forbidden successions from a nurse's day to the next.
+// The forbidden successions from a nurse's day to the next.
 #[tactic(auto, using(crate::proofs::Taking::taking))]
 fn give_h3_between<T: Taker>(
     instance: &Instance,
@@ -107,7 +107,7 @@ fn give_h3_between<T: Taker>(
     Ok(())
 }
 
-/// The forbidden successions of a nurse.
+// The forbidden successions of a nurse.
 #[tactic(auto, using(crate::proofs::Taking::taking))]
 fn give_h3_of_nurse<T: Taker>(
     instance: &Instance,
@@ -137,7 +137,7 @@ pub fn give_h3<T: Taker>(instance: &Instance, taker: &mut T) -> Result<(), T::Fa
     Ok(())
 }
 
-/// The number of forbidden successions, from any day to the next.
+// The number of forbidden successions, from any day to the next.
 #[tactic(auto, using(crate::proofs::ListLengths::counting), unfolding(rota_core::specs::Lists::only_if))]
 fn count_successions(instance: &Instance) -> u32
     ensures few { result ≤ 256 }
@@ -152,7 +152,7 @@ fn count_successions(instance: &Instance) -> u32
     pairs
 }
 
-/// The number of shift types that the nurse may not have on Monday.
+// The number of shift types that the nurse may not have on Monday.
 #[tactic(auto, using(crate::proofs::ListLengths::counting), unfolding(rota_core::specs::Lists::only_if))]
 fn count_h3_monday(instance: &Instance, nurse: u16) -> u32
     requires { nurse < (week_of instance.now).nurses }

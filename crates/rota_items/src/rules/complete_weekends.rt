@@ -10,7 +10,7 @@ use crate::takers::Taker;
 use crate::weekend_walk::walk_weekend;
 use rota_core::{Instance, Rule};
 
-/// What a weekend of one day costs.
+// What a weekend of one day costs.
 const WEIGHT: u16 = 30;
 
 /// Saturday without Sunday, and Sunday without Saturday, where the contract asks for complete weekends.

@@ -13,13 +13,13 @@ use crate::soft_item::{DayProperty, ItemPart, NurseRuns, RunCharge};
 use crate::takers::Taker;
 use rota_core::{Instance, Rule};
 
-/// What a day costs that a run on a shift type is too long or too short.
+// What a day costs that a run on a shift type is too long or too short.
 const SHIFT_RUN_WEIGHT: u16 = 15;
 
-/// What a day costs that a run of working days is.
+// What a day costs that a run of working days is.
 const WORK_RUN_WEIGHT: u16 = 30;
 
-/// How long a run on the shift type the days before Monday left.
+// How long a run on the shift type the days before Monday left.
 fn history_on(instance: &Instance, nurse: u16, shift: u8) -> u16
     requires { nurse < (week_of instance.now).nurses }
     ensures { result ≡ history_on (week_of instance.now) nurse shift }
@@ -31,7 +31,7 @@ fn history_on(instance: &Instance, nurse: u16, shift: u8) -> u16
     }
 }
 
-/// A nurse's runs on a shift type.
+// A nurse's runs on a shift type.
 fn shift_runs(instance: &Instance, nurse: u16, shift: u8) -> NurseRuns
     requires nurse_in { nurse < (week_of instance.now).nurses }
     requires shift_in { shift < (week_of instance.now).shifts }
@@ -50,7 +50,7 @@ fn shift_runs(instance: &Instance, nurse: u16, shift: u8) -> NurseRuns
     }
 }
 
-/// A nurse's runs of working days.
+// A nurse's runs of working days.
 fn work_runs(instance: &Instance, nurse: u16) -> NurseRuns
     requires { nurse < (week_of instance.now).nurses }
     ensures charge_in { IsChargeOf (week_of instance.now) result.charge }

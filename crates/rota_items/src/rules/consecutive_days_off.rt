@@ -12,10 +12,10 @@ use crate::soft_item::{DayProperty, ItemPart, NurseRuns, RunCharge};
 use crate::takers::Taker;
 use rota_core::{Instance, Rule};
 
-/// What a day costs that a run is too long or too short.
+// What a day costs that a run is too long or too short.
 const WEIGHT: u16 = 30;
 
-/// A nurse's runs of days off.
+// A nurse's runs of days off.
 fn off_runs(instance: &Instance, nurse: u16) -> NurseRuns
     requires { nurse < (week_of instance.now).nurses }
     ensures charge_in { IsChargeOf (week_of instance.now) result.charge }

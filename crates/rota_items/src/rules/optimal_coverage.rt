@@ -13,10 +13,10 @@ use crate::soft_item::{ItemPart, ItemSum, SoftItem};
 use crate::takers::Taker;
 use rota_core::{Instance, Rule};
 
-/// What a missing nurse costs.
+// What a missing nurse costs.
 const WEIGHT: u32 = 30;
 
-/// The item of a day's shift type and skill.
+// The item of a day's shift type and skill.
 fn missing_nurses(instance: &Instance, day: u8, shift: u8, skill: u8) -> SoftItem
     requires day_in { day < 7 }
     requires shift_in { shift < (week_of instance.now).shifts }
@@ -35,7 +35,7 @@ fn missing_nurses(instance: &Instance, day: u8, shift: u8, skill: u8) -> SoftIte
     }
 }
 
-/// The item of a day's shift type and skill, where the optimal number is above the least.
+// The item of a day's shift type and skill, where the optimal number is above the least.
 #[tactic(auto, unfolding(rota_core::specs::Lists::only_if))]
 fn item(instance: &Instance, day: u8, shift: u8, skill: u8) -> Option<SoftItem>
     requires day_in { day < 7 }

@@ -12,11 +12,11 @@ use crate::takers::Taker;
 use crate::variables::first_var_on;
 use rota_core::Instance;
 
-/// What a cell costs for each request row that it matches.
+// What a cell costs for each request row that it matches.
 const WEIGHT: u32 = 10;
 
-/// The terms of the request rows that ask for a nurse's day off, by a shift type: the weight for each
-/// row, at each of the day's cells on the shift type.
+// The terms of the request rows that ask for a nurse's day off, by a shift type: the weight for each
+// row, at each of the day's cells on the shift type.
 fn give_terms_on<T: Taker>(
     instance: &Instance,
     taker: &mut T,

@@ -16,10 +16,10 @@ use crate::sums::Sign;
 use crate::takers::Taker;
 use rota_core::{Instance, Rule};
 
-/// What an assignment below the least or above the greatest total costs.
+// What an assignment below the least or above the greatest total costs.
 const WEIGHT: u32 = 20;
 
-/// The assignments that the nurse's least total still asks for.
+// The assignments that the nurse's least total still asks for.
 fn still_wanted(instance: &Instance, nurse: u16) -> u16
     requires { nurse < (week_of instance.now).nurses }
     ensures { result ≡ still_wanted (week_of instance.now) nurse }
@@ -28,7 +28,7 @@ fn still_wanted(instance: &Instance, nurse: u16) -> u16
     least.saturating_sub(instance.past(nurse).assignments)
 }
 
-/// The assignments that the nurse's greatest total leaves room for.
+// The assignments that the nurse's greatest total leaves room for.
 fn still_allowed(instance: &Instance, nurse: u16) -> u16
     requires { nurse < (week_of instance.now).nurses }
     ensures { result ≡ still_allowed (week_of instance.now) nurse }
@@ -37,7 +37,7 @@ fn still_allowed(instance: &Instance, nurse: u16) -> u16
     greatest.saturating_sub(instance.past(nurse).assignments)
 }
 
-/// Whether the least total counts and asks for more.
+// Whether the least total counts and asks for more.
 fn asks_for_more(instance: &Instance, nurse: u16) -> bool
     requires { nurse < (week_of instance.now).nurses }
     ensures { let week = week_of instance.now in
@@ -46,7 +46,7 @@ fn asks_for_more(instance: &Instance, nurse: u16) -> bool
     least_totals_count(instance) && 0 < still_wanted(instance, nurse)
 }
 
-/// Whether the greatest total counts and the week can exceed it.
+// Whether the greatest total counts and the week can exceed it.
 fn can_exceed(instance: &Instance, nurse: u16) -> bool
     requires { nurse < (week_of instance.now).nurses }
     ensures { let week = week_of instance.now in
@@ -55,7 +55,7 @@ fn can_exceed(instance: &Instance, nurse: u16) -> bool
     greatest_totals_count(instance) && still_allowed(instance, nurse) < u16::from(DAYS)
 }
 
-/// The item of a nurse's least total: as many assignments as are wanted, and at most one a day.
+// The item of a nurse's least total: as many assignments as are wanted, and at most one a day.
 fn least_total(instance: &Instance, nurse: u16) -> SoftItem
     requires nurse_in { nurse < (week_of instance.now).nurses }
     ensures item { let week = week_of instance.now in item_of week result ≡ least_total_item week nurse }
@@ -75,7 +75,7 @@ fn least_total(instance: &Instance, nurse: u16) -> SoftItem
     }
 }
 
-/// The item of a nurse's greatest total: no more assignments than are allowed.
+// The item of a nurse's greatest total: no more assignments than are allowed.
 fn greatest_total(instance: &Instance, nurse: u16) -> SoftItem
     requires nurse_in { nurse < (week_of instance.now).nurses }
     ensures item { let week = week_of instance.now in item_of week result ≡ greatest_total_item week nurse }
@@ -95,7 +95,7 @@ fn greatest_total(instance: &Instance, nurse: u16) -> SoftItem
     }
 }
 
-/// The item of a nurse's least total, where it counts and asks for more.
+// The item of a nurse's least total, where it counts and asks for more.
 #[tactic(auto, unfolding(rota_core::specs::Lists::only_if))]
 fn too_few(instance: &Instance, nurse: u16) -> Option<SoftItem>
     requires nurse_in { nurse < (week_of instance.now).nurses }
@@ -109,7 +109,7 @@ fn too_few(instance: &Instance, nurse: u16) -> Option<SoftItem>
     Some(least_total(instance, nurse))
 }
 
-/// The item of a nurse's greatest total, where it counts and the week can exceed it.
+// The item of a nurse's greatest total, where it counts and the week can exceed it.
 #[tactic(auto, unfolding(rota_core::specs::Lists::only_if))]
 fn too_many(instance: &Instance, nurse: u16) -> Option<SoftItem>
     requires nurse_in { nurse < (week_of instance.now).nurses }
@@ -160,7 +160,7 @@ pub fn count(instance: &Instance, nurse: u16) -> ItemCounts
     }
 }
 
-/// The nurse's assignments that are wanted beyond one for each day of the week.
+// The nurse's assignments that are wanted beyond one for each day of the week.
 fn wanted_beyond_days(instance: &Instance, nurse: u16) -> u64
     requires { nurse < (week_of instance.now).nurses }
     ensures few { result ≤ 65535 }
@@ -172,7 +172,7 @@ fn wanted_beyond_days(instance: &Instance, nurse: u16) -> u64
     u64::from(still_wanted(instance, nurse).saturating_sub(u16::from(DAYS)))
 }
 
-/// The nurse's assignments that the history has above her greatest total.
+// The nurse's assignments that the history has above her greatest total.
 fn assignments_above(instance: &Instance, nurse: u16) -> u64
     requires { nurse < (week_of instance.now).nurses }
     ensures few { result ≤ 65535 }

@@ -11,11 +11,11 @@ use crate::takers::Taker;
 use crate::weekend_walk::walk_weekend;
 use rota_core::{Instance, Rule};
 
-/// What a worked weekend above the greatest number costs.
+// What a worked weekend above the greatest number costs.
 const WEIGHT: u16 = 30;
 
-/// Whether a weekend that the nurse works now is charged: the weekends before are as many as her
-/// contract allows.
+// Whether a weekend that the nurse works now is charged: the weekends before are as many as her
+// contract allows.
 fn is_charged(instance: &Instance, nurse: u16) -> bool
     requires { nurse < (week_of instance.now).nurses }
     ensures { let week = week_of instance.now in
@@ -60,7 +60,7 @@ pub fn count(instance: &Instance, nurse: u16) -> u32
     if is_charged(instance, nurse) { 2 } else { 0 }
 }
 
-/// The nurse's weekends that the history has above her greatest number.
+// The nurse's weekends that the history has above her greatest number.
 fn weekends_above(instance: &Instance, nurse: u16) -> u64
     requires { nurse < (week_of instance.now).nurses }
     ensures few { result ≤ 65535 }
