@@ -1,7 +1,8 @@
 -- The first of some rows that fails a test.
-use Rattle.rota_items.proofs.LogicWords.{◌≡◌, ℕ, suc, ◌+◌, Bool, true, false, ◌⊎◌, inl, inr, List, [], ◌∷◌, ◌++◌, map, length, refl, sym, ap, ◌∙◌, arith, Option, Some, None, ℤ, ◌≤ℤ◌, int_le, if◌then◌else◌, IfSome, MatchOption, AllByRecursion, ints, cases_Bool}
+use Rattle.rota_items.proofs.LogicWords.{◌≡◌, ℕ, suc, ◌+◌, Bool, true, false, ◌⊎◌, inl, inr, List, [], ◌∷◌, ◌++◌, map, length, refl, sym, ap, ◌∙◌, arith, Option, Some, None, ℤ, ◌≤ℤ◌, int_le, if◌then◌else◌, IfSome, MatchOption, All, AllByRecursion, ints, cases_Bool}
 use Rattle.rota_items.proofs.ModelWords.{Rule, Satisfies, value_of, LinearRow, linear_constraint}
 use Rattle.std.specs.Option.{option_or}
+use Rattle.std.proofs.lemmas.List.Elements.{All-cons, All-head, All-nil, All-tail}
 use Rattle.rota_items.specs.Verdicts.{first_failing, first_unmet, later, rule_of_part}
 
 abbrev pub Named : Type 0
@@ -62,7 +63,7 @@ le_or_not d v =
     ]
 
 abbrev pub AllSatisfied : (ℕ → Bool) → List (LinearRow ℕ) → Type 0
-AllSatisfied assignment rows = AllByRecursion (Satisfies assignment) (map linear_constraint rows)
+AllSatisfied assignment rows = All (Satisfies assignment) (map linear_constraint rows)
 
 -- none is named exactly where all are satisfied
 abbrev pub Decided : (ℕ → Bool) → List (LinearRow ℕ) → Named → Type 0
@@ -70,14 +71,14 @@ Decided assignment rows unmet =
     MatchOption unmet (AllSatisfied assignment rows) (λ _. AllSatisfied assignment rows → ⊥)
 
 pub first_unmet-decides : (assignment : ℕ → Bool) (rows : List (LinearRow ℕ)) → Decided assignment rows (first_unmet assignment rows)
-first_unmet-decides assignment [] = tt
+first_unmet-decides assignment [] = All-nil (Satisfies assignment)
 first_unmet-decides assignment (row ∷ rows) =
     elim (le_or_not row.degree (value_of assignment row.terms)) [
       | inl here ↦ rw here.0 (one_more (first_unmet assignment rows) here.1 (first_unmet-decides assignment rows))
-      | inr here ↦ rw here.0 (λ all. here.1 all.0)
+      | inr here ↦ rw here.0 (λ all. here.1 (All-head (Satisfies assignment) (linear_constraint row) (map linear_constraint rows) all))
     ]
   where
     one_more : (unmet : Named) → Satisfies assignment (linear_constraint row) → Decided assignment rows unmet →
         Decided assignment (row ∷ rows) (later 1 unmet)
-    one_more None here rest = (here, rest)
-    one_more (Some found) here rest = λ all. rest all.1
+    one_more None here rest = All-cons (Satisfies assignment) (linear_constraint row) (map linear_constraint rows) here rest
+    one_more (Some found) here rest = λ all. rest (All-tail (Satisfies assignment) (linear_constraint row) (map linear_constraint rows) all)

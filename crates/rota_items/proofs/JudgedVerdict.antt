@@ -144,12 +144,7 @@ tally-driven judging (event ∷ all) = tally-driven (judged judging event) all
 
 module _ (instance : InstanceTables) (subject : Subject) (old new : Judging) (begun : old ≡ fresh instance subject)
     (driven : new ≡ fold judged old (model_events instance)) where
-  abbrev made : Judging
-  made = record (fresh instance subject) {
-    tally = fold (tallied (week_of instance) subject) no_tally (model_events instance);
-  }
-
-  new_is : new ≡ made
+  new_is : new ≡ record (fresh instance subject) { tally = fold (tallied (week_of instance) subject) no_tally (model_events instance) }
   new_is =
       driven ∙ ap (λ (j : Judging). fold judged j (model_events instance)) begun ∙
       tally-driven (fresh instance subject) (model_events instance)

@@ -1,7 +1,9 @@
 -- A variable stands in some constraint exactly where it is one of the model's.
-use Rattle.rota_items.proofs.LogicWords.{◌≡◌, ◌↔◌, ℕ, zero, suc, ◌+◌, ◌<◌, ◌≤◌, Bool, ◌||◌, true, false, ◌⊎◌, inl, inr, List, [], ◌∷◌, map, refl, sym, ap, ◌∙◌, arith, ℤ, pos, negsuc, ◌==◌, AllByRecursion, AllByRecursion-at, AllByRecursion-back, list_any, range_with_len, cases_Bool, eqb-true, true≢false, sum_by-cons}
+use Rattle.rota_items.proofs.LogicWords.{◌≡◌, ◌↔◌, ℕ, zero, suc, ◌+◌, ◌<◌, ◌≤◌, Bool, true, false, ◌⊎◌, inl, inr, List, [], ◌∷◌, map, sym, ◌∙◌, arith, ℤ, pos, negsuc, ◌==◌, AllByRecursion, AllByRecursion-at, AllByRecursion-back, list_any, range_with_len, recursion_from_All, All-from_recursion, subst, cases_Bool, eqb-true, true≢false, sum_by-cons}
 use Rattle.rota_items.proofs.ModelWords.{cell, Week, Cell, on_cells, work_cells, cell_number, cell_of_number, unit_number, first_slack, rule_rows, Item, Term, Constraint, times, LinearRow, linear_constraint, item_rows, slack_count, slack_variables, soft_items, hard_rows, numbered_row, numbered_terms, numbered_items, rows_of, model_of}
+use Rattle.std.specs.Prelude.{slice_index_or}
 use Rattle.std.proofs.lemmas.Bool.{eq-eqb}
+use Rattle.std.proofs.lemmas.List.Folds.{Any-from_list_any, list_any_at}
 use Rattle.rota_core.proofs.RisesWithin.{RisesWithin}
 use Rattle.rota_items.proofs.ItemEventLists.{slack_count-numbered}
 use Rattle.rota_items.proofs.ListAll.{all-weaker}
@@ -17,12 +19,12 @@ at_variable v term = term.1 == v
 -- ---- where no constraint has a variable, it is none of the model's
 
 none-passes : {X : Type 0} (p : X → Bool) (xs : List X) → list_any p xs ≡ false → AllByRecursion (λ x. p x ≡ false) xs
-none-passes p [] none = tt
-none-passes p (x ∷ xs) none = let both = neither (p x) (list_any p xs) none in (both.0, none-passes p xs both.1)
-  where
-    neither : (b other : Bool) → (b || other) ≡ false → (b ≡ false) × (other ≡ false)
-    neither true other is = absurd (true≢false is)
-    neither false other is = (refl, is)
+none-passes p xs none =
+    recursion_from_All (λ x. p x ≡ false) xs (λ k d below.
+    elim (cases_Bool (p (slice_index_or xs k d))) [
+      | inl passes ↦ absurd (true≢false (sym (list_any_at p xs k d below passes) ∙ none))
+      | inr fails ↦ fails
+    ])
 
 all-back : {X Y : Type 0} (P : Y → Type 0) (f : X → Y) (xs : List X) → AllByRecursion P (map f xs) → AllByRecursion (λ x. P (f x)) xs
 all-back P f [] all = tt
@@ -111,12 +113,8 @@ module _ (week : Week) (v : ℕ) where
 -- what follows from an element that passes
 from-passing : {X : Type 0} (p : X → Bool) (P : X → Type 0) (Q : Type 0) → ((x : X) → P x → p x ≡ true → Q) → (xs : List X) →
     AllByRecursion P xs → list_any p xs ≡ true → Q
-from-passing p P Q each [] all passes = absurd (true≢false (sym passes))
-from-passing p P Q each (x ∷ xs) all passes =
-    elim (cases_Bool (p x)) [
-      | inl here ↦ each x all.0 here
-      | inr other ↦ from-passing p P Q each xs all.1 (sym (ap (λ b. b || list_any p xs) other) ∙ passes)
-    ]
+from-passing p P Q each xs all passes =
+    let found = Any-from_list_any p xs passes in each found.1 (subst P found.3 (All-from_recursion P xs all found.0 found.1 found.2)) found.4
 
 pub rises-end : (first end : ℕ) (terms : List (Term ℕ)) → RisesWithin variable_of first end terms → first ≤ end
 rises-end first end [] rises = rises
