@@ -31,10 +31,9 @@ first_failing-append test (row ∷ rows) more =
         else Some (1, rule_of_part row.part)) ≡
         option_or (if b then later 1 found else Some (1, rule_of_part row.part))
         (later (suc (length rows)) (first_failing test more))
-    either true None = later-later 1 (length rows) (first_failing test more) ∙ (λ i. later (next i) (first_failing test more))
-      where
-        next : 1 + length rows ≡ suc (length rows)
-        next = omega arith
+    either true None =
+        let next : 1 + length rows ≡ suc (length rows) = omega arith in
+        later-later 1 (length rows) (first_failing test more) ∙ ap (λ n. later n (first_failing test more)) next
     either true (Some found) = refl
     either false found = refl
 
