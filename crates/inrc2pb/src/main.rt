@@ -30,11 +30,16 @@ fn main(rt: HostRuntime) -> ExitCode {
 }
 
 fn run<R: Env + Files + Input + Print + AllocGlobal>(rt: &R) -> Result<(), Stop> {
-    let words = arguments(rt)?;
-    let words: Vec<&str> = words.iter().map(|word| word.as_str()).collect(rt.alloc())?;
-    let job = command_line::job(rt.alloc(), words.as_slice())?;
+    let job = asked_job(rt)?;
     perform(rt, &job)?;
     Ok(())
+}
+
+// The job that the words of the command line ask for.
+fn asked_job<R: Env + AllocGlobal>(rt: &R) -> Result<Job, Stop> {
+    let words = arguments(rt)?;
+    let words: Vec<&str> = words.iter().map(|word| word.as_str()).collect(rt.alloc())?;
+    Ok(command_line::job(rt.alloc(), words.as_slice())?)
 }
 
 fn arguments<R: Env + AllocGlobal>(rt: &R) -> Result<Vec<String>, Stop> {

@@ -1,11 +1,12 @@
 -- Truth values in words.
-use Rattle.std.proofs.Common.{◌≡◌, ◌≢◌, ℕ, ◌*◌, ◌^◌, ◌/◌, ◌%◌, ◌<◌, ◌≤◌, true, false, List, length, get_or, set, replicate, refl, sym, ◌∙◌, arith, inl, inr}
+use Rattle.std.proofs.Common.{◌≡◌, ◌≢◌, ℕ, ◌*◌, ◌^◌, ◌/◌, ◌%◌, ◌<◌, ◌≤◌, true, false, List, length, map, get_or, set, replicate, refl, sym, ◌∙◌, arith, inl, inr}
 use Rattle.std.proofs.Math.ListN.{length-set}
 use Rattle.std.specs.Prelude.{bit_or}
 use Rattle.std.specs.Int.{w64}
+use Rattle.std.specs.List.{range_with_len}
 use Rattle.std.proofs.lemmas.Bool.{cases_eq}
-use Rattle.std.proofs.lemmas.List.{ext_get_or, get_or-replicate, get_or-set_same, get_or-set_other, length-replicate}
-use Rattle.std.proofs.lemmas.List.FromFn.{length-map-range_with_len, get_or-map-range_with_len}
+use Rattle.std.proofs.lemmas.List.{get_or-replicate, get_or-set_same, get_or-set_other, length-replicate}
+use Rattle.std.proofs.lemmas.List.FromFn.{fill_by_all, length-map-range_with_len, get_or-map-range_with_len}
 use Rattle.std.proofs.lemmas.Nat.Bits.{bit_at-zero, bit_at_set_same, bit_at_set_other}
 use Rattle.rota_core.specs.Bits.{is_set, truths_of}
 
@@ -24,12 +25,10 @@ is_set-zeros m i h =
 
 -- words of zeros hold no truth value
 pub truths_of-zeros : (m n : ℕ) → n ≤ 64 * m → truths_of (replicate m 0) n ≡ replicate n false
+unfolding truths_of
 truths_of-zeros m n h =
-    ext_get_or false _ _ (length-truths_of _ n ∙ sym (length-replicate n false))
-    (λ i below.
-    let within : i < n = rw length-truths_of at below in
-    let bits : i < 64 * m = omega arith in
-    get_or-truths_of _ n i within ∙ is_set-zeros m i bits ∙ sym (get_or-replicate n i false false within))
+    sym (fill_by_all (is_set (replicate m 0)) (replicate n false) n false (length-replicate n false) (λ i within.
+    get_or-replicate n i false false within ∙ sym (is_set-zeros m i (omega arith))))
 
 -- the word with one more bit
 abbrev pub with_bit : ℕ → ℕ → ℕ
@@ -56,14 +55,15 @@ is_set-with_bit_other words i j h other =
 -- one more bit is one more truth value
 pub truths_of-with_bit : (words : List ℕ) (n i : ℕ) → i < n → n ≤ 64 * length words
     → truths_of (set words (i / 64) (with_bit (get_or words (i / 64) 0) (i % 64))) n ≡ set (truths_of words n) i true
+unfolding truths_of
 truths_of-with_bit words n i h fits =
+    let truths = map (is_set words) (range_with_len 0 n) in
+    let long : length truths ≡ n = length-truths_of words n in
     let word_in : i / 64 < length words = omega arith in
-    let place_in : i < length (truths_of words n) = rw length-truths_of h in
-    ext_get_or false _ _ (length-truths_of _ n ∙ sym (length-set (truths_of words n) i true ∙ length-truths_of words n))
-    (λ j below.
-    let within : j < n = rw length-truths_of at below in
-    get_or-truths_of _ n j within ∙
+    sym (fill_by_all _ (set truths i true) n false (length-set truths i true ∙ long) (λ j within.
     elim (cases_eq j i) [
-      | inl e ↦ rw e (is_set-with_bit_same words i word_in ∙ sym (get_or-set_same (truths_of words n) i true false place_in))
-      | inr ne ↦ is_set-with_bit_other words i j word_in ne ∙ sym (get_or-set_other (truths_of words n) i j true false ne ∙ get_or-truths_of words n j within)
-    ])
+      | inl e ↦ rw e (get_or-set_same truths i true false (omega arith) ∙ sym (is_set-with_bit_same words i word_in))
+      | inr ne ↦
+          get_or-set_other truths i j true false ne ∙ get_or-truths_of words n j within ∙
+          sym (is_set-with_bit_other words i j word_in ne)
+    ]))

@@ -1,5 +1,5 @@
 -- The cell at each place.
-use Rattle.std.proofs.Common.{◌≡◌, ℕ, ◌+◌, ◌*◌, ◌/◌, ◌%◌, ◌<◌, zero, suc, ap, ◌∙◌, arith}
+use Rattle.std.proofs.Common.{◌≡◌, ℕ, ◌+◌, ◌*◌, ◌/◌, ◌%◌, ◌<◌, zero, suc, refl, arith}
 use Rattle.std.proofs.lemmas.Nat.{div-mul-add, mod-mul-add, div-add-mod'}
 use Rattle.std.proofs.Math.Nat.{div-lt_iff_lt-mul, mod-lt}
 use Rattle.rota_core.specs.Roster.{InWeek, cell}
@@ -10,14 +10,10 @@ use Rattle.rota_core.specs.Week.{Week}
 pub cell_at-place : (shifts skills n d s k : ℕ) → d < 7 → s < shifts → k < skills
     → cell_at shifts skills (((n * 7 + d) * shifts + s) * skills + k) ≡ cell n d s k
 cell_at-place S K n d s k d_in s_in k_in =
-    let place = ((n * 7 + d) * S + s) * K + k in
-    let skills : place % K ≡ k = mod-mul-add ((n * 7 + d) * S + s) K k k_in in
-    let above : place / K ≡ (n * 7 + d) * S + s = div-mul-add ((n * 7 + d) * S + s) K k k_in in
-    let shifts : place / K % S ≡ s = ap (λ p. p % S) above ∙ mod-mul-add (n * 7 + d) S s s_in in
-    let days_above : place / K / S ≡ n * 7 + d = ap (λ p. p / S) above ∙ div-mul-add (n * 7 + d) S s s_in in
-    let days : place / K / S % 7 ≡ d = ap (λ p. p % 7) days_above ∙ mod-mul-add n 7 d d_in in
-    let nurses : place / K / S / 7 ≡ n = ap (λ p. p / 7) days_above ∙ div-mul-add n 7 d d_in in
-    λ i. cell (nurses i) (days i) (shifts i) (skills i)
+    let day = n * 7 + d in
+    let row = day * S + s in
+    rw (div-mul-add row K k k_in, mod-mul-add row K k k_in, div-mul-add day S s s_in, mod-mul-add day S s s_in)
+    (rw (div-mul-add n 7 d d_in, mod-mul-add n 7 d d_in) refl)
 
 -- a product above a number has no factor 0
 some_rows : (p a w : ℕ) → p < a * w → 0 < w
@@ -50,6 +46,4 @@ module _ (week : Week) (place : ℕ) (below : place < place_count week.nurses we
 -- the cell at a place has that place
 pub place-cell_at : (shifts skills place : ℕ) → cell_place shifts skills (cell_at shifts skills place) ≡ place
 place-cell_at shifts skills place =
-    ap (λ p. (p * shifts + place / skills % shifts) * skills + place % skills) (div-add-mod' (place / skills / shifts) 7) ∙
-    ap (λ p. p * skills + place % skills) (div-add-mod' (place / skills) shifts) ∙
-    div-add-mod' place skills
+    rw (div-add-mod' (place / skills / shifts) 7, div-add-mod' (place / skills) shifts, div-add-mod' place skills) refl

@@ -1,5 +1,5 @@
 -- Lists made by loops.
-use Rattle.std.proofs.Common.{◌≡◌, ℕ, zero, suc, ◌+◌, ◌*◌, ◌<◌, ◌≤◌, Bool, true, false, ◌⊎◌, inl, inr, List, [], ◌∷◌, ◌++◌, length, refl, sym, ap, ◌∙◌, subst, arith, add-one}
+use Rattle.std.proofs.Common.{◌≡◌, ℕ, zero, suc, ◌+◌, ◌*◌, ◌<◌, ◌≤◌, Bool, true, false, ◌⊎◌, inl, inr, List, [], ◌∷◌, ◌++◌, length, refl, sym, subst, arith, add-one}
 use Rattle.std.specs.List.{AllByRecursion}
 use Rattle.std.proofs.Math.Nat.{suc-mul}
 use Rattle.std.proofs.lemmas.List.{append-nil, append_assoc, length-append}
@@ -27,31 +27,23 @@ only_if-fails false x e = refl
 each_below-join : {A : Type 0} (m n : ℕ) (f : ℕ → List A) → each_below (m + n) f ≡ each_below m f ++ each_below n (λ j. f (m + j))
 unfolding each_below
 each_below-join m zero f = let e : m + 0 ≡ m = omega arith in rw e (sym (append-nil (each_below m f)))
-each_below-join {A} m (suc n) f =
+each_below-join m (suc n) f =
     let e : m + suc n ≡ suc (m + n) = omega arith in
-    rw e (
-    ap (λ (xs : List A). xs ++ f (m + n)) (each_below-join m n f) ∙
-    append_assoc (each_below m f) (each_below n (λ j. f (m + j))) (f (m + n))
-    )
+    rw (e, each_below-join m n f, append_assoc) refl
 
 -- a loop over the places of a grid is one over its rows and columns
 pub each_below-grid : {A : Type 0} (m n : ℕ) (f : ℕ → List A) →
     each_below (m * n) f ≡ each_below m (λ i. each_below n (λ j. f (i * n + j)))
 unfolding each_below
 each_below-grid zero n f = let e : 0 * n ≡ 0 = omega arith in rw e refl
-each_below-grid {A} (suc m) n f =
-    rw (suc-mul m n) (
-    each_below-join (m * n) n f ∙
-    ap (λ (xs : List A). xs ++ each_below n (λ j. f (m * n + j))) (each_below-grid m n f)
-    )
+each_below-grid (suc m) n f = rw (suc-mul m n, each_below-join (m * n) n f, each_below-grid m n f) refl
 
 -- lists whose turns are the same
 pub each_below-same : {A : Type 0} (n : ℕ) (f g : ℕ → List A) → ((i : ℕ) → i < n → f i ≡ g i) → each_below n f ≡ each_below n g
 unfolding each_below
 each_below-same zero f g same = refl
-each_below-same {A} (suc n) f g same =
-    ap (λ (xs : List A). xs ++ f n) (each_below-same n f g (λ i below. same i (omega (arith, below)))) ∙
-    ap (λ (xs : List A). each_below n g ++ xs) (same n (omega arith))
+each_below-same (suc n) f g same =
+    rw (each_below-same n f g (λ i below. same i (omega arith)), same n (omega arith)) refl
 
 -- a turn is the last one, or one before it
 pub last_or_before : (i n : ℕ) → i < suc n → (i ≡ n) ⊎ (i < n)
@@ -64,9 +56,7 @@ pub length-each_below : {A : Type 0} (n most : ℕ) (f : ℕ → List A) → ((i
 unfolding each_below
 length-each_below zero most f few = omega arith
 length-each_below (suc n) most f few =
-    let before = length-each_below n most f (λ i below. few i (omega arith)) in
-    let last = few n (omega arith) in
-    omega (arith, length-append (each_below n f) (f n))
+    rw length-append (omega (arith, length-each_below n most f (λ i below. few i (omega arith)), few n (omega arith)))
 
 pub length-only_if : {A : Type 0} (test : Bool) (x : A) → length (only_if test x) ≤ 1
 unfolding only_if

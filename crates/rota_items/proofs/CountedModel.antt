@@ -7,7 +7,7 @@ use Rattle.rota_items.proofs.ModelRows.{each-model_row}
 use Rattle.rota_items.proofs.Numbers.{cell_number-below}
 use Rattle.rota_items.proofs.TermsHold.{OnTerms}
 use Rattle.rota_core.proofs.RisesWithin.{RisesWithin}
-use Rattle.rota_items.proofs.RisingTerms.{RisesTo, variable_of, rises-to_last}
+use Rattle.rota_items.proofs.RisingTerms.{RisesTo, variable_of, objective-to_last, rises-to_last}
 use Rattle.rota_items.proofs.SlackBound.{rows-below}
 use Rattle.rota_items.proofs.Standing.{at_variable, rises-end, stands-exactly}
 use Rattle.rota_items.proofs.SoftRules.AllItems.{in-cell_terms}
@@ -77,55 +77,6 @@ greatest-rows_of week =
           ((stands-exactly week (model_of week).variables).1 (omega arith, omega arith)),
     )
 
--- ---- the objective has no greater one
-
-greatest-terms_append : (xs ys : List (Term ℕ)) →
-    greatest (variables_of (xs ++ ys)) ≡ max (greatest (variables_of xs)) (greatest (variables_of ys))
-greatest-terms_append xs ys =
-    ap greatest (map-append (λ (term : Term ℕ). term.1) xs ys) ∙ greatest-append (variables_of xs) (variables_of ys)
-
--- the unit variable is above those of the cells
-greatest-terms : (week : Week) (terms : List (Term Cell)) → OnTerms (InWeek week) terms →
-    greatest (variables_of (numbered_terms week terms)) ≤ unit_number week
-greatest-terms week [] all = omega arith
-greatest-terms week (term ∷ terms) all = omega (arith, cell_number-below week term.1 all.0, greatest-terms week terms all.1)
-
-greatest-only_if : (test : Bool) (term : Term ℕ) → greatest (variables_of (only_if test term)) ≤ term.1
-unfolding only_if
-greatest-only_if true term = omega arith
-greatest-only_if false term = omega arith
-
-greatest-range : (first count : ℕ) (coefficient : ℤ) → 0 < first →
-    greatest (variables_of (times coefficient (range_with_len first count))) < first + count
-greatest-range first zero coefficient some = omega arith
-greatest-range first (suc count) coefficient some = omega (arith, greatest-range (first + 1) count coefficient (omega arith))
-
-greatest-slacks : (first : ℕ) (items : List (Item ℕ)) → 0 < first →
-    greatest (variables_of (slack_weights first items)) < first + slack_count items
-greatest-slacks first [] some = omega arith
-greatest-slacks first (item ∷ items) some =
-    omega (
-      arith,
-      greatest-terms_append (times (pos item.weight) (range_with_len first item.slacks)) (slack_weights (first + item.slacks) items),
-      greatest-range first item.slacks (pos item.weight) some,
-      greatest-slacks (first + item.slacks) items (omega arith),
-      sum_by-cons (λ (one : Item ℕ). one.slacks) item items,
-    )
-
-greatest-objective : (week : Week) → greatest (variables_of (objective_terms week)) ≤ (model_of week).variables
-greatest-objective week =
-    let requests = numbered_terms week (cell_terms week) in
-    let slacks = slack_weights (first_slack week) (numbered_items week) in
-    omega (
-      arith,
-      greatest-terms_append requests (constant_terms week ++ slacks),
-      greatest-terms_append (constant_terms week) slacks,
-      greatest-terms week (cell_terms week) (in-cell_terms week),
-      greatest-only_if (nat_lt 0 (constant week)) (pos (constant week), unit_number week),
-      greatest-slacks (first_slack week) (numbered_items week) (omega arith),
-      slack_count-numbered (cell_number week) (soft_items week),
-    )
-
 -- ---- both
 
 module _ (week : Week) (limits : IsWithinLimits week) where
@@ -134,7 +85,7 @@ module _ (week : Week) (limits : IsWithinLimits week) where
       same_counts _ _ _ _ (greatest-rows_of week)
       (omega (arith, count-rows_of week, rows-below week limits, length-map (rows_of week) linear_constraint))
 
-  counts-objective : (terms : List (Term ℕ)) → greatest (variables_of terms) ≤ (model_of week).variables →
+  counts-objective : (terms : List (Term ℕ)) → greatest (variables_of terms) < (model_of week).variables + 1 →
       counts_of (objective_rows terms ++ rows_of week) ≡ counts_of_model (model_of week)
   counts-objective [] below = counts-constraints
   counts-objective (first ∷ others) below =
@@ -161,4 +112,4 @@ module _ (week : Week) (limits : IsWithinLimits week) where
       counts_of_model (model_of week)
   counted-model =
       counted-rows (objective_rows (objective_terms week) ++ rows_of week) ∙
-      counts-objective (objective_terms week) (greatest-objective week)
+      counts-objective (objective_terms week) (greatest-rises 1 ((model_of week).variables + 1) (objective_terms week) (omega arith) (objective-to_last week))

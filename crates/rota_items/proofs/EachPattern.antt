@@ -7,6 +7,8 @@ use Rattle.std.proofs.lemmas.List.Elements.{All-from_recursion, All-weaker, recu
 use Rattle.std.proofs.lemmas.List.FromFn.{length-range_with_len}
 use Rattle.rota_core.specs.declared.values.Span.{Span}
 use Rattle.rota_core.proofs.Loops.{AllByRecursion-append, AllByRecursion-each_below, AllByRecursion-only_if, length-each_below, length-only_if}
+use Rattle.rota_core.specs.Lists.{each_below}
+use Rattle.rota_items.proofs.ListLengths.{length-each_below_both}
 use Rattle.rota_items.specs.RunPatterns.{PatternDay, Pattern, DaysFollow, with_property, without_property, window, windows_on, windows, closed_pattern, closed_patterns_at, closed_patterns_on, edge_pattern, edge_patterns_on, patterns_on, patterns}
 
 -- ---- the days
@@ -120,7 +122,13 @@ module _ (history : ℕ) (limits : Span) where
             length-only_if (nat_le 1 (history + d) && nat_lt (history + d) limits.min) (edge_pattern history limits.min d),
           )
 
-pub ruleset run_counting = (few-run_patterns, length-map, length-append)
+-- the closed patterns of the week and its edge patterns
+pub length-patterns : (history : ℕ) (limits : Span) →
+    length (patterns history limits) ≡
+    length (each_below 7 (closed_patterns_on limits.min)) + length (each_below 7 (edge_patterns_on history limits.min))
+length-patterns history limits = length-each_below_both 7 (closed_patterns_on limits.min) (edge_patterns_on history limits.min)
+
+pub ruleset run_counting = (few-run_patterns, length-patterns, length-map, length-append)
 
 -- ---- what holds of each day of the week holds of a pattern's days
 

@@ -17,14 +17,6 @@ AllByRecursion-or_default P (x ∷ xs) zero default all holds = all.0
 AllByRecursion-or_default P (x ∷ xs) (suc i) default all holds = AllByRecursion-or_default P xs i default all.1 holds
 
 module _ (t : InstanceTables) (limits : IsInstance t) where
-  pub demand-small : (d s k : ℕ) → IsDemand ((week_of t).demand d s k)
-  demand-small d s k =
-      AllByRecursion-or_default IsDemand t.week.demands _ no_demand limits.week.demands.1 (omega arith, omega arith)
-
-  shift_limits-small : (s : ℕ) → AreLimits ((week_of t).limits s)
-  shift_limits-small s =
-      AllByRecursion-or_default AreLimits t.scenario.limits s no_span limits.scenario.limits.1 (omega arith, omega arith)
-
   contract-small : (n : ℕ) → IsContract ((week_of t).contract n)
   contract-small n =
       AllByRecursion-or_default IsContract t.scenario.contracts _ no_contract limits.scenario.contracts.1
@@ -35,21 +27,20 @@ module _ (t : InstanceTables) (limits : IsInstance t) where
       AllByRecursion-or_default (IsPast t.history.shifts) t.history.past n no_past limits.history.past.1
       (record { totals = (omega arith, omega arith); last = λ s is. absurd (none-some s is); runs = (omega arith, omega arith, omega arith) })
 
-  requests-small : (n d s : ℕ) → (week_of t).requests n d s ≤ 9999
-  requests-small n d s =
-      AllByRecursion-or_default (λ count. count ≤ 9999) t.week.requests _ 0 limits.week.requests.1 (omega arith)
-
   pub instance-within_limits : IsWithinLimits (week_of t)
   instance-within_limits = record {
     nurses = limits.scenario.nurses.0.1;
     shifts = limits.scenario.shifts.0.1;
     skills = limits.scenario.skills.0.1;
-    optimal = λ d s k. (demand-small d s k).1;
-    limits = λ s. (shift_limits-small s).0;
+    optimal = λ d s k.
+        (AllByRecursion-or_default IsDemand t.week.demands _ no_demand limits.week.demands.1 (omega arith, omega arith)).1;
+    limits = λ s.
+        (AllByRecursion-or_default AreLimits t.scenario.limits s no_span limits.scenario.limits.1 (omega arith, omega arith)).0;
     work_limits = λ n. (contract-small n).1.0;
     off_limits = λ n. (contract-small n).2.0;
     totals = λ n. (contract-small n).0.0;
     assignments = λ n. (past-small n).totals.0;
     weekends = λ n. (past-small n).totals.1;
-    requests = requests-small;
+    requests = λ n d s.
+        AllByRecursion-or_default (λ count. count ≤ 9999) t.week.requests _ 0 limits.week.requests.1 (omega arith);
   }

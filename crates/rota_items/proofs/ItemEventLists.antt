@@ -1,5 +1,5 @@
 -- The events of items, one list after another.
-use Rattle.std.proofs.Common.{◌≡◌, ℕ, ◌+◌, ◌<◌, ◌≤◌, List, [], ◌∷◌, ◌++◌, map, refl, sym, ap, ◌∙◌, arith, add-zero, append_assoc}
+use Rattle.std.proofs.Common.{◌≡◌, ℕ, ◌+◌, List, [], ◌∷◌, ◌++◌, map, refl, sym, ap, ◌∙◌, arith, add-zero, append_assoc}
 use Rattle.std.specs.Prelude.{pos}
 use Rattle.std.proofs.lemmas.List.{map-append, append-nil}
 use Rattle.std.proofs.lemmas.List.Concat.{flat_map-append}
@@ -7,14 +7,12 @@ use Rattle.std.proofs.lemmas.List.Sums.{sum_by-cons, sum_by-append}
 use Rattle.rota_core.specs.Week.{Week}
 use Rattle.rota_core.specs.declared.values.Cell.{Cell}
 use Rattle.rota_items.proofs.ListSums.{sum_by-map}
-use Rattle.rota_items.proofs.Taking.{within}
 use Rattle.rota_items.specs.Cells.{cell_number}
 use Rattle.rota_items.specs.Events.{term, row_events, term_events, events}
 use Rattle.rota_items.specs.ItemEvents.{item_events}
 use Rattle.rota_items.specs.Items.{Item, numbered}
 use Rattle.rota_items.specs.Linear.{Term, times}
 use Rattle.rota_items.specs.LinearRow.{LinearRow}
-use Rattle.rota_core.specs.Lists.{each_below}
 use Rattle.rota_items.specs.Slacks.{item_row, item_rows, slack_variables, slack_weights, slack_count}
 use Rattle.rota_items.specs.declared.soft_item.ItemPart.{ItemPart}
 use Rattle.rota_items.specs.declared.soft_item.ItemPart.TheVariants.{Row, SlackWeights}
@@ -31,12 +29,6 @@ slack_count-append xs ys = sum_by-append (λ item. item.slacks) xs ys
 pub slack_count-numbered : (number : Cell → ℕ) (items : List (Item Cell)) →
     slack_count (map (numbered number) items) ≡ slack_count items
 slack_count-numbered number items = sum_by-map (λ (item : Item ℕ). item.slacks) (numbered number) items
-
-pub slack_count-within : {X : Type 0} (i n : ℕ) (f : ℕ → List (Item X)) → i < n →
-    slack_count (each_below i f) + slack_count (f i) ≤ slack_count (each_below n f)
-slack_count-within i n f below =
-    let w = within i n f below in
-    rw w.are (omega (arith, slack_count-append (each_below i f) (f i ++ w.after), slack_count-append (f i) w.after))
 
 -- ---- rows and weights
 

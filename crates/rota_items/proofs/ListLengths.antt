@@ -53,35 +53,11 @@ pub length-each-is : {A : Type 0} (n long : ℕ) (f : ℕ → List A) → ((i : 
 unfolding each_below
 length-each-is zero long f each = omega arith
 length-each-is (suc n) long f each =
-    omega (
-      arith,
-      length-append (each_below n f) (f n),
-      length-each-is n long f (λ i below. each i (omega arith)),
-      each n (omega arith),
-    )
-
--- ---- windows and patterns
-
-pub closed-le : (n : ℕ) → n ≤ 5 → n * (11 - n) / 2 ≤ 15
-closed-le zero small = lit≤ tt
-closed-le (suc zero) small = lit≤ tt
-closed-le (suc (suc zero)) small = lit≤ tt
-closed-le (suc (suc (suc zero))) small = lit≤ tt
-closed-le (suc (suc (suc (suc zero)))) small = lit≤ tt
-closed-le (suc (suc (suc (suc (suc zero))))) small = lit≤ tt
-closed-le (suc (suc (suc (suc (suc (suc n)))))) small = absurd (omega arith)
+    rw length-append (omega (arith, length-each-is n long f (λ i below. each i (omega arith)), each n (omega arith)))
 
 -- what each turn of a loop adds in two parts
 pub length-each_below_both : {A : Type 0} (n : ℕ) (f g : ℕ → List A) →
     length (each_below n (λ i. f i ++ g i)) ≡ length (each_below n f) + length (each_below n g)
 unfolding each_below
 length-each_below_both zero f g = refl
-length-each_below_both (suc n) f g =
-    omega (
-      arith,
-      length-append (each_below n (λ i. f i ++ g i)) (f n ++ g n),
-      length-append (f n) (g n),
-      length-append (each_below n f) (f n),
-      length-append (each_below n g) (g n),
-      length-each_below_both n f g,
-    )
+length-each_below_both (suc n) f g = simp length-append (omega (arith, length-each_below_both n f g))

@@ -6,7 +6,7 @@ use Rattle.rota_core.proofs.Loops.{AllByRecursion-append, AllByRecursion-each_be
 use Rattle.rota_core.specs.Lists.{each_below}
 use Rattle.rota_core.specs.Week.{Week}
 use Rattle.rota_core.specs.declared.rule.Rule.{Rule}
-use Rattle.rota_core.specs.declared.rule.Rule.TheVariants.{S1}
+use Rattle.rota_core.specs.declared.rule.Rule.TheVariants.{S1, S2, S3, S5, S6, S7}
 use Rattle.rota_core.specs.declared.values.Cell.{Cell}
 use Rattle.rota_items.specs.Items.{Item}
 use Rattle.rota_items.specs.NurseItems.{nurse_items}
@@ -14,7 +14,10 @@ use Rattle.rota_items.specs.RunItems.{Runs, pattern_items, run_items}
 use Rattle.rota_items.specs.RunPatterns.{Pattern, patterns, windows}
 use Rattle.rota_items.specs.Slacks.{slack_count}
 use Rattle.rota_items.specs.SoftRules.{items_of_rule}
+use Rattle.rota_items.specs.rules.CompleteWeekends.{complete_weekend_items_of}
 use Rattle.rota_items.specs.rules.ConsecutiveAssignments.{assignment_runs_of, shift_runs, work_runs}
+use Rattle.rota_items.specs.rules.ConsecutiveDaysOff.{off_runs}
+use Rattle.rota_items.specs.rules.WorkedWeekends.{worked_weekend_items_of}
 
 pub none-each_below : {A : Type 0} (n : ℕ) → [] ≡ each_below n (λ _. let none : List A = [] in none)
 unfolding each_below
@@ -36,7 +39,7 @@ one_slack-each [] all = refl
 one_slack-each (item ∷ items) all =
     omega (arith, sum_by-cons (λ (i : Item Cell). i.slacks) item items, all.0, one_slack-each items all.1)
 
-pub one_slack-where : (test : Bool) (items : List (Item Cell)) → AllByRecursion HasOneSlack items →
+one_slack-where : (test : Bool) (items : List (Item Cell)) → AllByRecursion HasOneSlack items →
     slack_count (if test then items else []) ≡ length (if test then items else [])
 one_slack-where true items all = one_slack-each items all
 one_slack-where false items all = refl
@@ -48,15 +51,19 @@ have_one-patterns runs (pattern ∷ rest) = (refl, have_one-patterns runs rest)
 have_one-runs : (runs : Runs Cell) → AllByRecursion HasOneSlack (run_items runs)
 have_one-runs runs = have_one-patterns runs (windows runs.history runs.limits ++ patterns runs.history runs.limits)
 
-pub one_slack-runs : (runs : Runs Cell) → slack_count (run_items runs) ≡ length (run_items runs)
-one_slack-runs runs = one_slack-each (run_items runs) (have_one-runs runs)
-
-pub one_slack-assignments : (week : Week) (n : ℕ) → slack_count (assignment_runs_of week n) ≡ length (assignment_runs_of week n)
-one_slack-assignments week n =
+-- the items of each rule but that of totals have one slack each
+pub one_slack-of_nurse : (week : Week) (rule : Rule) (n : ℕ) → (rule ≡ S6 → ⊥) →
+    slack_count (nurse_items week rule n) ≡ length (nurse_items week rule n)
+one_slack-of_nurse week S2 n other =
     one_slack-each (assignment_runs_of week n)
     (AllByRecursion-append HasOneSlack (each_below week.shifts (λ s. run_items (shift_runs week n s))) (run_items (work_runs week n))
     (AllByRecursion-each_below HasOneSlack week.shifts (λ s. run_items (shift_runs week n s))
     (λ s _. have_one-runs (shift_runs week n s)))
     (have_one-runs (work_runs week n)))
+one_slack-of_nurse week S3 n other = one_slack-each (run_items (off_runs week n)) (have_one-runs (off_runs week n))
+one_slack-of_nurse week S5 n other = one_slack-where _ (complete_weekend_items_of week n) (refl, (refl, tt))
+one_slack-of_nurse week S6 n other = absurd (other refl)
+one_slack-of_nurse week S7 n other = one_slack-where _ (worked_weekend_items_of week n) (refl, (refl, tt))
+one_slack-of_nurse week _ n other = refl
 
-pub ruleset items_of_nurses = (rule_items-are)
+pub ruleset items_of_nurses = (rule_items-are, one_slack-of_nurse)

@@ -1,6 +1,6 @@
 -- How large penalties, the constant and the objective are.
 use Rattle.rota_items.proofs.LogicWords.{◌*◌, ◌^◌, ◌<◌, ◌≤◌, arith, ℕ, ◌+◌, Bool, List, [], ◌∷◌, ap, sum_by-cons, count_by-le-length, pos, ◌≤ℤ◌, sum_by, count_by, ints}
-use Rattle.rota_items.proofs.ModelWords.{Roster, soft_rules, Week, Rule, Cell, Item, shortage, weighted_shortages, numbered, IsWithinLimits, constant, constant_of_rule, items_of_rule, penalty, rule_cost, cell_terms, soft_items, cell_number, unit_number, first_slack, value_of, times, slack_variables, slack_weights, numbered_terms, numbered_items, objective_terms, roster_of}
+use Rattle.rota_items.proofs.ModelWords.{Roster, soft_rules, Week, Rule, Item, shortage, weighted_shortages, numbered, IsWithinLimits, constant, constant_of_rule, items_of_rule, penalty, rule_cost, cell_terms, soft_items, cell_number, unit_number, first_slack, value_of, times, slack_variables, slack_weights, numbered_items, objective_terms, roster_of}
 use Rattle.std.proofs.lemmas.List.Sums.{sum_by-le-sum_by}
 pub use Rattle.std.proofs.lemmas.List.FromFn.{length-range_with_len as length-range}
 use Rattle.std.proofs.lemmas.Nat.{mul-le}
@@ -8,7 +8,7 @@ use Rattle.rota_items.proofs.ListSums.{sum_by-map}
 use Rattle.rota_items.proofs.SlackBound.{variables-below, items-le, soft_items-le}
 use Rattle.rota_items.proofs.SmallSums.{shortage-least}
 use Rattle.rota_items.proofs.SoftRules.EachRule.{sound-rule, cell_terms-are}
-use Rattle.rota_items.proofs.SoftRules.Sound.{IsItemSound, most_constant, most_items}
+use Rattle.rota_items.proofs.SoftRules.Sound.{most_constant, most_items}
 use Rattle.rota_items.proofs.SoundTerms.{spread-sound}
 use Rattle.std.proofs.Math.Nat.{mul-le-mul_left}
 use Rattle.rota_items.proofs.Extension.{value_of-objective}
@@ -33,10 +33,10 @@ module _ (week : Week) where
         sum_by-le-sum_by (constant_of_rule week) most_constant soft_rules (λ rule. (sound-rule week rule).constant_most limits),
       )
 
-  -- what an item is charged on any roster
-  charge-few : (rule : Rule) (item : Item Cell) (roster : Roster) → IsWithinLimits week → IsItemSound week rule item →
-      item.weight * shortage roster item ≤ 300000 * 33564431
-  charge-few rule item roster limits sound =
+  pub shortages-few : (roster : Roster) (rule : Rule) → IsWithinLimits week →
+      weighted_shortages roster (items_of_rule week rule) ≤ most_items rule * (300000 * 33564431)
+  shortages-few roster rule limits =
+      items-le week limits (λ item. item.weight * shortage roster item) (λ _. 300000 * 33564431) rule (λ item sound.
       mul-le item.weight (shortage roster item) 300000 33564431 (sound.small limits).weight
       (omega (
         arith,
@@ -44,13 +44,7 @@ module _ (week : Week) where
         (sound.small limits).degree,
         spread-sound week item.terms sound.terms,
         variables-below week limits,
-      ))
-
-  pub shortages-few : (roster : Roster) (rule : Rule) → IsWithinLimits week →
-      weighted_shortages roster (items_of_rule week rule) ≤ most_items rule * (300000 * 33564431)
-  shortages-few roster rule limits =
-      items-le week limits (λ item. item.weight * shortage roster item) (λ _. 300000 * 33564431) rule
-      (λ item sound. charge-few rule item roster limits sound)
+      )))
 
 -- ---- the objective under any assignment
 
@@ -75,30 +69,19 @@ value_of-slack_weights assignment first (x ∷ xs) =
     )
 
 module _ (week : Week) (assignment : ℕ → Bool) (limits : IsWithinLimits week) where
-  slacks-small : sum_by all_slacks (soft_items week) ≤ sum_by (λ rule. most_items rule * 300000) soft_rules
-  slacks-small = soft_items-le week limits all_slacks (λ _. 300000) (λ rule item sound. (sound.small limits).all_slacks)
-
-  cell_terms-small : value_of assignment (numbered_terms week (cell_terms week)) ≤ℤ pos 200000000000
-  cell_terms-small =
-      omega (
-        arith,
-        ints,
-        value_of-numbered (cell_number week) assignment (cell_terms week),
-        ap (value_of (roster_of week assignment)) (cell_terms-are week),
-        value_of-request_terms week (roster_of week assignment),
-        request_cost-le week (roster_of week assignment) limits,
-      )
-
   pub objective-below : value_of assignment (objective_terms week) ≤ℤ pos 700000000000
   objective-below =
       omega (
         arith,
         ints,
         value_of-objective week assignment,
-        cell_terms-small,
+        value_of-numbered (cell_number week) assignment (cell_terms week),
+        ap (value_of (roster_of week assignment)) (cell_terms-are week),
+        value_of-request_terms week (roster_of week assignment),
+        request_cost-le week (roster_of week assignment) limits,
         where_in (assignment (unit_number week)) (constant week),
         constant-few week limits,
         value_of-slack_weights assignment (first_slack week) (numbered_items week),
         sum_by-map all_slacks (numbered (cell_number week)) (soft_items week),
-        slacks-small,
+        soft_items-le week limits all_slacks (λ _. 300000) (λ rule item sound. (sound.small limits).all_slacks),
       )

@@ -1,6 +1,7 @@
 -- The terms of the model stand by rising variable number.
 use Rattle.rota_items.proofs.LogicWords.{◌≡◌, ℕ, zero, suc, ◌+◌, ◌≤◌, List, [], ◌∷◌, ◌++◌, arith, ℤ, pos, nat_lt, All, AllByRecursion, range_with_len, All-from_recursion, sum_by-cons}
-use Rattle.rota_items.proofs.ModelWords.{Week, unit_number, first_slack, slack_count, constant_terms, cell_terms, constant, Item, Term, Constraint, times, linear_constraint, slack_weights, numbered_terms, objective_terms, numbered_items, model_of}
+use Rattle.rota_items.proofs.ModelWords.{Week, unit_number, first_slack, slack_count, constant_terms, cell_terms, constant, Item, Term, Constraint, times, linear_constraint, slack_weights, soft_items, cell_number, numbered_terms, objective_terms, numbered_items, model_of}
+use Rattle.rota_items.proofs.ItemEventLists.{slack_count-numbered}
 use Rattle.rota_items.proofs.ListAll.{all-weaker}
 use Rattle.rota_items.proofs.ModelRows.{each-constraint, each-model_row}
 use Rattle.rota_core.proofs.RisesWithin.{RisesWithin, widen, rises-append, rises-only_if}
@@ -60,15 +61,17 @@ module _ (week : Week) where
       (slack_weights (first + item.slacks) rest) (rises-range first _ item.slacks (pos item.weight) (omega arith))
       (rises-slack_weights (first + item.slacks) end rest (omega arith))
 
-  pub rises-objective : RisesFrom 1 (objective_terms week)
-  rises-objective =
-      let end : ℕ = first_slack week + slack_count (numbered_items week) in
-      from_within 1 end (objective_terms week)
-      (rises-append variable_of 1 (unit_number week) end (numbered_terms week (cell_terms week))
-      (constant_terms week ++ slack_weights (first_slack week) (numbered_items week))
+  pub objective-to_last : RisesWithin variable_of 1 ((model_of week).variables + 1) (objective_terms week)
+  objective-to_last =
+      let end : ℕ = (model_of week).variables + 1 in
+      let slacks = slack_weights (first_slack week) (numbered_items week) in
+      rises-append variable_of 1 (unit_number week) end (numbered_terms week (cell_terms week)) (constant_terms week ++ slacks)
       (rises-numbered week 1 (unit_number week) (cell_terms week) (rise-cell_terms week))
-      (rises-append variable_of (unit_number week) (first_slack week) end (constant_terms week)
-      (slack_weights (first_slack week) (numbered_items week))
+      (rises-append variable_of (unit_number week) (first_slack week) end (constant_terms week) slacks
       (rises-only_if variable_of (unit_number week) (first_slack week) (nat_lt 0 (constant week))
       (pos (constant week), unit_number week) (omega arith) (omega arith))
-      (rises-slack_weights (first_slack week) end (numbered_items week) (omega arith))))
+      (rises-slack_weights (first_slack week) end (numbered_items week)
+      (omega (arith, slack_count-numbered (cell_number week) (soft_items week)))))
+
+  pub rises-objective : RisesFrom 1 (objective_terms week)
+  rises-objective = from_within 1 ((model_of week).variables + 1) (objective_terms week) objective-to_last

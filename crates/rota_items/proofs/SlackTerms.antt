@@ -2,14 +2,16 @@
 use Rattle.std.proofs.Common.{◌≡◌, ℕ, zero, suc, ◌+◌, ◌<◌, List, [], ◌∷◌, ◌++◌, Result, MatchResult, refl, ap, ◌∙◌, arith}
 use Rattle.std.specs.Prelude.{ℤ, pos}
 use Rattle.std.specs.List.{range_with_len}
+use Rattle.std.proofs.lemmas.Int.{to_z-of_z}
+use Rattle.std.proofs.lemmas.List.Sums.{fold-append}
 use Rattle.std.proofs.lemmas.List.FromFn.{map-range_with_len_more}
 use Rattle.rota_core.specs.Week.{Week}
 use Rattle.rota_core.specs.declared.values.Cell.{Cell}
 use Rattle.rota_items.proofs.ItemEventLists.{term_events-append, item_events-row, item_events-weights}
-use Rattle.rota_items.proofs.Taking.{Joins, Took-then, Refused-before, Refused-after, loop_none, loop_more, loop_refused, refused_at_start, refused_at_terms, closed}
+use Rattle.rota_items.proofs.Taking.{numbers_join, Took-then, Refused-before, Refused-after, loop_refused, term_refused, refused_at_start, refused_at_terms, closed}
 use Rattle.rota_items.specs.CellEvents.{cell_term_events}
 use Rattle.rota_items.specs.Cells.{cell_number}
-use Rattle.rota_items.specs.Events.{start_row, close_row, term_events}
+use Rattle.rota_items.specs.Events.{start_row, term, close_row, term_events}
 use Rattle.rota_items.specs.ItemEvents.{item_events}
 use Rattle.rota_items.specs.Items.{Item, numbered}
 use Rattle.rota_items.specs.Linear.{Term, times}
@@ -22,7 +24,7 @@ use Rattle.rota_items.specs.declared.soft_item.ItemPart.TheVariants.{Row, SlackW
 use Rattle.rota_items.specs.declared.takers.Taker.{Ghosts}
 
 -- one variable, so far from the first
-abbrev pub slack_term : ℤ → ℕ → ℕ → List (Term ℕ)
+abbrev slack_term : ℤ → ℕ → ℕ → List (Term ℕ)
 slack_term coefficient first i = (coefficient, first + i) ∷ []
 
 slack_terms-are : (coefficient : ℤ) (first n : ℕ) →
@@ -34,27 +36,29 @@ slack_terms-are coefficient first (suc n) =
     map-range_with_len_more {X = Term ℕ} (λ v. (coefficient, v)) first n (first + n) refl ∙
     ap (λ xs. xs ++ slack_term coefficient first n) (slack_terms-are coefficient first n)
 
-slacks_join : Joins term_events
+pub range_terms-more : (coefficient : ℤ) (first n : ℕ) →
+    times coefficient (range_with_len first (n + 1)) ≡ times coefficient (range_with_len first n) ++ (coefficient, first + n) ∷ []
+range_terms-more coefficient first n = map-range_with_len_more {X = Term ℕ} (λ v. (coefficient, v)) first n (first + n) refl
+
+pub number-events : (coefficient : ℤ) (variable : ℕ) → term_events ((coefficient, variable) ∷ []) ≡ term coefficient variable ∷ []
 unfolding term_events
-slacks_join = record { none = refl; append = term_events-append }
+number-events coefficient variable = refl
+
+pub no-events : term_events [] ≡ []
+unfolding term_events
+no-events = refl
+
+-- what a loop over variables that follow one another needs
+pub ruleset ranges = (range_terms-more, term_events-append, number-events, no-events, fold-append, to_z-of_z)
 
 module _ {S F : Type 0} (T : Ghosts S F) where
-  module _ (coefficient : ℤ) (first : ℕ) where
-    pub slacks_none : (s : S) → Took T (term_events (each_below 0 (slack_term coefficient first))) s s
-    slacks_none s = loop_none T slacks_join (slack_term coefficient first) s
-
-    pub slacks_more : (i : ℕ) (s t u : S) → Took T (term_events (each_below i (slack_term coefficient first))) s t →
-        Took T (term_events (slack_term coefficient first i)) t u → Took T (term_events (each_below (i + 1) (slack_term coefficient first))) s u
-    slacks_more i s t u p q = loop_more T slacks_join i (slack_term coefficient first) s t u p q
-
-    pub slacks_all : (i n : ℕ) (s t : S) → i ≡ n → Took T (term_events (each_below i (slack_term coefficient first))) s t →
-        Took T (term_events (times coefficient (range_with_len first n))) s t
-    slacks_all i n s t e p = rw (slack_terms-are coefficient first n, ← e) p
-
-    pub slacks_refused : (i n : ℕ) (s t u : S) → i < n → Took T (term_events (each_below i (slack_term coefficient first))) s t →
-        Refused T (term_events (slack_term coefficient first i)) t u → Refused T (term_events (times coefficient (range_with_len first n))) s u
-    slacks_refused i n s t u below p q =
-        rw (slack_terms-are coefficient first n) (loop_refused T slacks_join i n (slack_term coefficient first) s t u below p q)
+  pub range_refused : (coefficient : ℤ) (first i n : ℕ) (s t u : S) → i < n →
+      Took T (term_events (times coefficient (range_with_len first i))) s t →
+      T.left (T.value t) (term coefficient (first + i)) u → Refused T (term_events (times coefficient (range_with_len first n))) s u
+  range_refused coefficient first i n s t u below p refused =
+      rw (slack_terms-are coefficient first n)
+      (loop_refused T numbers_join i n (slack_term coefficient first) s t u below
+      (rw (slack_terms-are coefficient first i) at p) (term_refused T coefficient (first + i) t u refused))
 
   module _ (week : Week) (first : ℕ) (item : Item Cell) where
     abbrev row : LinearRow ℕ

@@ -1,5 +1,5 @@
 -- Sums and tests over the numbers below a number.
-use Rattle.std.proofs.Common.{◌≡◌, ℕ, zero, suc, ◌+◌, ◌*◌, ◌<◌, ◌≤◌, Bool, ◌||◌, true, false, cond, inl, inr, List, [], ◌∷◌, refl, ap, ◌∙◌, arith, zero-add}
+use Rattle.std.proofs.Common.{◌≡◌, ℕ, zero, suc, ◌+◌, ◌*◌, ◌<◌, ◌≤◌, Bool, true, false, cond, inl, inr, List, [], ◌∷◌, refl, ap, ◌∙◌, arith, zero-add}
 use Rattle.std.specs.List.{sum_by, count_by, list_any}
 use Rattle.std.proofs.lemmas.List.Sums.{sum_by-append}
 use Rattle.std.proofs.lemmas.List.Folds.{list_any-append}
@@ -7,13 +7,11 @@ use Rattle.std.proofs.lemmas.Bool.{cases_lt}
 use Rattle.std.proofs.lemmas.Nat.{mul-le}
 use Rattle.rota_core.specs.Below.{sum_below, count_below, any_below}
 use Rattle.rota_core.specs.Lists.{each_below}
-use Rattle.rota_core.proofs.Loops.{last_or_before}
 
 pub sum_below-same : (n : ℕ) (f g : ℕ → ℕ) → ((i : ℕ) → i < n → f i ≡ g i) → sum_below n f ≡ sum_below n g
 unfolding sum_below
 sum_below-same zero f g same = refl
-sum_below-same (suc n) f g same =
-    omega (arith, sum_below-same n f g (λ i below. same i (omega arith)), same n (omega arith))
+sum_below-same (suc n) f g same = rw (sum_below-same n f g (λ i below. same i (omega arith)), same n (omega arith)) refl
 
 pub sum_below-times : (n w : ℕ) (f : ℕ → ℕ) → sum_below n (λ i. w * f i) ≡ w * sum_below n f
 unfolding sum_below
@@ -43,11 +41,7 @@ sum_below-zero n f none = omega (arith, sum_below-within n 0 f (λ i below. omeg
 pub term-le-sum_below : (n : ℕ) (f : ℕ → ℕ) (i : ℕ) → i < n → f i ≤ sum_below n f
 unfolding sum_below
 term-le-sum_below zero f i below = absurd (omega arith)
-term-le-sum_below (suc n) f i below =
-    elim (last_or_before i n below) [
-      | inl last ↦ omega (arith, ap f last)
-      | inr before ↦ omega (arith, term-le-sum_below n f i before)
-    ]
+term-le-sum_below (suc n) f i below = grind (arith, term-le-sum_below n f i)
 
 -- a sum that is not 0 has a term that is not
 pub found : (n : ℕ) (f : ℕ → ℕ) → 0 < sum_below n f → (i : ℕ) × (i < n) × (0 < f i)
@@ -67,12 +61,7 @@ sum_below-one zero f small same = omega arith
 sum_below-one (suc n) f small same =
     elim (cases_lt 0 (f n)) [
       | inl here ↦
-          let none : (i : ℕ) → i < n → f i ≤ 0 = λ i below.
-          elim (cases_lt 0 (f i)) [
-            | inl some ↦ absurd (omega (arith, same i n (omega arith) (omega arith) some here))
-            | inr none ↦ none
-          ] in
-          omega (arith, small n (omega arith), sum_below-within n 0 f none)
+          omega (arith, small n (omega arith), sum_below-within n 0 f (λ i below. grind (arith, same i n)))
       | inr none ↦
           omega (arith, sum_below-one n f (λ i below. small i (omega arith)) (λ i j i_in j_in. same i j (omega arith) (omega arith)))
     ]
@@ -82,18 +71,7 @@ pub one-sum_below : (n : ℕ) (f : ℕ → ℕ) → sum_below n f ≤ 1 → (i j
 unfolding sum_below
 one-sum_below zero f one i j i_below j_below some other = absurd (omega arith)
 one-sum_below (suc n) f one i j i_below j_below some other =
-    elim (last_or_before i n i_below) [
-      | inl i_last ↦
-          elim (last_or_before j n j_below) [
-            | inl j_last ↦ omega arith
-            | inr j_before ↦ absurd (omega (arith, ap f i_last, term-le-sum_below n f j j_before))
-          ]
-      | inr i_before ↦
-          elim (last_or_before j n j_below) [
-            | inl j_last ↦ absurd (omega (arith, ap f j_last, term-le-sum_below n f i i_before))
-            | inr j_before ↦ one-sum_below n f (omega arith) i j i_before j_before some other
-          ]
-    ]
+    grind (arith, term-le-sum_below n f, one-sum_below n f)
 
 -- ---- how large
 
@@ -143,14 +121,10 @@ count_by-each test n x =
     (λ i _. zero-add (cond (test (x i)) 1 0))
 
 pub any_below-same : (n : ℕ) (p q : ℕ → Bool) → ((i : ℕ) → p i ≡ q i) → any_below n p ≡ any_below n q
-unfolding any_below
-any_below-same zero p q same = refl
-any_below-same (suc n) p q same =
-    ap (λ b. b || p n) (any_below-same n p q same) ∙ ap (λ b. any_below n q || b) (same n)
+any_below-same n p q same = ap (any_below n) (λ i k. same k i)
 
 pub list_any-each : {X : Type 0} (p : X → Bool) (n : ℕ) (g : ℕ → List X) →
     list_any p (each_below n g) ≡ any_below n (λ i. list_any p (g i))
 unfolding each_below any_below
 list_any-each p zero g = refl
-list_any-each p (suc n) g =
-    list_any-append p (each_below n g) (g n) ∙ ap (λ b. b || list_any p (g n)) (list_any-each p n g)
+list_any-each p (suc n) g = rw (list_any-append, list_any-each p n g) refl

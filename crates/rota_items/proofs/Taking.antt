@@ -1,6 +1,5 @@
 -- How what a taker took grows, call by call and loop by loop.
 use Rattle.std.proofs.Common.{◌≡◌, ℕ, zero, suc, ◌+◌, ◌<◌, Bool, true, false, List, [], ◌∷◌, ◌++◌, map, Result, MatchResult, refl, sym, ap, ◌∙◌, subst, inl, inr, arith, append_assoc}
-use Rattle.std.proofs.lemmas.Bool.{cases_lt}
 use Rattle.std.proofs.lemmas.List.{append-nil, map-append}
 use Rattle.std.proofs.lemmas.List.Concat.{flat_map-append}
 use Rattle.std.proofs.lemmas.List.Sums.{fold-append}
@@ -10,7 +9,7 @@ use Rattle.std.specs.Prelude.{ℤ}
 use Rattle.std.specs.Result.{IsErr}
 use Rattle.rota_core.specs.Week.{Week}
 use Rattle.rota_core.specs.declared.values.Cell.{Cell}
-use Rattle.rota_core.proofs.Loops.{each_below-zero, each_below-more, only_if-holds, only_if-fails}
+use Rattle.rota_core.proofs.Loops.{each_below-zero, each_below-more, last_or_before, only_if-holds, only_if-fails}
 use Rattle.rota_items.specs.CellEvents.{cell_term_events, cell_row_events, coefficient_of, sum_events}
 use Rattle.rota_items.specs.Cells.{cell_number}
 use Rattle.rota_items.specs.Events.{Event, start_row, term, close_row, row_events, term_events, events}
@@ -22,31 +21,16 @@ use Rattle.rota_items.specs.WeekModel.{numbered_row, numbered_terms}
 use Rattle.rota_items.specs.declared.sums.Sign.{Sign}
 use Rattle.rota_items.specs.declared.takers.Taker.{Ghosts}
 
--- ---- lists joined below a number
-
--- the list at i, with the lists before it and what is after it
-pub record WithinLoop {A : Type 0} (i n : ℕ) (f : ℕ → List A) : Type 0 where
-  pub after : List A
-  pub are : each_below n f ≡ each_below i f ++ (f i ++ after)
-
-within-suc : {A : Type 0} (i n : ℕ) (f : ℕ → List A) → WithinLoop i n f → WithinLoop i (suc n) f
+-- what holds of a loop's turns before one, with it, and of each longer list, holds of all the turns
+pub in_turn : {A : Type 0} (P : List A → Type 0) → ((xs ys : List A) → P xs → P (xs ++ ys)) → (i n : ℕ) (f : ℕ → List A) →
+    i < n → P (each_below i f ++ f i) → P (each_below n f)
 unfolding each_below
-within-suc i n f w = record {
-  after = w.after ++ f n;
-  are = ap (λ xs. xs ++ f n) w.are ∙
-      (append_assoc (each_below i f) (f i ++ w.after) (f n) ∙ ap (λ xs. each_below i f ++ xs) (append_assoc (f i) w.after (f n)));
-}
-
-within-last : {A : Type 0} (n : ℕ) (f : ℕ → List A) → WithinLoop n (suc n) f
-unfolding each_below
-within-last n f = record { after = []; are = ap (λ xs. each_below n f ++ xs) (sym (append-nil (f n))) }
-
-pub within : {A : Type 0} (i n : ℕ) (f : ℕ → List A) → i < n → WithinLoop i n f
-within i zero f below = absurd (omega arith)
-within {A} i (suc n) f below = elim (cases_lt i n) [
-  | inl before ↦ within-suc i n f (within i n f before)
-  | inr last ↦ let same : n ≡ i = omega arith in subst (λ (m : ℕ). WithinLoop {A = A} m (suc n) f) same (within-last n f)
-]
+in_turn P longer i zero f below here = absurd (omega arith)
+in_turn P longer i (suc n) f below here =
+    elim (last_or_before i n below) [
+      | inl last ↦ subst (λ k. P (each_below k f ++ f k)) last here
+      | inr before ↦ longer (each_below n f) (f n) (in_turn P longer i n f before here)
+    ]
 
 -- ---- what makes events of a list, element by element
 
@@ -54,13 +38,17 @@ pub record Joins {A : Type 0} (h : List A → List Event) : Type 0 where
   pub none : h [] ≡ []
   pub append : (xs ys : List A) → h (xs ++ ys) ≡ h xs ++ h ys
 
+pub numbers_join : Joins term_events
+unfolding term_events
+numbers_join = record { none = refl; append = map-append (λ (t : Term ℕ). term t.0 t.1) }
+
 pub terms_join : (week : Week) → Joins (cell_term_events week)
-unfolding cell_term_events term_events
+unfolding cell_term_events
 terms_join week = record {
-  none = refl;
+  none = numbers_join.none;
   append = λ xs ys.
-      ap (map (λ (t : Term ℕ). term t.0 t.1)) (map-append (λ (t : Term Cell). (t.0, cell_number week t.1)) xs ys) ∙
-      map-append (λ (t : Term ℕ). term t.0 t.1) (numbered_terms week xs) (numbered_terms week ys);
+      ap term_events (map-append (λ (t : Term Cell). (t.0, cell_number week t.1)) xs ys) ∙
+      numbers_join.append (numbered_terms week xs) (numbered_terms week ys);
 }
 
 pub cells_join : (week : Week) (sign : Sign) → Joins (sum_events week sign)
@@ -71,13 +59,16 @@ cells_join week sign = record {
       (terms_join week).append (times (coefficient_of sign) xs) (times (coefficient_of sign) ys);
 }
 
+pub events_join : Joins events
+unfolding events
+events_join = record { none = refl; append = flat_map-append row_events }
+
 pub rows_join : (week : Week) → Joins (cell_row_events week)
-unfolding cell_row_events events
+unfolding cell_row_events
 rows_join week = record {
-  none = refl;
+  none = events_join.none;
   append = λ xs ys.
-      ap events (map-append (numbered_row week) xs ys) ∙
-      flat_map-append row_events (map (numbered_row week) xs) (map (numbered_row week) ys);
+      ap events (map-append (numbered_row week) xs ys) ∙ events_join.append (map (numbered_row week) xs) (map (numbered_row week) ys);
 }
 
 -- what a loop that hands over rows, terms or cells needs: each law is said of what makes the events
@@ -99,12 +90,6 @@ pub ruleset taking = (each_below-zero, each_below-more, rows-none, rows-append, 
 events-one : (row : LinearRow ℕ) → events (row ∷ []) ≡ row_events row
 unfolding events
 events-one row = append-nil (row_events row)
-
-events-then : (row : LinearRow ℕ) (week : Week) (rows : List (LinearRow Cell)) →
-    events (row ∷ map (numbered_row week) rows) ≡ events (row ∷ []) ++ cell_row_events week rows
-unfolding events cell_row_events
-events-then row week rows =
-    ap (λ xs. xs ++ flat_map row_events (map (numbered_row week) rows)) (sym (append-nil (row_events row)))
 
 cell_row_events-one : (week : Week) (row : LinearRow Cell) → cell_row_events week (row ∷ []) ≡ row_events (numbered_row week row)
 unfolding cell_row_events events
@@ -155,31 +140,45 @@ module _ {S F : Type 0} (T : Ghosts S F) where
   Takes-then a b s t u r p q =
       MatchResult-weaker r q (λ _ taken. Took-then a b s t u p taken) (λ _ refused. Refused-after a b s t u p refused)
 
-  -- ---- loop by loop
+  -- ---- list by list
 
   module _ {A : Type 0} {h : List A → List Event} (joins : Joins h) where
-    pub loop_none : (f : ℕ → List A) (s : S) → Took T (h (each_below 0 f)) s s
-    loop_none f s = record { value_is = rw (each_below-zero f, joins.none) refl }
-
-    pub loop_more : (i : ℕ) (f : ℕ → List A) (s t u : S) → Took T (h (each_below i f)) s t → Took T (h (f i)) t u → Took T (h (each_below (i + 1) f)) s u
-    loop_more i f s t u p q = rw (each_below-more i f, joins.append) (Took-then _ _ s t u p q)
-
-    pub loop_refused : (i n : ℕ) (f : ℕ → List A) (s t u : S) → i < n → Took T (h (each_below i f)) s t → Refused T (h (f i)) t u → Refused T (h (each_below n f)) s u
-    loop_refused i n f s t u below p q =
-        let w = within i n f below in
-        rw (w.are, joins.append, joins.append) (Refused-after _ _ s t u p (Refused-before _ _ t u q))
-
     pub stop : (xs ys : List A) (s t : S) → Refused T (h xs) s t → Refused T (h (xs ++ ys)) s t
     stop xs ys s t p = rw joins.append (Refused-before (h xs) (h ys) s t p)
 
     pub go_on : (xs ys : List A) (s t u : S) → Took T (h xs) s t → Refused T (h ys) t u → Refused T (h (xs ++ ys)) s u
     go_on xs ys s t u p q = rw joins.append (Refused-after (h xs) (h ys) s t u p q)
 
+    pub loop_refused : (i n : ℕ) (f : ℕ → List A) (s t u : S) → i < n → Took T (h (each_below i f)) s t → Refused T (h (f i)) t u → Refused T (h (each_below n f)) s u
+    loop_refused i n f s t u below p q =
+        in_turn (λ xs. Refused T (h xs) s u) (λ xs ys. stop xs ys s u) i n f below (go_on (each_below i f) (f i) s t u p q)
+
     pub nothing : (s : S) → Took T (h []) s s
     nothing s = rw joins.none (Took-none s)
 
     pub both : (xs ys : List A) (s t u : S) → Took T (h xs) s t → Took T (h ys) t u → Took T (h (xs ++ ys)) s u
     both xs ys s t u p q = rw joins.append (Took-then (h xs) (h ys) s t u p q)
+
+    pub goes_on : {R : Type 0} (xs ys : List A) (s t u : S) (r : Result R F) → Took T (h xs) s t → Takes T (h ys) t u r → Takes T (h (xs ++ ys)) s u r
+    goes_on xs ys s t u r p q = rw joins.append (Takes-then (h xs) (h ys) s t u r p q)
+
+  -- ---- one term
+
+  pub term_taken : (coefficient : ℤ) (variable : ℕ) (s t : S) → T.value t ≡ T.step (T.value s) (term coefficient variable) →
+      Took T (term_events ((coefficient, variable) ∷ [])) s t
+  unfolding term_events
+  term_taken coefficient variable s t e = Took-one _ s t e
+
+  pub term_refused : (coefficient : ℤ) (variable : ℕ) (s t : S) → T.left (T.value s) (term coefficient variable) t →
+      Refused T (term_events ((coefficient, variable) ∷ [])) s t
+  unfolding term_events
+  term_refused coefficient variable s t h = Refused-one _ s t h
+
+  pub term_takes : (coefficient : ℤ) (variable : ℕ) (s t : S) (r : Result (Unit {0}) F) →
+      MatchResult r (λ _. T.value t ≡ T.step (T.value s) (term coefficient variable)) (λ _. T.left (T.value s) (term coefficient variable) t) →
+      Takes T (term_events ((coefficient, variable) ∷ [])) s t r
+  term_takes coefficient variable s t r taken =
+      MatchResult-weaker r taken (λ _ e. term_taken coefficient variable s t e) (λ _ refused. term_refused coefficient variable s t refused)
 
   module _ (week : Week) where
     -- one cell
@@ -188,10 +187,8 @@ module _ {S F : Type 0} (T : Ghosts S F) where
         MatchResult r (λ _. T.value t ≡ T.step (T.value s) (term (coefficient_of sign) variable))
         (λ _. T.left (T.value s) (term (coefficient_of sign) variable) t) →
         Takes T (sum_events week sign (cell ∷ [])) s t r
-    unfolding cell_term_events term_events
-    cell_taken sign cell variable s t r same taken =
-        let here = rw same at taken in
-        MatchResult-weaker r here (λ _ e. Took-one _ s t e) (λ _ refused. Refused-one _ s t refused)
+    unfolding cell_term_events
+    cell_taken sign cell variable s t r same taken = term_takes (coefficient_of sign) (cell_number week cell) s t r (rw same at taken)
 
     -- ---- where a test holds
 
@@ -238,25 +235,6 @@ module _ {S F : Type 0} (T : Ghosts S F) where
         MatchResult r (λ _. T.value v ≡ T.step (T.value u) (close_row row.degree)) (λ _. T.left (T.value u) (close_row row.degree) v) →
         Takes T (events (row ∷ [])) s v r
     row_closed s t u v r started taken closes = rw (events-one row) (closed row s t u v r started taken closes)
-
-    -- the row, then rows over cells
-    module _ (week : Week) (rows : List (LinearRow Cell)) where
-      pub row_stop : (s t : S) → Refused T (events (row ∷ [])) s t → Refused T (events (row ∷ map (numbered_row week) rows)) s t
-      row_stop s t p = rw (events-then row week rows) (Refused-before _ _ s t p)
-
-      pub row_then : {R : Type 0} (s t u : S) (r : Result R F) → Took T (events (row ∷ [])) s t →
-          Takes T (cell_row_events week rows) t u r → Takes T (events (row ∷ map (numbered_row week) rows)) s u r
-      row_then s t u r p q = rw (events-then row week rows) (Takes-then _ _ s t u r p q)
-
-  pub term_taken : (coefficient : ℤ) (variable : ℕ) (s t : S) → T.value t ≡ T.step (T.value s) (term coefficient variable) →
-      Took T (term_events ((coefficient, variable) ∷ [])) s t
-  unfolding term_events
-  term_taken coefficient variable s t e = Took-one _ s t e
-
-  pub term_refused : (coefficient : ℤ) (variable : ℕ) (s t : S) → T.left (T.value s) (term coefficient variable) t →
-      Refused T (term_events ((coefficient, variable) ∷ [])) s t
-  unfolding term_events
-  term_refused coefficient variable s t h = Refused-one _ s t h
 
   -- ---- a row over cells
 

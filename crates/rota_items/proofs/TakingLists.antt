@@ -1,7 +1,7 @@
 -- How what a taker took grows in a loop over a list, and in one over held cells.
-use Rattle.std.proofs.Common.{◌≡◌, ℕ, suc, ◌+◌, ◌<◌, ◌≤◌, List, [], ◌∷◌, ◌++◌, map, get_or, take, drop, length, refl, sym, ap, ◌∙◌, arith}
-use Rattle.std.proofs.Math.Seq.{drop-cons, take-suc}
-use Rattle.std.proofs.lemmas.List.{append-nil, map-append, take_all, take-append-drop}
+use Rattle.std.proofs.Common.{◌≡◌, ℕ, suc, ◌+◌, ◌<◌, List, [], ◌∷◌, ◌++◌, map, get_or, take, drop, length, refl, ap, ◌∙◌, subst, arith}
+use Rattle.std.proofs.Math.Seq.{take-suc}
+use Rattle.std.proofs.lemmas.List.{append-nil, map-append, take-append-drop}
 use Rattle.std.proofs.lemmas.List.Concat.{flat_map-append}
 use Rattle.std.specs.List.{flat_map}
 use Rattle.rota_core.specs.Week.{Week}
@@ -19,12 +19,13 @@ flat_map-next f xs i other below =
     let next : i + 1 ≡ suc i = omega arith in
     rw (next, take-suc xs i other below, flat_map-append f (take i xs) (get_or xs i other ∷ []), append-nil (f (get_or xs i other))) refl
 
-pub flat_map-split : {X A : Type 0} (f : X → List A) (xs : List X) (i : ℕ) (other : X) → i < length xs →
-    flat_map f xs ≡ flat_map f (take i xs) ++ (f (get_or xs i other) ++ flat_map f (drop (suc i) xs))
-flat_map-split f xs i other below =
-    ap (flat_map f) (sym (take-append-drop i xs)) ∙
-    flat_map-append f (take i xs) (drop i xs) ∙
-    ap (λ ys. flat_map f (take i xs) ++ flat_map f ys) (drop-cons xs i other below)
+-- what holds of the lists of the elements before one, with its own, and of each longer list, holds of all the lists
+pub in_list : {X A : Type 0} (P : List A → Type 0) → ((xs ys : List A) → P xs → P (xs ++ ys)) → (f : X → List A) (xs : List X) (i : ℕ) (other : X) →
+    i < length xs → P (flat_map f (take i xs) ++ f (get_or xs i other)) → P (flat_map f xs)
+in_list P longer f xs i other below here =
+    subst (λ ys. P (flat_map f ys)) (take-append-drop (i + 1) xs)
+    (rw (flat_map-append f (take (i + 1) xs) (drop (i + 1) xs))
+    (longer (flat_map f (take (i + 1) xs)) (flat_map f (drop (i + 1) xs)) (rw (flat_map-next f xs i other below) here)))
 
 module _ {S F : Type 0} (T : Ghosts S F) {A : Type 0} {h : List A → List Event} (joins : Joins h) {X : Type 0} (f : X → List A) (xs : List X) where
   pub list_more : (i : ℕ) (other : X) (s t u : S) → i < length xs → Took T (h (flat_map f (take i xs))) s t →
@@ -34,10 +35,8 @@ module _ {S F : Type 0} (T : Ghosts S F) {A : Type 0} {h : List A → List Event
   pub list_refused : (i : ℕ) (other : X) (s t u : S) → i < length xs → Took T (h (flat_map f (take i xs))) s t →
       Refused T (h (f (get_or xs i other))) t u → Refused T (h (flat_map f xs)) s u
   list_refused i other s t u below before here =
-      rw (flat_map-split f xs i other below) (go_on T joins _ _ s t u before (stop T joins _ _ t u here))
-
-  pub list_all : (i : ℕ) (s t : S) → length xs ≤ i → Took T (h (flat_map f (take i xs))) s t → Took T (h (flat_map f xs)) s t
-  list_all i s t all taken = rw (take_all i xs all) at taken
+      in_list (λ ys. Refused T (h ys) s u) (λ ys zs. stop T joins ys zs s u) f xs i other below
+      (go_on T joins (flat_map f (take i xs)) (f (get_or xs i other)) s t u before here)
 
 -- what makes events of held cells, cell by cell
 pub held_join : (week : Week) → Joins (λ cells. cell_row_events week (map h5_row cells))

@@ -1,16 +1,15 @@
 -- How a walk over items goes on, item by item and loop by loop.
-use Rattle.std.proofs.Common.{◌≡◌, ℕ, suc, ◌+◌, ◌^◌, ◌<◌, ◌≤◌, Bool, true, false, List, [], ◌∷◌, ◌++◌, get_or, take, drop, length, Result, if◌then◌else◌, arith}
-use Rattle.std.proofs.lemmas.List.{take_all}
+use Rattle.std.proofs.Common.{◌≡◌, ℕ, suc, ◌+◌, ◌^◌, ◌<◌, List, [], ◌∷◌, ◌++◌, get_or, take, length, Result, arith}
 use Rattle.std.proofs.lemmas.List.Sums.{fold-append}
 use Rattle.std.proofs.lemmas.Result.{MatchResult-from_err, MatchResult-weaker}
 use Rattle.std.specs.List.{flat_map}
 use Rattle.std.specs.Result.{IsErr}
 use Rattle.rota_core.specs.Week.{Week}
 use Rattle.rota_core.specs.declared.values.Cell.{Cell}
-use Rattle.rota_items.proofs.ItemEventLists.{slack_count-cons, slack_count-append, slack_count-within, item_events-none, item_events-append}
+use Rattle.rota_items.proofs.ItemEventLists.{slack_count-cons, slack_count-append, item_events-none, item_events-append}
 use Rattle.rota_core.proofs.Loops.{each_below-zero, each_below-more}
-use Rattle.rota_items.proofs.TakingLists.{flat_map-next, flat_map-split}
-use Rattle.rota_items.proofs.Taking.{within, Took-none, Took-then, Refused-before, Refused-after}
+use Rattle.rota_items.proofs.TakingLists.{flat_map-next, in_list}
+use Rattle.rota_items.proofs.Taking.{in_turn, Took-none, Took-then, Refused-before, Refused-after}
 use Rattle.rota_items.specs.ItemEvents.{item_events, SlacksFit, Walked, Walks}
 use Rattle.rota_items.specs.Items.{Item}
 use Rattle.rota_core.specs.Lists.{each_below}
@@ -29,10 +28,6 @@ fits_before first xs ys fit = omega (arith, slack_count-append xs ys)
 pub fits_one : (first : ℕ) (item : Item Cell) → SlacksFit first (item ∷ []) → first + item.slacks < 2 ^ 32
 fits_one first item fit = omega (arith, slack_count-cons item [])
 
-pub fits_if : (first : ℕ) (test : Bool) (items : List (Item Cell)) → test ≡ true →
-    SlacksFit first (if test then items else []) → SlacksFit first items
-fits_if first test items holds fit = rw holds at fit
-
 module _ {S F : Type 0} (T : Ghosts S F) where
   -- the exit of a `?`
   pub walk_exits : (part : ItemPart) (week : Week) (first : ℕ) (items : List (Item Cell)) (s t : S) (r : Result ℕ F) →
@@ -46,7 +41,9 @@ module _ {S F : Type 0} (T : Ghosts S F) where
 
     pub fits_within : (first next i n : ℕ) (f : ℕ → List (Item Cell)) (s t : S) → i < n →
         Walked T part week first (each_below i f) s t next → SlacksFit first (each_below n f) → SlacksFit next (f i)
-    fits_within first next i n f s t below w fit = omega (arith, w.follows, slack_count-within i n f below)
+    fits_within first next i n f s t below w fit =
+        in_turn (λ xs. SlacksFit first xs → SlacksFit next (f i)) (λ xs ys fits all. fits (fits_before first xs ys all)) i n f below
+        (fits_after first next (each_below i f) (f i) s t w) fit
 
     -- ---- a list of items, then another one
 
@@ -96,8 +93,8 @@ module _ {S F : Type 0} (T : Ghosts S F) where
         Walked T part week first (each_below i f) s t next → Refused T (item_events part week next (f i)) t u →
         Refused T (item_events part week first (each_below n f)) s u
     walk_refused first next i n f s t u below p q =
-        let w = within i n f below in
-        rw w.are (walk_goes_on first next (each_below i f) (f i ++ w.after) s t u p (walk_stops next (f i) w.after t u q))
+        in_turn (λ xs. Refused T (item_events part week first xs) s u) (λ xs ys. walk_stops first xs ys s u) i n f below
+        (walk_goes_on first next (each_below i f) (f i) s t u p q)
 
     -- ---- one item
 
@@ -108,16 +105,6 @@ module _ {S F : Type 0} (T : Ghosts S F) where
       follows = omega (arith, next, slack_count-cons item []);
     }
 
-    -- ---- items, where a test holds
-
-    pub walks_if : (first : ℕ) (test : Bool) (items : List (Item Cell)) (s t : S) (r : Result ℕ F) → test ≡ true →
-        Walks T part week first items s t r → Walks T part week first (if test then items else []) s t r
-    walks_if first test items s t r holds walks = rw holds walks
-
-    pub walked_if_not : (first : ℕ) (test : Bool) (items : List (Item Cell)) (s : S) → test ≡ false →
-        Walked T part week first (if test then items else []) s s first
-    walked_if_not first test items s fails = rw fails (walk_none first s)
-
     -- ---- a loop over a list
 
     module _ {X : Type 0} (f : X → List (Item Cell)) (xs : List X) where
@@ -125,8 +112,8 @@ module _ {S F : Type 0} (T : Ghosts S F) where
           Walked T part week first (flat_map f (take i xs)) s t next → SlacksFit first (flat_map f xs) →
           SlacksFit next (f (get_or xs i other))
       fits_list first next i other s t below w fit =
-          fits_before next (f (get_or xs i other)) (flat_map f (drop (suc i) xs))
-          (fits_after first next (flat_map f (take i xs)) _ s t w (rw (flat_map-split f xs i other below) at fit))
+          in_list (λ ys. SlacksFit first ys → SlacksFit next (f (get_or xs i other))) (λ ys zs fits all. fits (fits_before first ys zs all))
+          f xs i other below (fits_after first next (flat_map f (take i xs)) (f (get_or xs i other)) s t w) fit
 
       pub walk_list_more : (first next after i : ℕ) (other : X) (s t u : S) → i < length xs →
           Walked T part week first (flat_map f (take i xs)) s t next → Walked T part week next (f (get_or xs i other)) t u after →
@@ -138,9 +125,5 @@ module _ {S F : Type 0} (T : Ghosts S F) where
           Walked T part week first (flat_map f (take i xs)) s t next → Refused T (item_events part week next (f (get_or xs i other))) t u →
           Refused T (item_events part week first (flat_map f xs)) s u
       walk_list_refused first next i other s t u below before here =
-          rw (flat_map-split f xs i other below)
-          (walk_goes_on first next (flat_map f (take i xs)) _ s t u before (walk_stops next _ _ t u here))
-
-      pub walk_list_all : (first next i : ℕ) (s t : S) → length xs ≤ i → Walked T part week first (flat_map f (take i xs)) s t next →
-          Walked T part week first (flat_map f xs) s t next
-      walk_list_all first next i s t all walked = rw (take_all i xs all) at walked
+          in_list (λ ys. Refused T (item_events part week first ys) s u) (λ ys zs. walk_stops first ys zs s u) f xs i other below
+          (walk_goes_on first next (flat_map f (take i xs)) (f (get_or xs i other)) s t u before here)

@@ -28,7 +28,7 @@ rule_of_part Objective = UnitRule
 rule_of_part (Hard rule) = rule
 rule_of_part (Soft rule weight) = rule
 
--- what was found after so many rows, counted from the first of them
+-- what was found after `before` rows, counted from the first of them
 abbrev pub later : ℕ → Option (ℕ × Rule) → Option (ℕ × Rule)
 later before None = None
 later before (Some (number, rule)) = Some (before + number, rule)

@@ -1,6 +1,6 @@
 //! The objective: request rows that cells match, what no roster can avoid, and the slacks with their
 //! weights.
-ghost use Rattle.std.specs.Prelude.{◌≡◌, ◌↔◌, true, false, Bool, []};
+ghost use Rattle.std.specs.Prelude.{◌≡◌, nat_lt, true, false, Bool, length};
 ghost use Rattle.rota_core.specs.InstanceTables.{week_of};
 ghost use Rattle.rota_items.specs.Events.{events, term_events};
 ghost use Rattle.rota_items.specs.Objective.{constant_terms, objective_rows};
@@ -71,7 +71,7 @@ fn give_terms<T: Taker>(instance: &Instance, taker: &mut T) -> Result<(), T::Fau
 
 /// Whether the objective has a term. It stops at the first one.
 fn has_term(instance: &Instance) -> bool
-    ensures { (result ≡ false) ↔ (objective_terms (week_of instance.now) ≡ []) }
+    ensures { result ≡ nat_lt 0 (length (objective_terms (week_of instance.now))) }
 {
     give_terms(instance, &mut ClosedTaker).is_err()
 }

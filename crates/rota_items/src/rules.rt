@@ -48,6 +48,7 @@ pub fn soft_place(rule: Rule) -> Option<usize>
 // ---- the items
 
 /// The items of a rule that charges each nurse, at a nurse.
+#[tactic(auto, using(crate::proofs::Walking::walking))]
 fn walk_nurse<T: Taker>(
     instance: &Instance,
     taker: &mut T,
@@ -94,6 +95,7 @@ fn walk_nurses<T: Taker>(
 }
 
 /// The items of a rule, whose slacks have the numbers from the first on.
+#[tactic(auto, using(crate::proofs::NurseItemLists::items_of_nurses))]
 fn walk_rule<T: Taker>(
     instance: &Instance,
     taker: &mut T,
@@ -112,6 +114,7 @@ fn walk_rule<T: Taker>(
 }
 
 /// The items of all soft rules, in the order of the rules.
+#[tactic(auto, using(crate::proofs::Walking::walking, crate::proofs::ListTotals::listing))]
 fn walk_soft_items<T: Taker>(
     instance: &Instance,
     taker: &mut T,
@@ -133,6 +136,7 @@ fn walk_soft_items<T: Taker>(
 ///
 /// A row has the item's terms by rising variable, then its slacks, each with 1. The slacks of all
 /// items follow one another from the one after the unit variable on.
+#[tactic(auto, unfolding(crate::specs::ItemEvents::item_events))]
 pub fn give_item_rows<T: Taker>(instance: &Instance, taker: &mut T) -> Result<(), T::Fault>
     ensures { let week = week_of instance.now in
         Takes T.Taker (events (item_rows (first_slack week) (numbered_items week)))
@@ -143,6 +147,7 @@ pub fn give_item_rows<T: Taker>(instance: &Instance, taker: &mut T) -> Result<()
 
 /// Hands the taker a term for each slack of the soft rules' items, by rising variable: the weight of
 /// its item.
+#[tactic(auto, unfolding(crate::specs::ItemEvents::item_events))]
 pub fn give_slack_weights<T: Taker>(instance: &Instance, taker: &mut T) -> Result<(), T::Fault>
     ensures { let week = week_of instance.now in
         Takes T.Taker (term_events (slack_weights (first_slack week) (numbered_items week)))
@@ -154,6 +159,7 @@ pub fn give_slack_weights<T: Taker>(instance: &Instance, taker: &mut T) -> Resul
 // ---- the objective's terms on cells
 
 /// Hands the taker the terms that a rule has at cells.
+#[tactic(auto, using(crate::proofs::Taking::taking))]
 fn give_cell_terms_of_rule<T: Taker>(
     instance: &Instance,
     taker: &mut T,
@@ -169,6 +175,7 @@ fn give_cell_terms_of_rule<T: Taker>(
 }
 
 /// Hands the taker the terms that the soft rules have at cells.
+#[tactic(auto, using(crate::proofs::Taking::taking, crate::proofs::ListTotals::listing))]
 pub fn give_cell_terms<T: Taker>(instance: &Instance, taker: &mut T) -> Result<(), T::Fault>
     ensures { let week = week_of instance.now in
         Takes T.Taker (cell_term_events week (cell_terms week)) taker.old taker.new result }
@@ -182,6 +189,7 @@ pub fn give_cell_terms<T: Taker>(instance: &Instance, taker: &mut T) -> Result<(
 // ---- numbers
 
 /// The numbers of a rule's items and slacks at a nurse.
+#[tactic(auto, using(crate::proofs::NurseItemLists::items_of_nurses))]
 fn count_nurse(instance: &Instance, rule: Rule, nurse: u16) -> ItemCounts
     requires { nurse < (week_of instance.now).nurses }
     ensures few_items { result.items ≤ 952 }
@@ -234,6 +242,7 @@ fn count_rule(instance: &Instance, rule: Rule) -> ItemCounts
 }
 
 /// The numbers of the soft rules' items and slacks.
+#[tactic(auto, using(crate::proofs::ListLengths::counting, crate::proofs::ListTotals::listing))]
 pub fn count_soft_items(instance: &Instance) -> ItemCounts
     ensures few_items { result.items ≤ length soft_rules * 952000 }
     ensures few_slacks { result.slacks ≤ length soft_rules * 117438720 }

@@ -23,6 +23,7 @@ pub fn windows_of(history: u16, limits: Span) -> u32
 
 /// The number of patterns: of runs that may end in the week below the least number, whether they begin
 /// in it (closed patterns) or before it (edge patterns).
+#[tactic(auto, using(crate::proofs::EachPattern::run_counting))]
 pub fn patterns_of(history: u16, limits: Span) -> u32
     ensures { result ≡ length (patterns history limits) }
 {
@@ -31,8 +32,7 @@ pub fn patterns_of(history: u16, limits: Span) -> u32
 
 #[tactic(auto, unfolding(rota_core::specs::Lists::each_below, rota_core::specs::Lists::only_if))]
 fn closed_patterns_of(minimum: u16) -> u32
-    ensures few { result ≤ 15 }
-    ensures number { result ≡ length (each_below 7 (closed_patterns_on minimum)) }
+    ensures { result ≡ length (each_below 7 (closed_patterns_on minimum)) }
 {
     let longest = u32::from(minimum).saturating_sub(1).min(5);
     longest * (11 - longest) / 2
@@ -40,8 +40,7 @@ fn closed_patterns_of(minimum: u16) -> u32
 
 #[tactic(auto, unfolding(rota_core::specs::Lists::each_below, rota_core::specs::Lists::only_if))]
 fn edge_patterns_of(history: u16, minimum: u16) -> u32
-    ensures few { result ≤ 7 }
-    ensures number { result ≡ length (each_below 7 (edge_patterns_on history minimum)) }
+    ensures { result ≡ length (each_below 7 (edge_patterns_on history minimum)) }
 {
     if history >= 1 {
         u32::from(minimum.saturating_sub(history)).min(7)

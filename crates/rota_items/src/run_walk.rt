@@ -61,6 +61,7 @@ fn walk_windows<T: Taker>(
 }
 
 /// The runs that end before a day.
+#[tactic(auto, using(crate::proofs::Walking::walking))]
 fn walk_patterns_on<T: Taker>(
     instance: &Instance,
     taker: &mut T,

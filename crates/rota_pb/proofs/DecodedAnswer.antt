@@ -11,7 +11,7 @@ use Rattle.rota_items.specs.SoftRules.{penalty}
 use Rattle.rota_items.specs.Verdicts.{IsMet, truth_of}
 use Rattle.rota_items.specs.WeekModel.{model_of, roster_of}
 use Rattle.rota_items.specs.declared.verdicts.Verdict.{Verdict}
-use Rattle.solver_text.specs.Answers.{Meaning}
+use Rattle.solver_text.specs.declared.outcome.Solved.{Solved}
 use Rattle.rota_pb.specs.Decoded.{FindsRoster, IsDecoded}
 use Rattle.rota_items.proofs.AlikeRosters.{keeps-alike}
 use Rattle.rota_items.proofs.SoftRules.EachRule.{penalty-alike, sound-rule}
@@ -23,27 +23,27 @@ map-alike f g same (x ∷ xs) = rw (same x, map-alike f g same xs) refl
 truth_behind : (bits : List Bool) (place : ℕ) → truth_of bits (place + 1) ≡ slice_index_or bits place false
 truth_behind bits place = rw add-one refl
 
-module _ (week : Week) (meaning : Meaning) (verdict : Verdict) (roster : RosterTables) (total : ℕ)
-    (finds : FindsRoster meaning.status) (met : IsMet week (truth_of meaning.truths) verdict)
-    (objective : pos verdict.objective ≡ objective_value (truth_of meaning.truths) (model_of week))
+module _ (week : Week) (solved : Solved) (verdict : Verdict) (roster : RosterTables) (total : ℕ)
+    (finds : FindsRoster solved.status) (met : IsMet week (truth_of solved.bits) verdict)
+    (objective : pos verdict.objective ≡ objective_value (truth_of solved.bits) (model_of week))
     (shape : HasShapeOf week roster)
     (cells : (cell : Cell) → InWeek week cell →
-    set_of roster cell ≡ slice_index_or meaning.truths (cell_place week.shifts week.skills cell) false)
+    set_of roster cell ≡ slice_index_or solved.bits (cell_place week.shifts week.skills cell) false)
     (is_total : total ≡ sum verdict.costs) where
-  same : (cell : Cell) → InWeek week cell → roster_of week (truth_of meaning.truths) cell ≡ set_of roster cell
-  same cell in_week = truth_behind meaning.truths (cell_place week.shifts week.skills cell) ∙ sym (cells cell in_week)
+  same : (cell : Cell) → InWeek week cell → roster_of week (truth_of solved.bits) cell ≡ set_of roster cell
+  same cell in_week = truth_behind solved.bits (cell_place week.shifts week.skills cell) ∙ sym (cells cell in_week)
 
   of_roster : total ≡ penalty week (set_of roster)
   of_roster = is_total ∙ met.costs_rules.sum_is ∙ penalty-alike week _ _ same
 
   -- an assignment that satisfies the model is decoded
-  pub is_decoded : IsDecoded week meaning (record {
+  pub is_decoded : IsDecoded week solved (record {
     roster = roster;
     objective = verdict.objective;
     costs = verdict.costs;
     penalty = total;
-    status = meaning.status;
-    last_o = meaning.last_o;
+    status = solved.status;
+    last_o = solved.last_o;
   })
   is_decoded = record {
     finds = finds;

@@ -5,7 +5,6 @@ use Rattle.rota_core.specs.InstanceTables.{InstanceTables, week_of}
 use Rattle.rota_core.specs.RosterTables.{set_of}
 use Rattle.rota_read.specs.SolutionText.{solution_text}
 use Rattle.solver_text.specs.declared.outcome.Solved.{Solved}
-use Rattle.solver_text.specs.States.{meaning_of}
 use Rattle.rota_pb.specs.declared.decoded.Decoded.{Decoded}
 use Rattle.rota_pb.specs.declared.fault.Fault.{Fault}
 use Rattle.rota_pb.specs.declared.fault.Fault.TheVariants.{Write}
@@ -38,17 +37,17 @@ module _ (choice : Choice) (readers : WeekReaders) (answer : Reader) (tables : I
     is_solved_of_week : IsSolved (variables_of tables) answer solved
     is_solved_of_week = subst (λ (count : ℕ). IsSolved count answer solved) are is
 
-    pub fails_at_roster : (sol report : Writer) (fault : Fault) → LacksRoster (week_of tables) (meaning_of solved) fault →
+    pub fails_at_roster : (sol report : Writer) (fault : Fault) → LacksRoster (week_of tables) solved fault →
         sol.untouched → report.untouched → FailsBefore sol report fault
     fails_at_roster sol report fault lacks sol_same report_same =
-        checked (LacksRoster (week_of tables) (meaning_of solved)) _ (λ never. never) fault lacks
-        (at_roster tables (meaning_of solved) spelled is_solved_of_week.answered lacks, sol_same, report_same)
+        checked (LacksRoster (week_of tables) solved) _ (λ never. never) fault lacks
+        (at_roster tables solved spelled is_solved_of_week.answered lacks, sol_same, report_same)
 
-    module _ (decoded : Decoded) (decodes : IsDecoded (week_of tables) (meaning_of solved) decoded) (sol report : Writer) where
+    module _ (decoded : Decoded) (decodes : IsDecoded (week_of tables) solved decoded) (sol report : Writer) where
       decodes_to : DecodesTo choice readers answer tables decoded
       decodes_to = record {
         spelled = spelled;
-        meaning = meaning_of solved;
+        solved = solved;
         answered = is_solved_of_week.answered;
         decodes = decodes;
       }

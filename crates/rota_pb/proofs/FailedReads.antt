@@ -4,7 +4,7 @@ use Rattle.rota_core.specs.Week.{Week}
 use Rattle.rota_core.specs.Roster.{Roster}
 use Rattle.rota_core.specs.declared.fault.FileName.{FileName}
 use Rattle.rota_read.specs.Layout.{Layout}
-use Rattle.solver_text.specs.Answers.{Meaning}
+use Rattle.solver_text.specs.declared.outcome.Solved.{Solved}
 use Rattle.rota_pb.specs.declared.fault.Fault.{Fault}
 use Rattle.rota_pb.specs.declared.fault.Fault.TheVariants.{Read}
 use Rattle.rota_pb.specs.declared.week_files.Choice.{Choice}
@@ -49,8 +49,8 @@ answer_fails variables reader fault is fails =
     record { taken = stops.taken; lacks = stops.no_end }
 
 -- an answer without a roster is no failed read
-pub lacks_no_read : (week : Week) (meaning : Meaning) (fault : Fault) → IsRead fault → LacksRoster week meaning fault → ⊥
-lacks_no_read week meaning fault is lacks = of_read (LacksRoster week meaning) fault is lacks
+pub lacks_no_read : (week : Week) (solved : Solved) (fault : Fault) → IsRead fault → LacksRoster week solved fault → ⊥
+lacks_no_read week solved fault is lacks = of_read (LacksRoster week solved) fault is lacks
 
 -- nor is a roster that is not extended
 pub extension_reads_nothing : (week : Week) (roster : Roster) (out : Writer) (r : Result (Unit {0}) Fault) → r ≡ Err Read →

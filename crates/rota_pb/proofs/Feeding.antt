@@ -8,7 +8,7 @@ use Rattle.solver_text.specs.declared.outcome.AnswerFault.{AnswerFault}
 use Rattle.solver_text.specs.declared.outcome.Solved.{Solved}
 use Rattle.solver_text.specs.Answers.{judge_all, outcome}
 use Rattle.solver_text.specs.Lines.{cut}
-use Rattle.solver_text.specs.States.{LeadsTo, Ends, fault_within, meaning_of}
+use Rattle.solver_text.specs.States.{LeadsTo, fault_within}
 use Rattle.solver_text.proofs.StayLaws.{fault-stays}
 use Rattle.rota_pb.specs.declared.fault.Fault.{Fault}
 use Rattle.rota_pb.specs.declared.fault.Fault.TheVariants.{File, Memory, Write, Read, Answer, NoRoster, Unmet, Breaks}
@@ -106,7 +106,7 @@ module _ (variables : ℕ) (reader : Reader) (old : AnswerState) (from : LeadsTo
   module _ (new : AnswerState) (all : HasTakenAll reader old new) where
     -- the fault at the end
     pub fails_at_end : (fault : AnswerFault) →
-        ((text : List ℕ) → LeadsTo variables text new → Ends (Err fault) (outcome variables text)) →
+        ((text : List ℕ) → LeadsTo variables text new → outcome variables text ≡ Err fault) →
         FailsAnswer variables reader (Answer fault)
     fails_at_end fault ends = (
       λ bytes told.
@@ -116,13 +116,13 @@ module _ (variables : ℕ) (reader : Reader) (old : AnswerState) (from : LeadsTo
     )
 
     pub is_solved : (solved : Solved) →
-        ((text : List ℕ) → LeadsTo variables text new → Ends (Ok solved) (outcome variables text)) →
+        ((text : List ℕ) → LeadsTo variables text new → outcome variables text ≡ Ok solved) →
         ((text : List ℕ) → LeadsTo variables text new → length solved.bits ≡ variables) →
         IsSolved variables reader solved
     is_solved solved ends bits = record {
       answered = record {
         means = λ bytes told.
-            subst (λ (text : List ℕ). outcome variables text ≡ Ok (meaning_of solved))
+            subst (λ (text : List ℕ). outcome variables text ≡ Ok solved)
             (all_taken reader all.taken bytes all.front all.at_end told) (ends all.taken (all.leads variables from));
         to_end = record { taken = all.taken; front = all.front; ended = all.at_end; sound = all.sound };
       };

@@ -1,5 +1,5 @@
 -- Texts that go into a sink in a loop.
-use Rattle.std.proofs.Common.{◌≡◌, ℕ, ◌+◌, ◌<◌, List, [], ◌++◌, Result, Ok, Err, refl, sym, ap, ◌∙◌, append_assoc}
+use Rattle.std.proofs.Common.{◌≡◌, ℕ, ◌+◌, ◌<◌, List, [], ◌++◌, Result, Ok, Err, refl, sym}
 use Rattle.std.specs.Prelude.{IsErr}
 use Rattle.rota_core.specs.declared.ports.PortFault.{PortFault}
 use Rattle.rota_core.specs.declared.ports.Target.{Ghosts}
@@ -9,20 +9,7 @@ use Rattle.opb_text.specs.Sink.{PutsText, stands_for, sink_failed, target_of}
 use Rattle.opb_text.proofs.Told.{append_known-nil}
 use Rattle.opb_text.proofs.PutsTextLemmas.{or_false, puts_exit, puts_stop, puts_then}
 use Rattle.rota_core.proofs.Loops.{each_below-zero, each_below-more}
-use Rattle.rota_items.proofs.Taking.{within as split_at}
-
--- the list at i begins what is left of all lists behind those before it
-record WithinLoop {A : Type 0} (i n : ℕ) (f : ℕ → List A) : Type 0 where
-  after : List A
-  are : each_below n f ≡ each_below (i + 1) f ++ after
-
-within : {A : Type 0} (i n : ℕ) (f : ℕ → List A) → i < n → WithinLoop i n f
-within {A} i n f below =
-    let w = split_at i n f below in record {
-      after = w.after;
-      are = w.are ∙
-          (sym (append_assoc (each_below i f) (f i) w.after) ∙ ap (λ (xs : List A). xs ++ w.after) (sym (each_below-more i f)));
-    }
+use Rattle.rota_items.proofs.Taking.{in_turn}
 
 -- a text made of a list, element by element
 pub record Joins {A : Type 0} (text : List A → List ℕ) : Type 0 where
@@ -58,6 +45,7 @@ module _ {W : Type 0} {target : Ghosts W} where
     pub loop_exit : (i n : ℕ) (f : ℕ → List A) {old middle new : Sink W target} {u : Unit {0}} {e : PortFault} (r : Result (Unit {0}) PortFault) →
         IsErr r → i < n → PutsText old (Ok u) (text (each_below i f)) middle → PutsText middle (Err e) (text (f i)) new →
         PutsText old r (text (each_below n f)) new
-    loop_exit i n f r failed below first second =
-        let w = within i n f below in
-        puts_exit r failed (rw (w.are, joins.append) (puts_stop (text w.after) (loop_more i f first second)))
+    loop_exit i n f {old} {middle} {new} {u} {e} r failed below first second =
+        puts_exit r failed
+        (in_turn (λ xs. PutsText old (Err e) (text xs) new) (λ xs ys puts. rw joins.append (puts_stop (text ys) puts)) i n f below
+        (rw joins.append (puts_then first second)))

@@ -36,12 +36,12 @@ module _ (tables : InstanceTables) (roster : RosterTables) where
   abbrev assigned : ℕ → Bool
   assigned = assignment_of week (set_of roster)
 
-  -- with this tally, after so many literals
+  -- with this tally, after n literals
   abbrev pub at : Tally → ℕ → Progress
   at tally n =
       record { judging = record { instance = tables; subject = subject; tally = tally }; puts_slacks = true; literals = n }
 
-  -- the events put the literals of so many variables
+  -- the events put the literals of `count` variables
   pub record PutsSlacks (tally : Tally) (n : ℕ) (these : List Event) (count : ℕ) (truth : ℕ → Bool) : Type 0 where
     pub left : Tally
     pub text : joined_texts slack_texts (at tally n) these ≡ values_text n count truth

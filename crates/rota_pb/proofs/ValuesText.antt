@@ -12,7 +12,7 @@ use Rattle.solver_text.proofs.WrittenLiterals.{literals_text-last}
 use Rattle.rota_pb.specs.SlackTaker.{literals_after, values_text}
 use Rattle.rota_pb.proofs.SinkLoops.{bytes_join, loop_none, loop_more, loop_exit}
 
--- ---- so many literals after others
+-- ---- `literals_after n k`: k more literals after n
 
 pub literals_after-more : (n k : ℕ) → literals_after n (k + 1) ≡ min (literals_after n k + 1) (2 ^ 32 - 1)
 literals_after-more n k = rw add-one refl

@@ -2,24 +2,24 @@
 use Rattle.std.specs.Prelude.{◌≡◌, ℕ, ◌-◌, ◌≤◌, ◌^◌, List, length, Some, Ok, Err}
 use Rattle.std.specs.Io.KnownBytes.{prepend_known}
 use Rattle.solver_text.specs.declared.outcome.Solved.{Solved}
-use Rattle.solver_text.specs.Answers.{Meaning, outcome}
-use Rattle.solver_text.specs.States.{fault_within, meaning_of}
+use Rattle.solver_text.specs.Answers.{outcome}
+use Rattle.solver_text.specs.States.{fault_within}
 use Rattle.rota_pb.specs.declared.fault.Fault.{Fault}
 use Rattle.rota_pb.specs.declared.fault.Fault.TheVariants.{File, Memory, Write, Read, Answer, NoRoster, Unmet, Breaks}
 use Rattle.rota_pb.specs.Readers.{FailsBeforeEnd, IsReadToEnd, Reader}
 
--- an answer is read in at most so many pieces, each of which has a byte
+-- an answer is read in at most 2^64 - 1 pieces, each of which has a byte
 abbrev pub MOST_PIECES : ℕ
 MOST_PIECES = 2 ^ 64 - 1
 
--- the reader was read to its end, and its bytes mean this for so many variables
-pub record IsAnswered (variables : ℕ) (reader : Reader) (meaning : Meaning) : Type 0 where
-  pub means : (bytes : List ℕ) → reader.given ≡ Some bytes → outcome variables bytes ≡ Ok meaning
+-- the reader was read to its end, and its bytes mean this for the variables 1 to `variables`
+pub record IsAnswered (variables : ℕ) (reader : Reader) (solved : Solved) : Type 0 where
+  pub means : (bytes : List ℕ) → reader.given ≡ Some bytes → outcome variables bytes ≡ Ok solved
   pub to_end : IsReadToEnd reader
 
--- what was read is an answer for so many variables, with a bit for each
+-- what was read is an answer for the variables 1 to `variables`, with a bit for each
 pub record IsSolved (variables : ℕ) (reader : Reader) (solved : Solved) : Type 0 where
-  pub answered : IsAnswered variables reader (meaning_of solved)
+  pub answered : IsAnswered variables reader solved
   pub bits : length solved.bits ≡ variables
 
 -- why no end came after the bytes that were taken: the reader failed before it said one, or there would have been too many pieces

@@ -13,7 +13,7 @@ use Rattle.rota_items.specs.Verdicts.{first_unmet, truth_of}
 use Rattle.rota_items.specs.WeekModel.{model_of, rows_of, roster_of}
 use Rattle.solver_text.specs.declared.outcome.Status.{Status}
 use Rattle.solver_text.specs.declared.outcome.Status.TheVariants.{Satisfiable, Optimum, Unsatisfiable, Unknown, Unsupported}
-use Rattle.solver_text.specs.Answers.{Meaning}
+use Rattle.solver_text.specs.declared.outcome.Solved.{Solved}
 use Rattle.rota_pb.specs.declared.decoded.Decoded.{Decoded}
 use Rattle.rota_pb.specs.declared.fault.Fault.{Fault}
 use Rattle.rota_pb.specs.declared.fault.Fault.TheVariants.{File, Memory, Write, Read, Answer, NoRoster, Unmet, Breaks}
@@ -28,19 +28,19 @@ FindsRoster Unsupported = ⊥
 
 -- The variables that the answer makes true satisfy the model of the week. The roster has exactly the cells whose variable is true, keeps the
 -- hard rules, and costs the penalty, which is at most the objective.
-pub record IsDecoded (week : Week) (meaning : Meaning) (decoded : Decoded) : Type 0 where
-  pub finds : FindsRoster meaning.status
-  pub satisfies : SatisfiesModel (truth_of meaning.truths) (model_of week)
+pub record IsDecoded (week : Week) (solved : Solved) (decoded : Decoded) : Type 0 where
+  pub finds : FindsRoster solved.status
+  pub satisfies : SatisfiesModel (truth_of solved.bits) (model_of week)
   pub shape : HasShapeOf week decoded.roster
-  pub cells : (cell : Cell) → InWeek week cell → set_of decoded.roster cell ≡ roster_of week (truth_of meaning.truths) cell
+  pub cells : (cell : Cell) → InWeek week cell → set_of decoded.roster cell ≡ roster_of week (truth_of solved.bits) cell
   pub keeps : KeepsHardRules week (set_of decoded.roster)
-  pub objective : pos decoded.objective ≡ objective_value (truth_of meaning.truths) (model_of week)
+  pub objective : pos decoded.objective ≡ objective_value (truth_of solved.bits) (model_of week)
   pub costs : decoded.costs ≡ map (rule_cost week (set_of decoded.roster)) soft_rules
   pub sum_of_costs : decoded.penalty ≡ sum decoded.costs
   pub penalty_is : decoded.penalty ≡ penalty week (set_of decoded.roster)
   pub penalty_at_most : decoded.penalty ≤ decoded.objective
-  pub same_status : decoded.status ≡ meaning.status
-  pub same_last_o : decoded.last_o ≡ meaning.last_o
+  pub same_status : decoded.status ≡ solved.status
+  pub same_last_o : decoded.last_o ≡ solved.last_o
 
 -- the constraint with this number, from 1, is the first of the model that the assignment does not satisfy
 pub record IsFirstUnmet (week : Week) (assignment : ℕ → Bool) (number : ℕ) : Type 0 where
@@ -49,12 +49,12 @@ pub record IsFirstUnmet (week : Week) (assignment : ℕ → Bool) (number : ℕ)
   pub unsatisfied : SatisfiesModel assignment (model_of week) → ⊥
 
 -- Why an answer has no roster: its status says so, or its assignment does not satisfy the model.
-abbrev pub LacksRoster : Week → Meaning → Fault → Type 0
-LacksRoster week meaning (NoRoster status) = (status ≡ meaning.status) × (FindsRoster meaning.status → ⊥)
-LacksRoster week meaning (Unmet number) = FindsRoster meaning.status × IsFirstUnmet week (truth_of meaning.truths) number
-LacksRoster week meaning (File file) = ⊥
-LacksRoster week meaning Memory = ⊥
-LacksRoster week meaning Write = ⊥
-LacksRoster week meaning Read = ⊥
-LacksRoster week meaning (Answer fault) = ⊥
-LacksRoster week meaning (Breaks rule) = ⊥
+abbrev pub LacksRoster : Week → Solved → Fault → Type 0
+LacksRoster week solved (NoRoster status) = (status ≡ solved.status) × (FindsRoster solved.status → ⊥)
+LacksRoster week solved (Unmet number) = FindsRoster solved.status × IsFirstUnmet week (truth_of solved.bits) number
+LacksRoster week solved (File file) = ⊥
+LacksRoster week solved Memory = ⊥
+LacksRoster week solved Write = ⊥
+LacksRoster week solved Read = ⊥
+LacksRoster week solved (Answer fault) = ⊥
+LacksRoster week solved (Breaks rule) = ⊥

@@ -4,7 +4,7 @@ use Rattle.rota_core.specs.InstanceTables.{InstanceTables, week_of}
 use Rattle.rota_core.specs.RosterTables.{set_of}
 use Rattle.rota_items.specs.WeekModel.{model_of}
 use Rattle.rota_read.specs.SolutionText.{solution_text}
-use Rattle.solver_text.specs.Answers.{Meaning}
+use Rattle.solver_text.specs.declared.outcome.Solved.{Solved}
 use Rattle.rota_pb.specs.declared.decoded.Decoded.{Decoded}
 use Rattle.rota_pb.specs.declared.fault.Fault.{Fault}
 use Rattle.rota_pb.specs.AnswerPieces.{IsAnswered, FailsAnswer}
@@ -23,9 +23,9 @@ variables_of tables = (model_of (week_of tables)).variables
 -- the files spell the tables of a week, the answer's bytes mean something for its model, and that decodes to a roster
 pub record DecodesTo (choice : Choice) (readers : WeekReaders) (answer : Reader) (tables : InstanceTables) (decoded : Decoded) : Type 0 where
   pub spelled : SpellsWeek choice readers tables
-  pub meaning : Meaning
-  pub answered : IsAnswered (variables_of tables) answer meaning
-  pub decodes : IsDecoded (week_of tables) meaning decoded
+  pub solved : Solved
+  pub answered : IsAnswered (variables_of tables) answer solved
+  pub decodes : IsDecoded (week_of tables) solved decoded
 
 -- the solution file of the answer's roster went out whole, and then the report
 pub record WritesSolution (choice : Choice) (readers : WeekReaders) (answer : Reader) (sol report : Writer) : Type 0 where
@@ -40,9 +40,9 @@ pub data StopsDecoding (choice : Choice) (readers : WeekReaders) (answer : Reade
   at_week : StopsAt choice readers fault → answer.untouched → StopsDecoding choice readers answer fault
   at_answer : (tables : InstanceTables) → SpellsWeek choice readers tables →
       FailsAnswer (variables_of tables) answer fault → StopsDecoding choice readers answer fault
-  at_roster : (tables : InstanceTables) (meaning : Meaning) → SpellsWeek choice readers tables →
-      IsAnswered (variables_of tables) answer meaning →
-      LacksRoster (week_of tables) meaning fault → StopsDecoding choice readers answer fault
+  at_roster : (tables : InstanceTables) (solved : Solved) → SpellsWeek choice readers tables →
+      IsAnswered (variables_of tables) answer solved →
+      LacksRoster (week_of tables) solved fault → StopsDecoding choice readers answer fault
 
 -- A writer failed: that of the solution, while the other was not touched, or that of the report, after the whole solution.
 pub data FailsWriting (sol report : Writer) (solution reported : List ℕ) : Type 0 where

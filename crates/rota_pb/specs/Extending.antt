@@ -97,7 +97,7 @@ ExtendOutcome choice readers given out result =
 -- what the answer of a roster's extension says of the week's model, and of the roster
 pub record IsReadBack (week : Week) (roster : Roster) : Type 0 where
   pub outcome : outcome (model_of week).variables (extension_text week roster) ≡
-      Ok (record { status = Satisfiable; last_o = Some (pos (penalty week roster)); truths = extension_truths week roster })
+      Ok (record { status = Satisfiable; last_o = Some (pos (penalty week roster)); bits = extension_truths week roster })
   pub truths : (v : ℕ) → 0 < v → v ≤ (model_of week).variables → truth_of (extension_truths week roster) v ≡ extension_of week roster v
   pub same_roster : (cell : Cell) → InWeek week cell → roster_of week (truth_of (extension_truths week roster)) cell ≡ roster cell
 

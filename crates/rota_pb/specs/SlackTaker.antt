@@ -17,12 +17,12 @@ use Rattle.solver_text.specs.AnswerWriter.{sink_of, literals_of, literal_text}
 use Rattle.solver_text.specs.declared.answer_writer.AnswerWriter.{AnswerWriter}
 use Rattle.rota_pb.specs.declared.slack_taker.SlackTaker.{SlackTaker}
 
--- the number of literals after so many and so many more, which stays at the greatest
+-- the number of literals after n of them and `more`, which stays at the greatest
 abbrev pub literals_after : ℕ → ℕ → ℕ
 literals_after n zero = n
 literals_after n (suc more) = min (literals_after n more + 1) (2 ^ 32 - 1)
 
--- the text of the literals of so many variables after so many others
+-- the text of the literals of `count` variables after n others
 abbrev pub values_text : ℕ → ℕ → (ℕ → Bool) → List ℕ
 values_text n count truth = each_below count (λ place. literal_text (literals_after n place) (truth place))
 

@@ -6,7 +6,7 @@ use Rattle.rota_pb.specs.Readers.{FailsBeforeEnd, IsEnded, Reader}
 use Rattle.rota_pb.specs.declared.fault.Fault.{Fault}
 use Rattle.rota_pb.specs.declared.fault.Fault.TheVariants.{File, Memory, Write, Read, Answer, NoRoster, Unmet, Breaks}
 
--- these bytes were taken from the source, up to its end or so many, and it did not fail meanwhile
+-- these bytes were taken from the source, up to its end or `limit` of them, and it did not fail meanwhile
 pub record IsReadUpTo (limit : ℕ) (reader : Reader) (taken : List ℕ) : Type 0 where
   pub front : reader.given ≡ prepend_known taken reader.left
   pub at_most : length taken ≤ limit
@@ -18,14 +18,14 @@ pub record IsReadWhole (reader : Reader) : Type 0 where
   pub taken : List ℕ
   pub read : IsReadUpTo (LONGEST + 1) reader taken
 
--- the source failed before its end, and before so many bytes were taken
+-- the source failed before its end, and before `limit` bytes were taken
 pub record FailsWithin (limit : ℕ) (reader : Reader) : Type 0 where
   pub taken : List ℕ
   pub front : reader.given ≡ prepend_known taken reader.left
   pub short : length taken < limit
   pub fails : FailsBeforeEnd reader
 
--- the source failed before its end, and before so many bytes were taken, or memory ran out while it did not fail
+-- the source failed before its end, and before `limit` bytes were taken, or memory ran out while it did not fail
 abbrev pub StopsReading : ℕ → Reader → Fault → Type 0
 StopsReading limit reader (File file) = ⊥
 StopsReading limit reader Memory = reader.failed ≡ reader.failed_before

@@ -2,7 +2,6 @@
 ghost use Rattle.std.specs.Prelude.{◌≡◌, IfOk, IfErr, length};
 ghost use Rattle.rota_core.specs.InstanceTables.{week_of};
 ghost use Rattle.rota_items.specs.WeekModel.{model_of};
-ghost use Rattle.solver_text.specs.States.{meaning_of};
 ghost use Rattle.rota_pb.specs.Decoded.{IsDecoded, LacksRoster};
 
 use crate::driven::verdict_of;
@@ -36,8 +35,8 @@ pub struct Decoded {
 /// bits are dropped then.
 pub fn decode(instance: &Instance, solved: Solved) -> Result<Decoded, Fault>
     requires bits { length solved.bits ≡ (model_of (week_of instance.now)).variables }
-    ensures decoded { IfOk result (IsDecoded (week_of instance.now) (meaning_of solved)) }
-    ensures fault { IfErr result (LacksRoster (week_of instance.now) (meaning_of solved)) }
+    ensures decoded { IfOk result (IsDecoded (week_of instance.now) solved) }
+    ensures fault { IfErr result (LacksRoster (week_of instance.now) solved) }
 {
     let Solved {
         status,

@@ -10,7 +10,7 @@ use std::alloc::Global;
 
 const PIECE: usize = 4096;
 
-/// Reads up to the end, or so many bytes. Behind the end, and behind an error, it reads no more.
+/// Reads up to the end, or `limit` bytes. Behind the end, and behind an error, it reads no more.
 pub(crate) fn read_within<S: Source>(
     alloc: Global,
     source: &mut S,

@@ -43,7 +43,7 @@ impl<'a> Cursor<'a> {
         Ok(cell)
     }
 
-    /// The roster of so many assignments.
+    /// The roster of `count` assignments.
     fn assignment_rows(
         &mut self,
         alloc: Global,

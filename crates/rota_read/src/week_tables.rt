@@ -53,7 +53,7 @@ pub fn demands_of(alloc: Global, rows: &[Option<[Demand; 7]>]) -> Result<Vec<Dem
     Ok(demands)
 }
 
-/// Adds one at so many places from the first on.
+/// Adds one at `count` places, from `first` on.
 fn add_one(table: &mut Vec<u16>, first: usize, count: usize)
     requires room { first + count ≤ length table.old.items }
     requires small { All (λ n. n < MOST) table.old.items }

@@ -10,7 +10,8 @@ use Rattle.std.proofs.lemmas.List.Elements.{All-nil, All-cons}
 use Rattle.rota_core.specs.Numeral.{numeral}
 use Rattle.solver_text.specs.AnswerLaws.{WrittenAnswerIsRead}
 use Rattle.solver_text.specs.AnswerText.{literal_word, literal_words, rows_of_ten, value_line, answer_head, answer_text}
-use Rattle.solver_text.specs.Answers.{Facts, Meaning, Judgement, of_status, of_objective, of_literal, Literal, judgements_of_line, judgements, judge, judge_all, judge_literal, judge_variable, see_variable, and_then, at_end, no_facts}
+use Rattle.solver_text.specs.declared.outcome.Solved.{Solved}
+use Rattle.solver_text.specs.Answers.{Facts, Judgement, of_status, of_objective, of_literal, Literal, judgements_of_line, judgements, judge, judge_all, judge_literal, judge_variable, see_variable, and_then, at_end, no_facts}
 use Rattle.solver_text.specs.declared.outcome.AnswerFault.{AnswerFault}
 use Rattle.solver_text.specs.declared.outcome.Status.{Status}
 use Rattle.solver_text.specs.declared.outcome.Status.TheVariants as statuses
@@ -157,11 +158,11 @@ head-judged : (objective variables : ℕ) (others : List Judgement) → objectiv
 unfolding judge_all
 head-judged objective variables others small = rw (number_of-numeral objective small) refl
 
-abbrev satisfied : Option ℤ → List Bool → Result Meaning AnswerFault
-satisfied value truths = Ok (record { status = statuses.Satisfiable; last_o = value; truths = truths })
+abbrev satisfied : Option ℤ → List Bool → Result Solved AnswerFault
+satisfied value truths = Ok (record { status = statuses.Satisfiable; last_o = value; bits = truths })
 
-end-meaning : (value : Option ℤ) (truths : List Bool) → and_then (Ok (facts_behind (Some statuses.Satisfiable) value truths 0)) at_end ≡ Ok (record { status = statuses.Satisfiable; last_o = value; truths = truths })
-end-meaning value truths =
+end-solved : (value : Option ℤ) (truths : List Bool) → and_then (Ok (facts_behind (Some statuses.Satisfiable) value truths 0)) at_end ≡ Ok (record { status = statuses.Satisfiable; last_o = value; bits = truths })
+end-solved value truths =
     ap (λ (all : List Bool). satisfied value all) (append-nil truths)
 
 pub written-is_read : WrittenAnswerIsRead
@@ -170,4 +171,4 @@ written-is_read objective truths small few =
     ∙ ap (λ (result : Result Facts AnswerFault). and_then result at_end)
     (head-judged objective (length truths) (literals_from 1 truths) small
     ∙ literals-judged (Some statuses.Satisfiable) (Some (pos objective)) [] truths)
-    ∙ end-meaning (Some (pos objective)) truths
+    ∙ end-solved (Some (pos objective)) truths

@@ -4,9 +4,9 @@ use Rattle.std.proofs.Math.Seq.{drop-cons}
 use Rattle.std.proofs.lemmas.List.{take_all, drop_all, length-replicate}
 use Rattle.std.specs.Result.{result_err}
 use Rattle.solver_text.specs.Lines.{is_blank, is_line_feed, cut, lines}
-use Rattle.solver_text.specs.Answers.{Facts, Meaning, keyword_of, and_then, at_end, outcome, judged_within, no_facts, judge_all, judgements}
+use Rattle.solver_text.specs.Answers.{Facts, keyword_of, and_then, at_end, outcome, judged_within, no_facts, judge_all, judgements}
 use Rattle.solver_text.specs.LineStates.{LineState, MOST, line_after, skipped, start, take_byte, take_bytes, end_line}
-use Rattle.solver_text.specs.States.{facts_of, line_of, Stands, LeadsTo, fault_within, state_after, line_state_in, Moves, Ends, meaning_of}
+use Rattle.solver_text.specs.States.{facts_of, line_of, Stands, LeadsTo, fault_within, state_after, line_state_in, Moves}
 use Rattle.solver_text.specs.declared.outcome.AnswerFault.{AnswerFault}
 use Rattle.solver_text.specs.declared.outcome.AnswerFault.TheVariants as faults
 use Rattle.solver_text.specs.declared.outcome.Status.{Status}
@@ -80,6 +80,12 @@ begins-skipped facts b rest None none is same holds =
 begins-skipped facts b rest (Some keyword) true is same holds = absurd cc
 begins-skipped facts b rest (Some keyword) false is same holds = absurd cc
 
+-- the end of a line that has no byte
+pub empty-line : (facts : Facts) (kept : LineState) (b : ℕ) (rest : List ℕ) → kept.line ≡ at.Start → b ≡ 10 →
+    take_bytes facts kept (b ∷ rest) ≡ take_bytes facts start rest
+unfolding take_bytes
+empty-line facts kept b rest starts feed = rw (feed, starts) refl
+
 -- a byte more of a piece
 pub taken_on : (facts : Facts) (kept : LineState) (b : ℕ) (bytes : List ℕ) (next : Facts × LineState) → take_byte facts kept b ≡ Ok next → take_bytes facts kept (b ∷ bytes) ≡ take_bytes next.0 next.1 bytes
 unfolding take_bytes
@@ -95,7 +101,7 @@ taken_none facts kept = refl
 
 -- the state that an answer without a fault stands for
 abbrev stated : Answer → Result (Facts × LineState) AnswerFault
-stated answer = Ok (facts_of answer.known, line_of answer)
+stated answer = Ok (facts_of answer.facts, line_of answer)
 
 abbrev as_state : Facts → LineState → Result (Facts × LineState) AnswerFault
 as_state facts kept = Ok (facts, kept)
@@ -105,7 +111,7 @@ none≢some e = cc
 
 stated_as : (answer : Answer) (state : Result (Facts × LineState) AnswerFault) → answer.fault ≡ None → Stands answer state → state ≡ stated answer
 stated_as answer (Ok state) e h =
-    ap (λ (facts : Facts). as_state facts state.1) (sym h.1) ∙ ap (λ (kept : LineState). as_state (facts_of answer.known) kept) (sym h.2)
+    ap (λ (facts : Facts). as_state facts state.1) (sym h.1) ∙ ap (λ (kept : LineState). as_state (facts_of answer.facts) kept) (sym h.2)
 stated_as answer (Err fault) e h = absurd (none≢some (sym e ∙ h))
 
 failed_as : (answer : Answer) (state : Result (Facts × LineState) AnswerFault) (fault : AnswerFault) → answer.fault ≡ Some fault → Stands answer state → state ≡ Err fault
@@ -122,7 +128,7 @@ pub fault-of : (variables : ℕ) (text : List ℕ) (answer : Answer) (fault : An
 fault-of variables text answer fault leads e = failed_as answer (state_after variables text) fault e leads.stands
 
 -- the state behind a piece
-pub moved : (variables : ℕ) (text piece : List ℕ) (answer : Answer) → LeadsTo variables text answer → answer.fault ≡ None → state_after variables (text ++ piece) ≡ take_bytes (facts_of answer.known) (line_of answer) piece
+pub moved : (variables : ℕ) (text piece : List ℕ) (answer : Answer) → LeadsTo variables text answer → answer.fault ≡ None → state_after variables (text ++ piece) ≡ take_bytes (facts_of answer.facts) (line_of answer) piece
 moved variables text piece answer leads e =
     state_after-append variables text piece (within_most variables leads.few)
     ∙ ap (λ (s : Result (Facts × LineState) AnswerFault). and_then s (λ x. take_bytes x.0 x.1 piece)) (state-of variables text answer leads e)
@@ -144,7 +150,7 @@ pub fault_within-state : (variables : ℕ) (text : List ℕ) (state : Result (Fa
 fault_within-state variables text state e = drop_kept (judged_within variables text) (line_state_in (lines text).open_part) ∙ ap (λ (s : Result (Facts × LineState) AnswerFault). drop_state s) e
 
 -- what a piece leaves and answers
-stands_moved : (result : Result (Unit {0}) AnswerFault) (answer : Answer) (state : Result (Facts × LineState) AnswerFault) → Moves result (facts_of answer.known, line_of answer) state → answer.fault ≡ result_err result → Stands answer state
+stands_moved : (result : Result (Unit {0}) AnswerFault) (answer : Answer) (state : Result (Facts × LineState) AnswerFault) → Moves result (facts_of answer.facts, line_of answer) state → answer.fault ≡ result_err result → Stands answer state
 stands_moved (Ok u) answer state moves e = let P : Result (Facts × LineState) AnswerFault → Type 0 = Stands answer in subst P (sym moves) (e, refl, refl)
 stands_moved (Err fault) answer state moves e = let P : Result (Facts × LineState) AnswerFault → Type 0 = Stands answer in subst P (sym moves) e
 
@@ -152,12 +158,12 @@ answers_moved : (result : Result (Unit {0}) AnswerFault) (next : Facts × LineSt
 answers_moved (Ok u) next state moves = sym (ap drop_state moves)
 answers_moved (Err fault) next state moves = sym (ap drop_state moves)
 
-pub leads-moved : (variables : ℕ) (text piece : List ℕ) (before after : Answer) (result : Result (Unit {0}) AnswerFault) → LeadsTo variables text before → before.fault ≡ None → Moves result (facts_of after.known, line_of after) (take_bytes (facts_of before.known) (line_of before) piece) → after.fault ≡ result_err result → LeadsTo variables (text ++ piece) after
+pub leads-moved : (variables : ℕ) (text piece : List ℕ) (before after : Answer) (result : Result (Unit {0}) AnswerFault) → LeadsTo variables text before → before.fault ≡ None → Moves result (facts_of after.facts, line_of after) (take_bytes (facts_of before.facts) (line_of before) piece) → after.fault ≡ result_err result → LeadsTo variables (text ++ piece) after
 leads-moved variables text piece before after result leads e moves is =
     let P : Result (Facts × LineState) AnswerFault → Type 0 = Stands after in
     record { few = leads.few; stands = subst P (sym (moved variables text piece before leads e)) (stands_moved result after _ moves is) }
 
-pub answers-moved : (variables : ℕ) (text piece : List ℕ) (before : Answer) (next : Facts × LineState) (result : Result (Unit {0}) AnswerFault) → LeadsTo variables text before → before.fault ≡ None → Moves result next (take_bytes (facts_of before.known) (line_of before) piece) → result ≡ fault_within variables (text ++ piece)
+pub answers-moved : (variables : ℕ) (text piece : List ℕ) (before : Answer) (next : Facts × LineState) (result : Result (Unit {0}) AnswerFault) → LeadsTo variables text before → before.fault ≡ None → Moves result next (take_bytes (facts_of before.facts) (line_of before) piece) → result ≡ fault_within variables (text ++ piece)
 answers-moved variables text piece before next result leads e moves =
     answers_moved result next _ moves ∙ sym (fault_within-state variables (text ++ piece) _ (moved variables text piece before leads e))
 
@@ -176,14 +182,14 @@ ends-failed variables text answer fault leads e =
     outcome-state variables text (within_most variables leads.few)
     ∙ ap (λ (s : Result (Facts × LineState) AnswerFault). and_then s (λ x. and_then (end_line x.0 x.1.line x.1.word) at_end)) (fault-of variables text answer fault leads e)
 
-pub ends-judged : (variables : ℕ) (text : List ℕ) (answer : Answer) (judged : Result Facts AnswerFault) → LeadsTo variables text answer → answer.fault ≡ None → end_line (facts_of answer.known) (line_of answer).line (line_of answer).word ≡ judged → outcome variables text ≡ and_then judged at_end
+pub ends-judged : (variables : ℕ) (text : List ℕ) (answer : Answer) (judged : Result Facts AnswerFault) → LeadsTo variables text answer → answer.fault ≡ None → end_line (facts_of answer.facts) (line_of answer).line (line_of answer).word ≡ judged → outcome variables text ≡ and_then judged at_end
 ends-judged variables text answer judged leads e is =
     outcome-state variables text (within_most variables leads.few)
     ∙ ap (λ (s : Result (Facts × LineState) AnswerFault). and_then s (λ x. and_then (end_line x.0 x.1.line x.1.word) at_end)) (state-of variables text answer leads e)
     ∙ ap (λ (r : Result Facts AnswerFault). and_then r at_end) is
 
 -- no text
-pub starts : (variables : ℕ) (answer : Answer) → variables < 2 ^ 32 → answer.fault ≡ None → facts_of answer.known ≡ no_facts variables → line_of answer ≡ start → LeadsTo variables [] answer
+pub starts : (variables : ℕ) (answer : Answer) → variables < 2 ^ 32 → answer.fault ≡ None → facts_of answer.facts ≡ no_facts variables → line_of answer ≡ start → LeadsTo variables [] answer
 unfolding cut judge_all
 starts variables answer few fault facts kept = record { few = few; stands = (fault, facts, kept) }
 
@@ -207,15 +213,15 @@ taken_end facts kept [] none = taken_none facts kept
 taken_end facts kept (b ∷ rest) none = absurd (omega arith)
 
 -- the bits
-meaning-length : (n : ℕ) (facts : Facts) (status : Option Status) (meaning : Meaning) → length facts.seen_true ≡ n → option_map_or (λ s. Ok (record { status = s; last_o = facts.last_o; truths = facts.seen_true })) status (Err faults.Statuses) ≡ Ok meaning → length meaning.truths ≡ n
-meaning-length n facts None meaning h e = cc
-meaning-length n facts (Some s) meaning h e = cc
+solved-length : (n : ℕ) (facts : Facts) (status : Option Status) (solved : Solved) → length facts.seen_true ≡ n → option_map_or (λ s. Ok (record { status = s; last_o = facts.last_o; bits = facts.seen_true })) status (Err faults.Statuses) ≡ Ok solved → length solved.bits ≡ n
+solved-length n facts None solved h e = cc
+solved-length n facts (Some s) solved h e = cc
 
-at_end-length : (n : ℕ) (result : Result Facts AnswerFault) (meaning : Meaning) → HasLength n result → and_then result at_end ≡ Ok meaning → length meaning.truths ≡ n
-at_end-length n (Ok facts) meaning h e = meaning-length n facts facts.status meaning h e
-at_end-length n (Err fault) meaning h e = cc
+at_end-length : (n : ℕ) (result : Result Facts AnswerFault) (solved : Solved) → HasLength n result → and_then result at_end ≡ Ok solved → length solved.bits ≡ n
+at_end-length n (Ok facts) solved h e = solved-length n facts facts.status solved h e
+at_end-length n (Err fault) solved h e = cc
 
-pub bits-length : (variables : ℕ) (text : List ℕ) (result : Result Solved AnswerFault) → Ends result (outcome variables text) → IfOk result (λ solved. length solved.bits ≡ variables)
+pub bits-length : (variables : ℕ) (text : List ℕ) (result : Result Solved AnswerFault) → outcome variables text ≡ result → IfOk result (λ solved. length solved.bits ≡ variables)
 bits-length variables text (Ok solved) ends =
-    at_end-length variables (judge_all (Ok (no_facts variables)) (judgements text)) (meaning_of solved) (length-judge_all variables (Ok (no_facts variables)) (judgements text) (length-replicate variables false)) ends
+    at_end-length variables (judge_all (Ok (no_facts variables)) (judgements text)) solved (length-judge_all variables (Ok (no_facts variables)) (judgements text) (length-replicate variables false)) ends
 bits-length variables text (Err fault) ends = tt

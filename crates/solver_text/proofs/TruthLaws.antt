@@ -5,7 +5,8 @@ use Rattle.std.proofs.lemmas.Bool.{ltb-false}
 use Rattle.std.proofs.lemmas.Bool.Decides.{Decides-eqb}
 use Rattle.std.specs.List.{list_any}
 use Rattle.std.specs.Option.{option_map_or}
-use Rattle.solver_text.specs.Answers.{Facts, Meaning, Judgement, of_status, of_objective, of_literal, Literal, judge_all, and_then, judge, judge_status, judge_objective, judge_literal, see_variable, status_of, objective_of, literal_of, judgements, at_end, no_facts}
+use Rattle.solver_text.specs.declared.outcome.Solved.{Solved}
+use Rattle.solver_text.specs.Answers.{Facts, Judgement, of_status, of_objective, of_literal, Literal, judge_all, and_then, judge, judge_status, judge_objective, judge_literal, see_variable, status_of, objective_of, literal_of, judgements, at_end, no_facts}
 use Rattle.solver_text.specs.AnswerLaws.{makes_true, TrueByLiteral}
 use Rattle.solver_text.specs.declared.outcome.Status.{Status}
 use Rattle.solver_text.specs.declared.outcome.AnswerFault.{AnswerFault}
@@ -101,17 +102,17 @@ none_seen zero v = refl
 none_seen (suc n) zero = refl
 none_seen (suc n) (suc v) = none_seen n v
 
-meaning-truth : (v : ℕ) (truth : Bool) (facts : Facts) (status : Option Status) (meaning : Meaning) → slice_index_or facts.seen_true v false ≡ truth → option_map_or (λ s. Ok (record { status = s; last_o = facts.last_o; truths = facts.seen_true })) status (Err faults.Statuses) ≡ Ok meaning → slice_index_or meaning.truths v false ≡ truth
-meaning-truth v truth facts None meaning h e = cc
-meaning-truth v truth facts (Some s) meaning h e = cc
+solved-truth : (v : ℕ) (truth : Bool) (facts : Facts) (status : Option Status) (solved : Solved) → slice_index_or facts.seen_true v false ≡ truth → option_map_or (λ s. Ok (record { status = s; last_o = facts.last_o; bits = facts.seen_true })) status (Err faults.Statuses) ≡ Ok solved → slice_index_or solved.bits v false ≡ truth
+solved-truth v truth facts None solved h e = cc
+solved-truth v truth facts (Some s) solved h e = cc
 
-at_end-truth : (v : ℕ) (truth : Bool) (result : Result Facts AnswerFault) (meaning : Meaning) → TruthIs v truth result → and_then result at_end ≡ Ok meaning → slice_index_or meaning.truths v false ≡ truth
-at_end-truth v truth (Ok facts) meaning h e = meaning-truth v truth facts facts.status meaning h e
-at_end-truth v truth (Err fault) meaning h e = cc
+at_end-truth : (v : ℕ) (truth : Bool) (result : Result Facts AnswerFault) (solved : Solved) → TruthIs v truth result → and_then result at_end ≡ Ok solved → slice_index_or solved.bits v false ≡ truth
+at_end-truth v truth (Ok facts) solved h e = solved-truth v truth facts facts.status solved h e
+at_end-truth v truth (Err fault) solved h e = cc
 
 pub true-by_literal : TrueByLiteral
 true-by_literal = record {
-  truths = λ variables text meaning v e some within.
-      at_end-truth (v - 1) (list_any (makes_true v) (judgements text)) (judge_all (Ok (no_facts variables)) (judgements text)) meaning
+  truths = λ variables text solved v e some within.
+      at_end-truth (v - 1) (list_any (makes_true v) (judgements text)) (judge_all (Ok (no_facts variables)) (judgements text)) solved
       (truth-judge_all v false (Ok (no_facts variables)) (judgements text) some (none_seen variables (v - 1))) e;
 }

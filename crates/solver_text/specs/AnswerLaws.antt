@@ -3,7 +3,8 @@ use Rattle.std.specs.Prelude.{◌≡◌, ◌==◌, ℕ, ◌<◌, ◌≤◌, ◌-
 use Rattle.std.specs.List.{list_any}
 use Rattle.std.specs.Option.{option_map_or}
 use Rattle.solver_text.specs.declared.outcome.AnswerFault.{AnswerFault}
-use Rattle.solver_text.specs.Answers.{Judgement, of_status, of_objective, of_literal, Meaning, literal_of, judgements, outcome}
+use Rattle.solver_text.specs.declared.outcome.Solved.{Solved}
+use Rattle.solver_text.specs.Answers.{Judgement, of_status, of_objective, of_literal, literal_of, judgements, outcome}
 use Rattle.solver_text.specs.AnswerText.{answer_text}
 use Rattle.solver_text.specs.States.{fault_within}
 use Rattle.solver_text.specs.declared.outcome.Status.TheVariants as statuses
@@ -21,8 +22,8 @@ makes_true v (of_literal word) = option_map_or (λ literal. literal.positive && 
 
 -- Exactly the variables with a positive literal are true.
 pub record TrueByLiteral : Type 0 where
-  pub truths : (variables : ℕ) (text : List ℕ) (meaning : Meaning) (v : ℕ) → outcome variables text ≡ Ok meaning → 0 < v → v ≤ variables
-      → slice_index_or meaning.truths (v - 1) false ≡ list_any (makes_true v) (judgements text)
+  pub truths : (variables : ℕ) (text : List ℕ) (solved : Solved) (v : ℕ) → outcome variables text ≡ Ok solved → 0 < v → v ≤ variables
+      → slice_index_or solved.bits (v - 1) false ≡ list_any (makes_true v) (judgements text)
 
 -- The text of an answer says the objective's value and the values of as many variables, where the value has at most 18
 -- digits.
@@ -30,4 +31,4 @@ abbrev pub WrittenAnswerIsRead : Type 0
 WrittenAnswerIsRead =
     (objective : ℕ) (truths : List Bool) → objective < 10 ^ 18 → length truths < 2 ^ 32 →
     outcome (length truths) (answer_text objective truths)
-    ≡ Ok (record { status = statuses.Satisfiable; last_o = Some (pos objective); truths = truths })
+    ≡ Ok (record { status = statuses.Satisfiable; last_o = Some (pos objective); bits = truths })

@@ -2,21 +2,21 @@
 use Rattle.std.specs.Prelude.{Option, ◌≡◌, ℕ, ◌<◌, ◌^◌, List, [], ◌∷◌, Some, None, Result, Ok, Err, if◌then◌else◌}
 use Rattle.std.specs.Option.{option_map_or}
 use Rattle.solver_text.specs.declared.outcome.AnswerFault.{AnswerFault}
-use Rattle.solver_text.specs.declared.outcome.Solved.{Solved}
-use Rattle.solver_text.specs.declared.known.Known.{Known}
+use Rattle.solver_text.specs.declared.facts.Facts.{Facts as FactsInBits}
 use Rattle.solver_text.specs.declared.answer.Answer.{Answer}
 use Rattle.solver_text.specs.declared.line_state.Keyword.{Keyword}
 use Rattle.solver_text.specs.declared.line_state.Line.TheVariants as at
 use Rattle.solver_text.specs.Lines.{lines, cut, is_blank, ended_words}
-use Rattle.solver_text.specs.Answers.{Facts, Meaning, keyword_of, judged_within, and_then}
+use Rattle.solver_text.specs.Answers.{Facts, keyword_of, judged_within, and_then}
 use Rattle.solver_text.specs.LineStates.{LineState, start, skipped, line_state_in_words}
 
-abbrev pub facts_of : Known → Facts
-facts_of known = record {
-  status = known.status;
-  last_o = known.last_o;
-  seen_true = known.seen_true;
-  seen_false = known.seen_false;
+-- the facts that are kept, the truths in bits
+abbrev pub facts_of : FactsInBits → Facts
+facts_of kept = record {
+  status = kept.status;
+  last_o = kept.last_o;
+  seen_true = kept.seen_true;
+  seen_false = kept.seen_false;
 }
 
 abbrev pub line_of : Answer → LineState
@@ -25,9 +25,6 @@ line_of answer = answer.state
 -- the fault that the answer keeps, where there was one
 abbrev pub fault_of : Answer → Option AnswerFault
 fault_of answer = answer.fault
-
-abbrev pub meaning_of : Solved → Meaning
-meaning_of solved = record { status = solved.status; last_o = solved.last_o; truths = solved.bits }
 
 -- behind a letter
 abbrev pub line_state_behind_letter : Keyword → List ℕ → LineState
@@ -46,7 +43,7 @@ state_after variables text = and_then (judged_within variables text) (λ facts. 
 
 abbrev pub Stands : Answer → Result (Facts × LineState) AnswerFault → Type 0
 Stands answer (Err fault) = answer.fault ≡ Some fault
-Stands answer (Ok state) = (answer.fault ≡ None) × (facts_of answer.known ≡ state.0) × (line_of answer ≡ state.1)
+Stands answer (Ok state) = (answer.fault ≡ None) × (facts_of answer.facts ≡ state.0) × (line_of answer ≡ state.1)
 
 -- the text leads to the answer's state
 pub record LeadsTo (variables : ℕ) (text : List ℕ) (answer : Answer) : Type 0 where
@@ -60,11 +57,6 @@ fault_within variables text = and_then (judged_within variables text) (λ facts.
 abbrev pub Gives : Result (Unit {0}) AnswerFault → Facts → Result Facts AnswerFault → Type 0
 Gives (Ok u) facts judged = judged ≡ Ok facts
 Gives (Err fault) facts judged = judged ≡ Err fault
-
--- what `finish` answered is this outcome
-abbrev pub Ends : Result Solved AnswerFault → Result Meaning AnswerFault → Type 0
-Ends (Ok solved) result = result ≡ Ok (meaning_of solved)
-Ends (Err fault) result = result ≡ Err fault
 
 -- what `take_bytes` answered and left
 abbrev pub Moves : Result (Unit {0}) AnswerFault → Facts × LineState → Result (Facts × LineState) AnswerFault → Type 0

@@ -2,8 +2,8 @@
 
 ghost use Rattle.std.specs.Prelude.{◌≡◌, ℕ, ◌<◌, List, [], ◌++◌, length, IfOk, MatchResult, Some, Err, OnOk};
 
-use crate::known::Known;
-use crate::line_state::{Keyword, Line, LineState, begins_skipped, line_end};
+use crate::facts::Facts;
+use crate::line_state::{Keyword, Line, LineState, begins_skipped, behind_empty_lines, line_end};
 use crate::literal::{LiteralFront, is_blank};
 use crate::outcome::{AnswerFault, Solved};
 use std::alloc::{AllocError, Global};
@@ -15,7 +15,7 @@ use std::alloc::{AllocError, Global};
 /// answers it again. Only `new` takes memory.
 #[derive(Drop)]
 pub struct Answer {
-    known: Known,
+    facts: Facts,
     state: LineState,
     fault: Option<AnswerFault>,
 }
@@ -23,7 +23,7 @@ pub struct Answer {
 impl Answer {
     ghost use Rattle.solver_text.specs.Answers.{outcome};
     ghost use Rattle.solver_text.specs.LineStates.{take_byte, take_bytes, end_word, end_line};
-    ghost use Rattle.solver_text.specs.States.{facts_of, line_of, fault_of, LeadsTo, fault_within, Gives, Ends, Moves};
+    ghost use Rattle.solver_text.specs.States.{facts_of, line_of, fault_of, LeadsTo, fault_within, Gives, Moves};
 
     /// An answer of which nothing was read yet, for the variables 1 to `variables`. It fails only for want
     /// of memory.
@@ -31,7 +31,7 @@ impl Answer {
         ensures { IfOk result (λ answer. LeadsTo variables [] answer) }
     {
         Ok(Answer {
-            known: Known::new(alloc, variables)?,
+            facts: Facts::new(alloc, variables)?,
             state: LineState::start(),
             fault: None,
         })
@@ -60,7 +60,7 @@ impl Answer {
     /// an `s` line has `Statuses`.
     pub fn finish(self) -> Result<Solved, AnswerFault>
         ensures outcome { (variables : ℕ) → (text : List ℕ) → LeadsTo variables text self
-            → Ends result (outcome variables text) }
+            → outcome variables text ≡ result }
         ensures bits { (variables : ℕ) → (text : List ℕ) → LeadsTo variables text self
             → IfOk result (λ solved. length solved.bits ≡ variables) }
         ensures for_good { (fault : AnswerFault) → fault_of self ≡ Some fault → result ≡ Err fault }
@@ -70,18 +70,22 @@ impl Answer {
             return Err(fault);
         }
         answer.end_line()?;
-        let Answer { known, .. } = answer;
-        known.finish()
+        let Answer { facts, .. } = answer;
+        facts.finish()
     }
 
     // Takes bytes until there is a fault.
     fn take_bytes(&mut self, piece: &[u8]) -> Result<(), AnswerFault>
-        ensures { Moves result (facts_of self.new.known, line_of self.new)
-            (take_bytes (facts_of self.old.known) (line_of self.old) piece.now) }
+        ensures { Moves result (facts_of self.new.facts, line_of self.new)
+            (take_bytes (facts_of self.old.facts) (line_of self.old) piece.now) }
     {
         let mut rest = piece;
         while let Some((b, after)) = rest.split_first() {
             match self.state.line() {
+                Line::Start if *b == b'\n' => {
+                    self.state.start_again();
+                    rest = behind_empty_lines(after);
+                }
                 Line::Skipped => rest = self.skip_lines(rest),
                 Line::Values(front) => rest = self.take_word(front, rest)?,
                 _ => {
@@ -102,15 +106,15 @@ impl Answer {
         requires values { (line_of self.old).line ≡ Line.Values front }
         requires some { 0 < length bytes.now }
         ensures taken { MatchResult result
-            (λ rest. take_bytes (facts_of self.old.known) (line_of self.old) bytes.now
-            ≡ take_bytes (facts_of self.new.known) (line_of self.new) rest.now)
-            (λ fault. take_bytes (facts_of self.old.known) (line_of self.old) bytes.now ≡ Err fault) }
+            (λ rest. take_bytes (facts_of self.old.facts) (line_of self.old) bytes.now
+            ≡ take_bytes (facts_of self.new.facts) (line_of self.new) rest.now)
+            (λ fault. take_bytes (facts_of self.old.facts) (line_of self.old) bytes.now ≡ Err fault) }
         ensures shorter { IfOk result (λ rest. length rest.now < length bytes.now) }
     {
         let (front, behind) = front.read_on(bytes);
         match behind.split_first() {
             Some((b, rest)) if is_blank(*b) => {
-                self.known.judge_front(front)?;
+                self.facts.judge_front(front)?;
                 self.state.go_to(LiteralFront::Empty);
                 Ok(rest)
             }
@@ -131,13 +135,13 @@ impl Answer {
     fn skip_lines<'p>(&mut self, bytes: &'p [u8]) -> &'p [u8]
         requires skipped { (line_of self.old).line ≡ Line.Skipped }
         requires some { 0 < length bytes.now }
-        ensures takes { take_bytes (facts_of self.old.known) (line_of self.old) bytes.now
-            ≡ take_bytes (facts_of self.new.known) (line_of self.new) result.now }
+        ensures takes { take_bytes (facts_of self.old.facts) (line_of self.old) bytes.now
+            ≡ take_bytes (facts_of self.new.facts) (line_of self.new) result.now }
         ensures shorter { length result.now < length bytes.now }
     {
         let mut rest = bytes;
         while let Some(end) = line_end(rest) {
-            rest = &rest[end + 1..];
+            rest = behind_empty_lines(&rest[end + 1..]);
             if !begins_skipped(rest) {
                 self.state.start_again();
                 return rest;
@@ -148,8 +152,8 @@ impl Answer {
     }
 
     fn take_byte(&mut self, b: u8) -> Result<(), AnswerFault>
-        ensures { Moves result (facts_of self.new.known, line_of self.new)
-            (take_byte (facts_of self.old.known) (line_of self.old) b) }
+        ensures { Moves result (facts_of self.new.facts, line_of self.new)
+            (take_byte (facts_of self.old.facts) (line_of self.old) b) }
     {
         if b == b'\n' {
             self.end_line()?;
@@ -165,32 +169,32 @@ impl Answer {
 
     // Judges the word before a blank.
     fn end_word(&mut self) -> Result<(), AnswerFault>
-        ensures judged { Gives result (facts_of self.new.known) (end_word (facts_of self.old.known) (line_of self.old).line) }
+        ensures judged { Gives result (facts_of self.new.facts) (end_word (facts_of self.old.facts) (line_of self.old).line) }
         ensures place { OnOk result (line_of self.new ≡ line_of self.old) }
     {
         match self.state.line() {
-            Line::Values(front) => self.known.judge_front(front),
+            Line::Values(front) => self.facts.judge_front(front),
             _ => Ok(()),
         }
     }
 
     // Judges the line before its end.
     fn end_line(&mut self) -> Result<(), AnswerFault>
-        ensures { Gives result (facts_of self.new.known) (end_line (facts_of self.old.known) (line_of self.old).line (line_of self.old).word) }
+        ensures { Gives result (facts_of self.new.facts) (end_line (facts_of self.old.facts) (line_of self.old).line (line_of self.old).word) }
     {
         match self.state.line() {
             Line::Start | Line::Skipped | Line::Alone(Keyword::Values) => Ok(()),
-            Line::Alone(Keyword::Status) => self.known.judge_status(None),
-            Line::Alone(Keyword::Objective) => self.known.judge_objective(None),
+            Line::Alone(Keyword::Status) => self.facts.judge_status(None),
+            Line::Alone(Keyword::Objective) => self.facts.judge_objective(None),
             Line::Status(words) => {
                 let status = self.state.status(words);
-                self.known.judge_status(status)
+                self.facts.judge_status(status)
             }
             Line::Objective(words) => {
                 let value = self.state.value(words);
-                self.known.judge_objective(value)
+                self.facts.judge_objective(value)
             }
-            Line::Values(front) => self.known.judge_front(front),
+            Line::Values(front) => self.facts.judge_front(front),
         }
     }
 }

@@ -23,7 +23,7 @@ mod words;
 // The words of `v` lines.
 mod literal;
 // What is known from the judgements so far.
-mod known;
+mod facts;
 // What a solver's answer says, and the faults of its text.
 mod outcome;
 // A writer of the answer that a solver would give.

@@ -1,6 +1,6 @@
 //! What is kept of the line that is being read.
 
-ghost use Rattle.std.specs.Prelude.{◌≡◌, [], IsTrue};
+ghost use Rattle.std.specs.Prelude.{◌≡◌, ◌≤◌, [], IsTrue, length};
 ghost use Rattle.memchr.specs.Find.{IsFirstByte, is_byte};
 ghost use Rattle.solver_text.specs.Answers.{Facts, keyword_of as keyword_of_letter};
 ghost use Rattle.solver_text.specs.LineStates.{line_after, line_behind, skipped, start, take_bytes};
@@ -68,6 +68,21 @@ pub(crate) fn begins_skipped(bytes: &[u8]) -> bool
         Some((letter, _)) => keyword_of(*letter).is_none(),
         None => false,
     }
+}
+
+/// What is behind the empty lines that these bytes begin with.
+pub(crate) fn behind_empty_lines(bytes: &[u8]) -> &[u8]
+    ensures passes { (facts : Facts) → take_bytes facts start bytes.now ≡ take_bytes facts start result.now }
+    ensures no_longer { length result.now ≤ length bytes.now }
+{
+    let mut rest = bytes;
+    while let Some((b, behind)) = rest.split_first() {
+        if *b != b'\n' {
+            break;
+        }
+        rest = behind;
+    }
+    rest
 }
 
 // The first bytes of a line are looked at one by one up to this place, since many lines are short.

@@ -5,12 +5,12 @@
 //! who has the skill and, on Monday, whose last shift does not forbid the shift type.
 #![tactic(auto)]
 
-ghost use Rattle.std.specs.Prelude.{◌<◌};
-ghost use Rattle.rota_core.specs.InstanceTables.{week_of};
+ghost use Rattle.std.specs.Prelude.{◌<◌, IfOk};
+ghost use Rattle.rota_core.specs.InstanceTables.{HasNumbersOf, week_of};
 ghost use Rattle.rota_core.specs.Roster.{InWeek};
 
 use anyhow::{Context, Result, bail};
-use rota_core::{Cell, Instance};
+use rota_core::{Cell, History, Instance, Scenario, Week};
 use rota_items::cell_var;
 use rota_read::{day_name, read_history, read_scenario, read_week};
 use std::io::Write;
@@ -23,14 +23,34 @@ fn main(rt: HostRuntime) -> Result<()> {
         bail!("give the files of a scenario, a history and a week");
     };
     let instance = join(&rt, scenario.as_str(), history.as_str(), week.as_str())?;
-    for day in 0..7 {
-        for shift in 0..instance.shifts() {
-            for skill in 0..instance.skills() {
-                tell_place(&rt, &instance, day, shift, skill)?;
-            }
-        }
-    }
-    Ok(())
+    tell_places(&rt, &instance)
+}
+
+/// The bytes of the file, whose name an error gives.
+fn bytes_of<R: Files + AllocGlobal>(rt: &R, path: &str) -> Result<Vec<u8>> {
+    fs::read(rt, path).context(format_args!("{path}"))
+}
+
+/// The scenario that the file spells.
+fn scenario_of<R: Files + AllocGlobal>(rt: &R, path: &str) -> Result<Scenario> {
+    let text = bytes_of(rt, path)?;
+    Ok(read_scenario(rt.alloc(), &text)?)
+}
+
+/// The history that the file spells.
+fn history_of<R: Files + AllocGlobal>(rt: &R, scenario: &Scenario, path: &str) -> Result<History>
+    ensures { IfOk result (λ h. HasNumbersOf scenario.now h.nurses h.shifts h.skills) }
+{
+    let text = bytes_of(rt, path)?;
+    Ok(read_history(rt.alloc(), scenario, &text)?)
+}
+
+/// The week's data that the file spells.
+fn data_of<R: Files + AllocGlobal>(rt: &R, scenario: &Scenario, path: &str) -> Result<Week>
+    ensures { IfOk result (λ w. HasNumbersOf scenario.now w.nurses w.shifts w.skills) }
+{
+    let text = bytes_of(rt, path)?;
+    Ok(read_week(rt.alloc(), scenario, &text)?)
 }
 
 /// The week that the three files spell.
@@ -40,14 +60,22 @@ fn join<R: Files + AllocGlobal>(
     history: &str,
     week: &str,
 ) -> Result<Instance> {
-    let alloc = rt.alloc();
-    let text = fs::read(rt, scenario).context(format_args!("{scenario}"))?;
-    let scenario = read_scenario(alloc, text.as_slice())?;
-    let text = fs::read(rt, history).context(format_args!("{history}"))?;
-    let history = read_history(alloc, &scenario, text.as_slice())?;
-    let text = fs::read(rt, week).context(format_args!("{week}"))?;
-    let week = read_week(alloc, &scenario, text.as_slice())?;
+    let scenario = scenario_of(rt, scenario)?;
+    let history = history_of(rt, &scenario, history)?;
+    let week = data_of(rt, &scenario, week)?;
     Ok(Instance::join(scenario, history, week, false)?)
+}
+
+/// The lines of all places that are asked for.
+fn tell_places(rt: &impl Print, instance: &Instance) -> Result<()> {
+    for day in 0..7 {
+        for shift in 0..instance.shifts() {
+            for skill in 0..instance.skills() {
+                tell_place(rt, instance, day, shift, skill)?;
+            }
+        }
+    }
+    Ok(())
 }
 
 /// A line with who fits, where the place is asked for.

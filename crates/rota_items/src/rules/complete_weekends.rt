@@ -7,13 +7,14 @@ ghost use Rattle.rota_items.specs.rules.CompleteWeekends.{complete_weekends_of};
 
 use crate::soft_item::{DayProperty, ItemPart, RunCharge};
 use crate::takers::Taker;
-use crate::weekend_walk::{only_saturday, walk_weekend};
+use crate::weekend_walk::walk_weekend;
 use rota_core::{Instance, Rule};
 
 /// What a weekend of one day costs.
 const WEIGHT: u16 = 30;
 
 /// Saturday without Sunday, and Sunday without Saturday, where the contract asks for complete weekends.
+#[tactic(auto, using(crate::proofs::Walking::walking))]
 pub fn walk<T: Taker>(
     instance: &Instance,
     taker: &mut T,
@@ -35,7 +36,7 @@ pub fn walk<T: Taker>(
         nurse,
         property: DayProperty::Work,
     };
-    walk_weekend(instance, taker, part, first, charge, only_saturday())
+    walk_weekend(instance, taker, part, first, charge, true)
 }
 
 /// The number of a nurse's items, each of one slack.

@@ -124,6 +124,7 @@ fn too_many(instance: &Instance, nurse: u16) -> Option<SoftItem>
 }
 
 /// The items of a nurse's least and of her greatest total.
+#[tactic(auto, using(crate::proofs::Walking::walking))]
 pub fn walk<T: Taker>(
     instance: &Instance,
     taker: &mut T,

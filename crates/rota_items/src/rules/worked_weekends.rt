@@ -8,7 +8,7 @@ ghost use Rattle.rota_items.specs.rules.WorkedWeekends.{constant_of_weekends, we
 use crate::counted_totals::{excess_before_counts, greatest_totals_count};
 use crate::soft_item::{DayProperty, ItemPart, RunCharge};
 use crate::takers::Taker;
-use crate::weekend_walk::{saturday, walk_weekend};
+use crate::weekend_walk::walk_weekend;
 use rota_core::{Instance, Rule};
 
 /// What a worked weekend above the greatest number costs.
@@ -26,6 +26,7 @@ fn is_charged(instance: &Instance, nurse: u16) -> bool
 }
 
 /// Work on Saturday, and on Sunday without Saturday, where it is charged.
+#[tactic(auto, using(crate::proofs::Walking::walking))]
 pub fn walk<T: Taker>(
     instance: &Instance,
     taker: &mut T,
@@ -47,7 +48,7 @@ pub fn walk<T: Taker>(
         nurse,
         property: DayProperty::Work,
     };
-    walk_weekend(instance, taker, part, first, charge, saturday())
+    walk_weekend(instance, taker, part, first, charge, false)
 }
 
 /// The number of a nurse's items, each of one slack.

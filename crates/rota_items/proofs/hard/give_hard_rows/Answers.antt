@@ -1,14 +1,12 @@
-use Rattle.rota_items.proofs.Common.{week_of}
-use Rattle.rota_items.specs.HardRows.{rule_rows}
-use Rattle.rota_items.proofs.Taking.{exits, row_stop, row_then}
+use Rattle.rota_items.proofs.Common.{[], ◌∷◌}
+use Rattle.rota_items.specs.CellEvents.{cell_row_events}
+use Rattle.rota_items.proofs.Taking.{events_join, exits, goes_on, stop}
 use Rattle.rota_items.proofs.hard.give_hard_rows.Goals as goal
 
 pub returns-in_err-give_unit : goal.returns-in_err-give_unit
 returns-in_err-give_unit g c =
-    let week = week_of c.args.instance.now in
-    exits g.T.Taker _ _ _ _ c.from_residual.ensures.0 (row_stop g.T.Taker _ week (rule_rows week) _ _ c.in_err-give_unit.ensures)
+    exits g.T.Taker _ _ _ _ c.from_residual.ensures.0 (stop g.T.Taker events_join (_ ∷ []) _ _ _ c.in_err-give_unit.ensures)
 
 pub returns : goal.returns
-returns g c =
-    let week = week_of c.args.instance.now in
-    row_then g.T.Taker _ week (rule_rows week) _ _ _ _ c.in_ok-give_unit.ensures c.give_rules.ensures
+unfolding cell_row_events
+returns g c = goes_on g.T.Taker events_join (_ ∷ []) _ _ _ _ _ c.in_ok-give_unit.ensures c.give_rules.ensures

@@ -1,6 +1,6 @@
 use Rattle.std.proofs.lemmas.Result.{MatchResult-weaker}
 use Rattle.rota_items.proofs.Common.{week_of}
-use Rattle.rota_items.proofs.ObjectiveTaking.{none_taken, some_refused, told_by_refusal}
+use Rattle.rota_items.proofs.ObjectiveTaking.{some_refused, told_by_refusal}
 use Rattle.rota_items.specs.WeekModel.{objective_terms}
 use Rattle.rota_items.proofs.objective.has_term.Goals as goal
 
@@ -9,5 +9,5 @@ returns c =
     let terms = objective_terms (week_of c.args.instance.now) in
     rw c.is_err.ensures.value
     (told_by_refusal c.give_terms.result terms
-    (MatchResult-weaker c.give_terms.result c.give_terms.ensures (λ _ took. none_taken terms took.value_is)
+    (MatchResult-weaker c.give_terms.result c.give_terms.ensures (λ _ took. took.value_is)
     (λ _ refused. some_refused terms _ _ _ refused.are)))

@@ -3,12 +3,9 @@ use Rattle.rota_core.specs.Rules.{soft_rules}
 use Rattle.rota_items.proofs.InstanceLimits.{instance-within_limits}
 use Rattle.rota_items.proofs.SlackBound.{variables_fit}
 use Rattle.rota_items.proofs.Taking.{exits}
-use Rattle.rota_items.proofs.Walking.{fits_list, walk_list_all, walk_list_more, walk_list_refused, walk_none}
+use Rattle.rota_items.proofs.Walking.{fits_list, walk_list_more, walk_list_refused}
 use Rattle.rota_items.specs.SoftRules.{items_of_rule}
 use Rattle.rota_items.proofs.rules.walk_soft_items.Goals as goal
-
-pub loop-rule-init : goal.loop-rule-init
-loop-rule-init g c = rw c.unit_var-next.ensures (walk_none g.T.Taker _ _ _ _)
 
 pub walk_rule-requires : goal.walk_rule-requires
 walk_rule-requires g c =
@@ -29,7 +26,3 @@ pub loop-rule-preserved : goal.loop-rule-preserved
 loop-rule-preserved g c =
     walk_list_more g.T.Taker _ _ (items_of_rule (week_of c.args.instance.now)) soft_rules _ _ _ _ _ _ _ _ (omega arith) c.loop-rule.invariant
     c.in_ok-next.ensures
-
-pub returns : goal.returns
-returns g c =
-    (walk_list_all g.T.Taker _ _ (items_of_rule (week_of c.args.instance.now)) soft_rules _ _ _ _ _ (omega arith) c.loop-rule.invariant).taken

@@ -1,14 +1,8 @@
 use Rattle.rota_items.proofs.Common.{arith}
-use Rattle.rota_items.specs.RunPatterns.{closed_patterns_on, edge_patterns_on}
-use Rattle.rota_items.proofs.ListLengths.{length-each_below_both}
+use Rattle.rota_items.proofs.EachPattern.{few-run_patterns, length-patterns}
 use Rattle.rota_items.proofs.run_counts.patterns_of.Goals as goal
 
-pub returns : goal.returns
-returns c =
-    omega (
-      arith,
-      length-each_below_both 7 (closed_patterns_on c.args.limits.min)
-          (edge_patterns_on c.args.history c.args.limits.min),
-      c.closed_patterns_of.ensures.number,
-      c.edge_patterns_of.ensures.number,
-    )
+pub overflow_add-result : goal.overflow_add-result
+overflow_add-result c =
+    let w = c.args in
+    omega (arith, few-run_patterns w.history w.limits, length-patterns w.history w.limits, c.closed_patterns_of.ensures, c.edge_patterns_of.ensures)

@@ -1,11 +1,8 @@
 use Rattle.rota_items.proofs.Common.{arith, week_of, runs_of, each_below}
 use Rattle.rota_items.proofs.RunItemLists.{pattern_items-on}
-use Rattle.rota_items.proofs.Walking.{walk_exits, walk_begins, walk_more, walk_ends, walk_refused, walk_stops, walk_then, fits_before, fits_after, fits_within}
+use Rattle.rota_items.proofs.Walking.{walk_exits, walk_ends, walk_refused, walk_stops, walk_then, fits_before, fits_after, fits_within}
 use Rattle.rota_items.specs.RunItems.{closed_items_at, edge_items_on}
 use Rattle.rota_items.proofs.run_walk.walk_patterns_on.Goals as goal
-
-pub loop-count-init : goal.loop-count-init
-loop-count-init g c = walk_begins g.T.Taker _ _ _ _ _
 
 pub walk_pattern-requires-clause-slacks_fit : goal.walk_pattern-requires-clause-slacks_fit
 walk_pattern-requires-clause-slacks_fit g c =
@@ -24,11 +21,6 @@ returns-in_err-next g c =
     (walk_stops g.T.Taker _ _ _ _ _ _ _
     (walk_refused g.T.Taker _ _ _ _ _ _ _ _ _ _ (omega arith) c.loop-count.invariant
     (rw c.closed_before-closed.ensures.pattern at c.in_err-next.ensures))))
-
-pub loop-count-preserved : goal.loop-count-preserved
-loop-count-preserved g c =
-    walk_more g.T.Taker _ _ _ _ _ _ _ _ _ _ c.loop-count.invariant
-    (rw c.closed_before-closed.ensures.pattern at c.in_ok-next.ensures)
 
 pub walk_pattern-requires-2-clause-slacks_fit : goal.walk_pattern-requires-2-clause-slacks_fit
 walk_pattern-requires-2-clause-slacks_fit g c =

@@ -1,8 +1,8 @@
-use Rattle.rota_items.proofs.SlackTerms.{slack_term}
+use Rattle.std.specs.List.{range_with_len}
 use Rattle.rota_items.specs.Events.{term_events}
-use Rattle.rota_items.proofs.Common.{each_below, Took}
+use Rattle.rota_items.specs.Linear.{times}
+use Rattle.rota_items.proofs.Common.{Took}
 use Rattle.rota_items.proofs.sums.give_range.Given as goal
 
 abbrev pub invariant-loop-i : goal.invariant-loop-i
-invariant-loop-i g l =
-    Took g.T.Taker (term_events (each_below l.i (slack_term l.fn.coefficient l.fn.first))) l.fn.taker l.taker
+invariant-loop-i g l = Took g.T.Taker (term_events (times l.fn.coefficient (range_with_len l.fn.first l.i))) l.fn.taker l.taker

@@ -1,6 +1,5 @@
 use Rattle.std.proofs.Common.{refl, inl, inr}
 use Rattle.std.proofs.lemmas.Result.{err_from_is_err_and}
-use Rattle.solver_text.specs.States.{meaning_of}
 use Rattle.rota_pb.specs.Decoding.{at_week}
 use Rattle.rota_pb.specs.WeekFiles.{StopsAt}
 use Rattle.rota_pb.proofs.DecodedRun.{fails_at_answer, fails_at_roster, written}
@@ -44,4 +43,4 @@ returns-in_err-solved-clause-read g c =
 pub returns-in_err-decoded-clause-read : goal.returns-in_err-decoded-clause-read
 returns-in_err-decoded-clause-read g c =
     let p = err_from_is_err_and c.from_residual-in_err-decoded.result c.from_residual-in_err-decoded.ensures.1 in
-    rw (p.1, p.2) (λ is. absurd (lacks_no_read _ (meaning_of c.in_ok-solved.solved) _ is c.in_err-decoded.ensures.fault))
+    rw (p.1, p.2) (λ is. absurd (lacks_no_read _ c.in_ok-solved.solved _ is c.in_err-decoded.ensures.fault))

@@ -8,9 +8,10 @@ loop-end-preserved c = record {
   taken =
       rw c.skip.ensures
       (c.loop-end.invariant.taken
-      ∙ skips (facts_of c.loop-end.self.known) (line_of c.loop-end.self) c.loop-end.rest.now c.in-Some.end c.loop-end.invariant.skipped
+      ∙ skips (facts_of c.loop-end.self.facts) (line_of c.loop-end.self) c.loop-end.rest.now c.in-Some.end c.loop-end.invariant.skipped
       c.in-Some.ensures.0.high (λ k lt. c.in-Some.ensures.0.before k (omega arith) lt) c.in-Some.ensures.1
-      ∙ c.if-not-begins_skipped.ensures refl (facts_of c.loop-end.self.known));
+      ∙ c.behind_empty_lines-rest.ensures.passes (facts_of c.loop-end.self.facts)
+      ∙ c.if-not-begins_skipped.ensures refl (facts_of c.loop-end.self.facts));
   skipped = rw c.skip.ensures refl;
   no_longer = let short = c.loop-end.invariant.no_longer in omega (arith, length-take {A = ℕ}, length-drop {A = ℕ});
 }
@@ -19,11 +20,12 @@ pub returns-then-not-begins_skipped-clause-takes : goal.returns-then-not-begins_
 returns-then-not-begins_skipped-clause-takes c =
     rw c.start_again.ensures
     (c.loop-end.invariant.taken
-    ∙ skips (facts_of c.loop-end.self.known) (line_of c.loop-end.self) c.loop-end.rest.now c.in-Some.end c.loop-end.invariant.skipped
-    c.in-Some.ensures.0.high (λ k lt. c.in-Some.ensures.0.before k (omega arith) lt) c.in-Some.ensures.1)
+    ∙ skips (facts_of c.loop-end.self.facts) (line_of c.loop-end.self) c.loop-end.rest.now c.in-Some.end c.loop-end.invariant.skipped
+    c.in-Some.ensures.0.high (λ k lt. c.in-Some.ensures.0.before k (omega arith) lt) c.in-Some.ensures.1
+    ∙ c.behind_empty_lines-rest.ensures.passes (facts_of c.loop-end.self.facts))
 
 pub returns-clause-takes : goal.returns-clause-takes
 returns-clause-takes c =
     c.loop-end.invariant.taken
-    ∙ skips_all (facts_of c.loop-end.self.known) (line_of c.loop-end.self) c.loop-end.rest.now c.loop-end.invariant.skipped
+    ∙ skips_all (facts_of c.loop-end.self.facts) (line_of c.loop-end.self) c.loop-end.rest.now c.loop-end.invariant.skipped
     (λ k lt. c.in_default.ensures k (omega arith) lt)

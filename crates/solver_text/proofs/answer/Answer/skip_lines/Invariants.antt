@@ -6,7 +6,7 @@ use Rattle.solver_text.proofs.answer.Answer.skip_lines.Given as goal
 
 abbrev pub invariant-loop-end : goal.invariant-loop-end
 invariant-loop-end l = record {
-  taken : take_bytes (facts_of l.fn.self.known) (line_of l.fn.self) l.fn.bytes ≡ take_bytes (facts_of l.self.known) (line_of l.self) l.rest;
+  taken : take_bytes (facts_of l.fn.self.facts) (line_of l.fn.self) l.fn.bytes ≡ take_bytes (facts_of l.self.facts) (line_of l.self) l.rest;
   skipped : (line_of l.self).line ≡ at.Skipped;
   no_longer : length l.rest ≤ length l.fn.bytes;
 }

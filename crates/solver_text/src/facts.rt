@@ -10,7 +10,7 @@ use std::alloc::{AllocError, Global};
 /// What is known: the status, the last o value, and for each variable whether a positive and
 /// whether a negative literal was there.
 #[derive(Drop)]
-pub(crate) struct Known {
+pub(crate) struct Facts {
     pub(crate) status: Option<Status>,
     pub(crate) last_o: Option<i64>,
     pub(crate) seen_true: Bits,
@@ -35,15 +35,15 @@ fn mark(seen: &mut Bits, other: &Bits, place: u32) -> Result<(), AnswerFault>
     Ok(())
 }
 
-impl Known {
+impl Facts {
     ghost use Rattle.solver_text.specs.Answers.{no_facts, judge_status, judge_objective, judge_variable, at_end};
     ghost use Rattle.solver_text.specs.LineStates.{judge_front};
-    ghost use Rattle.solver_text.specs.States.{facts_of, Gives, Ends};
+    ghost use Rattle.solver_text.specs.States.{facts_of, Gives};
 
-    pub(crate) fn new(alloc: Global, variables: u32) -> Result<Known, AllocError>
-        ensures { IfOk result (λ known. facts_of known ≡ no_facts variables) }
+    pub(crate) fn new(alloc: Global, variables: u32) -> Result<Facts, AllocError>
+        ensures { IfOk result (λ facts. facts_of facts ≡ no_facts variables) }
     {
-        Ok(Known {
+        Ok(Facts {
             status: None,
             last_o: None,
             seen_true: Bits::new(alloc, variables)?,
@@ -100,9 +100,9 @@ impl Known {
     }
 
     pub(crate) fn finish(self) -> Result<Solved, AnswerFault>
-        ensures { Ends result (at_end (facts_of self)) }
+        ensures { at_end (facts_of self) ≡ result }
     {
-        let Known {
+        let Facts {
             status,
             last_o,
             seen_true,
