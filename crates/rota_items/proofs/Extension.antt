@@ -1,11 +1,11 @@
 -- Rosters extend to assignments at their penalty, and satisfying assignments stand for rosters of no greater one.
-use Rattle.rota_items.proofs.LogicWords.{◌≡◌, ℕ, ◌+◌, ◌*◌, ◌<◌, ◌≤◌, Bool, true, false, cond, List, ◌++◌, refl, sym, ap, subst, ◌∙◌, arith, pos, ◌+ℤ◌, ◌-ℤ◌, ◌≤ℤ◌, nat_lt, All, AllByRecursion, ints, lt-ltb, ltb-false, All-from_recursion, recursion_from_All, AllByRecursion-back, AllByRecursion-append}
-use Rattle.rota_items.proofs.ModelWords.{KeepsCompetitionRules, KeepsHardRules, Roster, InWeek, Week, Cell, cell_number, unit_number, first_slack, constant_terms, cell_terms, constant, penalty, soft_items, Item, positive_part, shortage, weighted_shortages, numbered, Term, Satisfies, value_of, SatisfiesModel, StandBelow, item_constraints, slack_weights, numbered_terms, hard_constraints, numbered_items, objective_terms, roster_of, assignment_of, extension_of, model_of}
+use Rattle.rota_items.proofs.LogicWords.{◌≡◌, ℕ, ◌+◌, ◌*◌, ◌<◌, ◌≤◌, Bool, true, false, cond, List, ◌++◌, refl, sym, ap, ◌∙◌, arith, pos, ◌+ℤ◌, ◌-ℤ◌, ◌≤ℤ◌, nat_lt, All, AllByRecursion, ints, lt-ltb, ltb-false, All-from_recursion, recursion_from_All}
+use Rattle.rota_items.proofs.ModelWords.{KeepsCompetitionRules, KeepsHardRules, Roster, InWeek, Week, Cell, cell_number, unit_number, first_slack, constant_terms, cell_terms, constant, penalty, soft_items, Item, positive_part, shortage, weighted_shortages, numbered, Term, Satisfies, value_of, SatisfiesModel, StandBelow, item_constraints, slack_weights, numbered_terms, numbered_items, objective_terms, roster_of, assignment_of, extension_of, model_of}
 use Rattle.rota_items.proofs.AlikeRosters.{keeps-alike}
 use Rattle.rota_items.proofs.AssignmentOf.{assignment_of-cell, assignment_of-unit}
 use Rattle.rota_items.proofs.ItemLaw.{value_of-numbered, extension_satisfies, value_of-extension, weighted_shortages-le}
 use Rattle.rota_items.proofs.ListAll.{all-map, all-weaker}
-use Rattle.rota_items.proofs.ModelParts.{constraints-parts}
+use Rattle.rota_items.proofs.ModelParts.{satisfies-parts}
 use Rattle.rota_items.proofs.Numbers.{cell_number-below}
 use Rattle.rota_items.proofs.PatternItems.{value_of-append}
 use Rattle.rota_items.proofs.SoftRules.AllItems.{ItemIn, in-cell_terms}
@@ -126,15 +126,13 @@ enough-numbered week roster keeps =
 pub extension-satisfies : (week : Week) (roster : Roster) → KeepsHardRules week roster →
     SatisfiesModel (extension_of week roster) (model_of week)
 extension-satisfies week roster keeps =
-    All-from_recursion (Satisfies (extension_of week roster)) (model_of week).constraints
-    (subst (AllByRecursion (Satisfies (extension_of week roster))) (sym (constraints-parts week))
-    (AllByRecursion-append (Satisfies (extension_of week roster)) (hard_constraints week)
-    (item_constraints (first_slack week) (numbered_items week))
-    (hard_constraints-hold week (extension_of week roster) (extension-unit week roster)
-    (keeps-alike week roster (roster_of week (extension_of week roster)) (λ c inside. sym (extension-roster week roster c inside)) keeps))
-    (recursion_from_All (Satisfies (extension_of week roster)) (item_constraints (first_slack week) (numbered_items week))
-    (extension_satisfies (assignment_of week roster) (first_slack week) (numbered_items week) (stand-below week)
-    (enough-numbered week roster keeps.of_competition)))))
+    (satisfies-parts week (extension_of week roster)).1 (
+      hard_constraints-hold week (extension_of week roster) (extension-unit week roster)
+          (keeps-alike week roster (roster_of week (extension_of week roster)) (λ c inside. sym (extension-roster week roster c inside)) keeps),
+      recursion_from_All (Satisfies (extension_of week roster)) (item_constraints (first_slack week) (numbered_items week))
+          (extension_satisfies (assignment_of week roster) (first_slack week) (numbered_items week) (stand-below week)
+          (enough-numbered week roster keeps.of_competition)),
+    )
 
 pub extension-objective : (week : Week) (roster : Roster) → KeepsHardRules week roster →
     value_of (extension_of week roster) (objective_terms week) ≡ pos (penalty week roster)
@@ -155,16 +153,8 @@ extension-objective week roster keeps =
 -- ---- satisfying assignments
 
 module _ (week : Week) (assignment : ℕ → Bool) (all : SatisfiesModel assignment (model_of week)) where
-  parts : AllByRecursion (Satisfies assignment) (hard_constraints week) ×
-      AllByRecursion (Satisfies assignment) (item_constraints (first_slack week) (numbered_items week))
-  parts =
-      AllByRecursion-back (Satisfies assignment) (hard_constraints week)
-      (item_constraints (first_slack week) (numbered_items week))
-      (subst (AllByRecursion (Satisfies assignment)) (constraints-parts week)
-      (recursion_from_All (Satisfies assignment) (model_of week).constraints all))
-
   hard : (assignment (unit_number week) ≡ true) × KeepsHardRules week (roster_of week assignment)
-  hard = hard_constraints-mean week assignment parts.0
+  hard = hard_constraints-mean week assignment ((satisfies-parts week assignment).0 all).0
 
   pub satisfying-keeps : KeepsHardRules week (roster_of week assignment)
   satisfying-keeps = hard.1
@@ -178,7 +168,8 @@ module _ (week : Week) (assignment : ℕ → Bool) (all : SatisfiesModel assignm
         ap (λ (b : Bool). cond b (constant week) 0) hard.0,
         value_of-numbered (cell_number week) assignment (cell_terms week),
         weighted_shortages-le assignment (first_slack week) (numbered_items week)
-            (All-from_recursion (Satisfies assignment) (item_constraints (first_slack week) (numbered_items week)) parts.1),
+            (All-from_recursion (Satisfies assignment) (item_constraints (first_slack week) (numbered_items week))
+            ((satisfies-parts week assignment).0 all).1),
         weighted-of_items week assignment (roster_of week assignment) (λ c inside. refl),
         charges-penalty week (roster_of week assignment) hard.1.of_competition,
       )

@@ -1,7 +1,8 @@
 -- The first of some rows that fails a test.
-use Rattle.rota_items.proofs.LogicWords.{◌≡◌, ℕ, suc, ◌+◌, Bool, true, false, ◌⊎◌, inl, inr, List, [], ◌∷◌, ◌++◌, map, length, refl, sym, ap, ◌∙◌, arith, Option, Some, None, ℤ, ◌≤ℤ◌, int_le, if◌then◌else◌, IfSome, MatchOption, AllByRecursion, ints, cases_Bool}
+use Rattle.rota_items.proofs.LogicWords.{◌≡◌, ℕ, suc, ◌+◌, Bool, true, false, ◌⊎◌, inl, inr, List, [], ◌∷◌, ◌++◌, map, length, refl, sym, ap, ◌∙◌, arith, Option, Some, None, ℤ, ◌≤ℤ◌, int_le, if◌then◌else◌, IfSome, MatchOption, All, AllByRecursion, ints, cases_Bool}
 use Rattle.rota_items.proofs.ModelWords.{Rule, Satisfies, value_of, LinearRow, linear_constraint}
 use Rattle.std.specs.Option.{option_or}
+use Rattle.std.proofs.lemmas.List.Elements.{All-cons, All-head, All-nil, All-tail}
 use Rattle.rota_items.specs.Verdicts.{first_failing, first_unmet, later, rule_of_part}
 
 abbrev pub Named : Type 0
@@ -30,10 +31,9 @@ first_failing-append test (row ∷ rows) more =
         else Some (1, rule_of_part row.part)) ≡
         option_or (if b then later 1 found else Some (1, rule_of_part row.part))
         (later (suc (length rows)) (first_failing test more))
-    either true None = later-later 1 (length rows) (first_failing test more) ∙ (λ i. later (next i) (first_failing test more))
-      where
-        next : 1 + length rows ≡ suc (length rows)
-        next = omega arith
+    either true None =
+        let next : 1 + length rows ≡ suc (length rows) = omega arith in
+        later-later 1 (length rows) (first_failing test more) ∙ ap (λ n. later n (first_failing test more)) next
     either true (Some found) = refl
     either false found = refl
 
@@ -62,7 +62,7 @@ le_or_not d v =
     ]
 
 abbrev pub AllSatisfied : (ℕ → Bool) → List (LinearRow ℕ) → Type 0
-AllSatisfied assignment rows = AllByRecursion (Satisfies assignment) (map linear_constraint rows)
+AllSatisfied assignment rows = All (Satisfies assignment) (map linear_constraint rows)
 
 -- none is named exactly where all are satisfied
 abbrev pub Decided : (ℕ → Bool) → List (LinearRow ℕ) → Named → Type 0
@@ -70,14 +70,14 @@ Decided assignment rows unmet =
     MatchOption unmet (AllSatisfied assignment rows) (λ _. AllSatisfied assignment rows → ⊥)
 
 pub first_unmet-decides : (assignment : ℕ → Bool) (rows : List (LinearRow ℕ)) → Decided assignment rows (first_unmet assignment rows)
-first_unmet-decides assignment [] = tt
+first_unmet-decides assignment [] = All-nil (Satisfies assignment)
 first_unmet-decides assignment (row ∷ rows) =
     elim (le_or_not row.degree (value_of assignment row.terms)) [
       | inl here ↦ rw here.0 (one_more (first_unmet assignment rows) here.1 (first_unmet-decides assignment rows))
-      | inr here ↦ rw here.0 (λ all. here.1 all.0)
+      | inr here ↦ rw here.0 (λ all. here.1 (All-head (Satisfies assignment) (linear_constraint row) (map linear_constraint rows) all))
     ]
   where
     one_more : (unmet : Named) → Satisfies assignment (linear_constraint row) → Decided assignment rows unmet →
         Decided assignment (row ∷ rows) (later 1 unmet)
-    one_more None here rest = (here, rest)
-    one_more (Some found) here rest = λ all. rest all.1
+    one_more None here rest = All-cons (Satisfies assignment) (linear_constraint row) (map linear_constraint rows) here rest
+    one_more (Some found) here rest = λ all. rest (All-tail (Satisfies assignment) (linear_constraint row) (map linear_constraint rows) all)

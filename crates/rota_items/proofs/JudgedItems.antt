@@ -16,16 +16,10 @@ use Rattle.rota_items.proofs.JudgedTerms.{AtSlacks, Before, others-of, slacks-of
 use Rattle.rota_items.proofs.PenaltyBound.{length-range}
 use Rattle.rota_items.proofs.PatternItems.{value_of-append}
 use Rattle.rota_items.proofs.SmallSums.{positive_part-parts, shortage-least, spread}
-use Rattle.rota_items.proofs.TermsHold.{on-times, value_of-agree}
+use Rattle.rota_items.proofs.TermsHold.{value_of-agree}
 use Rattle.rota_items.proofs.UnitTerms.{spread-units, units-times}
 
 -- ---- the slacks of an item
-
-pub range-within : (P : ℕ → Type 0) (first n : ℕ) → ((v : ℕ) → first ≤ v → v < first + n → P v) →
-    AllByRecursion P (range_with_len first n)
-range-within P first zero each = tt
-range-within P first (suc n) each =
-    (each first (omega arith) (omega arith), range-within P (first + 1) n (λ v from to. each v (omega arith) (omega arith)))
 
 front-min : (o n k : ℕ) → o < n → ltb o k ≡ ltb o (min n k)
 front-min o n k below = grind (arith, nat_tests)
@@ -99,9 +93,11 @@ module _ (week : Week) (subject : Subject) where
 
   pub at_slacks : (coefficient : ℤ) (item : Item ℕ) (first : ℕ) → unit_number week < first →
       AtSlacks week subject (times coefficient (slack_variables item first))
-  at_slacks coefficient item first after =
-      on-times (λ v. unit_number week < v) coefficient (slack_variables item first)
-      (range-within (λ v. unit_number week < v) first item.slacks (λ v from to. omega arith))
+  at_slacks coefficient item first after = each first item.slacks after
+    where
+      each : (first n : ℕ) → unit_number week < first → AtSlacks week subject (times coefficient (range_with_len first n))
+      each first zero after = tt
+      each first (suc n) after = (after, each (first + 1) n (omega arith))
 
   module _ (item : Item ℕ) (first : ℕ) (fit : IsFit item) where
     abbrev slacks : List (Term ℕ)
@@ -133,11 +129,10 @@ module _ (week : Week) (subject : Subject) where
 
       item-judged : (items : List (Item ℕ)) → first + item.slacks ≤ (model_of week).variables + 1 →
           Follows week subject first (item ∷ items) →
-          IsJudged week subject (item_row item first) item.rule item.weight (shortage A item) paid_slacks
+          IsJudged week subject (item_row item first) item.weight (shortage A item) paid_slacks
       item-judged items in_model follows =
           let others : ℤ = (sums_of week subject (item_row item first).terms).others in record {
             closes = λ tally. refl;
-            rule_is = refl;
             small = item-spread;
             lacks_is = item-lacks;
             slacks_are =
@@ -184,6 +179,6 @@ module _ (week : Week) (subject : Subject) where
         rw (fold-append (tallied week subject) tally (row_events row) (events rows))
         (items-come (fold (tallied week subject) tally (row_events row)) (first + item.slacks) items all.1 (omega (arith, after))
         (omega (arith, more, in_model)) (follows-after week subject item items first follows)
-        (row-comes week subject named paid total requests tally row item.rule item.weight _ _ rows _ _ _ _
+        (row-comes week subject named paid total requests tally row item.weight _ _ rows _ _ _ _
         (item-judged item first all.0 after items (omega (arith, more, in_model)) follows) refl
         (λ other. sum_by-cons (charge_of other) item items) comes))

@@ -18,13 +18,14 @@ use Rattle.rota_items.proofs.JudgedItems.{Follows, IsFit, at_slacks, charge_of, 
 use Rattle.rota_items.proofs.JudgedRows.{Comes, IsHardRow, rows-come, same}
 use Rattle.rota_items.proofs.JudgedTerms.{AtSlacks, counted-before, counted_other, others-at_slacks, others-before, row-tallied}
 use Rattle.rota_items.proofs.ListAll.{all-map}
-use Rattle.rota_items.proofs.ListSums.{sum_by-each-same, sum_by-map, sum_by-same, sum_by-times}
+use Rattle.rota_items.proofs.ListSums.{sum_by-each-same, sum_by-map}
 use Rattle.rota_items.proofs.PenaltyBound.{objective-below}
 use Rattle.rota_items.proofs.SlackBound.{rows-below, variables-below}
 use Rattle.rota_items.proofs.SmallSums.{spread}
 use Rattle.rota_items.proofs.SoftRules.AllItems.{in-cell_terms}
-use Rattle.rota_items.proofs.SoftRules.EachRule.{cell_terms-are, each-item, of_sound, sound-rule, sum_by-soft_items}
+use Rattle.rota_items.proofs.SoftRules.EachRule.{cell_terms-are, each-item, sound-rule, sum_by-soft_items}
 use Rattle.rota_items.proofs.SoftRules.ShiftOffRequests.{value_of-request_terms}
+use Rattle.rota_items.proofs.SoftRules.Sound.{IsItemSound}
 use Rattle.rota_items.proofs.SoundTerms.{AreSound, spread-sound}
 use Rattle.rota_items.proofs.UnitTerms.{OnCoefficients}
 use Rattle.rota_items.proofs.Weights.{IsPositive, coefficients-positive}
@@ -124,12 +125,22 @@ module _ (week : Week) (subject : Subject) where
       of_own : (own : Rule) →
           sum_by (λ item. charge_of week subject rule (numbered (cell_number week) item)) (items_of_rule week own) ≡
           same own rule * weighted_shortages roster (items_of_rule week own)
-      of_own own =
-          sum_by-same _ (λ item. same own rule * (item.weight * shortage roster item)) (items_of_rule week own)
-          (of_sound week _ own
-          (λ item sound i. same (sound.rule_is i) rule * (item.weight * shortage-of_item week A roster agrees item sound.terms.in_week i))
-          (items_of_rule week own) (sound-rule week own).items) ∙
-          sum_by-times (same own rule) (λ (item : Item Cell). item.weight * shortage roster item) (items_of_rule week own)
+      of_own own = each (items_of_rule week own) (sound-rule week own).items
+        where
+          each : (items : List (Item Cell)) → AllByRecursion (IsItemSound week own) items →
+              sum_by (λ item. charge_of week subject rule (numbered (cell_number week) item)) items ≡
+              same own rule * weighted_shortages roster items
+          each [] all = omega arith
+          each (item ∷ items) all =
+              let here : charge_of week subject rule (numbered (cell_number week) item) ≡ same own rule * (item.weight * shortage roster item) =
+              λ i. same (all.0.rule_is i) rule * (item.weight * shortage-of_item week A roster agrees item all.0.terms.in_week i) in
+              omega (
+                arith,
+                sum_by-cons (λ one. charge_of week subject rule (numbered (cell_number week) one)) item items,
+                ap (λ n. same own rule * n) (sum_by-cons (λ (one : Item Cell). one.weight * shortage roster one) item items),
+                here,
+                each items all.1,
+              )
 
 module _ (week : Week) (subject : Subject) (limits : IsWithinLimits week) where
   -- ---- each row is small

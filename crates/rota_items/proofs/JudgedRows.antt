@@ -72,11 +72,11 @@ module _ (week : Week) (subject : Subject) where
   abbrev pub assignment : ℕ → Bool
   assignment = assignment_in week subject
 
-  -- A constraint of the rule, at this weight and of small coefficients: it lacks this, and so many of its slacks are
-  -- true. The judge finds whether the assignment satisfies it.
-  pub record IsJudged (row : LinearRow ℕ) (rule : Rule) (weight lacks slacks : ℕ) : Type 0 where
-    pub closes : (tally : Tally) → closed subject tally row.part row.degree ≡ constraint_closed subject tally rule weight row.degree
-    pub rule_is : rule ≡ rule_of_part row.part
+  -- A constraint of this weight and of small coefficients, which lacks this and of which so many slacks are true. The
+  -- judge finds whether the assignment satisfies it.
+  pub record IsJudged (row : LinearRow ℕ) (weight lacks slacks : ℕ) : Type 0 where
+    pub closes : (tally : Tally) →
+        closed subject tally row.part row.degree ≡ constraint_closed subject tally (rule_of_part row.part) weight row.degree
     pub small : spread row.terms < 2 ^ 63
     pub lacks_is : lacking (sums_of week subject row.terms) row.degree ≡ lacks
     pub slacks_are : true_slacks subject (sums_of week subject row.terms) lacks ≡ slacks
@@ -95,11 +95,10 @@ module _ (week : Week) (subject : Subject) where
   no-slacks (extended roster) sums lacks none = omega (arith, ap positive_part none)
 
   hard-judged : (row : LinearRow ℕ) (hard : IsHardRow row) →
-      IsJudged row hard.rule 0 (lacking (sums_of week subject row.terms) row.degree) 0
+      IsJudged row 0 (lacking (sums_of week subject row.terms) row.degree) 0
   hard-judged row hard =
       let value : ℤ = (sums_of week subject row.terms).others in record {
-        closes = λ tally. ap (λ part. closed subject tally part row.degree) hard.part_is;
-        rule_is = sym (ap rule_of_part hard.part_is);
+        closes = λ tally. rw hard.part_is refl;
         small = hard.small;
         lacks_is = refl;
         slacks_are = no-slacks subject (sums_of week subject row.terms) _ (slacks-before week subject row.terms hard.before);
@@ -120,19 +119,21 @@ module _ (week : Week) (subject : Subject) where
       pub totals : (rule : Rule) → before rule + charges rule ≡ total rule
       pub requests_are : tally.requests_and_constant ≡ requests
 
-    pub row-comes : (tally : Tally) (row : LinearRow ℕ) (rule : Rule) (weight lacks slacks : ℕ) (rows : List (LinearRow ℕ))
-        (pays all_pay : ℕ) (charges all_charge : Rule → ℕ) → IsJudged row rule weight lacks slacks →
-        all_pay ≡ weight * slacks + pays → ((other : Rule) → all_charge other ≡ same rule other * (weight * lacks) + charges other) →
+    pub row-comes : (tally : Tally) (row : LinearRow ℕ) (weight lacks slacks : ℕ) (rows : List (LinearRow ℕ))
+        (pays all_pay : ℕ) (charges all_charge : Rule → ℕ) → IsJudged row weight lacks slacks →
+        all_pay ≡ weight * slacks + pays →
+        ((other : Rule) → all_charge other ≡ same (rule_of_part row.part) other * (weight * lacks) + charges other) →
         Comes tally (row ∷ rows) all_pay all_charge → Comes (fold (tallied week subject) tally (row_events row)) rows pays charges
-    row-comes tally row rule weight lacks slacks rows pays all_pay charges all_charge judged pays_is charges_are comes =
+    row-comes tally row weight lacks slacks rows pays all_pay charges all_charge judged pays_is charges_are comes =
         let here : Tally = opened week subject tally row in
+        let rule : Rule = rule_of_part row.part in
         let number : min (tally.constraints + 1) greatest_count ≡ tally.constraints + 1 = omega (arith, comes.few) in
         rw (row-tallied week subject tally row judged.small, judged.closes here, judged.lacks_is, judged.slacks_are) (record {
           few = omega (arith, comes.few);
           unmet =
-              (λ i. option_or (option_or tally.unmet (if judged.met i then None else Some (number i, judged.rule_is i)))
+              (λ i. option_or (option_or tally.unmet (if judged.met i then None else Some (number i, rule)))
               (later (number i) (first_unmet assignment rows))) ∙
-              unmet-next tally.unmet (is_satisfied assignment row) tally.constraints (rule_of_part row.part) (first_unmet assignment rows) ∙ comes.unmet;
+              unmet-next tally.unmet (is_satisfied assignment row) tally.constraints rule (first_unmet assignment rows) ∙ comes.unmet;
           slacks = omega (arith, pays_is, comes.slacks);
           before = λ other. comes.before other + same rule other * (weight * lacks);
           shortages = ap (with_cost rule (capped (weight * lacks))) comes.shortages ∙ cost-raised rule (weight * lacks) comes.before;
@@ -149,5 +150,5 @@ module _ (week : Week) (subject : Subject) where
     rows-come Q tally (row ∷ rows) more pays charges all finish comes =
         rw (fold-append (tallied week subject) tally (row_events row) (events (rows ++ more)))
         (rows-come Q (fold (tallied week subject) tally (row_events row)) rows more pays charges all.1 finish
-        (row-comes tally row all.0.rule 0 _ 0 (rows ++ more) pays pays charges charges (hard-judged row all.0) (omega arith)
+        (row-comes tally row 0 _ 0 (rows ++ more) pays pays charges charges (hard-judged row all.0) (omega arith)
         (λ other. omega arith) comes))

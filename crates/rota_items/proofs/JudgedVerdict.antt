@@ -58,13 +58,7 @@ module _ (week : Week) (within : IsWithinLimits week) where
       constants-raised rules (λ rule. f rule + same own rule * constant_of_rule week own) at_last
       (λ rule. omega (arith, sums rule, sum_by-cons (λ other. same other rule * constant_of_rule week other) own rules))
 
-module _ (instance : InstanceTables) (limits : IsInstance instance) (subject : Subject) where
-  abbrev week : Week
-  week = week_of instance
-
-  within : IsWithinLimits week
-  within = instance-within_limits instance limits
-
+module _ (week : Week) (within : IsWithinLimits week) (subject : Subject) where
   -- requests are all that stands in the objective at cells
   abbrev requests : ℕ
   requests = request_cost week (roster_in week subject)
@@ -128,9 +122,9 @@ driven-judges judging limits driven objective costs objective_is costs_are =
       costs =
           ap (map pos)
           (costs_are ∙
-          costs-raised judging.instance limits judging.subject judging.tally comes.before comes.requests_are comes.shortages
+          costs-raised week limits_of judging.subject judging.tally comes.before comes.requests_are comes.shortages
           (λ rule. omega (arith, comes.totals rule, charges-are week judging.subject rule))) ∙
-          charges-last judging.instance limits judging.subject soft_rules stand-once;
+          charges-last week limits_of judging.subject soft_rules stand-once;
     }
 
 -- ---- a fresh judge that was driven
@@ -144,12 +138,7 @@ tally-driven judging (event ∷ all) = tally-driven (judged judging event) all
 
 module _ (instance : InstanceTables) (subject : Subject) (old new : Judging) (begun : old ≡ fresh instance subject)
     (driven : new ≡ fold judged old (model_events instance)) where
-  abbrev made : Judging
-  made = record (fresh instance subject) {
-    tally = fold (tallied (week_of instance) subject) no_tally (model_events instance);
-  }
-
-  new_is : new ≡ made
+  new_is : new ≡ record (fresh instance subject) { tally = fold (tallied (week_of instance) subject) no_tally (model_events instance) }
   new_is =
       driven ∙ ap (λ (j : Judging). fold judged j (model_events instance)) begun ∙
       tally-driven (fresh instance subject) (model_events instance)

@@ -1,7 +1,7 @@
 -- Sums of cells whose terms are within the week, rise, and have coefficients of 1 and -1.
-use Rattle.rota_items.proofs.LogicWords.{ℕ, ◌+◌, ◌<◌, ◌≤◌, List, [], ◌∷◌, length, arith, pos, negsuc, AllByRecursion}
+use Rattle.rota_items.proofs.LogicWords.{ℕ, ◌+◌, ◌<◌, ◌≤◌, List, arith, pos, negsuc, AllByRecursion}
 use Rattle.rota_items.proofs.ModelWords.{InWeek, Week, Cell, on_cells, work_cells, demand_cells, skill_cells, cell_number, unit_number, Term, times}
-use Rattle.rota_core.proofs.RisesWithin.{RisesWithin}
+use Rattle.rota_core.proofs.RisesWithin.{RisesWithin, length-rising}
 use Rattle.rota_items.proofs.CellsIn.{in-on_cells, in-work_cells, in-demand_cells, in-skill_cells}
 use Rattle.rota_items.proofs.RisingCells.{at, day_start, first_day-from, last_day-le, on-keeps, rises-demand_cells, rises-skill_cells, rises-times, rises-work_cells, within, within-block}
 use Rattle.rota_items.proofs.SmallSums.{spread}
@@ -12,13 +12,6 @@ pub record AreSound (week : Week) (terms : List (Term Cell)) : Type 0 where
   pub in_week : OnTerms (InWeek week) terms
   pub rise : within week terms
   pub units : AreUnits terms
-
--- as many elements as numbers that rise fit between
-length-rising : {X : Type 0} (number : X → ℕ) (first end : ℕ) (xs : List X) → RisesWithin number first end xs →
-    first + length xs ≤ end
-length-rising number first end [] rises = omega (arith, rises)
-length-rising number first end (x ∷ xs) rises =
-    omega (arith, rises.0, length-rising number (number x + 1) end xs rises.1)
 
 module _ (week : Week) where
   -- terms of a coefficient of 1 or -1 at rising cells are no more than the cells

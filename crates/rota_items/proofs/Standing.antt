@@ -1,7 +1,9 @@
 -- A variable stands in some constraint exactly where it is one of the model's.
-use Rattle.rota_items.proofs.LogicWords.{◌≡◌, ◌↔◌, ℕ, zero, suc, ◌+◌, ◌<◌, ◌≤◌, Bool, ◌||◌, true, false, ◌⊎◌, inl, inr, List, [], ◌∷◌, map, refl, sym, ap, ◌∙◌, arith, ℤ, pos, negsuc, ◌==◌, AllByRecursion, AllByRecursion-at, AllByRecursion-back, list_any, range_with_len, cases_Bool, eqb-true, true≢false, sum_by-cons}
+use Rattle.rota_items.proofs.LogicWords.{◌≡◌, ◌↔◌, ℕ, zero, suc, ◌+◌, ◌<◌, ◌≤◌, Bool, true, false, inl, inr, List, [], ◌∷◌, map, sym, ◌∙◌, arith, ℤ, pos, negsuc, ◌==◌, AllByRecursion, AllByRecursion-at, AllByRecursion-back, list_any, range_with_len, recursion_from_All, All-from_recursion, subst, cases_Bool, eqb-true, true≢false, sum_by-cons}
 use Rattle.rota_items.proofs.ModelWords.{cell, Week, Cell, on_cells, work_cells, cell_number, cell_of_number, unit_number, first_slack, rule_rows, Item, Term, Constraint, times, LinearRow, linear_constraint, item_rows, slack_count, slack_variables, soft_items, hard_rows, numbered_row, numbered_terms, numbered_items, rows_of, model_of}
-use Rattle.std.proofs.lemmas.Bool.{eq-eqb}
+use Rattle.std.specs.Prelude.{slice_index_or}
+use Rattle.std.proofs.lemmas.Bool.{cases_lt, eq-eqb}
+use Rattle.std.proofs.lemmas.List.Folds.{Any-from_list_any, list_any_at}
 use Rattle.rota_core.proofs.RisesWithin.{RisesWithin}
 use Rattle.rota_items.proofs.ItemEventLists.{slack_count-numbered}
 use Rattle.rota_items.proofs.ListAll.{all-weaker}
@@ -17,12 +19,12 @@ at_variable v term = term.1 == v
 -- ---- where no constraint has a variable, it is none of the model's
 
 none-passes : {X : Type 0} (p : X → Bool) (xs : List X) → list_any p xs ≡ false → AllByRecursion (λ x. p x ≡ false) xs
-none-passes p [] none = tt
-none-passes p (x ∷ xs) none = let both = neither (p x) (list_any p xs) none in (both.0, none-passes p xs both.1)
-  where
-    neither : (b other : Bool) → (b || other) ≡ false → (b ≡ false) × (other ≡ false)
-    neither true other is = absurd (true≢false is)
-    neither false other is = (refl, is)
+none-passes p xs none =
+    recursion_from_All (λ x. p x ≡ false) xs (λ k d below.
+    elim (cases_Bool (p (slice_index_or xs k d))) [
+      | inl passes ↦ absurd (true≢false (sym (list_any_at p xs k d below passes) ∙ none))
+      | inr fails ↦ fails
+    ])
 
 all-back : {X Y : Type 0} (P : Y → Type 0) (f : X → Y) (xs : List X) → AllByRecursion P (map f xs) → AllByRecursion (λ x. P (f x)) xs
 all-back P f [] all = tt
@@ -48,27 +50,21 @@ module _ (v : ℕ) where
       OnTerms IsOther (times coefficient (range_with_len first count)) → ⊥
   range-other first zero coefficient from below all = omega arith
   range-other first (suc n) coefficient from below all =
-      elim (here_or_after first v from) [
-        | inl here ↦ all.0 here
-        | inr after ↦ range-other (first + 1) n coefficient after (omega arith) all.1
+      elim (cases_lt first v) [
+        | inl after ↦ range-other (first + 1) n coefficient (omega arith) (omega arith) all.1
+        | inr here ↦ all.0 (omega arith)
       ]
-    where
-      here_or_after : (first v : ℕ) → first ≤ v → (first ≡ v) ⊎ (first + 1 ≤ v)
-      here_or_after first v from = grind arith
 
   slack-other : (first : ℕ) (items : List (Item ℕ)) → first ≤ v → v < first + slack_count items → AllByRecursion Lacks (item_rows first items) → ⊥
   slack-other first [] from below all = omega arith
   slack-other first (item ∷ items) from below all =
       let more : slack_count (item ∷ items) ≡ item.slacks + slack_count items = sum_by-cons (λ (item : Item ℕ). item.slacks) item items in
-      elim (own_or_after v (first + item.slacks)) [
+      elim (cases_lt v (first + item.slacks)) [
         | inl own ↦
             range-other first item.slacks (pos 1) from own
             (AllByRecursion-back (λ (term : Term ℕ). IsOther term.1) item.terms (times (pos 1) (slack_variables item first)) all.0).1
         | inr after ↦ slack-other (first + item.slacks) items after (omega (arith, more, below)) all.1
       ]
-    where
-      own_or_after : (v end : ℕ) → (v < end) ⊎ (end ≤ v)
-      own_or_after v end = grind arith
 
 module _ (week : Week) (v : ℕ) where
   -- the cell of its number stands in the row of its nurse's day
@@ -89,21 +85,18 @@ module _ (week : Week) (v : ℕ) where
       (AllByRecursion-at Q week.shifts (λ s. on_cells week c.nurse s c.day) cells c.shift inside.shift_in) c.skill inside.skill_in).0
       (cell_number-of week v some below)
 
-  which : (v ≡ unit_number week) ⊎ ((v < unit_number week) ⊎ (unit_number week < v))
-  which = either v (unit_number week)
-    where
-      either : (v unit : ℕ) → (v ≡ unit) ⊎ ((v < unit) ⊎ (unit < v))
-      either v unit = grind arith
-
   other-is_none : 0 < v → v ≤ (model_of week).variables → AllByRecursion (Lacks v) (rows_of week) → ⊥
   other-is_none some within all =
       let parts = AllByRecursion-back (Lacks v) (hard_rows week) (item_rows (first_slack week) (numbered_items week)) all in
-      elim which [
-        | inl is_unit ↦ parts.0.0.0 (sym is_unit)
-        | inr (inl below) ↦ cell-other some below parts.0.1
-        | inr (inr above) ↦
-            slack-other v (first_slack week) (numbered_items week) (omega arith)
-            (omega (arith, within, slack_count-numbered (cell_number week) (soft_items week))) parts.1
+      elim (cases_lt v (unit_number week)) [
+        | inl below ↦ cell-other some below parts.0.1
+        | inr from ↦
+            elim (cases_lt (unit_number week) v) [
+              | inl above ↦
+                  slack-other v (first_slack week) (numbered_items week) (omega arith)
+                  (omega (arith, within, slack_count-numbered (cell_number week) (soft_items week))) parts.1
+              | inr up_to ↦ parts.0.0.0 (omega arith)
+            ]
       ]
 
 -- ---- no other variable stands in one
@@ -111,12 +104,8 @@ module _ (week : Week) (v : ℕ) where
 -- what follows from an element that passes
 from-passing : {X : Type 0} (p : X → Bool) (P : X → Type 0) (Q : Type 0) → ((x : X) → P x → p x ≡ true → Q) → (xs : List X) →
     AllByRecursion P xs → list_any p xs ≡ true → Q
-from-passing p P Q each [] all passes = absurd (true≢false (sym passes))
-from-passing p P Q each (x ∷ xs) all passes =
-    elim (cases_Bool (p x)) [
-      | inl here ↦ each x all.0 here
-      | inr other ↦ from-passing p P Q each xs all.1 (sym (ap (λ b. b || list_any p xs) other) ∙ passes)
-    ]
+from-passing p P Q each xs all passes =
+    let found = Any-from_list_any p xs passes in each found.1 (subst P found.3 (All-from_recursion P xs all found.0 found.1 found.2)) found.4
 
 pub rises-end : (first end : ℕ) (terms : List (Term ℕ)) → RisesWithin variable_of first end terms → first ≤ end
 rises-end first end [] rises = rises

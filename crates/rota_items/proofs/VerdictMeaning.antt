@@ -1,6 +1,6 @@
 -- What a verdict says of the model and of the rules, of bits and of a roster's extension.
-use Rattle.rota_items.proofs.LogicWords.{◌≡◌, ◌↔◌, ℕ, ◌+◌, Bool, true, false, cond, ◌⊎◌, inl, inr, List, [], ◌∷◌, map, length, refl, sym, ap, ◌∙◌, arith, Some, None, pos, ◌+ℤ◌, int_le, IfSome, MatchOption, AllByRecursion, cases_Bool, true≢false, ints, All-from_recursion, recursion_from_All}
-use Rattle.rota_items.proofs.ModelWords.{KeepsCompetitionRules, KeepsHardRules, FirstBroken, InWeek, Roster, set_of, soft_rules, Week, Rule, Cell, cell_number, first_slack, unit_number, Item, numbered, positive_part, Satisfies, SatisfiesModel, LinearRow, is_satisfied, item_rows, charged, is_soft, rule_cost, soft_items, extension_of, hard_rows, model_of, numbered_items, roster_of, rows_of}
+use Rattle.rota_items.proofs.LogicWords.{◌≡◌, ◌↔◌, ℕ, ◌+◌, Bool, true, false, cond, ◌⊎◌, inl, inr, List, [], ◌∷◌, map, length, refl, sym, ap, ◌∙◌, arith, Some, None, pos, ◌+ℤ◌, int_le, IfSome, MatchOption, AllByRecursion, cases_Bool, true≢false, ints}
+use Rattle.rota_items.proofs.ModelWords.{KeepsCompetitionRules, KeepsHardRules, FirstBroken, InWeek, Roster, set_of, soft_rules, Week, Rule, Cell, cell_number, first_slack, unit_number, Item, numbered, positive_part, SatisfiesModel, LinearRow, is_satisfied, item_rows, charged, is_soft, rule_cost, soft_items, extension_of, hard_rows, model_of, numbered_items, roster_of, rows_of}
 use Rattle.std.proofs.Common.{sum}
 use Rattle.std.specs.Prelude.{slice_index_or, IsSomeAnd}
 use Rattle.std.specs.Option.{option_or}
@@ -28,11 +28,6 @@ same_charges : (week : Week) (roster : Roster) → KeepsCompetitionRules week ro
 same_charges week roster keeps [] = refl
 same_charges week roster keeps (rule ∷ rules) =
     λ i. (sound-rule week rule).charges roster keeps i ∷ same_charges week roster keeps rules i
-
--- no row is named exactly where the assignment satisfies the model
-abbrev Settles : Week → (ℕ → Bool) → Named → Type 0
-Settles week assignment named =
-    MatchOption named (SatisfiesModel assignment (model_of week)) (λ _. SatisfiesModel assignment (model_of week) → ⊥)
 
 module _ (week : Week) (assignment : ℕ → Bool) (roster : Roster) (verdict : Verdict)
     (judges : Judges week assignment roster verdict) where
@@ -117,12 +112,8 @@ module _ (week : Week) (assignment : ℕ → Bool) (roster : Roster) (verdict : 
           };
         }
 
-  settled : Settles week assignment verdict.unmet
-  settled = over verdict.unmet (rw judges.unmet (first_unmet-decides assignment (rows_of week)))
-    where
-      over : (unmet : Named) → Decided assignment (rows_of week) unmet → Settles week assignment unmet
-      over None all = All-from_recursion (Satisfies assignment) (model_of week).constraints all
-      over (Some row) fails = λ satisfies. fails (recursion_from_All (Satisfies assignment) (model_of week).constraints satisfies)
+  settled : Decided assignment (rows_of week) verdict.unmet
+  settled = rw judges.unmet (first_unmet-decides assignment (rows_of week))
 
 pub either-judged : (week : Week) (subject : Subject) (verdict : Verdict) →
     Judges week (assignment_in week subject) (roster_in week subject) verdict →
@@ -135,7 +126,7 @@ pub settles_model : (week : Week) (subject : Subject) (verdict : Verdict) →
     Judges week (assignment_in week subject) (roster_in week subject) verdict → SettlesModel week subject verdict
 settles_model week (assigned bits) verdict judges = met verdict.unmet (settled week (truth_of bits) _ verdict judges)
   where
-    met : (unmet : Named) → Settles week (truth_of bits) unmet →
+    met : (unmet : Named) → Decided (truth_of bits) (rows_of week) unmet →
         MatchOption unmet (IsMet week (truth_of bits) verdict) (λ _. SatisfiesModel (truth_of bits) (model_of week) → ⊥)
     met None satisfies =
         let keeps : KeepsHardRules week (roster_of week (truth_of bits)) = satisfying-keeps week (truth_of bits) satisfies in record {
@@ -155,7 +146,7 @@ settles_model week (extended tables) verdict judges =
     ext : ℕ → Bool
     ext = extension_of week roster
 
-    extends : (unmet : Named) → Settles week ext unmet →
+    extends : (unmet : Named) → Decided ext (rows_of week) unmet →
         KeepsHardRules week roster ⊎ IsSomeAnd unmet (λ row. FirstBroken week roster row.1) →
         MatchOption unmet (Extends week roster verdict) (λ row. FirstBroken week roster row.1)
     extends None satisfies (inl keeps) = record {
