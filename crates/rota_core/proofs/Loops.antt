@@ -3,7 +3,6 @@ use Rattle.std.proofs.Common.{◌≡◌, ℕ, zero, suc, ◌+◌, ◌*◌, ◌<�
 use Rattle.std.specs.List.{AllByRecursion}
 use Rattle.std.proofs.Math.Nat.{suc-mul}
 use Rattle.std.proofs.lemmas.List.{append-nil, append_assoc, length-append}
-use Rattle.std.proofs.lemmas.Bool.{true≢false}
 use Rattle.rota_core.specs.Lists.{each_below, only_if}
 
 pub each_below-zero : {A : Type 0} (f : ℕ → List A) → each_below 0 f ≡ []
@@ -16,13 +15,11 @@ each_below-more n f = rw add-one refl
 
 pub only_if-holds : {A : Type 0} (test : Bool) (x : A) → test ≡ true → only_if test x ≡ x ∷ []
 unfolding only_if
-only_if-holds true x e = refl
-only_if-holds false x e = cc
+only_if-holds test x e = rw e refl
 
 pub only_if-fails : {A : Type 0} (test : Bool) (x : A) → test ≡ false → only_if test x ≡ []
 unfolding only_if
-only_if-fails true x e = cc
-only_if-fails false x e = refl
+only_if-fails test x e = rw e refl
 
 each_below-join : {A : Type 0} (m n : ℕ) (f : ℕ → List A) → each_below (m + n) f ≡ each_below m f ++ each_below n (λ j. f (m + j))
 unfolding each_below
@@ -105,4 +102,4 @@ AllByRecursion-only_if P false x holds = tt
 pub holds-where : {X : Type 0} (P : X → Type 0) (test : Bool) (x : X) → AllByRecursion P (only_if test x) → test ≡ true → P x
 unfolding only_if
 holds-where P true x all test_is = all.0
-holds-where P false x all test_is = absurd (true≢false (sym test_is))
+holds-where P false x all test_is = cc

@@ -25,18 +25,38 @@ AreDigits-append : (xs ys : List ℕ) → AreDigits xs → AreDigits ys → AreD
 AreDigits-append [] ys p q = q
 AreDigits-append (x ∷ xs) ys p q = (p.0, p.1, AreDigits-append xs ys p.2 q)
 
-digits-within : (k n : ℕ) → AreDigits (numeral_within k n)
-digits-within zero n = tt
-digits-within (suc k) n =
+-- digits, at least one, that stand for the number
+abbrev StandFor : ℕ → List ℕ → Type 0
+StandFor n digits = AreDigits digits × (0 < length digits) × (decimal digits ≡ n)
+
+one_more_digit : (n : ℕ) (front : List ℕ) → StandFor (n / 10) front → StandFor n (front ++ (48 + n % 10) ∷ [])
+one_more_digit n front stand = (
+  AreDigits-append front _ stand.0 (omega arith, omega arith, tt),
+  rw length-append (omega arith),
+  rw (fold-append with_digit 0 front ((48 + n % 10) ∷ [])) (omega (arith, stand.2)),
+)
+
+numeral-stands : (k n : ℕ) → n < k → StandFor n (numeral_within k n)
+numeral-stands zero n below = absurd (omega arith)
+numeral-stands (suc k) n below =
     elim (cases_lt n 10) [
-      | inl small ↦ rw (numeral_steps.one k n small) (omega arith, omega arith, tt)
+      | inl small ↦ rw (numeral_steps.one k n small) ((omega arith, omega arith, tt), omega arith, omega arith)
       | inr large ↦
-          rw (numeral_steps.more k n large) (AreDigits-append _ _ (digits-within k (n / 10)) (omega arith, omega arith, tt))
+          rw (numeral_steps.more k n large) (one_more_digit n (numeral_within k (n / 10)) (numeral-stands k (n / 10) (omega arith)))
     ]
 
 pub digits-numeral : (n : ℕ) → AreDigits (numeral n)
 unfolding numeral
-digits-numeral n = digits-within (suc n) n
+digits-numeral n = (numeral-stands (suc n) n (omega arith)).0
+
+pub numeral-has_digits : (n : ℕ) → 0 < length (numeral n)
+unfolding numeral
+numeral-has_digits n = (numeral-stands (suc n) n (omega arith)).1
+
+-- the digits of a numeral spell its number
+pub decimal-numeral : (n : ℕ) → decimal (numeral n) ≡ n
+unfolding numeral
+decimal-numeral n = (numeral-stands (suc n) n (omega arith)).2
 
 digits-all : (test : ℕ → Bool) → ((b : ℕ) → 48 ≤ b → b < 58 → test b ≡ true) → (digits : List ℕ) → AreDigits digits →
     list_all test digits ≡ true
@@ -46,34 +66,6 @@ digits-all test each (b ∷ digits) these = rw (each b these.0 these.1) (digits-
 pub is_decimal-numeral : (n : ℕ) → is_decimal (numeral n) ≡ true
 is_decimal-numeral n =
     digits-all is_ascii_digit (λ b low high. rw (le-leb 48 b low, le-leb b 57 (omega arith)) refl) (numeral n) (digits-numeral n)
-
-some_digit : (k n : ℕ) → 0 < length (numeral_within (suc k) n)
-some_digit k n =
-    elim (cases_lt n 10) [
-      | inl small ↦ rw (numeral_steps.one k n small) (omega arith)
-      | inr large ↦ rw (numeral_steps.more k n large, length-append) (omega arith)
-    ]
-
-pub numeral-has_digits : (n : ℕ) → 0 < length (numeral n)
-unfolding numeral
-numeral-has_digits n = some_digit n n
-
--- ---- their number
-
-decimal-within : (k n : ℕ) → n < k → decimal (numeral_within k n) ≡ n
-decimal-within zero n below = absurd (omega arith)
-decimal-within (suc k) n below =
-    elim (cases_lt n 10) [
-      | inl small ↦ rw (numeral_steps.one k n small) (omega arith)
-      | inr large ↦
-          rw (numeral_steps.more k n large, fold-append with_digit 0 (numeral_within k (n / 10)) ((48 + n % 10) ∷ []))
-          (omega (arith, decimal-within k (n / 10) (omega arith)))
-    ]
-
--- the digits of a numeral spell its number
-pub decimal-numeral : (n : ℕ) → decimal (numeral n) ≡ n
-unfolding numeral
-decimal-numeral n = decimal-within (suc n) n (omega arith)
 
 pub numeral_injective : (m n : ℕ) → numeral m ≡ numeral n → m ≡ n
 numeral_injective m n same = sym (decimal-numeral m) ∙ ap decimal same ∙ decimal-numeral n

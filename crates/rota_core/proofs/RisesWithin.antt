@@ -53,15 +53,12 @@ module _ {X : Type 0} (number : X → ℕ) where
   length-rising first end [] rises = omega (arith, rises)
   length-rising first end (x ∷ xs) rises = omega (arith, rises.0, length-rising (number x + 1) end xs rises.1)
 
-  pub numbers-rising : (first from end n : ℕ) (xs : List X) → RisesWithin number from end xs → length xs ≡ n → first ≤ from →
-      end ≤ first + n → map number xs ≡ range_with_len first n
-  numbers-rising first from end zero [] rises long low high = refl
-  numbers-rising first from end zero (x ∷ xs) rises long low high = absurd (omega arith)
-  numbers-rising first from end (suc n) [] rises long low high = absurd (omega arith)
-  numbers-rising first from end (suc n) (x ∷ xs) rises long low high =
+  pub numbers-rising : (first from end : ℕ) (xs : List X) → RisesWithin number from end xs → first ≤ from →
+      end ≤ first + length xs → map number xs ≡ range_with_len first (length xs)
+  numbers-rising first from end [] rises low high = refl
+  numbers-rising first from end (x ∷ xs) rises low high =
       let here : number x ≡ first = omega (arith, rises.0, length-rising (number x + 1) end xs rises.1) in
-      let rest = numbers-rising (first + 1) (number x + 1) end n xs rises.1 (omega arith) (omega arith) (omega arith) in
-      rw (rest, here) refl
+      rw (numbers-rising (first + 1) (number x + 1) end xs rises.1 (omega arith) (omega arith), here) refl
 
 pub rises-map : {X Y : Type 0} (number : Y → ℕ) (f : X → Y) (first end : ℕ) (xs : List X) →
     RisesWithin (λ x. number (f x)) first end xs → RisesWithin number first end (map f xs)

@@ -21,10 +21,12 @@ module _ (week : Week) where
       cell_term_events week (times coefficient cells) ≡ term_events (times coefficient (range_with_len first n))
   unfolding cell_term_events
   events-range coefficient cells first from end n rises long low high =
+      rw (← long) (
       ap term_events
       (map-map (λ (term : Term Cell). (term.0, cell_number week term.1)) (λ (one : Cell). (coefficient, one)) cells ∙
       sym (map-map (λ (v : ℕ). (coefficient, v)) (cell_number week) cells) ∙
-      ap (times coefficient) (numbers-rising (cell_number week) first from end n cells rises long low high))
+      ap (times coefficient) (numbers-rising (cell_number week) first from end cells rises low (omega arith)))
+      )
 
   length-on : (n s d : ℕ) → length (on_cells week n s d) ≡ week.skills * 1
   length-on n s d = length-each-is week.skills 1 (λ k. cell n d s k ∷ []) (λ k _. refl)
