@@ -55,14 +55,6 @@ pub added : (n turns most : ℕ) (number : ℕ → ℕ) (sum : ℕ) → AddsUp 0
     sum ≡ sum_below n number
 added n turns most number sum adds all = omega (arith, adds.total, ap (λ m. sum_below m number) all)
 
--- two sums with their weights
-pub added-both : (n turns most other_most weight other_weight : ℕ) (number other : ℕ → ℕ) (sum other_sum : ℕ) →
-    AddsUp 0 turns most number sum → AddsUp 0 turns other_most other other_sum → turns ≡ n →
-    weight * sum + other_weight * other_sum ≡ weight * sum_below n number + other_weight * sum_below n other
-added-both n turns most other_most weight other_weight number other sum other_sum adds adds_other all =
-    ap (λ m. weight * m + other_weight * other_sum) (added n turns most number sum adds all) ∙
-    ap (λ m. weight * sum_below n number + other_weight * m) (added n turns other_most other other_sum adds_other all)
-
 -- a loop inside
 pub inner : (n turns : ℕ) (number : ℕ → ℕ) → turns ≡ n → sum_below n number ≡ sum_below turns number
 inner n turns number all = ap (λ m. sum_below m number) (sym all)

@@ -1,9 +1,9 @@
 //! S5: what weekends that are worked in part cost.
-ghost use Rattle.std.specs.Prelude.{◌≡◌, ◌<◌, ◌&&◌};
+ghost use Rattle.std.specs.Prelude.{◌≡◌, ◌<◌, ◌≤◌, ◌&&◌};
 ghost use Rattle.rota_core.specs.HardRules.{works};
 ghost use Rattle.rota_core.specs.InstanceTables.{week_of};
 ghost use Rattle.rota_core.specs.RosterTables.{HasShapeOf, set_of};
-ghost use Rattle.rota_items.specs.rules.CompleteWeekends.{complete_weekend_cost, exactly_one};
+ghost use Rattle.rota_items.specs.rules.CompleteWeekends.{complete_weekend_cost_of, exactly_one};
 
 use crate::days::works;
 use rota_core::{Instance, Roster};
@@ -22,14 +22,16 @@ fn breaks_weekend(instance: &Instance, roster: &Roster, nurse: u16) -> bool
     instance.contract(nurse).complete && saturday != sunday
 }
 
-/// S5: 30 for each nurse with complete weekends who works on one of its days alone.
-pub fn complete_weekend_cost(instance: &Instance, roster: &Roster) -> u64
-    requires { HasShapeOf (week_of instance.now) roster.now }
-    ensures { result ≡ complete_weekend_cost (week_of instance.now) (set_of roster.now) }
+/// S5: 30 for a nurse with complete weekends who works on one of its days alone.
+pub fn complete_weekend_cost(instance: &Instance, roster: &Roster, nurse: u16) -> u64
+    requires fits { HasShapeOf (week_of instance.now) roster.now }
+    requires nurse_in { nurse < (week_of instance.now).nurses }
+    ensures few { result ≤ 200000000 }
+    ensures cost { result ≡ complete_weekend_cost_of (week_of instance.now) (set_of roster.now) nurse }
 {
-    let mut broken = 0;
-    for nurse in 0..instance.nurses() {
-        broken += u64::from(breaks_weekend(instance, roster, nurse));
+    if breaks_weekend(instance, roster, nurse) {
+        30
+    } else {
+        0
     }
-    30 * broken
 }

@@ -3,7 +3,7 @@ ghost use Rattle.std.specs.Prelude.{◌≡◌, ◌<◌, ◌≤◌};
 ghost use Rattle.rota_core.specs.Below.{sum_below};
 ghost use Rattle.rota_core.specs.InstanceTables.{week_of};
 ghost use Rattle.rota_core.specs.RosterTables.{HasShapeOf, set_of};
-ghost use Rattle.rota_items.specs.rules.ConsecutiveAssignments.{consecutive_assignment_cost, history_on, shift_run_cost, work_run_cost};
+ghost use Rattle.rota_items.specs.rules.ConsecutiveAssignments.{consecutive_assignment_cost_of, history_on, shift_run_cost, work_run_cost};
 
 use crate::days::{days_on, days_worked};
 use crate::runs::run_cost;
@@ -61,16 +61,14 @@ fn work_run_cost(instance: &Instance, roster: &Roster, nurse: u16) -> u64
     u64::from(run_cost(&days, history, instance.contract(nurse).work))
 }
 
-/// S2: 15 for what runs on a shift type cost, and 30 for what runs of working days cost.
-pub fn consecutive_assignment_cost(instance: &Instance, roster: &Roster) -> u64
-    requires { HasShapeOf (week_of instance.now) roster.now }
-    ensures { result ≡ consecutive_assignment_cost (week_of instance.now) (set_of roster.now) }
+/// S2: 15 for what the nurse's runs on a shift type cost, and 30 for what her runs of working days cost.
+pub fn consecutive_assignment_cost(instance: &Instance, roster: &Roster, nurse: u16) -> u64
+    requires fits { HasShapeOf (week_of instance.now) roster.now }
+    requires nurse_in { nurse < (week_of instance.now).nurses }
+    ensures few { result ≤ 200000000 }
+    ensures cost { result ≡ consecutive_assignment_cost_of (week_of instance.now) (set_of roster.now) nurse }
 {
-    let mut on_shifts = 0;
-    let mut at_work = 0;
-    for nurse in 0..instance.nurses() {
-        on_shifts += shift_runs_cost(instance, roster, nurse);
-        at_work += work_run_cost(instance, roster, nurse);
-    }
+    let on_shifts = shift_runs_cost(instance, roster, nurse);
+    let at_work = work_run_cost(instance, roster, nurse);
     15 * on_shifts + 30 * at_work
 }

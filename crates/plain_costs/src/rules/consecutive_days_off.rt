@@ -2,7 +2,7 @@
 ghost use Rattle.std.specs.Prelude.{◌≡◌, ◌<◌, ◌≤◌};
 ghost use Rattle.rota_core.specs.InstanceTables.{week_of};
 ghost use Rattle.rota_core.specs.RosterTables.{HasShapeOf, set_of};
-ghost use Rattle.rota_items.specs.rules.ConsecutiveDaysOff.{consecutive_day_off_cost, off_run_cost};
+ghost use Rattle.rota_items.specs.rules.ConsecutiveDaysOff.{consecutive_day_off_cost_of, off_run_cost};
 
 use crate::days::days_off;
 use crate::runs::run_cost;
@@ -20,14 +20,12 @@ fn off_run_cost(instance: &Instance, roster: &Roster, nurse: u16) -> u64
     u64::from(run_cost(&days, history, instance.contract(nurse).off))
 }
 
-/// S3: 30 for what runs of days off cost.
-pub fn consecutive_day_off_cost(instance: &Instance, roster: &Roster) -> u64
-    requires { HasShapeOf (week_of instance.now) roster.now }
-    ensures { result ≡ consecutive_day_off_cost (week_of instance.now) (set_of roster.now) }
+/// S3: 30 for what the nurse's runs of days off cost.
+pub fn consecutive_day_off_cost(instance: &Instance, roster: &Roster, nurse: u16) -> u64
+    requires fits { HasShapeOf (week_of instance.now) roster.now }
+    requires nurse_in { nurse < (week_of instance.now).nurses }
+    ensures few { result ≤ 200000000 }
+    ensures cost { result ≡ consecutive_day_off_cost_of (week_of instance.now) (set_of roster.now) nurse }
 {
-    let mut cost = 0;
-    for nurse in 0..instance.nurses() {
-        cost += off_run_cost(instance, roster, nurse);
-    }
-    30 * cost
+    30 * off_run_cost(instance, roster, nurse)
 }

@@ -2,7 +2,7 @@
 ghost use Rattle.std.specs.Prelude.{◌≡◌, ◌<◌, ◌≤◌, ◌+◌, ◌-◌, if◌then◌else◌};
 ghost use Rattle.rota_core.specs.InstanceTables.{week_of};
 ghost use Rattle.rota_core.specs.RosterTables.{HasShapeOf, set_of};
-ghost use Rattle.rota_items.specs.rules.TotalAssignments.{above_greatest_total, assignment_cost, below_least_total};
+ghost use Rattle.rota_items.specs.rules.TotalAssignments.{above_greatest_total, assignment_cost_of, below_least_total};
 
 use crate::days::assignments_of;
 use crate::excess::charged_excess;
@@ -41,15 +41,13 @@ fn assignments_outside(instance: &Instance, roster: &Roster, nurse: u16) -> u64
     assignments_below(instance, nurse, now) + charged_excess(instance, greatest, before, now)
 }
 
-/// S6: 20 for each assignment outside a nurse's total: in the last week only, or early what is above it in
-/// every week.
-pub fn assignment_cost(instance: &Instance, roster: &Roster) -> u64
-    requires { HasShapeOf (week_of instance.now) roster.now }
-    ensures { result ≡ assignment_cost (week_of instance.now) (set_of roster.now) }
+/// S6: 20 for each assignment outside the nurse's total: in the last week only, or early what is above it
+/// in every week.
+pub fn assignment_cost(instance: &Instance, roster: &Roster, nurse: u16) -> u64
+    requires fits { HasShapeOf (week_of instance.now) roster.now }
+    requires nurse_in { nurse < (week_of instance.now).nurses }
+    ensures few { result ≤ 200000000 }
+    ensures cost { result ≡ assignment_cost_of (week_of instance.now) (set_of roster.now) nurse }
 {
-    let mut outside = 0;
-    for nurse in 0..instance.nurses() {
-        outside += assignments_outside(instance, roster, nurse);
-    }
-    20 * outside
+    20 * assignments_outside(instance, roster, nurse)
 }

@@ -2,7 +2,7 @@
 ghost use Rattle.std.specs.Prelude.{◌≡◌, ◌<◌, ◌≤◌};
 ghost use Rattle.rota_core.specs.InstanceTables.{week_of};
 ghost use Rattle.rota_core.specs.RosterTables.{HasShapeOf, set_of};
-ghost use Rattle.rota_items.specs.rules.WorkedWeekends.{above_greatest_weekends, worked_weekend_cost};
+ghost use Rattle.rota_items.specs.rules.WorkedWeekends.{above_greatest_weekends, worked_weekend_cost_of};
 
 use crate::days::works;
 use crate::excess::charged_excess;
@@ -27,15 +27,13 @@ fn weekends_above(instance: &Instance, roster: &Roster, nurse: u16) -> u64
     )
 }
 
-/// S7: 30 for each worked weekend above a nurse's greatest number: in the last week only, or early in every
-/// week.
-pub fn worked_weekend_cost(instance: &Instance, roster: &Roster) -> u64
-    requires { HasShapeOf (week_of instance.now) roster.now }
-    ensures { result ≡ worked_weekend_cost (week_of instance.now) (set_of roster.now) }
+/// S7: 30 for each worked weekend above the nurse's greatest number: in the last week only, or early in
+/// every week.
+pub fn worked_weekend_cost(instance: &Instance, roster: &Roster, nurse: u16) -> u64
+    requires fits { HasShapeOf (week_of instance.now) roster.now }
+    requires nurse_in { nurse < (week_of instance.now).nurses }
+    ensures few { result ≤ 200000000 }
+    ensures cost { result ≡ worked_weekend_cost_of (week_of instance.now) (set_of roster.now) nurse }
 {
-    let mut above = 0;
-    for nurse in 0..instance.nurses() {
-        above += weekends_above(instance, roster, nurse);
-    }
-    30 * above
+    30 * weekends_above(instance, roster, nurse)
 }
