@@ -31,8 +31,7 @@ fn main(rt: HostRuntime) -> ExitCode {
 
 fn run<R: Env + Files + Input + Print + AllocGlobal>(rt: &R) -> Result<(), Stop> {
     let job = asked_job(rt)?;
-    perform(rt, &job)?;
-    Ok(())
+    perform(rt, &job).map_err(Stop::Job)
 }
 
 // The job that the words of the command line ask for.
@@ -93,9 +92,18 @@ fn decode<R: Files + Input + Print + AllocGlobal>(
     answer: &Option<String>,
 ) -> Result<(), Fault> {
     let mut files = open_inputs(rt, inputs)?;
+    decode_opened(rt, &mut files, sol, answer)
+}
+
+fn decode_opened<R: Files + Input + Print + AllocGlobal>(
+    rt: &R,
+    files: &mut OpenInputs<R::File>,
+    sol: &str,
+    answer: &Option<String>,
+) -> Result<(), Fault> {
     match answer {
-        Some(path) => decode_answer(rt, &mut files, &mut open(rt, path.as_str())?, sol),
-        None => decode_answer(rt, &mut files, &mut FromRead::new(rt.reader()), sol),
+        Some(path) => decode_answer(rt, files, &mut open(rt, path.as_str())?, sol),
+        None => decode_answer(rt, files, &mut FromRead::new(rt.reader()), sol),
     }
 }
 

@@ -1,16 +1,24 @@
 //! The examples with which the libraries open, line for line: `tests/documents.sh` compares them.
+ghost use Rattle.rota_core.specs.InstanceTables.{week_of};
+ghost use Rattle.rota_core.specs.RosterTables.{HasShapeOf};
+
 use crate::week_files::{ONE_NURSE_ONE_SHIFT, RUN_IN_THE_HISTORY, instance_of};
 use opb_text::{OpbTaker, Sink};
-use rota_core::{Cell, FileFault, MemoryTarget, Pace, Roster, Rule};
+use rota_core::{Cell, FileFault, Instance, MemoryTarget, Pace, Roster, Rule};
 use rota_items::{Counts, Judge, Part, Taker, drive_constraints, drive_objective};
 use rota_read::{read_history, read_scenario};
 use solver_text::{Answer, Status};
+use std::alloc::Global;
+use std::process::Abort;
 use std::test::Fail;
 
 #[test]
-fn example_of_rota_core(rt: HostRuntime) -> Result<(), Fail> {
-    let alloc = rt.alloc();
-    let instance = instance_of(alloc, &ONE_NURSE_ONE_SHIFT)?;
+fn rosters_are_filled(rt: HostRuntime) -> Result<(), Fail> {
+    let instance = instance_of(rt.alloc(), &ONE_NURSE_ONE_SHIFT)?;
+    example_of_rota_core(&rt, rt.alloc(), &instance)
+}
+
+fn example_of_rota_core(rt: &impl Abort, alloc: Global, instance: &Instance) -> Result<(), Fail> {
     let mut roster = Roster::new(alloc, &instance)?;
     if let (Some(nurse), Some(shift), Some(skill)) = (
         instance.find_nurse(b"Ann"),
@@ -44,15 +52,25 @@ fn example_of_rota_read(rt: HostRuntime) -> Result<(), Fail> {
 }
 
 #[test]
-fn example_of_rota_items(rt: HostRuntime) -> Result<(), Fail> {
+fn rosters_are_judged(rt: HostRuntime) -> Result<(), Fail> {
     let instance = instance_of(rt.alloc(), &RUN_IN_THE_HISTORY)?;
-    let mut roster = Roster::new(rt.alloc(), &instance)?;
+    check_first_cell(&rt, rt.alloc(), &instance)
+}
+
+fn check_first_cell(rt: &impl Abort, alloc: Global, instance: &Instance) -> Result<(), Fail> {
+    let mut roster = Roster::new(alloc, instance)?;
     roster.put(Cell {
         nurse: 0,
         day: 0,
         shift: 0,
         skill: 0,
     });
+    example_of_rota_items(rt, instance, &roster)
+}
+
+fn example_of_rota_items(rt: &impl Abort, instance: &Instance, roster: &Roster) -> Result<(), Fail>
+    requires { HasShapeOf (week_of instance.now) roster.now }
+{
     let mut judge = Judge::of_roster(&instance, &roster);
     drive_objective(&instance, &mut judge)?;
     drive_constraints(&instance, &mut judge)?;

@@ -1,8 +1,9 @@
 //! The words of the command line, and the files that they name, read.
 ghost use Rattle.std.specs.Prelude.{IfOk};
-ghost use Rattle.rota_core.specs.InstanceTables.{HasNumbersOf};
+ghost use Rattle.rota_core.specs.InstanceTables.{HasNumbersOf, week_of as tables_of};
+ghost use Rattle.rota_core.specs.RosterTables.{HasShapeOf};
 
-use rota_core::{FileFault, History, Instance, Scenario, Week};
+use rota_core::{FileFault, History, Instance, Roster, Scenario, Week};
 use rota_read::{read_fixed, read_history, read_scenario, read_week};
 use std::alloc::AllocError;
 use std::rt::{Env, Files};
@@ -123,17 +124,22 @@ fn joined<R: Files + AllocGlobal>(rt: &R, words: &Words<'_>) -> Result<Instance,
     after(rt, scenario, words.history, week, words.early)
 }
 
-// The instance with the cells of the file at the path held.
+/// The cells that the file at the path holds.
+fn held_of<R: Files + AllocGlobal>(rt: &R, instance: &Instance, path: &str) -> Result<Roster, Stop>
+    ensures { IfOk result (λ roster. HasShapeOf (tables_of instance.now) roster) }
+{
+    let text = fs::read(rt, path)?;
+    Ok(read_fixed(rt.alloc(), instance, &text)?)
+}
+
+/// The instance with the cells of the file at the path held.
 fn holding<R: Files + AllocGlobal>(
     rt: &R,
     instance: Instance,
     path: &str,
 ) -> Result<Instance, Stop> {
-    let text = fs::read(rt, path)?;
-    match read_fixed(rt.alloc(), &instance, &text) {
-        Ok(cells) => Ok(instance.hold(cells)),
-        Err(fault) => Err(Stop::File(fault)),
-    }
+    let cells = held_of(rt, &instance, path)?;
+    Ok(instance.hold(cells))
 }
 
 /// The instance that the files spell.

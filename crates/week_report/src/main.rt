@@ -36,9 +36,17 @@ fn run<R: Env + Files + Print + AllocGlobal>(rt: &R) -> Result<(), Stop> {
 
 fn report<R: Files + Print + AllocGlobal>(rt: &R, words: &Words<'_>) -> Result<(), Stop> {
     let instance = instance_of(rt, words)?;
-    match words.solution {
-        Some(solution) => print_costs(rt, &instance, solution),
-        None => print_week(rt, &instance),
+    print_report(rt, &instance, words.solution)
+}
+
+fn print_report<R: Files + Print + AllocGlobal>(
+    rt: &R,
+    instance: &Instance,
+    solution: Option<&str>,
+) -> Result<(), Stop> {
+    match solution {
+        Some(solution) => print_costs(rt, instance, solution),
+        None => print_week(rt, instance),
     }
 }
 

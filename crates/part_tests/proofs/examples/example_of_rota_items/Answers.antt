@@ -11,9 +11,9 @@ use Rattle.part_tests.proofs.examples.example_of_rota_items.Goals as goal
 
 pub verdict-verdict-requires : goal.verdict-verdict-requires
 verdict-verdict-requires g c =
-    let week = week_of c.in_ok-instance.instance in
+    let week = week_of c.args.instance.now in
     let first = events (objective_rows (objective_terms week)) in
     let constraints = events (rows_of week) in
     let driven = c.in_ok-drive_constraints.ensures.value_is ∙ ap (λ judging. fold judged judging constraints) c.in_ok-drive_objective.ensures.value_is ∙
     sym (fold-append judged c.of_roster-judge.result first constraints) in
-    record { driven = was-driven c.in_ok-instance.instance (extended c.put.new.self) _ _ c.of_roster-judge.ensures driven }
+    record { driven = was-driven c.args.instance.now (extended c.args.roster.now) _ _ c.of_roster-judge.ensures driven }
