@@ -56,6 +56,7 @@ def answers():
     yield "a skipped line of 100 MB", lambda file: (file.write("c"), [file.write("x" * 1_000_000) for _ in range(100)])
     yield "a literal of 100 MB", lambda file: (file.write("v x"), [file.write("0" * 1_000_000) for _ in range(100)])
     yield "50 million skipped lines", lambda file: [file.write("c\n" * 1_000_000) for _ in range(50)]
+    yield "100 million empty lines", lambda file: [file.write("\n" * 1_000_000) for _ in range(100)]
 
 
 def write_weeks(folder):
