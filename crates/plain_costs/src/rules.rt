@@ -31,7 +31,7 @@ use crate::rules::total_assignments::assignment_cost;
 use crate::rules::worked_weekends::worked_weekend_cost;
 use rota_core::{Instance, Roster, Rule, SOFT_RULES};
 
-/// What the roster costs by a rule that charges each nurse, at a nurse.
+// What the roster costs by a rule that charges each nurse, at a nurse.
 fn nurse_cost(instance: &Instance, roster: &Roster, rule: Rule, nurse: u16) -> u64
     requires fits { HasShapeOf (week_of instance.now) roster.now }
     requires nurse_in { nurse < (week_of instance.now).nurses }
@@ -48,7 +48,7 @@ fn nurse_cost(instance: &Instance, roster: &Roster, rule: Rule, nurse: u16) -> u
     }
 }
 
-/// What the roster costs by a rule that charges each nurse.
+// What the roster costs by a rule that charges each nurse.
 fn cost_of_nurses(instance: &Instance, roster: &Roster, rule: Rule) -> u64
     requires { HasShapeOf (week_of instance.now) roster.now }
     ensures { let week = week_of instance.now in

@@ -124,7 +124,7 @@ fn joined<R: Files + AllocGlobal>(rt: &R, words: &Words<'_>) -> Result<Instance,
     after(rt, scenario, words.history, week, words.early)
 }
 
-/// The cells that the file at the path holds.
+// The cells that the file at the path holds.
 fn held_of<R: Files + AllocGlobal>(rt: &R, instance: &Instance, path: &str) -> Result<Roster, Stop>
     ensures { IfOk result (λ roster. HasShapeOf (tables_of instance.now) roster) }
 {
@@ -132,7 +132,7 @@ fn held_of<R: Files + AllocGlobal>(rt: &R, instance: &Instance, path: &str) -> R
     Ok(read_fixed(rt.alloc(), instance, &text)?)
 }
 
-/// The instance with the cells of the file at the path held.
+// The instance with the cells of the file at the path held.
 fn holding<R: Files + AllocGlobal>(
     rt: &R,
     instance: Instance,
