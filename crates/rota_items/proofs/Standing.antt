@@ -124,9 +124,9 @@ pub stands-exactly : (week : Week) (v : ℕ) →
 stands-exactly week v =
     let end : ℕ = (model_of week).variables + 1 in (
       from-passing (stands_in v) (RisesTo end) ((0 < v) × (v ≤ (model_of week).variables)) (λ constraint rises.
-      from-passing (at_variable v) (λ term. (1 ≤ term.1) × (term.1 < end)) _ (λ term is_in here.
-      let is : term.1 ≡ v = eqb-true term.1 v here in (omega (arith, is_in.0), omega (arith, is_in.1))) constraint.terms
-      (within 1 end constraint.terms rises)) (model_of week).constraints (rises-to_last week),
+          from-passing (at_variable v) (λ term. (1 ≤ term.1) × (term.1 < end)) _ (λ term is_in here.
+          let is : term.1 ≡ v = eqb-true term.1 v here in (omega (arith, is_in.0), omega (arith, is_in.1))) constraint.terms
+          (within 1 end constraint.terms rises)) (model_of week).constraints (rises-to_last week),
       λ both.
           elim (cases_Bool (list_any (stands_in v) (model_of week).constraints)) [
             | inl stands ↦ stands
