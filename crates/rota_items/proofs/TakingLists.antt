@@ -10,7 +10,7 @@ use Rattle.rota_items.specs.Events.{Event}
 use Rattle.rota_items.specs.Takes.{Took, Refused}
 use Rattle.rota_items.specs.hard.Held.{h5_row}
 use Rattle.rota_items.specs.declared.takers.Taker.{Ghosts}
-use Rattle.rota_items.proofs.Taking.{Joins, both, go_on, rows_join, stop}
+use Rattle.rota_items.proofs.Taking.{Joins, go_on, rows_join, stop}
 
 -- the lists of the elements before one, of it, and of those after it
 pub flat_map-next : {X A : Type 0} (f : X → List A) (xs : List X) (i : ℕ) (other : X) → i < length xs →
@@ -28,10 +28,6 @@ in_list P longer f xs i other below here =
     (longer (flat_map f (take (i + 1) xs)) (flat_map f (drop (i + 1) xs)) (rw (flat_map-next f xs i other below) here)))
 
 module _ {S F : Type 0} (T : Ghosts S F) {A : Type 0} {h : List A → List Event} (joins : Joins h) {X : Type 0} (f : X → List A) (xs : List X) where
-  pub list_more : (i : ℕ) (other : X) (s t u : S) → i < length xs → Took T (h (flat_map f (take i xs))) s t →
-      Took T (h (f (get_or xs i other))) t u → Took T (h (flat_map f (take (i + 1) xs))) s u
-  list_more i other s t u below before here = rw (flat_map-next f xs i other below) (both T joins _ _ s t u before here)
-
   pub list_refused : (i : ℕ) (other : X) (s t u : S) → i < length xs → Took T (h (flat_map f (take i xs))) s t →
       Refused T (h (f (get_or xs i other))) t u → Refused T (h (flat_map f xs)) s u
   list_refused i other s t u below before here =

@@ -77,9 +77,6 @@ module _ {S F : Type 0} (T : Ghosts S F) where
 
     -- ---- loops
 
-    pub walk_begins : (first : ℕ) (f : ℕ → List (Item Cell)) (s : S) → Walked T part week first (each_below 0 f) s s first
-    walk_begins first f s = rw (each_below-zero f) (walk_none first s)
-
     pub walk_more : (first next after i : ℕ) (f : ℕ → List (Item Cell)) (s t u : S) →
         Walked T part week first (each_below i f) s t next → Walked T part week next (f i) t u after →
         Walked T part week first (each_below (i + 1) f) s u after

@@ -69,6 +69,7 @@ fn work_runs(instance: &Instance, nurse: u16) -> NurseRuns
 }
 
 /// A nurse's runs on each shift type, then those of working days.
+#[tactic(auto, using(crate::proofs::Walking::walking))]
 pub fn walk<T: Taker>(
     instance: &Instance,
     taker: &mut T,

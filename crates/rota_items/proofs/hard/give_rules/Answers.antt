@@ -1,12 +1,9 @@
 use Rattle.rota_items.proofs.Common.{arith, week_of}
 use Rattle.rota_core.specs.Rules.{hard_rules}
 use Rattle.rota_items.specs.HardRows.{rows_of_hard_rule}
-use Rattle.rota_items.proofs.Taking.{exits, nothing, rows_join}
-use Rattle.rota_items.proofs.TakingLists.{list_more, list_refused}
+use Rattle.rota_items.proofs.Taking.{exits, rows_join}
+use Rattle.rota_items.proofs.TakingLists.{list_refused}
 use Rattle.rota_items.proofs.hard.give_rules.Goals as goal
-
-pub loop-rule-init : goal.loop-rule-init
-loop-rule-init g c = nothing g.T.Taker (rows_join _) _
 
 pub returns-in_err-give_rule : goal.returns-in_err-give_rule
 returns-in_err-give_rule g c =
@@ -14,9 +11,3 @@ returns-in_err-give_rule g c =
     exits g.T.Taker _ _ _ _ c.from_residual.ensures.0
     (list_refused g.T.Taker (rows_join week) (rows_of_hard_rule week) hard_rules _ _ _ _ _ (omega arith) c.loop-rule.invariant
     c.in_err-give_rule.ensures)
-
-pub loop-rule-preserved : goal.loop-rule-preserved
-loop-rule-preserved g c =
-    let week = week_of c.args.instance.now in
-    list_more g.T.Taker (rows_join week) (rows_of_hard_rule week) hard_rules _ _ _ _ _ (omega arith) c.loop-rule.invariant
-    c.in_ok-give_rule.ensures

@@ -1,5 +1,5 @@
-use Rattle.rota_items.proofs.Common.{[], ◌∷◌, ap, sym, subst, week_of, SlacksFit, charged_items}
-use Rattle.rota_items.proofs.Walking.{walk_exits, walk_stops, walk_then, fits_before, fits_after}
+use Rattle.rota_items.proofs.Common.{[], ◌∷◌, ap, week_of, charged_items}
+use Rattle.rota_items.proofs.Walking.{walk_exits, walk_stops, walk_then}
 use Rattle.rota_items.specs.RunPatterns.{Pattern}
 use Rattle.rota_items.specs.WeekendItems.{only_sunday, saturday}
 use Rattle.rota_items.proofs.weekend_walk.walk_weekend.Goals as goal
