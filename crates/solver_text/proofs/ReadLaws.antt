@@ -86,6 +86,17 @@ pub empty-line : (facts : Facts) (kept : LineState) (b : ℕ) (rest : List ℕ) 
 unfolding take_bytes
 empty-line facts kept b rest starts feed = rw (feed, starts) refl
 
+-- the end of a line
+pub line-ended : (facts : Facts) (kept : LineState) (b : ℕ) (rest : List ℕ) (after : Facts) → b ≡ 10 →
+    end_line facts kept.line kept.word ≡ Ok after → take_bytes facts kept (b ∷ rest) ≡ take_bytes after start rest
+unfolding take_bytes
+line-ended facts kept b rest after feed judged = rw (feed, judged) refl
+
+pub line-failed : (facts : Facts) (kept : LineState) (b : ℕ) (rest : List ℕ) (fault : AnswerFault) → b ≡ 10 →
+    end_line facts kept.line kept.word ≡ Err fault → take_bytes facts kept (b ∷ rest) ≡ Err fault
+unfolding take_bytes
+line-failed facts kept b rest fault feed judged = rw (feed, judged) refl
+
 -- a byte more of a piece
 pub taken_on : (facts : Facts) (kept : LineState) (b : ℕ) (bytes : List ℕ) (next : Facts × LineState) → take_byte facts kept b ≡ Ok next → take_bytes facts kept (b ∷ bytes) ≡ take_bytes next.0 next.1 bytes
 unfolding take_bytes

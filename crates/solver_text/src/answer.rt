@@ -82,12 +82,13 @@ impl Answer {
         let mut rest = piece;
         while let Some((b, after)) = rest.split_first() {
             match self.state.line() {
-                Line::Start if *b == b'\n' => {
+                Line::Skipped => rest = self.skip_lines(rest),
+                Line::Values(front) => rest = self.take_word(front, rest)?,
+                _ if *b == b'\n' => {
+                    self.end_line()?;
                     self.state.start_again();
                     rest = behind_empty_lines(after);
                 }
-                Line::Skipped => rest = self.skip_lines(rest),
-                Line::Values(front) => rest = self.take_word(front, rest)?,
                 _ => {
                     self.take_byte(*b)?;
                     rest = after;
