@@ -7,19 +7,12 @@ ghost use Rattle.rota_core.specs.Rules.{soft_rules};
 ghost use Rattle.rota_items.specs.NurseItems.{nurse_cost};
 ghost use Rattle.rota_items.specs.SoftRules.{penalty, rule_cost};
 
-// A nurse who works on only one day of the weekend.
 mod complete_weekends;
-// Runs on a shift type and runs of working days.
 mod consecutive_assignments;
-// Runs of days off.
 mod consecutive_days_off;
-// Nurses below the optimal number.
 mod optimal_coverage;
-// Cells that request rows ask to be free of.
 mod shift_off_requests;
-// Assignments outside the limits of a total.
 mod total_assignments;
-// Weekends above the greatest number.
 mod worked_weekends;
 
 use crate::rules::complete_weekends::complete_weekend_cost;

@@ -15,19 +15,12 @@ ghost use Rattle.rota_items.specs.rules.TotalAssignments.{constant_of_assignment
 ghost use Rattle.rota_items.specs.rules.WorkedWeekends.{constant_of_weekends};
 ghost use Rattle.rota_items.specs.WeekModel.{numbered_items};
 
-// A nurse who works on only one day of the weekend.
 mod complete_weekends;
-// Runs on a shift type and runs of working days.
 mod consecutive_assignments;
-// Runs of days off.
 mod consecutive_days_off;
-// Nurses below the optimal number.
 mod optimal_coverage;
-// Cells that request rows ask to be free of.
 mod shift_off_requests;
-// Assignments outside the limits of a total.
 mod total_assignments;
-// Weekends above the greatest number.
 mod worked_weekends;
 
 use crate::item_counts::ItemCounts;
@@ -44,8 +37,6 @@ pub fn soft_place(rule: Rule) -> Option<usize>
 {
     Rule::SOFT.iter().position(|soft| *soft == rule)
 }
-
-// ---- the items
 
 // The items of a rule that charges each nurse, at a nurse.
 #[tactic(auto, using(crate::proofs::Walking::walking))]
@@ -156,8 +147,6 @@ pub fn give_slack_weights<T: Taker>(instance: &Instance, taker: &mut T) -> Resul
     walk_soft_items(instance, taker, ItemPart::SlackWeights)
 }
 
-// ---- the objective's terms on cells
-
 // Hands the taker the terms that a rule has at cells.
 #[tactic(auto, using(crate::proofs::Taking::taking))]
 fn give_cell_terms_of_rule<T: Taker>(
@@ -185,8 +174,6 @@ pub fn give_cell_terms<T: Taker>(instance: &Instance, taker: &mut T) -> Result<(
     }
     Ok(())
 }
-
-// ---- numbers
 
 // The numbers of a rule's items and slacks at a nurse.
 #[tactic(auto, using(crate::proofs::NurseItemLists::items_of_nurses))]
@@ -259,8 +246,6 @@ pub fn count_soft_items(instance: &Instance) -> ItemCounts
     ItemCounts { items, slacks }
 }
 
-// ---- the constant
-
 // What no roster of the week can avoid of a rule at a nurse: the history has made it so. It is 0 but
 // for the rules of totals, in the weeks in which they count.
 fn nurse_constant(instance: &Instance, rule: Rule, nurse: u16) -> u64
@@ -299,9 +284,8 @@ pub fn constant(instance: &Instance) -> u64
     sum
 }
 
-/// What no roster of the week can avoid, first by S6, then by S7: totals of assignments, and worked
-/// weekends, that the history has put outside the contracts' limits, or beyond what seven days can
-/// mend. Where excess is charged early, what is above the greatest totals before the week is no part of it.
+/// What no roster of the week can avoid, first by S6, then by S7: what the history has put outside the
+/// contracts' limits, or beyond what seven days can mend. Early, excess before the week is no part of it.
 ///
 /// Each assignment is charged at 20 and each weekend at 30, and both parts are 0 in the weeks in which
 /// these totals do not count. The rules and weights are those of INRC-II.
