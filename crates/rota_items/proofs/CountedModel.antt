@@ -1,20 +1,15 @@
 -- What a counter makes of the rows of a week's model.
-use Rattle.rota_items.proofs.LogicWords.{◌≡◌, ℕ, zero, suc, ◌+◌, ◌<◌, ◌≤◌, max, Bool, ◌||◌, true, false, inl, inr, List, [], ◌∷◌, ◌++◌, map, length, refl, sym, ap, ◌∙◌, arith, ℤ, pos, nat_lt, ◌==◌, AllByRecursion, count_by, fold, list_any, range_with_len, cases_Bool, eqb-true, true≢false, length-map, map-append, sum_by-cons}
-use Rattle.rota_items.proofs.ModelWords.{InWeek, Week, Cell, cell_number, first_slack, unit_number, constant_terms, objective_rows, cell_terms, constant, soft_items, Item, IsWithinLimits, Term, times, LinearRow, linear_constraint, slack_count, slack_weights, numbered_terms, numbered_items, rows_of, objective_terms, model_of}
+use Rattle.rota_items.proofs.LogicWords.{◌≡◌, ℕ, ◌+◌, ◌<◌, ◌≤◌, ◌||◌, true, inl, inr, List, [], ◌∷◌, ◌++◌, map, length, refl, sym, ap, ◌∙◌, arith, pos, ◌==◌, AllByRecursion, count_by, fold, list_any, cases_Bool, eqb-true, true≢false, length-map}
+use Rattle.rota_items.proofs.ModelWords.{Week, objective_rows, IsWithinLimits, Term, LinearRow, linear_constraint, rows_of, objective_terms, model_of}
 use Rattle.rota_items.proofs.Counted.{all-counted, counts_row, count-more, counted-rows, greatest-append, same_counts, variables_of}
-use Rattle.rota_items.proofs.ItemEventLists.{slack_count-numbered}
 use Rattle.rota_items.proofs.ModelRows.{each-model_row}
-use Rattle.rota_items.proofs.Numbers.{cell_number-below}
-use Rattle.rota_items.proofs.TermsHold.{OnTerms}
 use Rattle.rota_core.proofs.RisesWithin.{RisesWithin}
 use Rattle.rota_items.proofs.RisingTerms.{RisesTo, variable_of, objective-to_last, rises-to_last}
 use Rattle.rota_items.proofs.SlackBound.{rows-below}
 use Rattle.rota_items.proofs.Standing.{at_variable, rises-end, stands-exactly}
-use Rattle.rota_items.proofs.SoftRules.AllItems.{in-cell_terms}
 use Rattle.rota_items.specs.declared.part.Part.TheVariants.{Objective}
 use Rattle.rota_items.specs.Counting.{counted, counts_of, counts_of_model, greatest, is_constraint, no_counts, variables_in}
 use Rattle.rota_items.specs.Events.{events}
-use Rattle.rota_core.specs.Lists.{only_if}
 use Rattle.rota_items.specs.Standing.{stands_in}
 
 -- ---- each row is a constraint

@@ -1,5 +1,5 @@
 -- Sums and tests over lists.
-use Rattle.std.proofs.Common.{◌≡◌, ℕ, ◌+◌, ◌*◌, Bool, true, false, cond, List, [], ◌∷◌, map, refl, ap, arith, zero-add}
+use Rattle.std.proofs.Common.{◌≡◌, ℕ, ◌+◌, Bool, true, false, cond, List, [], ◌∷◌, map, refl, ap, arith, zero-add}
 use Rattle.std.specs.List.{sum_by, AllByRecursion}
 use Rattle.std.proofs.lemmas.List.Folds.{fold-map}
 use Rattle.std.proofs.lemmas.List.Sums.{sum_by-cons}
@@ -8,12 +8,6 @@ use Rattle.rota_core.specs.Lists.{only_if}
 pub sum_by-map : {X Y : Type 0} (f : Y → ℕ) (g : X → Y) (xs : List X) →
     sum_by f (map g xs) ≡ sum_by (λ x. f (g x)) xs
 sum_by-map f g xs = fold-map (λ sum y. sum + f y) g 0 xs
-
-pub sum_by-times : {X : Type 0} (w : ℕ) (f : X → ℕ) (xs : List X) →
-    sum_by (λ x. w * f x) xs ≡ w * sum_by f xs
-sum_by-times w f [] = omega arith
-sum_by-times w f (x ∷ xs) =
-    omega (arith, sum_by-cons (λ y. w * f y) x xs, ap (λ n. w * n) (sum_by-cons f x xs), sum_by-times w f xs)
 
 -- two sums whose terms are the same
 pub sum_by-same : {X : Type 0} (f g : X → ℕ) (xs : List X) →

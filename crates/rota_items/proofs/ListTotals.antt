@@ -6,10 +6,6 @@ use Rattle.std.proofs.lemmas.List.Concat.{flat_map-append}
 use Rattle.std.proofs.lemmas.Grind.{take_at_read}
 use Rattle.std.proofs.lemmas.List.Sums.{sum_by-cons, sum_by-append}
 use Rattle.std.specs.List.{flat_map, sum_by}
-use Rattle.rota_items.proofs.ItemEventLists.{slack_count-append}
-use Rattle.rota_items.proofs.TakingLists.{flat_map-next}
-use Rattle.rota_items.specs.Items.{Item}
-use Rattle.rota_items.specs.Slacks.{slack_count}
 
 pub flat_map-one : {X A : Type 0} (f : X → List A) (x : X) → flat_map f (x ∷ []) ≡ f x
 flat_map-one f x = append-nil (f x)

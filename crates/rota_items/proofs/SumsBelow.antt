@@ -23,12 +23,6 @@ unfolding sum_below
 sum_below-plus zero f g = refl
 sum_below-plus (suc n) f g = omega (arith, sum_below-plus n f g)
 
-pub sum_below-le : (n : ℕ) (f g : ℕ → ℕ) → ((i : ℕ) → i < n → f i ≤ g i) → sum_below n f ≤ sum_below n g
-unfolding sum_below
-sum_below-le zero f g le = omega arith
-sum_below-le (suc n) f g le =
-    omega (arith, sum_below-le n f g (λ i below. le i (omega arith)), le n (omega arith))
-
 pub sum_below-within : (n m : ℕ) (f : ℕ → ℕ) → ((i : ℕ) → i < n → f i ≤ m) → sum_below n f ≤ n * m
 unfolding sum_below
 sum_below-within zero m f small = omega arith

@@ -17,9 +17,6 @@ abbrev pub HasEnough : Roster → Item Cell → Type 0
 HasEnough roster item = shortage roster item ≤ item.slacks
 
 module _ (week : Week) where
-  pub in-items : AllByRecursion (ItemIn week) (soft_items week)
-  in-items = each-item week (ItemIn week) (λ _ _ _ sound. sound.terms.in_week)
-
   pub soft_items-soft : AllByRecursion SoftItem (soft_items week)
   soft_items-soft = each-item week SoftItem (λ _ _ soft sound. ap is_soft sound.rule_is ∙ soft)
 

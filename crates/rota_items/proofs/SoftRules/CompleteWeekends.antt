@@ -1,6 +1,6 @@
 -- The items of complete weekends charge the nurses who work on only one of its days.
-use Rattle.rota_items.proofs.LogicWords.{◌∷◌, [], refl, arith, ◌&&◌}
-use Rattle.rota_items.proofs.ModelWords.{works, Week}
+use Rattle.rota_items.proofs.LogicWords.{◌∷◌, [], refl, arith}
+use Rattle.rota_items.proofs.ModelWords.{Week}
 use Rattle.rota_core.specs.declared.rule.Rule.TheVariants.{S5}
 use Rattle.rota_items.proofs.AlikeRosters.{works-alike}
 use Rattle.rota_items.proofs.SoftRules.Sound.{IsNurseRuleSound}

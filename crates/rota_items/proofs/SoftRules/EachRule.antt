@@ -1,5 +1,5 @@
 -- What is shown of each soft rule holds of all items.
-use Rattle.rota_items.proofs.LogicWords.{◌≡◌, ℕ, ◌+◌, ◌*◌, Bool, true, List, [], ◌∷◌, refl, ap, arith, pos, ◌+ℤ◌, AllByRecursion, flat_map, sum_by, ints, sum_by-append, sum_by-cons, AllByRecursion-append, AllByRecursion-each_below, length-each_below}
+use Rattle.rota_items.proofs.LogicWords.{◌≡◌, ℕ, ◌+◌, true, List, [], ◌∷◌, refl, arith, pos, ◌+ℤ◌, AllByRecursion, flat_map, sum_by, ints, sum_by-append, sum_by-cons, AllByRecursion-append, AllByRecursion-each_below, length-each_below}
 use Rattle.rota_items.proofs.ModelWords.{KeepsCompetitionRules, Roster, Week, Rule, Cell, Item, weighted_shortages, value_of, soft_rules, cell_terms, cell_terms_of_rule, constant, constant_of_rule, is_soft, items_of_rule, penalty, rule_cost, soft_items}
 use Rattle.std.specs.List.{list_all}
 use Rattle.std.proofs.lemmas.Bool.{and_parts}

@@ -1,6 +1,6 @@
 -- The items of patterns of a nurse's days are sound.
-use Rattle.rota_items.proofs.LogicWords.{◌≡◌, ℕ, ◌+◌, ◌*◌, ◌<◌, ◌≤◌, List, [], ◌∷◌, ◌++◌, length, refl, arith, ℤ, pos, negsuc, ◌-ℤ◌, count_by, AllByRecursion, ints, length-append, length-map}
-use Rattle.rota_items.proofs.ModelWords.{KeepsOneCell, Roster, InWeek, Week, Rule, Cell, cell_number, on_cells, work_cells, positive_part, IsWithinLimits}
+use Rattle.rota_items.proofs.LogicWords.{ℕ, ◌+◌, ◌*◌, ◌<◌, ◌≤◌, List, [], ◌∷◌, ◌++◌, length, refl, arith, pos, ◌-ℤ◌, count_by, AllByRecursion, ints, length-append, length-map}
+use Rattle.rota_items.proofs.ModelWords.{KeepsOneCell, Roster, InWeek, Week, Rule, Cell, cell_number, on_cells, work_cells, IsWithinLimits}
 use Rattle.std.proofs.lemmas.Nat.{mul-le}
 use Rattle.rota_core.proofs.RisesWithin.{RisesWithin}
 use Rattle.rota_items.proofs.CellCounts.{cond-le, count-on_cells, count-work_cells, on_count-le, work_count-le}
@@ -12,7 +12,7 @@ use Rattle.rota_items.proofs.RisingCells.{day_start, on-keeps, rises-pattern, ri
 use Rattle.rota_items.proofs.SoftRules.Sound.{IsItemSound, most_slacks}
 use Rattle.rota_items.proofs.TermsHold.{OnVariables, on-days}
 use Rattle.rota_items.proofs.UnitTerms.{units-days}
-use Rattle.rota_items.specs.RunItems.{AtMostOneADay, Property, Present, Absent, Runs, has_property, is_plain, pattern_item, pattern_items, run_items, variables_on}
+use Rattle.rota_items.specs.RunItems.{AtMostOneADay, Property, Present, Runs, has_property, is_plain, pattern_item, pattern_items, run_items, variables_on}
 use Rattle.rota_items.specs.RunPatterns.{DaysFollow, Pattern, windows, patterns}
 
 -- the cells are those of a nurse's days, at most one a day true on a roster

@@ -1,6 +1,6 @@
 -- The items of the optimal numbers charge the nurses who are missing.
-use Rattle.rota_items.proofs.LogicWords.{◌≡◌, ℕ, ◌-◌, ◌*◌, ◌<◌, ◌≤◌, Bool, true, false, cond, length, refl, ap, ◌∙◌, arith, nat_lt, AllByRecursion, ltb-false, ltb-true, ints, AllByRecursion-each_below, AllByRecursion-only_if, length-each_below, length-only_if}
-use Rattle.rota_items.proofs.ModelWords.{nurses_at, KeepsMinimum, Roster, cell, Week, Cell, demand_cells, Item, shortage, weighted_shortages, IsWithinLimits}
+use Rattle.rota_items.proofs.LogicWords.{◌≡◌, ℕ, ◌-◌, ◌*◌, ◌<◌, ◌≤◌, Bool, true, length, refl, ap, ◌∙◌, arith, nat_lt, AllByRecursion, ltb-true, ints, AllByRecursion-each_below, AllByRecursion-only_if, length-each_below, length-only_if}
+use Rattle.rota_items.proofs.ModelWords.{nurses_at, KeepsMinimum, Roster, cell, Week, demand_cells, shortage, weighted_shortages, IsWithinLimits}
 use Rattle.rota_core.specs.declared.rule.Rule.TheVariants.{S1}
 use Rattle.rota_items.proofs.AlikeRosters.{nurses-alike}
 use Rattle.rota_items.proofs.ListSums.{sum_by-only_if}

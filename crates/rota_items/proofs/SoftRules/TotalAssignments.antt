@@ -1,6 +1,6 @@
 -- The items of the totals and their part of the constant charge the assignments outside the limits.
 use Rattle.rota_items.proofs.LogicWords.{◌≡◌, ℕ, ◌+◌, ◌-◌, ◌*◌, ◌<◌, ◌≤◌, Bool, ◌&&◌, true, cond, refl, ap, ◌∙◌, arith, min, ℤ, pos, negsuc, ◌-ℤ◌, nat_lt, count_by, ltb-true, ints, length-append, sum_by-append, AllByRecursion-append, AllByRecursion-only_if, length-only_if}
-use Rattle.rota_items.proofs.ModelWords.{KeepsCompetitionRules, KeepsOneCell, Roster, InWeek, cell, Week, Item, Cell, nurse_cells, work_cells, positive_part, shortage, times, value_of}
+use Rattle.rota_items.proofs.ModelWords.{KeepsCompetitionRules, KeepsOneCell, Roster, InWeek, cell, Week, nurse_cells, work_cells, positive_part, shortage, times, value_of}
 use Rattle.std.proofs.lemmas.Bool.{and_parts}
 use Rattle.rota_core.specs.declared.rule.Rule.TheVariants.{S6}
 use Rattle.rota_items.proofs.AlikeRosters.{count_below-alike, same_cell}
@@ -16,7 +16,7 @@ use Rattle.rota_items.proofs.TermsHold.{on-times}
 use Rattle.rota_items.proofs.UnitTerms.{AreUnits, units-times, units-minus}
 use Rattle.rota_items.proofs.Values.{lacking, exceeding}
 use Rattle.rota_items.specs.CountedTotals.{charged_excess, excess_before_counts, greatest_totals_count, least_totals_count}
-use Rattle.rota_items.specs.rules.TotalAssignments.{assignment_weight, assignments_of, greatest_total_item, greatest_totals_of, least_total_item, least_totals_of, still_allowed, still_wanted, totals_of}
+use Rattle.rota_items.specs.rules.TotalAssignments.{assignment_weight, assignments_of, greatest_total_item, greatest_totals_of, least_total_item, least_totals_of, still_allowed, still_wanted}
 
 -- what item and constant charge of the assignments below the least total, and of those above the greatest
 least_charged : (count : Bool) (least before now lacks : ℕ) → now ≤ 7 → lacks ≡ min (least - before) 7 - now →
