@@ -7,7 +7,7 @@ use Rattle.rota_core.specs.declared.ports.PortFault.{PortFault}
 use Rattle.rota_core.specs.declared.ports.Target.{Ghosts}
 use Rattle.opb_text.specs.declared.sink.Sink.{Sink}
 use Rattle.opb_text.specs.Begins.{Begins}
-use Rattle.opb_text.specs.Sink.{PutsText, stands_for, sink_failed, sent_by, target_of}
+use Rattle.opb_text.specs.Sink.{FinishesSink, PutsText, stands_for, sink_failed, sent_by, target_of}
 use Rattle.opb_text.proofs.Told.{append_known-append, Begins-longer}
 
 pub or_false : (b : Bool) → b || false ≡ b
@@ -80,3 +80,25 @@ module _ {W : Type 0} {target : Ghosts W} where
     bytes = takes.bytes;
   }
   puts_exit {old} {new} {e} {xs} (Ok u) failed takes = cc
+
+  -- a text that went in, and then another with which the sink was finished
+  pub puts_finish : {old middle new : Sink W target} {u : Unit {0}} {r : Result (Unit {0}) PortFault} {text xs ys : List ℕ} → text ≡ xs ++ ys →
+      PutsText old (Ok u) xs middle → FinishesSink middle r ys new → FinishesSink old r text new
+  puts_finish {old} {middle} {new} {u} {r} {text} {xs} {ys} same first last = record {
+    takes = puts_same same (puts_then first last.takes);
+    sent = last.sent;
+    flushed = last.flushed;
+    for_good = λ failed. last.for_good (first.failure ∙ or_false (sink_failed old) ∙ failed);
+    target_for_good = λ failed. last.target_for_good (first.target_failure ∙ or_false (target.has_failed (target_of old)) ∙ failed);
+  }
+
+  -- a text that failed to go in before the sink was finished
+  pub finish_exit : {old new : Sink W target} {e : PortFault} {xs : List ℕ} (r : Result (Unit {0}) PortFault) → IsErr r → PutsText old (Err e) xs new → FinishesSink old r xs new
+  finish_exit (Err d) failed takes = record {
+    takes = puts_exit (Err d) failed takes;
+    sent = tt;
+    flushed = tt;
+    for_good = λ _. failed;
+    target_for_good = λ _. failed;
+  }
+  finish_exit (Ok u) failed takes = cc

@@ -1,7 +1,7 @@
--- What a sink stands for, and what putting a text into it does.
-use Rattle.std.specs.Prelude.{◌≡◌, ℕ, List, Bool, true, ◌||◌, Result, is_err, MatchResult}
+-- What a sink stands for, what putting a text into it does, and what finishing it does.
+use Rattle.std.specs.Prelude.{◌≡◌, ℕ, List, Bool, true, ◌||◌, Result, is_err, IsErr, MatchResult, OnOk}
 use Rattle.std.specs.Io.KnownBytes.{append_known}
-use Rattle.rota_core.specs.Ports.{Told}
+use Rattle.rota_core.specs.Ports.{Told, told_len}
 use Rattle.rota_core.specs.declared.ports.PortFault.{PortFault}
 use Rattle.rota_core.specs.declared.ports.Target.{Ghosts}
 use Rattle.opb_text.specs.Begins.{Begins}
@@ -38,3 +38,12 @@ module _ {W : Type 0} {target : Ghosts W} where
     pub bytes : MatchResult result
         (λ _. stands_for new ≡ append_known (stands_for old) text)
         (λ _. Begins (sent_by new) (append_known (stands_for old) text))
+
+  -- new is old with the text put into it, and finished: at Ok all that was put is sent and flushed. Where the sink or its
+  -- target had failed it is an error.
+  pub record FinishesSink (old : Sink W target) (result : Result (Unit {0}) PortFault) (text : List ℕ) (new : Sink W target) : Type 0 where
+    pub takes : PutsText old result text new
+    pub sent : OnOk result (sent_by new ≡ stands_for new)
+    pub flushed : OnOk result (target.flushed (target_of new) ≡ told_len (sent_by new))
+    pub for_good : sink_failed old ≡ true → IsErr result
+    pub target_for_good : target.has_failed (target_of old) ≡ true → IsErr result

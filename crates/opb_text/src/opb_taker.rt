@@ -1,7 +1,5 @@
 //! A taker of rows that puts their text into a sink.
-ghost use Rattle.std.specs.Prelude.{◌≡◌, [], true, false, OnOk, OnErr, IsErr};
-ghost use Rattle.rota_core.specs.Ports.{told_len};
-ghost use Rattle.opb_text.specs.Begins.{Begins};
+ghost use Rattle.std.specs.Prelude.{◌≡◌, [], true, false, IsErr};
 ghost use Rattle.opb_text.specs.ModelText.{first_line};
 
 use crate::event_text::{put_close, put_first_line, put_start, put_term};
@@ -22,7 +20,7 @@ pub struct OpbTaker<'a, W: Target> {
 
 impl<'a, W: Target> OpbTaker<'a, W> {
     ghost use Rattle.opb_text.specs.OpbTaker.{in_objective, sink_of};
-    ghost use Rattle.opb_text.specs.Sink.{stands_for, sink_failed, target_of, sent_by, PutsText};
+    ghost use Rattle.opb_text.specs.Sink.{sink_failed, FinishesSink, PutsText};
 
     /// A taker whose text goes into the sink. No row of the objective is open.
     pub fn new(sink: Sink<'a, W>) -> OpbTaker<'a, W>
@@ -49,12 +47,7 @@ impl<'a, W: Target> OpbTaker<'a, W> {
     /// target does.
     pub fn finish(&mut self) -> Result<(), PortFault>
         ensures same_row { in_objective self.new ≡ in_objective self.old }
-        ensures takes { PutsText (sink_of self.old) result [] (sink_of self.new) }
-        ensures sent { OnOk result (sent_by (sink_of self.new) ≡ stands_for (sink_of self.old)) }
-        ensures err { OnErr result (Begins (sent_by (sink_of self.new)) (stands_for (sink_of self.old))) }
-        ensures flushed { OnOk result (W.flushed (target_of (sink_of self.new)) ≡ told_len (sent_by (sink_of self.new))) }
-        ensures for_good { sink_failed (sink_of self.old) ≡ true → IsErr result }
-        ensures target_for_good { W.has_failed (target_of (sink_of self.old)) ≡ true → IsErr result }
+        ensures finishes { FinishesSink (sink_of self.old) result [] (sink_of self.new) }
     {
         self.sink.finish()
     }

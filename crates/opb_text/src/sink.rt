@@ -3,7 +3,6 @@ ghost use Rattle.std.specs.Prelude.{◌||◌, is_err, ◌≡◌, true, false, []
 ghost use Rattle.rota_core.specs.Numeral.{numeral, signed_numeral};
 ghost use Rattle.std.specs.Io.KnownBytes.{append_known};
 ghost use Rattle.opb_text.specs.Begins.{Begins};
-ghost use Rattle.rota_core.specs.Ports.{told_len};
 ghost use Rattle.opb_text.specs.Pieces.{piece_text, pieces_text};
 ghost use Rattle.opb_text.specs.TermText.{unit_text};
 
@@ -33,7 +32,7 @@ pub struct Sink<'a, W: Target> {
 }
 
 impl<'a, W: Target> Sink<'a, W> {
-    ghost use Rattle.opb_text.specs.Sink.{stands_for, sink_failed, target_name, target_of, sent_by, PutsText};
+    ghost use Rattle.opb_text.specs.Sink.{stands_for, sink_failed, target_name, target_of, sent_by, FinishesSink, PutsText};
 
     /// A sink over the target, which stands for what the target was sent.
     pub fn new(target: &'a mut W) -> Sink<'a, W>
@@ -152,12 +151,7 @@ impl<'a, W: Target> Sink<'a, W> {
     /// Sends what is still in the buffer, and makes all sent bytes flushed. Ok says that all that was
     /// put is out. It fails only where the target does.
     pub fn finish(&mut self) -> Result<(), PortFault>
-        ensures takes { PutsText self.old result [] self.new }
-        ensures sent { OnOk result (sent_by self.new ≡ stands_for self.old) }
-        ensures err { OnErr result (Begins (sent_by self.new) (stands_for self.old)) }
-        ensures flushed { OnOk result (W.flushed (target_of self.new) ≡ told_len (sent_by self.new)) }
-        ensures for_good { sink_failed self.old ≡ true → IsErr result }
-        ensures target_for_good { W.has_failed (target_of self.old) ≡ true → IsErr result }
+        ensures finishes { FinishesSink self.old result [] self.new }
     {
         if self.failed {
             return Err(PortFault);

@@ -26,13 +26,10 @@ pub(crate) struct SlackTaker<'a, 'b, 'j, W: Target> {
 }
 
 impl<'a, 'b, 'j, W: Target> SlackTaker<'a, 'b, 'j, W> {
-    ghost use Rattle.std.specs.Prelude.{◌++◌, OnOk, OnErr};
-    ghost use Rattle.std.specs.Io.KnownBytes.{append_known};
-    ghost use Rattle.rota_core.specs.Ports.{told_len};
+    ghost use Rattle.std.specs.Prelude.{◌++◌, OnOk};
     ghost use Rattle.rota_core.specs.RosterTables.{set_of};
     ghost use Rattle.rota_items.specs.Limits.{IsWithinLimits};
-    ghost use Rattle.opb_text.specs.Begins.{Begins};
-    ghost use Rattle.opb_text.specs.Sink.{PutsText, sent_by, stands_for, target_of};
+    ghost use Rattle.opb_text.specs.Sink.{FinishesSink, PutsText};
     ghost use Rattle.solver_text.specs.AnswerText.{answer_head};
     ghost use Rattle.solver_text.specs.AnswerWriter.{literals_of, sink_of};
     ghost use Rattle.rota_pb.specs.Extending.{extension_answer};
@@ -102,13 +99,8 @@ impl<'a, 'b, 'j, W: Target> SlackTaker<'a, 'b, 'j, W> {
         requires shape { HasShapeOf (week_of instance.now) roster.now }
         requires judge { (progress_of self.old).judging ≡ fresh instance.now (extended roster.now) }
         requires phase { phase_of (writer_of self.old) ≡ New }
-        ensures takes { PutsText (sink_of (writer_of self.old)) result
+        ensures { FinishesSink (sink_of (writer_of self.old)) result
             (extension_answer objective (week_of instance.now) (set_of roster.now)) (sink_of (writer_of self.new)) }
-        ensures sent { OnOk result (sent_by (sink_of (writer_of self.new)) ≡
-            append_known (stands_for (sink_of (writer_of self.old))) (extension_answer objective (week_of instance.now) (set_of roster.now))) }
-        ensures err { OnErr result (Begins (sent_by (sink_of (writer_of self.new)))
-            (append_known (stands_for (sink_of (writer_of self.old))) (extension_answer objective (week_of instance.now) (set_of roster.now)))) }
-        ensures flushed { OnOk result (W.flushed (target_of (sink_of (writer_of self.new))) ≡ told_len (sent_by (sink_of (writer_of self.new)))) }
     {
         let _nurses = instance.nurses();
         self.put_extension(instance, roster, objective)?;

@@ -1,9 +1,6 @@
 //! A writer of the answer that a solver would give.
-ghost use Rattle.std.specs.Prelude.{◌≡◌, ◌+◌, ◌-◌, ◌^◌, min, true, OnOk, OnErr, IsErr};
-ghost use Rattle.std.specs.Io.KnownBytes.{append_known};
-ghost use Rattle.rota_core.specs.Ports.{told_len};
-ghost use Rattle.opb_text.specs.Begins.{Begins};
-ghost use Rattle.opb_text.specs.Sink.{stands_for, sink_failed, target_of, sent_by, PutsText};
+ghost use Rattle.std.specs.Prelude.{◌≡◌, ◌+◌, ◌-◌, ◌^◌, min, true, IsErr};
+ghost use Rattle.opb_text.specs.Sink.{sink_failed, FinishesSink, PutsText};
 ghost use Rattle.solver_text.specs.AnswerText.{answer_head};
 ghost use Rattle.solver_text.specs.AnswerWriter.{literal_text, end_text};
 
@@ -118,12 +115,7 @@ impl<'a, W: Target> AnswerWriter<'a, W> {
         requires { phase_of self.old ≡ Phase.Started }
         ensures phase { phase_of self.new ≡ Phase.Finished }
         ensures literals { literals_of self.new ≡ literals_of self.old }
-        ensures takes { PutsText (sink_of self.old) result (end_text (literals_of self.old)) (sink_of self.new) }
-        ensures sent { OnOk result (sent_by (sink_of self.new) ≡ append_known (stands_for (sink_of self.old)) (end_text (literals_of self.old))) }
-        ensures err { OnErr result (Begins (sent_by (sink_of self.new)) (append_known (stands_for (sink_of self.old)) (end_text (literals_of self.old)))) }
-        ensures flushed { OnOk result (W.flushed (target_of (sink_of self.new)) ≡ told_len (sent_by (sink_of self.new))) }
-        ensures for_good { sink_failed (sink_of self.old) ≡ true → IsErr result }
-        ensures target_for_good { W.has_failed (target_of (sink_of self.old)) ≡ true → IsErr result }
+        ensures finishes { FinishesSink (sink_of self.old) result (end_text (literals_of self.old)) (sink_of self.new) }
     {
         self.phase = Phase::Finished;
         put_end(&mut self.sink, self.literals)?;
