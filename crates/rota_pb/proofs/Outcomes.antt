@@ -1,12 +1,14 @@
 -- What a run returns, by the checks and the writes that it makes.
 use Rattle.std.proofs.Common.{◌≡◌, Result, Ok, Err, sym, subst}
 use Rattle.std.specs.Prelude.{List, ℕ, IfErr, MatchResult}
+use Rattle.rota_core.specs.ScenarioTables.{ScenarioTables}
+use Rattle.rota_read.specs.ScenarioLayout.{scenario}
 use Rattle.rota_pb.specs.declared.fault.Fault.{Fault}
 use Rattle.rota_pb.specs.declared.fault.Fault.TheVariants.{File, Memory, Write, Read, Answer, NoRoster, Unmet, Breaks}
 use Rattle.rota_pb.specs.declared.week_files.Choice.{Choice}
 use Rattle.rota_pb.specs.Faults.{CheckOrWrite}
 use Rattle.rota_pb.specs.Readers.{Reader, WeekReaders}
-use Rattle.rota_pb.specs.WeekFiles.{StopsAt, StopsAtTables, at_fix, at_history, at_late_week, at_scenario, at_tables, at_week}
+use Rattle.rota_pb.specs.WeekFiles.{IsRead, StopsAfterScenario, StopsAt, StopsAtTables, at_fix, at_history, at_late_week, at_scenario, at_tables, at_week, by_history, by_week}
 use Rattle.rota_pb.specs.Writers.{SendsText, Writer, WritesBeginning, WritesText}
 
 -- a check that a failed write cannot be failed
@@ -39,6 +41,12 @@ pub sent : {Whole Part : Type 0} (Check : Fault → Type 0) (out : Writer) (text
     MatchResult r (λ _. Whole) (λ fault. CheckOrWrite fault (Check fault) Part)
 sent Check out text (Ok u) sends is whole part = whole sends
 sent Check out text (Err fault) sends is whole part = failed_write (Check fault) fault is (part sends)
+
+-- a check that fails after the scenario was read
+pub after_scenario : (sce his wee : Reader) (s : ScenarioTables) → IsRead scenario sce s → (fault : Fault) →
+    StopsAfterScenario s his wee fault → StopsAtTables sce his wee fault
+after_scenario sce his wee s read fault (by_history fails untouched) = at_history s read fails untouched
+after_scenario sce his wee s read fault (by_week h his_read fails) = at_week s h read his_read fails
 
 tables_not_written : (sce his wee : Reader) → StopsAtTables sce his wee Write → ⊥
 tables_not_written sce his wee (at_scenario fails his_untouched wee_untouched) = fails

@@ -1,5 +1,5 @@
 -- What a run that decodes reads and writes.
-use Rattle.std.specs.Prelude.{ℕ, List, MatchResult, Result}
+use Rattle.std.specs.Prelude.{◌≡◌, ℕ, List, IfErr, MatchResult, Result, Err}
 use Rattle.rota_core.specs.InstanceTables.{InstanceTables, week_of}
 use Rattle.rota_core.specs.RosterTables.{set_of}
 use Rattle.rota_items.specs.WeekModel.{model_of}
@@ -7,7 +7,8 @@ use Rattle.rota_read.specs.SolutionText.{solution_text}
 use Rattle.solver_text.specs.declared.outcome.Solved.{Solved}
 use Rattle.rota_pb.specs.declared.decoded.Decoded.{Decoded}
 use Rattle.rota_pb.specs.declared.fault.Fault.{Fault}
-use Rattle.rota_pb.specs.AnswerPieces.{IsAnswered, FailsAnswer}
+use Rattle.rota_pb.specs.declared.fault.Fault.TheVariants.{Write}
+use Rattle.rota_pb.specs.AnswerPieces.{IsAnswered, IsSolved, FailsAnswer}
 use Rattle.rota_pb.specs.Decoded.{IsDecoded, LacksRoster}
 use Rattle.rota_pb.specs.declared.week_files.Choice.{Choice}
 use Rattle.rota_pb.specs.Faults.{CheckOrWrite}
@@ -53,6 +54,18 @@ pub data FailsWriting (sol report : Writer) (solution reported : List ℕ) : Typ
 abbrev pub SendsBoth : Writer → Writer → List ℕ → List ℕ → Result (Unit {0}) Fault → Type 0
 SendsBoth sol report solution reported result =
     MatchResult result (λ _. WritesText sol solution × WritesText report reported) (λ _. FailsWriting sol report solution reported)
+
+-- What a run did with the answer to the model of these tables: it failed a check, and no writer was touched, or both texts of its roster
+-- were sent.
+pub data DecodesWeek (tables : InstanceTables) (answer : Reader) (sol report : Writer) (result : Result (Unit {0}) Fault) : Type 0 where
+  fails_at_answer : (fault : Fault) → result ≡ Err fault → FailsAnswer (variables_of tables) answer fault →
+      sol.untouched → report.untouched → DecodesWeek tables answer sol report result
+  fails_at_roster : (fault : Fault) → result ≡ Err fault → (solved : Solved) → IsSolved (variables_of tables) answer solved →
+      LacksRoster (week_of tables) solved fault → sol.untouched → report.untouched → DecodesWeek tables answer sol report result
+  sends_both : (solved : Solved) (decoded : Decoded) → IsSolved (variables_of tables) answer solved →
+      IsDecoded (week_of tables) solved decoded →
+      SendsBoth sol report (solution_text tables (set_of decoded.roster)) (report_text decoded) result →
+      IfErr result (λ fault. fault ≡ Write) → DecodesWeek tables answer sol report result
 
 -- a beginning of what is to be written went out
 pub record BeginsSolution (choice : Choice) (readers : WeekReaders) (answer : Reader) (sol report : Writer) : Type 0 where

@@ -1,5 +1,5 @@
 -- What a run that extends writes.
-use Rattle.std.specs.Prelude.{◌≡◌, ℕ, ◌+◌, ◌<◌, ◌≤◌, pos, Bool, List, [], ◌∷◌, Some, Result, Ok, MatchResult}
+use Rattle.std.specs.Prelude.{◌≡◌, ℕ, ◌+◌, ◌<◌, ◌≤◌, pos, Bool, List, [], ◌∷◌, Some, Result, Ok, Err, MatchResult}
 use Rattle.rota_core.specs.Lists.{each_below}
 use Rattle.rota_core.specs.Week.{Week}
 use Rattle.rota_core.specs.InstanceTables.{InstanceTables, IsInstance, week_of}
@@ -57,6 +57,14 @@ ExtensionOutcome week roster out result =
     MatchResult result (λ _. KeepsHardRules week roster × WritesText out (extension_text week roster))
     (λ fault. CheckOrWrite fault
     (BreaksRule week roster fault × out.untouched) (KeepsHardRules week roster × WritesBeginning out (extension_text week roster)))
+
+-- What a run did with the roster that is given for these tables: its file failed the check, and the writer was not touched, or it was read
+-- and extended.
+pub data ExtendsGiven (tables : InstanceTables) (given : Reader) (out : Writer) (result : Result (Unit {0}) Fault) : Type 0 where
+  fails_at_file : (fault : Fault) → result ≡ Err fault → FailsCheck names.Solution (solution tables.scenario) given fault →
+      out.untouched → ExtendsGiven tables given out result
+  extends_roster : (roster : RosterTables) → IsRosterRead tables given roster →
+      ExtensionOutcome (week_of tables) (set_of roster) out result → ExtendsGiven tables given out result
 
 -- the files spell the tables of a week, and a roster that keeps its hard rules
 pub record SpellsExtended (choice : Choice) (readers : WeekReaders) (given : Reader) (tables : InstanceTables) (roster : RosterTables) : Type 0 where

@@ -58,6 +58,11 @@ pub record SpellsWeek (choice : Choice) (readers : WeekReaders) (tables : Instan
   pub spelled : SpellsTables choice.early readers.scenario readers.history readers.week unheld
   pub holds : HoldsCells choice.fixed readers.fix unheld tables
 
+-- The first check of the history and of the week's data that fails gives the fault, and the later reader is not touched.
+pub data StopsAfterScenario (s : ScenarioTables) (his wee : Reader) (fault : Fault) : Type 0 where
+  by_history : FailsCheck names.History (history s) his fault → wee.untouched → StopsAfterScenario s his wee fault
+  by_week : (h : HistoryTables) → IsRead (history s) his h → FailsCheck names.Week (week s) wee fault → StopsAfterScenario s his wee fault
+
 -- The first check of the three files that fails gives the fault, and later readers are not touched.
 pub data StopsAtTables (sce his wee : Reader) (fault : Fault) : Type 0 where
   at_scenario : FailsCheck names.Scenario scenario sce fault →

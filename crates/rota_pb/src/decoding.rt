@@ -7,7 +7,7 @@ ghost use Rattle.rota_read.specs.SolutionText.{solution_text};
 ghost use Rattle.rota_pb.specs.declared.fault.Fault.TheVariants.{Read, Write};
 ghost use Rattle.rota_pb.specs.AnswerPieces.{HasNoEnd};
 ghost use Rattle.rota_pb.specs.Decoded.{FindsRoster};
-ghost use Rattle.rota_pb.specs.Decoding.{DecodeOutcome, SendsBoth};
+ghost use Rattle.rota_pb.specs.Decoding.{DecodeOutcome, DecodesWeek, SendsBoth};
 ghost use Rattle.rota_pb.specs.Report.{report_text};
 ghost use Rattle.rota_pb.specs.Readers.{OneFailsBeforeEnd, reader_of, week_readers};
 ghost use Rattle.rota_pb.specs.Writers.{writer_of};
@@ -38,6 +38,22 @@ fn write_both<W: Target, R: Target>(
 {
     write_solution(instance, &decoded.roster, sol)?;
     write_report(decoded, report)
+}
+
+// Reads a solver's answer to the week's model, and writes the solution file of its roster and the report.
+fn decode_week<A: Source, W: Target, R: Target>(
+    alloc: Global,
+    instance: &Instance,
+    answer: &mut A,
+    sol: &mut W,
+    report: &mut R,
+) -> Result<(), Fault>
+    ensures { DecodesWeek instance.now (reader_of A.Source answer.old answer.new)
+        (writer_of W.Target sol.old sol.new) (writer_of R.Target report.old report.new) result }
+{
+    let solved = read_answer(alloc, counts(instance).variables, answer)?;
+    let decoded = decode(instance, solved)?;
+    write_both(instance, &decoded, sol, report)
 }
 
 /// Reads the files of a week and a solver's answer to the week's model, each to its end, and writes
@@ -78,7 +94,5 @@ pub fn run_decode<S: Source, H: Source, K: Source, F: Source, A: Source, W: Targ
         ⊎ HasNoEnd (reader_of A.Source answer.old answer.new) }
 {
     let instance = read_instance(alloc, choice, sce, his, week, fix_file)?;
-    let solved = read_answer(alloc, counts(&instance).variables, answer)?;
-    let decoded = decode(&instance, solved)?;
-    write_both(&instance, &decoded, sol, report)
+    decode_week(alloc, &instance, answer, sol, report)
 }

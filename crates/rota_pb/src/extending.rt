@@ -3,7 +3,7 @@ ghost use Rattle.std.specs.Prelude.{◌≡◌, ◌⊎◌, Err};
 ghost use Rattle.rota_core.specs.InstanceTables.{week_of};
 ghost use Rattle.rota_core.specs.RosterTables.{HasShapeOf, set_of};
 ghost use Rattle.rota_pb.specs.declared.fault.Fault.TheVariants.{Read};
-ghost use Rattle.rota_pb.specs.Extending.{ExtendOutcome, ExtensionOutcome, extension_answer};
+ghost use Rattle.rota_pb.specs.Extending.{ExtendOutcome, ExtendsGiven, ExtensionOutcome, extension_answer};
 ghost use Rattle.rota_pb.specs.Readers.{FailsBeforeEnd, OneFailsBeforeEnd, reader_of, week_readers};
 ghost use Rattle.rota_pb.specs.Writers.{SendsText, writer_of};
 
@@ -57,6 +57,19 @@ pub fn extend<W: Target>(instance: &Instance, roster: &Roster, out: &mut W) -> R
     }
 }
 
+// Reads a solution file, and extends its roster.
+fn extend_given<G: Source, W: Target>(
+    alloc: Global,
+    instance: &Instance,
+    given: &mut G,
+    out: &mut W,
+) -> Result<(), Fault>
+    ensures { ExtendsGiven instance.now (reader_of G.Source given.old given.new) (writer_of W.Target out.old out.new) result }
+{
+    let roster = read_roster(alloc, instance, given)?;
+    extend(instance, &roster, out)
+}
+
 /// Reads the files of a week and a solution file, each to its end, and writes the answer that a solver
 /// would give for the solution's roster, as `extend` does.
 ///
@@ -88,6 +101,5 @@ pub fn run_extend<S: Source, H: Source, K: Source, F: Source, G: Source, W: Targ
         ⊎ FailsBeforeEnd (reader_of G.Source given.old given.new) }
 {
     let instance = read_instance(alloc, choice, sce, his, week, fix_file)?;
-    let roster = read_roster(alloc, &instance, given)?;
-    extend(&instance, &roster, out)
+    extend_given(alloc, &instance, given, out)
 }

@@ -7,7 +7,7 @@ ghost use Rattle.rota_read.specs.HistoryLayout.{history as history_layout};
 ghost use Rattle.rota_read.specs.WeekLayout.{week as week_layout};
 ghost use Rattle.rota_pb.specs.Faults.{FailsCheck};
 ghost use Rattle.rota_pb.specs.Readers.{reader_of, week_readers};
-ghost use Rattle.rota_pb.specs.WeekFiles.{IsRead, SpellsTables, SpellsWeek, StopsAt, StopsAtTables};
+ghost use Rattle.rota_pb.specs.WeekFiles.{IsRead, SpellsTables, SpellsWeek, StopsAfterScenario, StopsAt, StopsAtTables};
 
 use crate::fault::Fault;
 use crate::given_roster::read_held;
@@ -59,6 +59,25 @@ fn read_week_from<S: Source>(
     Ok(read_week(alloc, scenario, &text)?)
 }
 
+// What the scenario's history and week are. Where the history fails, the week is not touched.
+fn read_history_and_week<H: Source, K: Source>(
+    alloc: Global,
+    scenario: &Scenario,
+    his: &mut H,
+    week: &mut K,
+) -> Result<(History, Week), Fault>
+    ensures history_fits { IfOk result (λ p. HasNumbersOf scenario.now p.0.nurses p.0.shifts p.0.skills) }
+    ensures week_fits { IfOk result (λ p. HasNumbersOf scenario.now p.1.nurses p.1.shifts p.1.skills) }
+    ensures history_read { IfOk result (λ p. IsRead (history_layout scenario.now) (reader_of H.Source his.old his.new) p.0) }
+    ensures week_read { IfOk result (λ p. IsRead (week_layout scenario.now) (reader_of K.Source week.old week.new) p.1) }
+    ensures fault { IfErr result (StopsAfterScenario scenario.now
+        (reader_of H.Source his.old his.new) (reader_of K.Source week.old week.new)) }
+{
+    let history = read_history_from(alloc, scenario, his)?;
+    let week = read_week_from(alloc, scenario, week)?;
+    Ok((history, week))
+}
+
 // The instance that the three files spell, with no cell held. The first check that fails is the
 // answer, and later readers are not touched.
 fn read_tables<S: Source, H: Source, K: Source>(
@@ -75,8 +94,7 @@ fn read_tables<S: Source, H: Source, K: Source>(
         (reader_of S.Source sce.old sce.new) (reader_of H.Source his.old his.new) (reader_of K.Source week.old week.new)) }
 {
     let scenario = read_scenario_from(alloc, sce)?;
-    let history = read_history_from(alloc, &scenario, his)?;
-    let week = read_week_from(alloc, &scenario, week)?;
+    let (history, week) = read_history_and_week(alloc, &scenario, his, week)?;
     Ok(Instance::join(scenario, history, week, early)?)
 }
 
