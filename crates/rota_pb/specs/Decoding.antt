@@ -55,8 +55,8 @@ abbrev pub SendsBoth : Writer → Writer → List ℕ → List ℕ → Result (U
 SendsBoth sol report solution reported result =
     MatchResult result (λ _. WritesText sol solution × WritesText report reported) (λ _. FailsWriting sol report solution reported)
 
--- What a run did with the answer to the model of these tables: it failed a check, and no writer was touched, or both texts of its roster
--- were sent.
+-- What a run did with the answer to the model of these tables: it failed a check, and no writer was touched; or its roster's texts were
+-- sent, and where that failed a writer did.
 pub data DecodesWeek (tables : InstanceTables) (answer : Reader) (sol report : Writer) (result : Result (Unit {0}) Fault) : Type 0 where
   fails_at_answer : (fault : Fault) → result ≡ Err fault → FailsAnswer (variables_of tables) answer fault →
       sol.untouched → report.untouched → DecodesWeek tables answer sol report result

@@ -59,7 +59,8 @@ fn read_week_from<S: Source>(
     Ok(read_week(alloc, scenario, &text)?)
 }
 
-// What the scenario's history and week are. Where the history fails, the week is not touched.
+// Reads the history and the week's data of the scenario. Where the history fails, the reader of
+// the week is not touched.
 fn read_history_and_week<H: Source, K: Source>(
     alloc: Global,
     scenario: &Scenario,
