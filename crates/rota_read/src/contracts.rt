@@ -1,11 +1,11 @@
 //! Reads the contracts of a scenario file.
 
-ghost use Rattle.std.specs.Prelude.{◌≡◌, ◌≤◌, ◌+◌, [], length, IfOk, OnOk};
+ghost use Rattle.std.specs.Prelude.{◌≡◌, ◌≤◌, ◌+◌, length, OnOk};
 ghost use Rattle.rota_core.specs.Names.{bytes_of};
 ghost use Rattle.rota_read.specs.Layout.{repeat};
 ghost use Rattle.rota_read.specs.Reading.{read, Reads};
 ghost use Rattle.rota_read.specs.ScenarioLayout.{contract, contract_row, contracts_part};
-ghost use Rattle.rota_read.specs.ScenarioRows.{contracts_of};
+ghost use Rattle.rota_read.specs.ScenarioRows.{contracts_of, no_contract};
 
 use crate::cursor::Cursor;
 use crate::fault::Stop;
@@ -54,26 +54,37 @@ impl<'a> Cursor<'a> {
     }
 
     #[tactic(auto, using(crate::proofs::RowSteps::row_steps))]
-    fn contract_rows(&mut self, alloc: Global, count: u16) -> Result<ContractRows, Stop>
-        ensures read { Reads contracts_of result self.new (read (repeat count contract_row (record { names = []; contracts = [] })) self.old) }
-        ensures count { IfOk result (λ rows. length (bytes_of rows.names) ≡ count) }
+    fn contract_rows(
+        &mut self,
+        alloc: Global,
+        count: u16,
+        rows: &mut ContractRows,
+    ) -> Result<(), Stop>
+        ensures read { Reads (λ _. contracts_of rows.new) result self.new (read (repeat count contract_row (contracts_of rows.old)) self.old) }
+        ensures longer { OnOk result (length (bytes_of rows.new.names) ≡ length (bytes_of rows.old.names) + count) }
     {
-        let mut rows = ContractRows {
-            names: IndexSet::new(alloc),
-            contracts: Vec::new(alloc),
-        };
         for _ in 0..count {
-            self.contract_row(alloc, &mut rows)?;
+            self.contract_row(alloc, rows)?;
         }
-        Ok(rows)
+        Ok(())
     }
 
     #[tactic(auto, unfolding(crate::specs::ScenarioLayout::contracts_part, crate::specs::Reading::read))]
-    pub fn contracts_part(&mut self, alloc: Global) -> Result<ContractRows, Stop>
-        ensures read { Reads contracts_of result self.new (read contracts_part self.old) }
-        ensures few { IfOk result (λ rows. length (bytes_of rows.names) ≤ MOST_CONTRACTS) }
+    pub fn contracts_part(&mut self, alloc: Global, rows: &mut ContractRows) -> Result<(), Stop>
+        requires { contracts_of rows.old ≡ no_contract }
+        ensures read { Reads (λ _. contracts_of rows.new) result self.new (read contracts_part self.old) }
+        ensures few { OnOk result (length (bytes_of rows.new.names) ≤ MOST_CONTRACTS) }
     {
         let count = self.setting(b"CONTRACTS", 1, MOST_CONTRACTS)?;
-        self.contract_rows(alloc, count)
+        self.contract_rows(alloc, count, rows)
+    }
+}
+
+pub fn no_contracts(alloc: Global) -> ContractRows
+    ensures { contracts_of result ≡ no_contract }
+{
+    ContractRows {
+        names: IndexSet::new(alloc),
+        contracts: Vec::new(alloc),
     }
 }

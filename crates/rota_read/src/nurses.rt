@@ -1,11 +1,11 @@
 //! Reads the nurses of a scenario file.
 
-ghost use Rattle.std.specs.Prelude.{◌≤◌, [], length};
+ghost use Rattle.std.specs.Prelude.{◌≡◌, ◌≤◌, length};
 ghost use Rattle.rota_core.specs.Names.{bytes_of};
 ghost use Rattle.rota_read.specs.Layout.{repeat, known_name, none_taken};
 ghost use Rattle.rota_read.specs.Reading.{read, Reads};
 ghost use Rattle.rota_read.specs.ScenarioLayout.{nurse_row, nurses_part};
-ghost use Rattle.rota_read.specs.ScenarioRows.{nurses_of};
+ghost use Rattle.rota_read.specs.ScenarioRows.{nurses_of, no_nurse};
 
 use crate::contracts::MOST_CONTRACTS;
 use crate::cursor::Cursor;
@@ -62,20 +62,16 @@ impl<'a> Cursor<'a> {
         skills: &IndexSet<Vec<u8>>,
         most: u16,
         count: u16,
-    ) -> Result<NurseRows, Stop>
+        rows: &mut NurseRows,
+    ) -> Result<(), Stop>
         requires most { most ≤ MOST }
         requires few { length (bytes_of contracts.now) ≤ MOST_CONTRACTS }
-        ensures { Reads nurses_of result self.new (read (repeat count (nurse_row (bytes_of contracts.now) (bytes_of skills.now) most) (record { names = []; contract_of = []; has_skill = [] })) self.old) }
+        ensures { Reads (λ _. nurses_of rows.new) result self.new (read (repeat count (nurse_row (bytes_of contracts.now) (bytes_of skills.now) most) (nurses_of rows.old)) self.old) }
     {
-        let mut rows = NurseRows {
-            names: IndexSet::new(alloc),
-            contract_of: Vec::new(alloc),
-            has_skill: Vec::new(alloc),
-        };
         for _ in 0..count {
-            self.nurse_row(alloc, contracts, skills, most, &mut rows)?;
+            self.nurse_row(alloc, contracts, skills, most, rows)?;
         }
-        Ok(rows)
+        Ok(())
     }
 
     #[tactic(auto, unfolding(crate::specs::ScenarioLayout::nurses_part, crate::specs::Reading::read))]
@@ -85,12 +81,24 @@ impl<'a> Cursor<'a> {
         contracts: &IndexSet<Vec<u8>>,
         skills: &IndexSet<Vec<u8>>,
         most: u16,
-    ) -> Result<NurseRows, Stop>
+        rows: &mut NurseRows,
+    ) -> Result<(), Stop>
         requires most { most ≤ MOST }
         requires few { length (bytes_of contracts.now) ≤ MOST_CONTRACTS }
-        ensures { Reads nurses_of result self.new (read (nurses_part (bytes_of contracts.now) (bytes_of skills.now) most) self.old) }
+        requires none { nurses_of rows.old ≡ no_nurse }
+        ensures { Reads (λ _. nurses_of rows.new) result self.new (read (nurses_part (bytes_of contracts.now) (bytes_of skills.now) most) self.old) }
     {
         let count = self.setting(b"NURSES", 1, 1000)?;
-        self.nurse_rows(alloc, contracts, skills, most, count)
+        self.nurse_rows(alloc, contracts, skills, most, count, rows)
+    }
+}
+
+pub fn no_nurses(alloc: Global) -> NurseRows
+    ensures { nurses_of result ≡ no_nurse }
+{
+    NurseRows {
+        names: IndexSet::new(alloc),
+        contract_of: Vec::new(alloc),
+        has_skill: Vec::new(alloc),
     }
 }

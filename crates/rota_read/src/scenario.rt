@@ -1,61 +1,119 @@
 //! Reads a scenario file.
 
-ghost use Rattle.std.specs.Prelude.{◌≤◌, IfOk};
+ghost use Rattle.std.specs.Prelude.{◌≡◌, ◌≤◌, [], IfOk};
 ghost use Rattle.rota_core.specs.Names.{bytes_of};
 ghost use Rattle.rota_core.specs.Parts.{scenario_of};
 ghost use Rattle.rota_read.specs.Reading.{read, Reads};
+ghost use Rattle.rota_read.specs.ScenarioRows.{tables_of, IsEmpty};
 ghost use Rattle.rota_read.specs.ScenarioLayout.{heading, skills_part, scenario};
 
+use crate::contracts::{ContractRows, no_contracts};
 use crate::cursor::Cursor;
 use crate::fault::Stop;
+use crate::nurses::{NurseRows, no_nurses};
+use crate::shift_types::{ShiftRows, no_shift_types};
 use crate::slots::MOST;
 use indexmap::IndexSet;
 use rota_core::ScenarioParts;
 use std::alloc::Global;
 
+// What the sections of a scenario file hold.
+#[derive(Drop)]
+pub struct ScenarioRows {
+    pub name: Vec<u8>,
+    pub weeks: u16,
+    pub skills: IndexSet<Vec<u8>>,
+    pub shifts: ShiftRows,
+    pub forbidden: Vec<bool>,
+    pub contracts: ContractRows,
+    pub nurses: NurseRows,
+}
+
 impl<'a> Cursor<'a> {
     #[tactic(auto, unfolding(crate::specs::ScenarioLayout::heading, crate::specs::Reading::read))]
-    fn heading(&mut self, alloc: Global) -> Result<(Vec<u8>, u16), Stop>
-        ensures { Reads (λ p. (p.0.items, p.1)) result self.new (read heading self.old) }
+    fn heading(&mut self, name: &mut Vec<u8>) -> Result<u16, Stop>
+        requires { name.old.items ≡ [] }
+        ensures { Reads (λ weeks. (name.new.items, weeks)) result self.new (read heading self.old) }
     {
         self.exactly(b"SCENARIO")?;
         self.exactly(b"=")?;
-        let name = self.any_word()?;
-        let weeks = self.setting(b"WEEKS", 1, 52)?;
-        Ok((Vec::from_slice(alloc, name)?, weeks))
+        name.extend_from_slice(self.any_word()?)?;
+        self.setting(b"WEEKS", 1, 52)
     }
 
     #[tactic(auto, unfolding(crate::specs::ScenarioLayout::skills_part, crate::specs::Reading::read))]
-    fn skills_part(&mut self, alloc: Global) -> Result<(u16, IndexSet<Vec<u8>>), Stop>
-        ensures read { Reads (λ p. (p.0, bytes_of p.1)) result self.new (read skills_part self.old) }
-        ensures most { IfOk result (λ p. p.0 ≤ MOST) }
+    fn skills_part(&mut self, alloc: Global, names: &mut IndexSet<Vec<u8>>) -> Result<u16, Stop>
+        requires { bytes_of names.old ≡ [] }
+        ensures read { Reads (λ count. (count, bytes_of names.new)) result self.new (read skills_part self.old) }
+        ensures most { IfOk result (λ count. count ≤ MOST) }
     {
         let count = self.setting(b"SKILLS", 1, 16)?;
-        let names = self.new_names(alloc, count)?;
-        Ok((count, names))
+        self.new_names(alloc, count, names)?;
+        Ok(count)
     }
 
+    // Each section, into rows that one caller owns.
     #[tactic(auto, unfolding(crate::specs::ScenarioLayout::scenario, crate::specs::Reading::read))]
+    fn sections(&mut self, alloc: Global, rows: &mut ScenarioRows) -> Result<(), Stop>
+        requires { IsEmpty rows.old }
+        ensures { Reads (λ _. tables_of rows.new) result self.new (read scenario self.old) }
+    {
+        rows.weeks = self.heading(&mut rows.name)?;
+        let skill_count = self.skills_part(alloc, &mut rows.skills)?;
+        let shift_count = self.shifts_part(alloc, &mut rows.shifts)?;
+        let shifts = &rows.shifts.names;
+        self.successions_part(alloc, shifts, shift_count, &mut rows.forbidden)?;
+        self.contracts_part(alloc, &mut rows.contracts)?;
+        let contracts = &rows.contracts.names;
+        self.nurses_part(
+            alloc,
+            contracts,
+            &rows.skills,
+            skill_count,
+            &mut rows.nurses,
+        )
+    }
+
     pub fn scenario(&mut self, alloc: Global) -> Result<ScenarioParts, Stop>
         ensures { Reads scenario_of result self.new (read scenario self.old) }
     {
-        let (name, weeks) = self.heading(alloc)?;
-        let (skill_count, skills) = self.skills_part(alloc)?;
-        let (shift_count, shifts) = self.shifts_part(alloc)?;
-        let forbidden = self.successions_part(alloc, &shifts.names, shift_count)?;
-        let contracts = self.contracts_part(alloc)?;
-        let nurses = self.nurses_part(alloc, &contracts.names, &skills, skill_count)?;
-        Ok(ScenarioParts {
-            name,
-            weeks,
-            skills,
-            shifts: shifts.names,
-            nurses: nurses.names,
-            limits: shifts.limits,
-            forbidden,
-            contracts: contracts.contracts,
-            contract_of: nurses.contract_of,
-            has_skill: nurses.has_skill,
-        })
+        let mut rows = no_rows(alloc);
+        self.sections(alloc, &mut rows)?;
+        Ok(parts_of(rows))
+    }
+}
+
+// What is there before the first section.
+fn no_rows(alloc: Global) -> ScenarioRows
+    ensures { IsEmpty result }
+{
+    ScenarioRows {
+        name: Vec::new(alloc),
+        weeks: 0,
+        skills: IndexSet::new(alloc),
+        shifts: no_shift_types(alloc),
+        forbidden: Vec::new(alloc),
+        contracts: no_contracts(alloc),
+        nurses: no_nurses(alloc),
+    }
+}
+
+fn parts_of(rows: ScenarioRows) -> ScenarioParts
+    ensures { scenario_of result ≡ tables_of rows }
+{
+    let shifts = rows.shifts;
+    let contracts = rows.contracts;
+    let nurses = rows.nurses;
+    ScenarioParts {
+        name: rows.name,
+        weeks: rows.weeks,
+        skills: rows.skills,
+        shifts: shifts.names,
+        nurses: nurses.names,
+        limits: shifts.limits,
+        forbidden: rows.forbidden,
+        contracts: contracts.contracts,
+        contract_of: nurses.contract_of,
+        has_skill: nurses.has_skill,
     }
 }

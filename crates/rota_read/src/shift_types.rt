@@ -1,11 +1,11 @@
 //! Reads the shift types and the forbidden successions of a scenario file.
 
-ghost use Rattle.std.specs.Prelude.{◌≡◌, ◌==◌, ◌≤◌, [], position, IfOk};
+ghost use Rattle.std.specs.Prelude.{◌≡◌, ◌==◌, ◌≤◌, [], position, IfOk, OnOk};
 ghost use Rattle.rota_core.specs.Names.{bytes_of};
 ghost use Rattle.rota_read.specs.Layout.{repeat};
 ghost use Rattle.rota_read.specs.Reading.{read, Reads};
 ghost use Rattle.rota_read.specs.ScenarioLayout.{after_shift as after, forbidden_table, shift_row, succession_row, shifts_part, successions_part};
-ghost use Rattle.rota_read.specs.ScenarioRows.{shifts_of, successions_of};
+ghost use Rattle.rota_read.specs.ScenarioRows.{no_shift_type, shifts_of, successions_of};
 
 use crate::cursor::Cursor;
 use crate::fault::Stop;
@@ -40,27 +40,24 @@ impl<'a> Cursor<'a> {
     }
 
     #[tactic(auto, using(crate::proofs::RowSteps::row_steps))]
-    fn shift_rows(&mut self, alloc: Global, count: u16) -> Result<ShiftRows, Stop>
-        ensures { Reads shifts_of result self.new (read (repeat count shift_row (record { names = []; limits = [] })) self.old) }
+    fn shift_rows(&mut self, alloc: Global, count: u16, rows: &mut ShiftRows) -> Result<(), Stop>
+        ensures { Reads (λ _. shifts_of rows.new) result self.new (read (repeat count shift_row (shifts_of rows.old)) self.old) }
     {
-        let mut rows = ShiftRows {
-            names: IndexSet::new(alloc),
-            limits: Vec::new(alloc),
-        };
         for _ in 0..count {
-            self.shift_row(alloc, &mut rows)?;
+            self.shift_row(alloc, rows)?;
         }
-        Ok(rows)
+        Ok(())
     }
 
     #[tactic(auto, unfolding(crate::specs::ScenarioLayout::shifts_part, crate::specs::Reading::read))]
-    pub fn shifts_part(&mut self, alloc: Global) -> Result<(u16, ShiftRows), Stop>
-        ensures read { Reads (λ p. (p.0, shifts_of p.1)) result self.new (read shifts_part self.old) }
-        ensures most { IfOk result (λ p. p.0 ≤ MOST) }
+    pub fn shifts_part(&mut self, alloc: Global, rows: &mut ShiftRows) -> Result<u16, Stop>
+        requires { shifts_of rows.old ≡ no_shift_type }
+        ensures read { Reads (λ count. (count, shifts_of rows.new)) result self.new (read shifts_part self.old) }
+        ensures most { IfOk result (λ count. count ≤ MOST) }
     {
         let count = self.setting(b"SHIFT_TYPES", 1, 16)?;
-        let rows = self.shift_rows(alloc, count)?;
-        Ok((count, rows))
+        self.shift_rows(alloc, count, rows)?;
+        Ok(count)
     }
 
     #[tactic(auto, using(crate::proofs::NameSteps::known_taken, std::proofs::lemmas::Grind::common_steps), unfolding(crate::specs::ScenarioLayout::succession_row, crate::specs::Reading::read))]
@@ -87,18 +84,15 @@ impl<'a> Cursor<'a> {
         alloc: Global,
         names: &IndexSet<Vec<u8>>,
         count: u16,
-    ) -> Result<SuccessionRows, Stop>
+        rows: &mut SuccessionRows,
+    ) -> Result<(), Stop>
         requires { count ≤ MOST }
-        ensures { Reads successions_of result self.new (read (repeat count (succession_row (bytes_of names.now) count) (record { shifts = []; after = [] })) self.old) }
+        ensures { Reads (λ _. successions_of rows.new) result self.new (read (repeat count (succession_row (bytes_of names.now) count) (successions_of rows.old)) self.old) }
     {
-        let mut rows = SuccessionRows {
-            shifts: Vec::new(alloc),
-            after: Vec::new(alloc),
-        };
         for _ in 0..count {
-            self.succession_row(alloc, names, count, &mut rows)?;
+            self.succession_row(alloc, names, count, rows)?;
         }
-        Ok(rows)
+        Ok(())
     }
 
     #[tactic(auto, unfolding(crate::specs::ScenarioLayout::successions_part, crate::specs::Reading::read))]
@@ -107,13 +101,34 @@ impl<'a> Cursor<'a> {
         alloc: Global,
         names: &IndexSet<Vec<u8>>,
         count: u16,
-    ) -> Result<Vec<bool>, Stop>
-        requires { count ≤ MOST }
-        ensures { Reads (λ v. v.items) result self.new (read (successions_part (bytes_of names.now) count) self.old) }
+        table: &mut Vec<bool>,
+    ) -> Result<(), Stop>
+        requires most { count ≤ MOST }
+        requires none { table.old.items ≡ [] }
+        ensures { Reads (λ _. table.new.items) result self.new (read (successions_part (bytes_of names.now) count) self.old) }
     {
         self.exactly(b"FORBIDDEN_SHIFT_TYPES_SUCCESSIONS")?;
-        let rows = self.succession_rows(alloc, names, count)?;
-        Ok(forbidden_of(alloc, count, &rows)?)
+        let mut rows = no_successions(alloc);
+        self.succession_rows(alloc, names, count, &mut rows)?;
+        Ok(append_forbidden(table, count, &rows)?)
+    }
+}
+
+pub fn no_shift_types(alloc: Global) -> ShiftRows
+    ensures { shifts_of result ≡ no_shift_type }
+{
+    ShiftRows {
+        names: IndexSet::new(alloc),
+        limits: Vec::new(alloc),
+    }
+}
+
+fn no_successions(alloc: Global) -> SuccessionRows
+    ensures { successions_of result ≡ record { shifts = []; after = [] } }
+{
+    SuccessionRows {
+        shifts: Vec::new(alloc),
+        after: Vec::new(alloc),
     }
 }
 
@@ -137,12 +152,16 @@ fn after_shift(rows: &SuccessionRows, shift: usize) -> &[usize]
 }
 
 #[tactic(auto, using(crate::proofs::TableLemmas::one_more_row))]
-fn forbidden_of(alloc: Global, size: u16, rows: &SuccessionRows) -> Result<Vec<bool>, AllocError>
-    ensures { IfOk result (λ v. v.items ≡ forbidden_table size (successions_of rows.now)) }
+fn append_forbidden(
+    table: &mut Vec<bool>,
+    size: u16,
+    rows: &SuccessionRows,
+) -> Result<(), AllocError>
+    requires { table.old.items ≡ [] }
+    ensures { OnOk result (table.new.items ≡ forbidden_table size (successions_of rows.now)) }
 {
-    let mut table = Vec::new(alloc);
     for shift in 0..size {
-        append_marks(&mut table, after_shift(rows, usize::from(shift)), size)?;
+        append_marks(table, after_shift(rows, usize::from(shift)), size)?;
     }
-    Ok(table)
+    Ok(())
 }

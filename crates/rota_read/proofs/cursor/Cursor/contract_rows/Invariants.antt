@@ -1,4 +1,4 @@
-use Rattle.std.proofs.Common.{◌≡◌, ◌-◌, length, []}
+use Rattle.std.proofs.Common.{◌≡◌, ◌-◌, ◌+◌, length}
 use Rattle.rota_core.specs.Names.{bytes_of}
 use Rattle.rota_read.specs.ScenarioRows.{contracts_of}
 use Rattle.rota_read.specs.Layout.{repeat}
@@ -8,6 +8,6 @@ use Rattle.rota_read.proofs.cursor.Cursor.contract_rows.Given as goal
 
 abbrev pub invariant-loop : goal.invariant-loop
 invariant-loop l = record {
-  read : read (repeat (l.count - l.counter) (contract_row) (contracts_of l.rows)) l.self ≡ read (repeat l.count (contract_row) (record { names = []; contracts = [] })) l.fn.self;
-  count : length (bytes_of l.rows.names) ≡ l.counter;
+  read : read (repeat (l.count - l.counter) (contract_row) (contracts_of l.rows)) l.self ≡ read (repeat l.count (contract_row) (contracts_of l.fn.rows)) l.fn.self;
+  longer : length (bytes_of l.rows.names) ≡ length (bytes_of l.fn.rows.names) + l.counter;
 }
