@@ -44,10 +44,15 @@ refuses() {
 
 refuses_words() {
     in=/dev/null
-    run 'no solution file' 2 nothing text decode --sce scenario.txt --his history.txt --week week.txt
-    run 'the solution file twice' 2 nothing text "${week[@]}" --sol again
-    run 'the answer twice' 2 nothing text "${week[@]}" --answer a --answer b
-    run 'an option of encode' 2 nothing text "${week[@]}" --opb week.opb
+    local files=(--sce=scenario.txt --his=history.txt --week=week.txt)
+    refused 'no solution file' "$lacking" decode "${files[@]}"
+    refused 'an answer and no solution file' "$lacking" decode "${files[@]}" --answer=answer.txt
+    refused 'a solution file alone' "$lacking" decode --sol=solution
+    refused 'the solution file twice' "the argument '--sol <FILE>' cannot be used multiple times" "${week[@]}" --sol again
+    refused 'the answer twice' "the argument '--answer <FILE>' cannot be used multiple times" "${week[@]}" --answer a --answer b
+    refused 'a solution file that is not named' "a value is required for '--sol <FILE>' but none was supplied" decode "${files[@]}" --sol
+    refused 'an option of encode' "unexpected argument '--opb' found" decode "${files[@]}" --opb=week.opb
+    refused 'an option of extend' "unexpected argument '--from' found" decode "${files[@]}" --from=roster
     run 'help' 0 text nothing decode --help
     is_missing solution
 }
@@ -56,9 +61,15 @@ decodes() {
     in=/dev/null
     run 'an answer from a file' 0 optimum_report nothing "${week[@]}" --answer answer.txt
     holds solution monday_solution
+    cp "$room/answer.txt" "$room/a b"
+    run 'options in another order' 0 optimum_report nothing decode --sol '=x' --his history.txt --answer 'a b' --sce=scenario.txt --week week.txt
+    holds '=x' monday_solution
     in=$room/answer.txt
     run 'an answer from standard input' 0 optimum_report nothing "${week[@]}"
     holds solution monday_solution
+    run 'each option one word' 0 optimum_report nothing decode --sce=scenario.txt --his=history.txt --week=week.txt --sol=r
+    holds r monday_solution
+    rm -f "$room/a b" "$room/=x" "$room/r"
     head -c 100000 /dev/zero > "$room/solution"
     run 'over a longer solution' 0 optimum_report nothing "${week[@]}"
     holds solution monday_solution

@@ -23,10 +23,14 @@ sed '6s/.*/Day (1,0)/' "$room/scenario.txt" > "$room/closed.txt"
 sed '5s/.*/SHIFT_TYPES = 2/;6s/.*/Early (1,9) Late (1,9)/;8s/.*/Early 0 Late 0/' "$room/scenario.txt" > "$room/two_shifts.txt"
 sed '3s/.*/SKILLS = 2/;4s/.*/Nurse Head/;12s/.*/Ann Full 2 Nurse Head/' "$room/scenario.txt" > "$room/two_skills.txt"
 sed '12s/.*/Ann Full 0/' "$room/scenario.txt" > "$room/no_skill.txt"
+# No day after a day, and one nurse that is needed on Tuesday.
+sed '8s/.*/Day 1 Day/' "$room/scenario.txt" > "$room/not_twice.txt"
+sed '3s/$/\nDay Nurse (0,0) (1,1) (0,0) (0,0) (0,0) (0,0) (0,0)/' "$room/week.txt" > "$room/tuesday.txt"
 roster monday 'Ann Mon Day Nurse'
 roster monday_twice 'Ann Mon Day Nurse' 'Ann Mon Day Nurse'
 roster two_shifts 'Ann Mon Early Nurse' 'Ann Mon Late Nurse'
 roster two_skills 'Ann Mon Day Nurse' 'Ann Mon Day Head'
+roster monday_and_tuesday 'Ann Mon Day Nurse' 'Ann Tue Day Nurse'
 roster nobody
 roster unknown 'Bob Mon Day Nurse'
 printf 'SOLUTION\n0 s1\nASSIGNMENTS = 1\nAnn Wed Day' > "$room/cut"
@@ -64,22 +68,30 @@ extends() {
     holds solution monday_solution
     extend_of scenario.txt nobody
     run 'nobody' 0 nobody_answer nothing "${words[@]}"
+    run 'the roster named first' 0 nobody_answer nothing extend --from nobody --sce scenario.txt --his history.txt --week week.txt
 }
 
 refuses_rosters() {
     refuses 'two shift types on a day' 6 'roster breaks H1' two_shifts.txt two_shifts
     refuses 'two skills on a day' 6 'roster breaks H1' two_skills.txt two_skills
+    refuses 'a day after a day' 6 'roster breaks H3' not_twice.txt monday_and_tuesday
     refuses 'a skill that she lacks' 6 'roster breaks H4' no_skill.txt monday
     refuses 'a row twice' 1 'solution line 5: repeated' scenario.txt monday_twice
     refuses 'an unknown nurse' 1 'solution line 4: unknown name' scenario.txt unknown
     refuses 'a roster that is cut' 1 'solution line 4: end of file' scenario.txt cut
     refuses 'another file' 1 'solution line 1: another word expected' scenario.txt week.txt
+    line fault 'inrc2pb: roster breaks H2'
+    run 'nobody where one is needed' 6 nothing fault extend --sce scenario.txt --his history.txt --week tuesday.txt --from monday
     run 'a late week first' 1 nothing week_late extend --sce scenario.txt --his late.txt --week week.txt --from cut
 }
 
 checks_words_and_files() {
-    run 'no roster' 2 nothing text extend --sce scenario.txt --his history.txt --week week.txt
-    run 'a roster twice' 2 nothing text "${words[@]}" --from nobody
+    local files=(--sce=scenario.txt --his=history.txt --week=week.txt)
+    refused 'no roster' "$lacking" extend "${files[@]}"
+    refused 'a roster alone' "$lacking" extend --from=nobody
+    refused 'a roster twice' "the argument '--from <FILE>' cannot be used multiple times" "${words[@]}" --from nobody
+    refused 'a roster that is not named' "a value is required for '--from <FILE>' but none was supplied" extend "${files[@]}" --from
+    refused 'an option of decode' "unexpected argument '--sol' found" extend "${files[@]}" --sol=solution
     run 'help' 0 text nothing extend --help
     refuses 'no such roster' 3 'read failed' scenario.txt missing
     refuses 'no such roster, and a fault' 3 'read failed' nothing missing

@@ -77,6 +77,8 @@ scenarios() {
     scenario_line 6 'Any (1,9)' 'repeated'
     scenario_line 8 'Day 2' 'out of limits'
     scenario_line 10 'Full (1,9) (1,9) (1,9) 9 2' 'out of limits'
+    scenario_line 10 'Full (1,9) (1,9) (1 9) 9 0' 'another word expected'
+    scenario_line 10 'Full (1,9) (1,9) (1,nine) 9 0' 'number expected'
     scenario_line 11 'NURSES = 0' 'out of limits'
     scenario_line 11 'NURSES = 1001' 'out of limits'
     scenario_line 12 'Ann Half 1 Nurse' 'unknown name'

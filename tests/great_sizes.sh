@@ -44,6 +44,7 @@ roster one_a_day 7000
 roster most_rows 9999
 roster too_many_rows 10000
 line breaks_h1 'inrc2pb: roster breaks H1'
+line last_row 'inrc2pb: constraint 7001 is not satisfied'
 line rows_limit 'inrc2pb: solution line 4: out of limits'
 
 greatest_week() {
@@ -68,6 +69,9 @@ greatest_rosters() {
     run 'its answer' 0 text nothing decode "${greatest[@]}" --answer answer --sol solution
     holds solution one_a_day
     grep -qx 'penalty 0' "$room/out" || complain 'another penalty'
+    printf 's SATISFIABLE\nv x1792001 x1792000 x1791999\n' > "$room/answer"
+    run 'two cells of the last nurse and day' 6 nothing last_row decode "${greatest[@]}" --answer answer --sol unmade
+    is_missing unmade
     run 'a roster of 9999 rows' 6 nothing breaks_h1 extend "${greatest[@]}" --from most_rows
     reports 'the cells of 9999 rows' text greatest.txt greatest_history.txt week.txt most_rows
     grep -qx 'cells 9999' "$room/out" || complain 'not 9999 cells'

@@ -61,6 +61,8 @@ min: +20 x9 +20 x10 +20 x11 +20 x12 ;
 -1 x7 >= -1 ;
 -1 x1 -1 x2 -1 x3 -1 x4 -1 x5 -1 x6 -1 x7 +1 x9 +1 x10 +1 x11 +1 x12 >= -3 ;
 END
+# The row of a held cell stands with the hard rules, before those of the soft ones.
+sed '1s/9$/10/;$i+1 x3 >= 1 ;' "$room/early_model" > "$room/early_held_model"
 cat > "$room/all_days_answer" <<'END'
 o 80
 s SATISFIABLE
@@ -92,6 +94,7 @@ holds_cells() {
     run 'a cell held' 0 held_model nothing encode "${week[@]}" --fix wednesday
     run 'the file named first' 0 held_model nothing encode --fix wednesday "${week[@]}"
     run 'two cells held' 0 both_model nothing encode "${week[@]}" --fix both --early
+    run 'a cell held, and the flag' 0 early_held_model nothing encode --early --sce=fifteen.txt --his=twelve.txt --fix wednesday --week=week.txt
     run 'no cell held' 0 model nothing encode "${week[@]}" --fix nobody
     run 'a roster that lacks the cell' 6 nothing breaks_held extend "${week[@]}" --fix wednesday --from monday
     run 'a roster that has the cell' 0 text nothing extend "${week[@]}" --fix wednesday --from both

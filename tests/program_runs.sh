@@ -69,6 +69,15 @@ run() {
     [ "$err" != "$room/err" ] || check_stream 'standard error' "$err" "$wants_err"
 }
 
+# refused WHAT MISTAKE WORDS..: the program refuses the words, and tells this mistake first.
+refused() {
+    local mistake=$2 told
+    run "$1" 2 nothing text "${@:3}"
+    told=$(head -n 1 "$room/err")
+    [ "$told" = "error: $mistake" ] || complain "told: $told"
+}
+lacking='the following required arguments were not provided:'
+
 # reports WHAT STDOUT WORDS..: runs `week_report` in the room, as the same compiler built it.
 reports() {
     local tried=$program build=${program#*/inrc2pb/out/inrc2pb}

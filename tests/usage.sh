@@ -23,7 +23,7 @@ END
 line version "inrc2pb $(sed -n 's/^const VERSION: &str = "\(.*\)";$/\1/p' crates/inrc2pb/src/command.rt)"
 line scenario_ends 'inrc2pb: scenario line 10: end of file'
 line scenario_empty 'inrc2pb: scenario line 1: end of file'
-line scenario_long 'inrc2pb: scenario: out of limits'
+for name in scenario history week fix solution; do line ${name}_long "inrc2pb: $name: out of limits"; done
 line history_word 'inrc2pb: history line 1: another word expected'
 
 # The help that was shown last ends with an example of the command and where more is said.
@@ -49,8 +49,9 @@ tells_options() {
 asks_for_help() {
     local help subcommand
     run 'no words' 2 nothing text
+    cp "$room/err" "$room/help"
     for help in --help -h; do
-        run "$help" 0 text nothing "$help"
+        run "$help" 0 help nothing "$help"
         for subcommand in encode decode extend; do
             grep -q "^ *$subcommand  *[A-Z]" "$room/out" || complain "no line for $subcommand"
         done
@@ -68,25 +69,42 @@ asks_for_help() {
 
 refuses_words() {
     local not_text subcommand
-    run 'an unknown word' 2 nothing text solve
-    run 'help as a word' 2 nothing text help
+    refused 'an unknown word' "unrecognized subcommand 'solve'" solve
+    refused 'help as a word' "unrecognized subcommand 'help'" help
     for subcommand in encode decode extend; do
-        run "no options of $subcommand" 2 nothing text $subcommand
+        refused "no options of $subcommand" "$lacking" $subcommand
     done
-    run 'no scenario' 2 nothing text encode --his history.txt --week week.txt
-    run 'no history' 2 nothing text encode --sce scenario.txt --week week.txt
-    run 'no week' 2 nothing text encode --sce scenario.txt --his history.txt
-    run 'an option twice' 2 nothing text "${week[@]}" --sce scenario.txt
-    run 'an output twice' 2 nothing text "${week[@]}" --opb a --opb b
+    refused 'no scenario' "$lacking" encode --his=history.txt --week=week.txt
+    refused 'no history' "$lacking" encode --sce=scenario.txt --week=week.txt
+    refused 'no week' "$lacking" encode --sce=scenario.txt --his=history.txt
+    refused 'an option twice' "the argument '--sce <FILE>' cannot be used multiple times" "${week[@]}" --sce scenario.txt
+    refused 'an option twice, and no other' "the argument '--sce <FILE>' cannot be used multiple times" encode --sce=a --sce=a
+    refused 'an output twice' "the argument '--opb <FILE>' cannot be used multiple times" "${week[@]}" --opb a --opb b
     is_missing a
-    run 'an option without its value' 2 nothing text "${week[@]}" --opb
-    run 'an unknown option' 2 nothing text "${week[@]}" --random 1
-    run 'a word too many' 2 nothing text "${week[@]}" week.txt
+    refused 'an option without its value' "a value is required for '--opb <FILE>' but none was supplied" "${week[@]}" --opb
+    refused 'no value, and no other option' "a value is required for '--opb <FILE>' but none was supplied" encode --opb
+    refused 'an unknown option' "unexpected argument '--random' found" "${week[@]}" --random 1
+    refused 'an option of decode' "unexpected argument '--sol' found" encode --sol a
+    refused 'a word too many' "unexpected argument 'week.txt' found" "${week[@]}" week.txt
     not_text=$(printf '\377')
     run 'a word that is not text' 2 nothing text encode --sce "$not_text" --his history.txt --week week.txt
     err=/dev/full
     run 'a refusal that cannot be written' 2 nothing nothing solve
     err=$room/err
+}
+
+# Options in any order, and each path as it is given.
+takes_words() {
+    local path
+    run 'options in another order' 0 nothing nothing encode --week=week.txt --opb 'a b' --sce scenario.txt --his history.txt
+    holds 'a b' model
+    for path in '=x' ' s ' 'ä'; do
+        cp "$room/history.txt" "$room/$path"
+        run "the path '$path'" 0 model nothing encode --sce=scenario.txt --his "$path" --week=week.txt
+        rm "$room/$path"
+    done
+    run 'a path of no letters' 3 nothing read_failed encode --sce=scenario.txt --his '' --week=week.txt
+    rm -f "$room/a b"
 }
 
 fails_to_read() {
@@ -95,6 +113,7 @@ fails_to_read() {
     run 'no such history' 3 nothing read_failed encode --sce scenario.txt --his $missing --week week.txt
     run 'no such week' 3 nothing read_failed encode --sce scenario.txt --his history.txt --week $missing
     run 'a file that does not open comes first' 3 nothing read_failed encode --sce cut.txt --his history.txt --week $missing
+    run 'so does a history' 3 nothing read_failed encode --sce cut.txt --his $missing --week week.txt
     run 'a path without a name' 3 nothing read_failed encode --sce= --his history.txt --week week.txt
     run 'a directory as scenario' 3 nothing read_failed encode --sce . --his history.txt --week week.txt
     run 'a directory as history' 3 nothing read_failed encode --sce scenario.txt --his . --week week.txt
@@ -110,6 +129,10 @@ finds_faults() {
     run 'a scenario that is cut' 1 nothing scenario_ends encode --sce cut.txt --his history.txt --week week.txt
     run 'a scenario of the greatest length' 0 model nothing encode --sce longest.txt --his history.txt --week week.txt
     run 'a scenario that is too long' 1 nothing scenario_long encode --sce too_long.txt --his history.txt --week week.txt
+    run 'a history that is too long' 1 nothing history_long encode --sce scenario.txt --his too_long.txt --week week.txt
+    run 'a week that is too long' 1 nothing week_long encode --sce scenario.txt --his history.txt --week too_long.txt
+    run 'held cells that are too long' 1 nothing fix_long "${week[@]}" --fix too_long.txt
+    run 'a roster that is too long' 1 nothing solution_long extend "${week[@]:1}" --from too_long.txt
     run 'another word in the history' 1 nothing history_word encode --sce scenario.txt --his week.txt --week week.txt
     run 'a week that is too late' 1 nothing week_late encode --sce scenario.txt --his late.txt --week week.txt
 }
@@ -164,6 +187,7 @@ usage() {
     rm -f "$room"/*.opb
     asks_for_help
     refuses_words
+    takes_words
     fails_to_read
     finds_faults
     writes_the_model

@@ -8,7 +8,7 @@ use std::alloc::AllocError;
 
 /// What every job is given: a scenario, the history before the week, the week's data and, where one is
 /// named, the file of the cells that are held; and whether excess is charged early.
-#[derive(Debug, Drop)]
+#[derive(Drop)]
 pub struct Inputs {
     pub sce: String,
     pub his: String,
@@ -30,7 +30,7 @@ impl Inputs {
 }
 
 /// What the program is asked to do, with the paths as they were given.
-#[derive(Debug, Drop)]
+#[derive(Drop)]
 pub enum Job {
     /// Write the model of the week, to standard output where no file is named for it.
     Encode {
@@ -52,7 +52,7 @@ pub enum Job {
 }
 
 /// Why the words give no job.
-#[derive(Debug, Drop)]
+#[derive(Drop)]
 pub enum JobFault {
     /// The words are refused, or ask for help or the version.
     Words(clap::Error),

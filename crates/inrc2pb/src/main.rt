@@ -10,8 +10,6 @@ mod fault_line;
 mod files;
 mod jobs;
 mod stop;
-#[cfg(test)]
-mod tests;
 
 use crate::files::{FileOnFirstWrite, OpenInputs, open, open_inputs};
 use crate::jobs::{Inputs, Job};

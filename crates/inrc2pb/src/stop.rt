@@ -12,7 +12,7 @@ use rota_pb::{Fault, status_of};
 use std::alloc::AllocError;
 use std::io;
 
-#[derive(Debug, Drop)]
+#[derive(Drop)]
 pub enum Stop {
     /// The words ask for help or the version, which is this text.
     Shown(clap::Error),
