@@ -1,6 +1,6 @@
 //! The command line, as a command of clap.
 ghost use Rattle.std.specs.Prelude.{◌≡◌, [], IfOk, false};
-ghost use Rattle.clap.specs.Words.{rule_of};
+ghost use Rattle.clap.specs.Words.{App, rule_of, with_subcommand};
 ghost use Rattle.inrc2pb.specs.CommandLine.{IsCommandOf, bare_app, decode_app, encode_app};
 ghost use Rattle.inrc2pb.specs.CommandLine.{extend_app, file_rule, flag_rule, inrc2pb_app};
 ghost use Rattle.inrc2pb.specs.CommandLine.{required_file_rule, subcommand_app};
@@ -15,10 +15,22 @@ const VERSION: &str = "0.2.0";
 pub fn inrc2pb<'a>(alloc: Global) -> Result<Command<'a>, AllocError>
     ensures { IfOk result (IsCommandOf inrc2pb_app) }
 {
-    bare(alloc)?
-        .subcommand(encode(alloc)?)?
-        .subcommand(decode(alloc)?)?
-        .subcommand(extend(alloc)?)
+    let command = bare(alloc)?;
+    let command = with_subcommand(command, encode(alloc))?;
+    let command = with_subcommand(command, decode(alloc))?;
+    with_subcommand(command, extend(alloc))
+}
+
+// The command with this subcommand, where memory sufficed for it.
+fn with_subcommand<'a>(
+    command: Command<'a>,
+    subcommand: Result<Command<'a>, AllocError>,
+) -> Result<Command<'a>, AllocError>
+    ensures { (a : App) → (b : App) → IsCommandOf a command.entry
+        → IfOk subcommand.entry (IsCommandOf b)
+        → IfOk result (IsCommandOf (with_subcommand a b.top)) }
+{
+    command.subcommand(subcommand?)
 }
 
 fn bare<'a>(alloc: Global) -> Result<Command<'a>, AllocError>
