@@ -19,10 +19,14 @@ flag_rule id = record (new_rule id) { long = Some id; action = Some SetTrue }
 abbrev pub required_file_rule : Text → Rule
 required_file_rule id = record (file_rule id) { required = true }
 
+-- the options for the files of a week
+abbrev pub week_rules : List Rule
+week_rules = required_file_rule (codes "sce") ∷ required_file_rule (codes "his")
+    ∷ required_file_rule (codes "week") ∷ []
+
 -- the options that every subcommand has
 abbrev pub input_rules : List Rule
-input_rules = required_file_rule (codes "sce") ∷ required_file_rule (codes "his")
-    ∷ required_file_rule (codes "week") ∷ file_rule (codes "fix") ∷ flag_rule (codes "early") ∷ []
+input_rules = week_rules ++ (file_rule (codes "fix") ∷ flag_rule (codes "early") ∷ [])
 
 -- a subcommand, with the options of its own
 abbrev pub subcommand_app : Text → List Rule → App

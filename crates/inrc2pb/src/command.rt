@@ -1,9 +1,9 @@
 //! The command line, as a command of clap.
-ghost use Rattle.std.specs.Prelude.{◌≡◌, [], IfOk, false};
-ghost use Rattle.clap.specs.Words.{App, rule_of, with_subcommand};
+ghost use Rattle.std.specs.Prelude.{◌≡◌, [], IfOk, false, fold};
+ghost use Rattle.clap.specs.Words.{App, rule_of, with_rule, with_subcommand};
 ghost use Rattle.inrc2pb.specs.CommandLine.{IsCommandOf, bare_app, decode_app, encode_app};
 ghost use Rattle.inrc2pb.specs.CommandLine.{extend_app, file_rule, flag_rule, inrc2pb_app};
-ghost use Rattle.inrc2pb.specs.CommandLine.{required_file_rule, subcommand_app};
+ghost use Rattle.inrc2pb.specs.CommandLine.{required_file_rule, subcommand_app, week_rules};
 
 use clap::{Arg, ArgAction, Command};
 use std::alloc::{AllocError, Global};
@@ -114,12 +114,8 @@ fn subcommand<'a>(
 ) -> Result<Command<'a>, AllocError>
     ensures { IfOk result (IsCommandOf (subcommand_app name.entry.now [])) }
 {
-    Command::new(alloc, name)
-        .about(about)
-        .after_help(example)
-        .arg(required_file(alloc, "sce", "The scenario"))?
-        .arg(required_file(alloc, "his", "The history before the week"))?
-        .arg(required_file(alloc, "week", "The requirements and requests of the week"))?
+    let command = Command::new(alloc, name).about(about).after_help(example);
+    with_week(alloc, command)?
         .arg(file_option(
             alloc,
             "fix",
@@ -130,6 +126,17 @@ fn subcommand<'a>(
             "early",
             "Charges what exceeds a total in the week in which it arises",
         ))
+}
+
+// The command with the options for the three files of a week.
+fn with_week<'a>(alloc: Global, command: Command<'a>) -> Result<Command<'a>, AllocError>
+    ensures { (a : App) → IsCommandOf a command.entry
+        → IfOk result (IsCommandOf (fold with_rule a week_rules)) }
+{
+    command
+        .arg(required_file(alloc, "sce", "The scenario"))?
+        .arg(required_file(alloc, "his", "The history before the week"))?
+        .arg(required_file(alloc, "week", "The requirements and requests of the week"))
 }
 
 // The flag `--id`.
