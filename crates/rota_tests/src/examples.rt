@@ -1,12 +1,12 @@
 //! The example with which `rota_pb` opens, line for line: `tests/documents.sh` compares them.
-use crate::jobs::ENCODING;
+use crate::jobs::encoding;
 use rota_core::{MemorySource, MemoryTarget, Pace};
 use rota_pb::{Choice, run_encode};
 use std::test::Fail;
 
 #[test]
 fn example_of_rota_pb(rt: HostRuntime) -> Result<(), Fail> {
-    let (alloc, [scenario, history, week, ..]) = (rt.alloc(), ENCODING.inputs);
+    let (alloc, [scenario, history, week, ..]) = (rt.alloc(), encoding().inputs);
     let pace = Pace::new(4096, None);
     let mut sce = MemorySource::new(scenario, pace);
     let mut his = MemorySource::new(history, pace);

@@ -3,7 +3,7 @@ use crate::job_runs::{
     Ended, NOTHING, PIECE, Paces, Sent, by_bytes, done, end_of, even, refused, whole,
 };
 use crate::jobs::{
-    DECODING, DECODING_HELD, ENCODING, EXTENDING, EXTENDING_HELD, HOLDING, JOBS, Job,
+    Job, decoding, decoding_held, encoding, extending, extending_held, holding, jobs,
 };
 use rota_core::{FileFault, FileName, Kind, MemorySource, Pace, ToWrite};
 use rota_pb::{Choice, Fault, run_encode, status_of};
@@ -33,21 +33,23 @@ fn with_reader(reader: usize, pace: Pace, targets: Pace) -> Paces {
     paces
 }
 
+// The run ended so. Its kind and number are told where it did not.
+fn check_end(rt: &impl Abort, found: Ended, wanted: Ended, kind: &str, number: usize) {
+    assert_eq!(rt; found, wanted, "{kind} {number}");
+}
+
 // The outcome is the same in pieces of each length, from one byte to the whole text.
 #[test]
 fn runs_in_pieces_of_each_length(rt: HostRuntime) {
-    for job in &JOBS {
+    for job in &jobs() {
         for length in 1..200 {
             let pieces = Pace::new(length, None);
             let paces = Paces {
                 readers: [pieces; 5],
                 targets: [pieces; 2],
             };
-            assert_eq!(rt;
-                end_of(rt.alloc(), job, &paces),
-                done(job),
-                "pieces of {length}"
-            );
+            let end = end_of(rt.alloc(), job, &paces);
+            check_end(&rt, end, done(job), "pieces of", length);
         }
     }
 }
@@ -64,19 +66,17 @@ fn check_reader(rt: &impl Abort, alloc: Global, job: &Job, reader: usize, text: 
     for good_calls in 0..calls {
         let failing = Pace::new(PIECE, Some(good_calls));
         let paces = with_reader(reader, failing, by_bytes(0));
-        assert_eq!(rt;
-            end_of(alloc, job, &paces),
-            refused(Fault::Read),
-            "call {good_calls}"
-        );
+        let end = end_of(alloc, job, &paces);
+        check_end(rt, end, refused(Fault::Read), "reader", reader);
     }
     let paces = with_reader(reader, Pace::new(PIECE, Some(calls)), even());
-    assert_eq!(rt; end_of(alloc, job, &paces), done(job), "reader {reader}");
+    let end = end_of(alloc, job, &paces);
+    check_end(rt, end, done(job), "reader", reader);
 }
 
 #[test]
 fn runs_end_where_a_read_fails(rt: HostRuntime) {
-    for job in &JOBS {
+    for job in &jobs() {
         for (reader, text) in job.inputs.iter().enumerate() {
             if !text.is_empty() {
                 check_reader(&rt, rt.alloc(), job, reader, text);
@@ -101,47 +101,52 @@ fn with_second_target(good_calls: u64) -> Paces {
 }
 
 // This many bytes of the text went out, and none is flushed.
-fn cut_after(bytes: u64) -> Sent {
-    Sent {
-        bytes: bytes as usize,
-        ..NOTHING
-    }
+fn cut_after(bytes: usize) -> Sent {
+    Sent { bytes, ..NOTHING }
 }
 
 // A target that fails leaves what went out before. Where the flush after the last byte fails, all bytes are out.
 // With one call more, which is the one flush, the run is whole.
+fn check_first_target(rt: &impl Abort, alloc: Global, job: &Job) {
+    let calls = job.outputs[0].len().saturating_add(1);
+    for good_calls in 0..calls {
+        let cut = Ended {
+            outcome: Err(Fault::Write),
+            sent: [cut_after(good_calls), NOTHING],
+        };
+        let end = end_of(alloc, job, &with_first_target(good_calls as u64));
+        check_end(rt, end, cut, "call", good_calls);
+    }
+    let end = end_of(alloc, job, &with_first_target(calls as u64));
+    check_end(rt, end, done(job), "call", calls);
+}
+
 #[test]
 fn runs_end_where_a_write_fails(rt: HostRuntime) {
-    for job in &JOBS {
-        let calls = job.outputs[0].len() as u64;
-        for good_calls in 0..=calls {
-            let cut = Ended {
-                outcome: Err(Fault::Write),
-                sent: [cut_after(good_calls), NOTHING],
-            };
-            let paces = with_first_target(good_calls);
-            assert_eq!(rt; end_of(rt.alloc(), job, &paces), cut);
-        }
-        let paces = with_first_target(calls.saturating_add(1));
-        assert_eq!(rt; end_of(rt.alloc(), job, &paces), done(job));
+    for job in &jobs() {
+        check_first_target(&rt, rt.alloc(), job);
     }
 }
 
 // The solution goes out whole before the report gets a byte.
-#[test]
-fn decoding_ends_where_the_report_fails(rt: HostRuntime) {
-    let [solution, report] = DECODING.outputs;
-    let calls = report.len() as u64;
-    for good_calls in 0..=calls {
+fn check_second_target(rt: &impl Abort, alloc: Global, job: &Job) {
+    let [solution, report] = job.outputs;
+    let calls = report.len().saturating_add(1);
+    for good_calls in 0..calls {
         let cut = Ended {
             outcome: Err(Fault::Write),
             sent: [whole(solution), cut_after(good_calls)],
         };
-        let paces = with_second_target(good_calls);
-        assert_eq!(rt; end_of(rt.alloc(), &DECODING, &paces), cut);
+        let end = end_of(alloc, job, &with_second_target(good_calls as u64));
+        check_end(rt, end, cut, "call", good_calls);
     }
-    let paces = with_second_target(calls.saturating_add(1));
-    assert_eq!(rt; end_of(rt.alloc(), &DECODING, &paces), done(&DECODING));
+    let end = end_of(alloc, job, &with_second_target(calls as u64));
+    check_end(rt, end, done(job), "call", calls);
+}
+
+#[test]
+fn decoding_ends_where_the_report_fails(rt: HostRuntime) {
+    check_second_target(&rt, rt.alloc(), &decoding());
 }
 
 // The job with another text in place of the input of this number.
@@ -157,64 +162,51 @@ fn bad(kind: Kind, file: FileName, line: u32) -> Fault {
     Fault::File(FileFault::Bad { kind, file, line })
 }
 
-// A job with an input of this number that is at fault, the number of a later reader, and the fault.
-const FAULTY: [(Job, (usize, &[u8]), usize, (Kind, FileName, u32)); 7] = [
-    (
-        ENCODING,
-        (0, b"SCENA"),
-        1,
-        (Kind::OtherWord, FileName::Scenario, 1),
-    ),
-    (
-        DECODING,
-        (0, b"SCENA"),
-        2,
-        (Kind::OtherWord, FileName::Scenario, 1),
-    ),
-    (
-        EXTENDING,
-        (0, b"SCENA"),
-        4,
-        (Kind::OtherWord, FileName::Scenario, 1),
-    ),
-    (
-        HOLDING,
-        (1, b"HISTORY 2 s1 NURSE_HISTORY Ann 0 0 None 0 0 0"),
-        3,
-        (Kind::LateWeek, FileName::History, 0),
-    ),
-    (
-        HOLDING,
-        (2, b"WEEK_DATA s1\n("),
-        3,
-        (Kind::OtherWord, FileName::Week, 2),
-    ),
-    (
-        DECODING_HELD,
-        (3, b"SOLUTION 0 s1\nASSIGN"),
-        4,
-        (Kind::OtherWord, FileName::Fixed, 2),
-    ),
-    (
-        EXTENDING_HELD,
-        (3, b"SOLUTION 0 s1\nASSIGN"),
-        4,
-        (Kind::OtherWord, FileName::Fixed, 2),
-    ),
-];
+// A job with an input that is at fault, the number of a later reader, and the fault.
+type Faulty = (Job, usize, Fault);
+
+// The scenario is at fault.
+fn with_faulty_scenario(job: Job, reader: usize) -> Faulty {
+    let fault = bad(Kind::OtherWord, FileName::Scenario, 1);
+    (with_input(job, 0, b"SCENA"), reader, fault)
+}
+
+fn with_late_history() -> Faulty {
+    let text = b"HISTORY 2 s1 NURSE_HISTORY Ann 0 0 None 0 0 0";
+    let fault = bad(Kind::LateWeek, FileName::History, 0);
+    (with_input(holding(), 1, text), 3, fault)
+}
+
+fn with_faulty_week() -> Faulty {
+    let fault = bad(Kind::OtherWord, FileName::Week, 2);
+    (with_input(holding(), 2, b"WEEK_DATA s1\n("), 3, fault)
+}
+
+// The held cells are at fault.
+fn with_faulty_cells(job: Job) -> Faulty {
+    let fault = bad(Kind::OtherWord, FileName::Fixed, 2);
+    (with_input(job, 3, b"SOLUTION 0 s1\nASSIGN"), 4, fault)
+}
+
+fn faulty_jobs() -> [Faulty; 7] {
+    [
+        with_faulty_scenario(encoding(), 1),
+        with_faulty_scenario(decoding(), 2),
+        with_faulty_scenario(extending(), 4),
+        with_late_history(),
+        with_faulty_week(),
+        with_faulty_cells(decoding_held()),
+        with_faulty_cells(extending_held()),
+    ]
+}
 
 // A later reader that would fail at its first call is not called.
 #[test]
 fn fault_of_an_earlier_file_comes_first(rt: HostRuntime) {
-    for (job, (place, text), reader, (kind, file, line)) in FAULTY {
-        let job = with_input(job, place, text);
+    for (job, reader, fault) in faulty_jobs() {
         let paces = with_reader(reader, by_bytes(0), by_bytes(0));
-        let fault = bad(kind, file, line);
-        assert_eq!(rt;
-            end_of(rt.alloc(), &job, &paces),
-            refused(fault),
-            "reader {reader}"
-        );
+        let end = end_of(rt.alloc(), &job, &paces);
+        check_end(&rt, end, refused(fault), "reader", reader);
     }
 }
 
@@ -226,9 +218,10 @@ fn answer_fails_after_some_bytes(rt: HostRuntime) {
         (b"v x9", Fault::Read),
     ];
     for (answer, fault) in rows {
-        let job = with_input(DECODING, 4, answer);
+        let job = with_input(decoding(), 4, answer);
         let paces = with_reader(4, Pace::new(200, Some(1)), even());
-        assert_eq!(rt; end_of(rt.alloc(), &job, &paces), refused(fault));
+        let end = end_of(rt.alloc(), &job, &paces);
+        check_end(&rt, end, refused(fault), "reader", 4);
     }
 }
 
@@ -248,7 +241,7 @@ impl Write for TakesNothing {
 
 #[test]
 fn writer_that_takes_nothing(rt: HostRuntime) {
-    let [scenario, history, week, ..] = ENCODING.inputs;
+    let [scenario, history, week, ..] = encoding().inputs;
     let plain = Choice {
         early: false,
         fixed: false,

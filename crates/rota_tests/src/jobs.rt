@@ -68,11 +68,12 @@ ASSIGNMENTS = 1
 Ann Mon Day Nurse
 ";
 
-pub const ENCODING: Job = Job {
-    kind: Kind::Encode,
-    inputs: [SCENARIO, HISTORY, WEEK, b"", b""],
-    outputs: [
-        b"* #variable= 8 #constraint= 8
+pub fn encoding() -> Job {
+    Job {
+        kind: Kind::Encode,
+        inputs: [SCENARIO, HISTORY, WEEK, b"", b""],
+        outputs: [
+            b"* #variable= 8 #constraint= 8
 +1 x8 >= 1 ;
 -1 x1 >= -1 ;
 -1 x2 >= -1 ;
@@ -82,23 +83,25 @@ pub const ENCODING: Job = Job {
 -1 x6 >= -1 ;
 -1 x7 >= -1 ;
 ",
-        b"",
-    ],
-};
+            b"",
+        ],
+    }
+}
 
 /// The answer has lines that say nothing of variables, and each line ends with CR LF.
-pub const DECODING: Job = Job {
-    kind: Kind::Decode,
-    inputs: [
-        SCENARIO,
-        HISTORY,
-        WEEK,
-        b"",
-        b"c hello\r\nd 1 2\r\no 5\r\ns OPTIMUM FOUND\r\nv x1 -x2\r\nv -x3 x1 -x4\r\nv -x5 -x6 x8 \r\n",
-    ],
-    outputs: [
-        MONDAY,
-        b"status OPTIMUM FOUND
+pub fn decoding() -> Job {
+    Job {
+        kind: Kind::Decode,
+        inputs: [
+            SCENARIO,
+            HISTORY,
+            WEEK,
+            b"",
+            b"c hello\r\nd 1 2\r\no 5\r\ns OPTIMUM FOUND\r\nv x1 -x2\r\nv -x3 x1 -x4\r\nv -x5 -x6 x8 \r\n",
+        ],
+        outputs: [
+            MONDAY,
+            b"status OPTIMUM FOUND
 objective 0
 penalty 0
 S1 0
@@ -110,21 +113,24 @@ S6 0
 S7 0
 last o 5
 ",
-    ],
-};
+        ],
+    }
+}
 
-pub const EXTENDING: Job = Job {
-    kind: Kind::Extend,
-    inputs: [CLOSED, HISTORY, WEEK, b"", MONDAY],
-    outputs: [
-        b"o 15
+pub fn extending() -> Job {
+    Job {
+        kind: Kind::Extend,
+        inputs: [CLOSED, HISTORY, WEEK, b"", MONDAY],
+        outputs: [
+            b"o 15
 s SATISFIABLE
 v x1 -x2 -x3 -x4 -x5 -x6 -x7 x8 x9 -x10
 v -x11 -x12 -x13 -x14 -x15
 ",
-        b"",
-    ],
-};
+            b"",
+        ],
+    }
+}
 
 // The same with Wednesday's assignment, which is held.
 
@@ -135,11 +141,12 @@ ASSIGNMENTS = 1
 Ann Wed Day Nurse
 ";
 
-pub const HOLDING: Job = Job {
-    kind: Kind::Encode,
-    inputs: [SCENARIO, HISTORY, WEEK, WEDNESDAY, b""],
-    outputs: [
-        b"* #variable= 8 #constraint= 9
+pub fn holding() -> Job {
+    Job {
+        kind: Kind::Encode,
+        inputs: [SCENARIO, HISTORY, WEEK, WEDNESDAY, b""],
+        outputs: [
+            b"* #variable= 8 #constraint= 9
 +1 x8 >= 1 ;
 -1 x1 >= -1 ;
 -1 x2 >= -1 ;
@@ -150,22 +157,24 @@ pub const HOLDING: Job = Job {
 -1 x7 >= -1 ;
 +1 x3 >= 1 ;
 ",
-        b"",
-    ],
-};
+            b"",
+        ],
+    }
+}
 
-pub const DECODING_HELD: Job = Job {
-    kind: Kind::Decode,
-    inputs: [
-        SCENARIO,
-        HISTORY,
-        WEEK,
-        WEDNESDAY,
-        b"s SATISFIABLE\nv x8 x3\n",
-    ],
-    outputs: [
-        WEDNESDAY,
-        b"status SATISFIABLE
+pub fn decoding_held() -> Job {
+    Job {
+        kind: Kind::Decode,
+        inputs: [
+            SCENARIO,
+            HISTORY,
+            WEEK,
+            WEDNESDAY,
+            b"s SATISFIABLE\nv x8 x3\n",
+        ],
+        outputs: [
+            WEDNESDAY,
+            b"status SATISFIABLE
 objective 0
 penalty 0
 S1 0
@@ -176,28 +185,33 @@ S5 0
 S6 0
 S7 0
 ",
-    ],
-};
+        ],
+    }
+}
 
-pub const EXTENDING_HELD: Job = Job {
-    kind: Kind::Extend,
-    inputs: [CLOSED, HISTORY, WEEK, WEDNESDAY, WEDNESDAY],
-    outputs: [
-        b"o 15
+pub fn extending_held() -> Job {
+    Job {
+        kind: Kind::Extend,
+        inputs: [CLOSED, HISTORY, WEEK, WEDNESDAY, WEDNESDAY],
+        outputs: [
+            b"o 15
 s SATISFIABLE
 v -x1 -x2 x3 -x4 -x5 -x6 -x7 x8 -x9 -x10
 v x11 -x12 -x13 -x14 -x15
 ",
-        b"",
-    ],
-};
+            b"",
+        ],
+    }
+}
 
 /// One job of each kind, without and with held cells.
-pub const JOBS: [Job; 6] = [
-    ENCODING,
-    DECODING,
-    EXTENDING,
-    HOLDING,
-    DECODING_HELD,
-    EXTENDING_HELD,
-];
+pub fn jobs() -> [Job; 6] {
+    [
+        encoding(),
+        decoding(),
+        extending(),
+        holding(),
+        decoding_held(),
+        extending_held(),
+    ]
+}

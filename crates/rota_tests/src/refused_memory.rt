@@ -1,7 +1,7 @@
 //! Want of memory in the middle of a run. With ample memory the run is whole; `tests/refusals.sh` and
 //! `rt try --test --fail-alloc N` refuse one allocation.
 use crate::job_runs::{Paces, done, end_of, even, refused};
-use crate::jobs::{DECODING_HELD, EXTENDING_HELD, HOLDING, Job};
+use crate::jobs::{Job, decoding_held, extending_held, holding};
 use rota_pb::Fault;
 use std::alloc::Global;
 use std::process::Abort;
@@ -18,15 +18,15 @@ fn check_job(rt: &impl Abort, alloc: Global, job: &Job) {
 
 #[test]
 fn encoding_wants_memory_before_the_first_write(rt: HostRuntime) {
-    check_job(&rt, rt.alloc(), &HOLDING);
+    check_job(&rt, rt.alloc(), &holding());
 }
 
 #[test]
 fn decoding_wants_memory_before_the_first_write(rt: HostRuntime) {
-    check_job(&rt, rt.alloc(), &DECODING_HELD);
+    check_job(&rt, rt.alloc(), &decoding_held());
 }
 
 #[test]
 fn extending_wants_memory_before_the_first_write(rt: HostRuntime) {
-    check_job(&rt, rt.alloc(), &EXTENDING_HELD);
+    check_job(&rt, rt.alloc(), &extending_held());
 }
