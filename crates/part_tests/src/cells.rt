@@ -1,5 +1,5 @@
 //! The numbers of a small week's cells.
-use crate::week_files::{TWO_NURSES, instance_of};
+use crate::week_files::{instance_of, two_nurses};
 use rota_core::{Cell, Instance};
 use rota_items::{cell_var, unit_var, var_cell};
 use std::process::Abort;
@@ -37,7 +37,7 @@ fn check_others(rt: &impl Abort, instance: &Instance) {
 
 #[test]
 fn cells_are_numbered_from_one(rt: HostRuntime) {
-    match instance_of(rt.alloc(), &TWO_NURSES) {
+    match instance_of(rt.alloc(), &two_nurses()) {
         Ok(instance) => {
             check_cells(&rt, &instance);
             check_others(&rt, &instance);

@@ -2,7 +2,7 @@
 ghost use Rattle.std.specs.Prelude.{◌≡◌, ◌-◌, MatchResult};
 ghost use Rattle.part_tests.specs.declared.events.Stopper.{Stopper};
 
-use crate::week_files::{ONE_NURSE_ONE_SHIFT, RUN_IN_THE_HISTORY, WeekFiles, instance_of};
+use crate::week_files::{WeekFiles, instance_of, one_nurse_one_shift, run_in_the_history};
 use rota_core::Instance;
 use rota_items::{Part, Taker, drive_constraints, drive_objective};
 use std::process::Abort;
@@ -94,21 +94,26 @@ fn check_stops(rt: &impl Abort, drive: Drive, instance: &Instance, events: u32) 
     assert!(rt; ends(drive, instance, events), "{events}");
 }
 
-// A plain week: the unit row and those of seven days have a term each, 3 events a row. With the run in the
-// history there are seven windows more, of 2, 3, 4, 4, 4, 4 and 4 terms, and an objective of seven terms.
-const WEEKS: [(WeekFiles, u32, u32); 2] = [
-    (ONE_NURSE_ONE_SHIFT, 0, 24),
-    (RUN_IN_THE_HISTORY, 9, 63),
-];
-
 fn check_week(rt: &impl Abort, instance: &Instance, in_objective: u32, in_constraints: u32) {
     check_stops(rt, Drive::Objective, instance, in_objective);
     check_stops(rt, Drive::Constraints, instance, in_constraints);
 }
 
+// The week's files, and how many events its objective and its constraints are.
+type Week = (WeekFiles, u32, u32);
+
+// A plain week: the unit row and those of seven days have a term each, 3 events a row. With the run in the
+// history there are seven windows more, of 2, 3, 4, 4, 4, 4 and 4 terms, and an objective of seven terms.
+fn weeks() -> [Week; 2] {
+    [
+        (one_nurse_one_shift(), 0, 24),
+        (run_in_the_history(), 9, 63),
+    ]
+}
+
 #[test]
 fn drives_stop_at_each_event(rt: HostRuntime) {
-    for (files, in_objective, in_constraints) in WEEKS {
+    for (files, in_objective, in_constraints) in weeks() {
         match instance_of(rt.alloc(), &files) {
             Ok(instance) => check_week(&rt, &instance, in_objective, in_constraints),
             Err(_) => panic!(rt; "no week"),

@@ -2,7 +2,7 @@
 ghost use Rattle.rota_core.specs.InstanceTables.{week_of};
 ghost use Rattle.rota_core.specs.RosterTables.{HasShapeOf};
 
-use crate::week_files::{ONE_NURSE_ONE_SHIFT, RUN_IN_THE_HISTORY, instance_of};
+use crate::week_files::{instance_of, one_nurse_one_shift, run_in_the_history};
 use opb_text::{OpbTaker, Sink};
 use rota_core::{Cell, FileFault, Instance, MemoryTarget, Pace, Roster, Rule};
 use rota_items::{Counts, Judge, Part, Taker, drive_constraints, drive_objective};
@@ -14,7 +14,7 @@ use std::test::Fail;
 
 #[test]
 fn rosters_are_filled(rt: HostRuntime) -> Result<(), Fail> {
-    let instance = instance_of(rt.alloc(), &ONE_NURSE_ONE_SHIFT)?;
+    let instance = instance_of(rt.alloc(), &one_nurse_one_shift())?;
     example_of_rota_core(&rt, rt.alloc(), &instance)
 }
 
@@ -41,7 +41,7 @@ fn example_of_rota_core(rt: &impl Abort, alloc: Global, instance: &Instance) -> 
 
 #[test]
 fn example_of_rota_read(rt: HostRuntime) -> Result<(), Fail> {
-    let (alloc, text) = (rt.alloc(), ONE_NURSE_ONE_SHIFT.scenario);
+    let (alloc, text) = (rt.alloc(), one_nurse_one_shift().scenario);
     let scenario = read_scenario(alloc, text)?;
     assert_eq!(rt; scenario.name(), b"s1".as_slice());
     if let Err(fault) = read_history(alloc, &scenario, b"HISTORY\n0 s1\n") {
@@ -53,7 +53,7 @@ fn example_of_rota_read(rt: HostRuntime) -> Result<(), Fail> {
 
 #[test]
 fn rosters_are_judged(rt: HostRuntime) -> Result<(), Fail> {
-    let instance = instance_of(rt.alloc(), &RUN_IN_THE_HISTORY)?;
+    let instance = instance_of(rt.alloc(), &run_in_the_history())?;
     check_first_cell(&rt, rt.alloc(), &instance)
 }
 

@@ -14,24 +14,49 @@ min: +10 x1 +30 x5 ;
 +1 x1 -1 x4 +1 x5 >= 1 ;
 ";
 
+// An event of a row.
+#[derive(Clone, Copy)]
+enum Event {
+    Start(Part),
+    Term(i64, u32),
+    Close(i64),
+}
+
+impl Event {
+    fn put<T: Taker>(self, taker: &mut T) -> Result<(), T::Fault> {
+        match self {
+            Event::Start(part) => taker.start_row(part),
+            Event::Term(coefficient, variable) => taker.term(coefficient, variable),
+            Event::Close(degree) => taker.close_row(degree),
+        }
+    }
+}
+
 // The rows of the text.
+const ROWS: [Event; 16] = [
+    Event::Start(Part::Objective),
+    Event::Term(10, 1),
+    Event::Term(30, 5),
+    Event::Close(0),
+    Event::Start(Part::Hard(Rule::H1)),
+    Event::Term(-1, 1),
+    Event::Term(-1, 2),
+    Event::Close(-1),
+    Event::Start(Part::Hard(Rule::H3)),
+    Event::Term(0, 3),
+    Event::Close(0),
+    Event::Start(Part::Soft(Rule::S1, 30)),
+    Event::Term(1, 1),
+    Event::Term(-1, 4),
+    Event::Term(1, 5),
+    Event::Close(1),
+];
+
 fn take_rows<T: Taker>(taker: &mut T) -> Result<(), T::Fault> {
-    taker.start_row(Part::Objective)?;
-    taker.term(10, 1)?;
-    taker.term(30, 5)?;
-    taker.close_row(0)?;
-    taker.start_row(Part::Hard(Rule::H1))?;
-    taker.term(-1, 1)?;
-    taker.term(-1, 2)?;
-    taker.close_row(-1)?;
-    taker.start_row(Part::Hard(Rule::H3))?;
-    taker.term(0, 3)?;
-    taker.close_row(0)?;
-    taker.start_row(Part::Soft(Rule::S1, 30))?;
-    taker.term(1, 1)?;
-    taker.term(-1, 4)?;
-    taker.term(1, 5)?;
-    taker.close_row(1)
+    for event in ROWS {
+        event.put(taker)?;
+    }
+    Ok(())
 }
 
 fn encode<W: Target>(out: &mut W) -> Result<(), PortFault> {

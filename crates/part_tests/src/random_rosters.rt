@@ -13,8 +13,9 @@ use std::alloc::{AllocError, Global};
 use std::process::Abort;
 
 // A week before the last. Some limits have a minimum above their maximum.
-const FIRST_WEEK: WeekFiles = WeekFiles {
-    scenario: b"SCENARIO = small
+fn first_week() -> WeekFiles {
+    WeekFiles {
+        scenario: b"SCENARIO = small
 WEEKS = 2
 SKILLS = 2
 Head Nurse
@@ -31,14 +32,14 @@ Ann Full 2 Head Nurse
 Bob Part 1 Nurse
 Cid Full 1 Head
 ",
-    history: b"HISTORY
+        history: b"HISTORY
 0 small
 NURSE_HISTORY
 Ann 5 1 Late 2 3 0
 Bob 0 0 None 0 0 2
 Cid 9 2 Early 4 5 0
 ",
-    week: b"WEEK_DATA
+        week: b"WEEK_DATA
 small
 REQUIREMENTS
 Early Head (0,1) (0,2) (0,0) (0,1) (0,0) (0,1) (0,3)
@@ -50,19 +51,22 @@ Ann Late Mon
 Bob Early Sat
 Cid Any Sun
 ",
-};
+    }
+}
 
 // The same nurses in the last week.
-const LAST_WEEK: WeekFiles = WeekFiles {
-    history: b"HISTORY
+fn last_week() -> WeekFiles {
+    WeekFiles {
+        history: b"HISTORY
 1 small
 NURSE_HISTORY
 Ann 5 1 Late 2 3 0
 Bob 0 0 None 0 0 2
 Cid 9 2 Early 4 5 0
 ",
-    ..FIRST_WEEK
-};
+        ..first_week()
+    }
+}
 
 // Numbers of a linear congruential generator.
 #[derive(Drop)]
@@ -142,7 +146,7 @@ fn check_week(
 fn judge_and_plain_programs_agree(rt: HostRuntime) {
     let mut numbers = Numbers { state: 2019 };
     for early in [false, true] {
-        check_week(&rt, rt.alloc(), &FIRST_WEEK, early, &mut numbers);
-        check_week(&rt, rt.alloc(), &LAST_WEEK, early, &mut numbers);
+        check_week(&rt, rt.alloc(), &first_week(), early, &mut numbers);
+        check_week(&rt, rt.alloc(), &last_week(), early, &mut numbers);
     }
 }

@@ -1,8 +1,8 @@
 //! Want of memory while tables, rosters and answers are made. Each test prints what it found, or that memory
 //! ran out; `tests/refused_tables.sh` refuses each allocation in turn and compares the lines.
 use crate::answers::of_pieces;
-use crate::week_files::{ONE_NURSE_ONE_SHIFT, instance_of};
-use rota_core::{Bits, FileFault, Instance, Roster};
+use crate::week_files::{instance_of, one_nurse_one_shift};
+use rota_core::{Bits, FileFault, Instance, Roster, Scenario};
 use rota_read::{read_history, read_scenario, read_solution, read_week};
 use solver_text::Answer;
 use std::alloc::Global;
@@ -17,71 +17,103 @@ fn print<T: Debug>(rt: &impl Print, found: &Result<T, FileFault>) -> io::Result<
     }
 }
 
-// How many weeks and nurses there are.
-fn scenario(alloc: Global) -> Result<(u16, u16), FileFault> {
-    let scenario = read_scenario(alloc, ONE_NURSE_ONE_SHIFT.scenario)?;
-    Ok((scenario.weeks(), scenario.nurses()))
+// What is made of a scenario's text and, but for the scenario, of another one.
+#[derive(Clone, Copy)]
+enum Table {
+    Scenario,
+    History,
+    Week,
 }
 
-#[test]
-fn scenario_read(rt: HostRuntime) -> io::Result<()> {
-    print(&rt, &scenario(rt.alloc()))
+// How many weeks and nurses there are.
+fn weeks_and_nurses(scenario: &Scenario) -> (u16, u16) {
+    (scenario.weeks(), scenario.nurses())
 }
 
 // How many nurses have a row.
-fn history(alloc: Global) -> Result<usize, FileFault> {
-    let scenario = read_scenario(alloc, ONE_NURSE_ONE_SHIFT.scenario)?;
-    match read_history(alloc, &scenario, ONE_NURSE_ONE_SHIFT.history) {
+fn rows_of_history(alloc: Global, scenario: &Scenario) -> Result<usize, FileFault> {
+    match read_history(alloc, scenario, one_nurse_one_shift().history) {
         Ok(history) => Ok(history.into_parts().past.len()),
         Err(fault) => Err(fault),
     }
 }
 
-#[test]
-fn history_read(rt: HostRuntime) -> io::Result<()> {
-    print(&rt, &history(rt.alloc()))
-}
-
 // How many demands there are.
-fn week(alloc: Global) -> Result<usize, FileFault> {
-    let scenario = read_scenario(alloc, ONE_NURSE_ONE_SHIFT.scenario)?;
-    match read_week(alloc, &scenario, ONE_NURSE_ONE_SHIFT.week) {
+fn demands_of_week(alloc: Global, scenario: &Scenario) -> Result<usize, FileFault> {
+    match read_week(alloc, scenario, one_nurse_one_shift().week) {
         Ok(week) => Ok(week.into_parts().demands.len()),
         Err(fault) => Err(fault),
     }
 }
 
+// Prints what the table has.
+fn print_table(
+    rt: &impl Print,
+    alloc: Global,
+    scenario: &Scenario,
+    table: Table,
+) -> io::Result<()> {
+    match table {
+        Table::Scenario => print(rt, &Ok(weeks_and_nurses(scenario))),
+        Table::History => print(rt, &rows_of_history(alloc, scenario)),
+        Table::Week => print(rt, &demands_of_week(alloc, scenario)),
+    }
+}
+
+fn read_and_print(rt: &impl Print, alloc: Global, table: Table) -> io::Result<()> {
+    match read_scenario(alloc, one_nurse_one_shift().scenario) {
+        Ok(scenario) => print_table(rt, alloc, &scenario, table),
+        Err(fault) => print::<usize>(rt, &Err(fault)),
+    }
+}
+
+#[test]
+fn scenario_read(rt: HostRuntime) -> io::Result<()> {
+    read_and_print(&rt, rt.alloc(), Table::Scenario)
+}
+
+#[test]
+fn history_read(rt: HostRuntime) -> io::Result<()> {
+    read_and_print(&rt, rt.alloc(), Table::History)
+}
+
 #[test]
 fn week_read(rt: HostRuntime) -> io::Result<()> {
-    print(&rt, &week(rt.alloc()))
+    read_and_print(&rt, rt.alloc(), Table::Week)
+}
+
+// Where a roster comes from.
+#[derive(Clone, Copy)]
+enum Origin {
+    Solution,
+    New,
 }
 
 const SOLUTION: &[u8] = b"SOLUTION 0 s1 ASSIGNMENTS = 1 Ann Mon Day Nurse";
 
-// How many cells the solution has.
-fn cells_read(alloc: Global) -> Result<u32, FileFault> {
-    let instance = instance_of(alloc, &ONE_NURSE_ONE_SHIFT)?;
-    Ok(read_solution(alloc, &instance, SOLUTION)?.count())
+// How many cells the roster has.
+fn count_of(alloc: Global, instance: &Instance, origin: Origin) -> Result<u32, FileFault> {
+    match origin {
+        Origin::Solution => Ok(read_solution(alloc, instance, SOLUTION)?.count()),
+        Origin::New => Ok(Roster::new(alloc, instance)?.count()),
+    }
+}
+
+fn cells(alloc: Global, origin: Origin) -> Result<u32, FileFault> {
+    match instance_of(alloc, &one_nurse_one_shift()) {
+        Ok(instance) => count_of(alloc, &instance, origin),
+        Err(fault) => Err(fault),
+    }
 }
 
 #[test]
 fn solution_read(rt: HostRuntime) -> io::Result<()> {
-    print(&rt, &cells_read(rt.alloc()))
-}
-
-// How many cells a new roster has.
-fn new_cells(alloc: Global, instance: &Instance) -> Result<u32, FileFault> {
-    Ok(Roster::new(alloc, instance)?.count())
-}
-
-fn no_cells(alloc: Global) -> Result<u32, FileFault> {
-    let instance = instance_of(alloc, &ONE_NURSE_ONE_SHIFT)?;
-    new_cells(alloc, &instance)
+    print(&rt, &cells(rt.alloc(), Origin::Solution))
 }
 
 #[test]
 fn new_roster(rt: HostRuntime) -> io::Result<()> {
-    print(&rt, &no_cells(rt.alloc()))
+    print(&rt, &cells(rt.alloc(), Origin::New))
 }
 
 // How many truth values there are, and whether the last one is true.

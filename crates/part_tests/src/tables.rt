@@ -1,5 +1,5 @@
 //! Rosters, truth values and names.
-use crate::week_files::{ONE_NURSE_ONE_SHIFT, instance_of};
+use crate::week_files::{instance_of, one_nurse_one_shift};
 use indexmap::IndexSet;
 use rota_core::{Bits, Cell, Instance, Roster, add_name, is_name, place_of_name};
 use std::alloc::Global;
@@ -49,7 +49,7 @@ fn is_of_bits(alloc: Global, instance: &Instance) -> bool {
 
 #[test]
 fn rosters_are_sets_and_bits(rt: HostRuntime) {
-    match instance_of(rt.alloc(), &ONE_NURSE_ONE_SHIFT) {
+    match instance_of(rt.alloc(), &one_nurse_one_shift()) {
         Ok(instance) => {
             assert!(rt; is_set(rt.alloc(), &instance) && is_of_bits(rt.alloc(), &instance));
         }

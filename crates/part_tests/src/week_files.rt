@@ -13,8 +13,9 @@ pub struct WeekFiles {
     pub week: &'static [u8],
 }
 
-pub const ONE_NURSE_ONE_SHIFT: WeekFiles = WeekFiles {
-    scenario: b"SCENARIO = s1
+pub fn one_nurse_one_shift() -> WeekFiles {
+    WeekFiles {
+        scenario: b"SCENARIO = s1
 WEEKS = 2
 SKILLS = 1
 Nurse
@@ -27,21 +28,23 @@ Full (1,9) (1,9) (1,9) 9 0
 NURSES = 1
 Ann Full 1 Nurse
 ",
-    history: b"HISTORY
+        history: b"HISTORY
 0 s1
 NURSE_HISTORY
 Ann 0 0 None 0 0 0
 ",
-    week: b"WEEK_DATA
+        week: b"WEEK_DATA
 s1
 REQUIREMENTS
 SHIFT_OFF_REQUESTS = 0
 ",
-};
+    }
+}
 
 /// Ann worked on two days before Monday, and should work on at most two days in a row.
-pub const RUN_IN_THE_HISTORY: WeekFiles = WeekFiles {
-    scenario: b"SCENARIO = s1
+pub fn run_in_the_history() -> WeekFiles {
+    WeekFiles {
+        scenario: b"SCENARIO = s1
 WEEKS = 2
 SKILLS = 1
 Nurse
@@ -54,17 +57,19 @@ Full (1,9) (1,2) (1,9) 9 0
 NURSES = 1
 Ann Full 1 Nurse
 ",
-    history: b"HISTORY
+        history: b"HISTORY
 0 s1
 NURSE_HISTORY
 Ann 2 0 Day 2 2 0
 ",
-    ..ONE_NURSE_ONE_SHIFT
-};
+        ..one_nurse_one_shift()
+    }
+}
 
 /// Two nurses, three shift types and two skills.
-pub const TWO_NURSES: WeekFiles = WeekFiles {
-    scenario: b"SCENARIO = s1
+pub fn two_nurses() -> WeekFiles {
+    WeekFiles {
+        scenario: b"SCENARIO = s1
 WEEKS = 2
 SKILLS = 2
 Head Nurse
@@ -80,19 +85,20 @@ NURSES = 2
 Ann Full 2 Head Nurse
 Bob Full 1 Nurse
 ",
-    history: b"HISTORY
+        history: b"HISTORY
 0 s1
 NURSE_HISTORY
 Ann 1 0 Night 1 1 0
 Bob 0 0 None 0 0 0
 ",
-    week: b"WEEK_DATA
+        week: b"WEEK_DATA
 s1
 REQUIREMENTS
 Early Head (1,1) (0,0) (0,0) (0,0) (0,0) (0,0) (0,0)
 SHIFT_OFF_REQUESTS = 0
 ",
-};
+    }
+}
 
 // The instance of the scenario, after this history.
 fn after(
