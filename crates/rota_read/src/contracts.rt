@@ -80,6 +80,7 @@ impl<'a> Cursor<'a> {
     }
 }
 
+/// What is there before the first contract.
 pub fn no_contracts(alloc: Global) -> ContractRows
     ensures { contracts_of result ≡ no_contract }
 {

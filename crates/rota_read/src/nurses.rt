@@ -93,6 +93,7 @@ impl<'a> Cursor<'a> {
     }
 }
 
+/// What is there before the first nurse.
 pub fn no_nurses(alloc: Global) -> NurseRows
     ensures { nurses_of result ≡ no_nurse }
 {

@@ -98,6 +98,7 @@ fn no_rows(alloc: Global) -> ScenarioRows
     }
 }
 
+// The parts of the scenario that the sections make.
 fn parts_of(rows: ScenarioRows) -> ScenarioParts
     ensures { scenario_of result ≡ tables_of rows }
 {

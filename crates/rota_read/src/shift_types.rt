@@ -114,6 +114,7 @@ impl<'a> Cursor<'a> {
     }
 }
 
+/// What is there before the first shift type.
 pub fn no_shift_types(alloc: Global) -> ShiftRows
     ensures { shifts_of result ≡ no_shift_type }
 {
@@ -123,6 +124,7 @@ pub fn no_shift_types(alloc: Global) -> ShiftRows
     }
 }
 
+// What is there before the first row of successions.
 fn no_successions(alloc: Global) -> SuccessionRows
     ensures { successions_of result ≡ record { shifts = []; after = [] } }
 {
