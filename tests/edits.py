@@ -1,0 +1,156 @@
+#!/usr/bin/env python3
+"""Says which edit of crates/*/must-fail/ turns which function, and whether each of them still applies.
+
+usage: edits.py [map | many | none | stale] [CRATE..]
+
+  map     each function that an edit turns, its promises, and its edits
+  many    the same, where a function has two edits or more
+  none    the public functions that no edit turns, beside the laws, whose bodies are empty
+  stale   the edits whose old text is not in its file exactly once; the word may be left out
+
+A promise is told by its label, or by its text where it has none; `=` stands before one that fixes the whole result.
+Ends with status 1 where an edit is stale. Nothing is proved: it takes a second.
+"""
+
+import glob
+import os
+import re
+import sys
+from collections import namedtuple
+
+FUNCTION = re.compile(r"( *)(pub(?:\(\w+\))? )?(?:const |unsafe |ghost )*fn (\w+)")
+OWNER = re.compile(r"(?:pub |unsafe )*(impl|trait)\b(?:<[^>]*>)? (.*?)\s*(?:\{|where|$)")
+PROMISE = re.compile(r"(?m)^ +ensures (\w+)? ?\{ ?((?:.(?!\n +(?:ensures|requires) |\n *\{))*.)", re.S)
+EXACT = re.compile(r"(let .*? in )?result(\.now)? ≡ ")
+Function = namedtuple("Function", "name first last public law promises")
+
+
+def promise(label, text):
+    """A promise in a few words."""
+    text = " ".join(text.split()).rstrip(" }")
+    exact = "=" if EXACT.match(text) else ""
+    return exact + (label or re.sub(r"^let .*? in ", "", text)[:60])
+
+
+def named(header):
+    """The words of an impl's header that name its trait and its type."""
+    parts = [re.match(r"[\w:]+", part.strip()) for part in header.split(" for ")]
+    return [part.group().split("::")[-1] for part in parts if part]
+
+
+def body_of(lines, at, indent):
+    """The lines where the body of the function at this line begins and ends: `rt fmt` puts its brace below the `fn`."""
+    for begin in range(at, len(lines)):
+        rest = lines[begin].removeprefix(indent)
+        if rest == "{" or rest[:1].strip() and rest.endswith((" {", " }")) or rest.endswith(";"):
+            break
+    if not rest.endswith("{"):
+        return begin, begin
+    return begin, lines.index(indent + "}", begin)
+
+
+def functions(path, module, exports, is_open):
+    """The functions of a file, in its order."""
+    lines = open(path, encoding="utf-8").read().split("\n")
+    owner, shares, found = [], False, []
+    for at, line in enumerate(lines):
+        head = FUNCTION.match(line)
+        if re.match(r"[a-z]", line) and not head:
+            block = OWNER.match(line)
+            owner = named(block.group(2)) if block else []
+            shares = bool(block) and (" for " in line or block.group(1) == "trait")
+        if not head:
+            continue
+        indent, visible, name = head.groups()
+        begin, end = body_of(lines, at, indent)
+        of = owner if indent else []
+        seen = of[-1] in exports if of else f"{module}::{name}" in exports
+        public = (visible == "pub " or shares and of != []) and (seen or is_open)
+        promises = [promise(*told) for told in PROMISE.findall("\n".join(lines[at:begin + 1]))]
+        whole = "::".join([" for ".join(of), name] if of else [name])
+        found.append(Function(whole, at, end, public, not "".join(lines[begin + 1:end]).strip(), promises))
+    return found
+
+
+def exported(crate):
+    """The names and the modules that the crate's root file makes public."""
+    root = next((path for path in (f"{crate}/src/lib.rt", f"{crate}/src/main.rt") if os.path.exists(path)), None)
+    text = open(root, encoding="utf-8").read() if root else ""
+    uses = [re.findall(r"\w+", use) for use in re.findall(r"^pub use ([^;]*);", text, re.M)]
+    names = {name for use in uses for name in use} | {f"{use[0]}::{name}" for use in uses for name in use[1:]}
+    return names, re.findall(r"^pub mod (\w+);", text, re.M)
+
+
+def surface(crate):
+    """The functions of each source file of the crate."""
+    names, modules = exported(crate)
+    tables = {}
+    for path in sorted(glob.glob(f"{crate}/src/**/*.rt", recursive=True)):
+        place = os.path.relpath(path, f"{crate}/src").removesuffix(".rt").split("/")
+        tables[path] = functions(path, place[0] if len(place) == 1 else "", names, place[0] in modules)
+    return tables
+
+
+def turned(edit, crate):
+    """The places, as file and line, that an edit turns; and why it no longer applies, or None."""
+    path, old, texts, places = None, None, {}, []
+    for line in open(edit, encoding="utf-8").read().split("\n"):
+        if line.startswith("file: "):
+            path = f"{crate}/{line[6:].strip()}"
+            if path not in texts and not os.path.exists(path):
+                return places, f"there is no {path}"
+            texts.setdefault(path, None)
+            texts[path] = texts[path] or open(path, encoding="utf-8").read()
+        elif line.startswith("old: "):
+            old = line[5:]
+        elif line.startswith("new:"):
+            if texts[path].count(old) != 1:
+                return places, f"{texts[path].count(old)} times in {path}: {old}"
+            places.append((path, texts[path][:texts[path].index(old)].count("\n")))
+            texts[path] = texts[path].replace(old, line[4:].removeprefix(" "))
+    return places, None
+
+
+def edits_by_function(crate, tables):
+    """The names of the edits that turn each function, known by its file and first line; and what is stale."""
+    edits_of, stale = {}, []
+    for edit in sorted(glob.glob(f"{crate}/must-fail/*.edit")):
+        name = os.path.basename(edit).removesuffix(".edit")
+        places, fault = turned(edit, crate)
+        stale += [f"STALE {edit}: {fault}"] if fault else []
+        for path, line in places:
+            inside = [one.first for one in tables.get(path, []) if one.first <= line <= one.last]
+            edits_of.setdefault((path, inside[-1] if inside else None), {})[name] = True
+    return edits_of, stale
+
+
+def tell(asked, path, one, edits):
+    """Prints the function where it is asked for."""
+    line = f"{path}: {one.name} [{', '.join(one.promises)}]"
+    if asked == "none" and one.public and not one.law and not edits:
+        print(line)
+    if asked == "map" and edits or asked == "many" and len(edits) > 1:
+        print(f"{line}\n    {' '.join(edits)}")
+
+
+def main():
+    words = sys.argv[1:]
+    asked = words.pop(0) if words and words[0] in ("map", "many", "none", "stale") else "stale"
+    os.chdir(os.path.dirname(os.path.abspath(__file__)) + "/..")
+    crates = [f"crates/{word}" for word in words] or sorted(glob.glob("crates/*/must-fail"))
+    count = bad = 0
+    for crate in (path.removesuffix("/must-fail") for path in crates):
+        tables = surface(crate)
+        edits_of, stale = edits_by_function(crate, tables)
+        count, bad = count + len(glob.glob(f"{crate}/must-fail/*.edit")), bad + len(stale)
+        for line in stale:
+            print(line)
+        for path, found in tables.items():
+            for one in [*found, Function("(no function)", None, None, False, True, [])]:
+                tell(asked, path, one, edits_of.get((path, one.first), {}))
+    print(f"{count} edits, {bad} stale")
+    sys.exit(bad > 0)
+
+
+if __name__ == "__main__":
+    main()
