@@ -20,9 +20,9 @@ COLOURS = [
 ]  # fmt: skip
 
 
-def tokens(path):
-    """The words and signs of a file; blanks are space, tab, LF and CR."""
-    with open(path, encoding="utf-8", errors="replace") as file:
+def tokens(path, errors="replace"):
+    """The words and signs of a file; blanks are space, tab, LF and CR. `errors` says what becomes of bytes that are no text."""
+    with open(path, encoding="utf-8", errors=errors) as file:
         return re.findall(r"[(),=]|[^ \t\n\r(),=]+", file.read())
 
 
