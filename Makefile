@@ -3,7 +3,7 @@
 PREFIX ?= /usr/local
 SHARE = $(DESTDIR)$(PREFIX)/share
 
-.PHONY: build try example tour solvers test bench fuzz install clean
+.PHONY: build try example tour solvers test bench fuzz install uninstall clean
 
 # `rt run` proves the program and all it stands on, and leaves it in its crate.
 build:
@@ -40,16 +40,29 @@ SECONDS ?= 60
 fuzz: build
 	python3 tests/fuzz.py --seconds $(SECONDS) $(if $(SEED),--seed $(SEED))
 
+# Where the parts go. Completions for bash, zsh and fish are written by docs/completions/write.py.
+BIN = $(DESTDIR)$(PREFIX)/bin
+PAGES = $(SHARE)/doc/inrc2pb
+COMPLETIONS = "$(SHARE)/bash-completion/completions" "$(SHARE)/zsh/site-functions" "$(SHARE)/fish/vendor_completions.d"
+
 # Installs what was built, and builds nothing, so that it can run as another user.
 install:
 	@test -x out/inrc2pb || { echo "There is no out/inrc2pb yet: 'make' proves and builds it."; exit 1; }
-	mkdir -p "$(DESTDIR)$(PREFIX)/bin" "$(SHARE)/man/man1" "$(SHARE)/doc/inrc2pb/docs" "$(SHARE)/doc/inrc2pb/bench" "$(SHARE)/bash-completion/completions"
-	install -m 755 out/inrc2pb "$(DESTDIR)$(PREFIX)/bin/inrc2pb"
+	mkdir -p "$(BIN)" "$(SHARE)/man/man1" "$(PAGES)/docs" "$(PAGES)/bench" $(COMPLETIONS)
+	install -m 755 out/inrc2pb "$(BIN)/inrc2pb"
 	install -m 644 docs/inrc2pb.1 "$(SHARE)/man/man1/inrc2pb.1"
-	install -m 644 docs/inrc2pb.bash "$(SHARE)/bash-completion/completions/inrc2pb"
-	install -m 644 README.md CHANGELOG.md "$(SHARE)/doc/inrc2pb"
-	install -m 644 docs/*.md docs/*.svg "$(SHARE)/doc/inrc2pb/docs"
-	install -m 644 bench/README.md bench/*.svg "$(SHARE)/doc/inrc2pb/bench"
+	install -m 644 docs/completions/inrc2pb.bash "$(SHARE)/bash-completion/completions/inrc2pb"
+	install -m 644 docs/completions/_inrc2pb "$(SHARE)/zsh/site-functions/_inrc2pb"
+	install -m 644 docs/completions/inrc2pb.fish "$(SHARE)/fish/vendor_completions.d/inrc2pb.fish"
+	install -m 644 README.md CHANGELOG.md "$(PAGES)"
+	install -m 644 docs/*.md docs/*.svg "$(PAGES)/docs"
+	install -m 644 bench/README.md bench/*.svg "$(PAGES)/bench"
+
+# Takes away what `install` put there, with the same PREFIX, and no folder but that of the pages.
+uninstall:
+	rm -f "$(BIN)/inrc2pb" "$(SHARE)/man/man1/inrc2pb.1" "$(SHARE)/bash-completion/completions/inrc2pb" \
+	    "$(SHARE)/zsh/site-functions/_inrc2pb" "$(SHARE)/fish/vendor_completions.d/inrc2pb.fish"
+	rm -rf "$(PAGES)"
 
 clean:
 	rm -rf out crates/*/out

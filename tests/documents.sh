@@ -130,9 +130,12 @@ weeks_are_made() {
 installs() {
     local part
     make -s -C "$room/copy" install DESTDIR="$room/installed" PREFIX=/usr > /dev/null || complain 'make install fails'
-    for part in bin/inrc2pb share/man/man1/inrc2pb.1 share/bash-completion/completions/inrc2pb share/doc/inrc2pb/docs/rules.md; do
+    for part in bin/inrc2pb share/man/man1/inrc2pb.1 share/bash-completion/completions/inrc2pb share/zsh/site-functions/_inrc2pb \
+        share/fish/vendor_completions.d/inrc2pb.fish share/doc/inrc2pb/docs/rules.md; do
         [ -s "$room/installed/usr/$part" ] || complain "make install: no $part"
     done
+    make -s -C "$room/copy" uninstall DESTDIR="$room/installed" PREFIX=/usr > /dev/null || complain 'make uninstall fails'
+    [ -z "$(find "$room/installed" -type f)" ] || complain "make uninstall leaves $(find "$room/installed" -type f | head -n 3)"
     rm "$room/copy/out/inrc2pb"
     make -s -C "$room/copy" install DESTDIR="$room/installed" > /dev/null 2>&1 && complain 'make install with nothing built'
     cp "$program" "$room/copy/out/inrc2pb"

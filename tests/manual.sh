@@ -1,13 +1,14 @@
 #!/usr/bin/env bash
-# The manual page, the completion for bash and the built program's help name the same commands and options.
+# The manual page, the completions and the built program's help name the same commands and options.
 #
 #   tests/manual.sh [PROGRAM..]
 #
 # Without a PROGRAM it takes those that `rt ci` or `make build` left in the program's crate. Needs bash and the usual
-# tools of a shell; where mandoc or man is installed, the manual page is checked by it too.
+# tools of a shell and Python; where mandoc or man is installed, the manual page is checked by it too, and where zsh or
+# fish is, the completion for it.
 . "$(dirname "$0")/program_runs.sh"
-# shellcheck source=docs/inrc2pb.bash
-. docs/inrc2pb.bash
+# shellcheck source=docs/completions/inrc2pb.bash
+. docs/completions/inrc2pb.bash
 
 # The options that the lines on standard input name, in one line.
 options() { grep -oE '(^| |\[)--?[a-z]+' | grep -oE -- '--[a-z]+' | sort -u | tr '\n' ' '; }
@@ -60,6 +61,25 @@ completes() {
         "$(cd "$room" && echo week.* | tr ' ' '\n' | sort | tr '\n' ' ')"
 }
 
+# The completions are those of their one description, and are read by their shells.
+completions_are_written() {
+    local file offered
+    what='the completions'
+    docs/completions/write.py "$room"
+    for file in inrc2pb.bash _inrc2pb inrc2pb.fish; do
+        cmp -s "$room/$file" "docs/completions/$file" || complain "$file is not as write.py writes it"
+    done
+    if command -v zsh > /dev/null; then
+        zsh -n docs/completions/_inrc2pb || complain 'zsh does not read its completion'
+    fi
+    if command -v fish > /dev/null; then
+        for file in encode decode extend; do
+            offered=$(fish -c "source docs/completions/inrc2pb.fish; complete -C 'inrc2pb $file --'" | cut -f 1 | sort | tr '\n' ' ')
+            is "fish's completion of $file" "$offered" "$(complete_words inrc2pb $file --)"
+        done
+    fi
+}
+
 is_manual() {
     what='the manual page'
     if command -v mandoc > /dev/null; then
@@ -73,5 +93,6 @@ is_manual() {
 
 program=''
 completes
+completions_are_written
 is_manual
 for_each_program names_the_same "$@"
