@@ -3,7 +3,7 @@ ghost use Rattle.std.specs.Prelude.{◌≡◌, ℕ, ◌<◌, ◌≤◌, false, s
 ghost use Rattle.rota_core.specs.HardRules.{is_off, is_on, nurses_at, works};
 ghost use Rattle.rota_core.specs.InstanceTables.{week_of};
 ghost use Rattle.rota_core.specs.RosterTables.{HasShapeOf, set_of};
-ghost use Rattle.rota_items.specs.rules.TotalAssignments.{assignments_of};
+ghost use Rattle.rota_items.specs.rules.TotalAssignments.Cost.{assignments_of};
 
 use rota_core::{Cell, Instance, Roster};
 

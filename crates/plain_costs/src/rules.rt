@@ -4,8 +4,7 @@ ghost use Rattle.rota_core.specs.Below.{sum_below};
 ghost use Rattle.rota_core.specs.InstanceTables.{week_of};
 ghost use Rattle.rota_core.specs.RosterTables.{HasShapeOf, set_of};
 ghost use Rattle.rota_core.specs.Rules.{soft_rules};
-ghost use Rattle.rota_items.specs.NurseItems.{nurse_cost};
-ghost use Rattle.rota_items.specs.SoftRules.{penalty, rule_cost};
+ghost use Rattle.rota_items.specs.Penalty.{nurse_cost, penalty, rule_cost};
 
 mod complete_weekends;
 mod consecutive_assignments;

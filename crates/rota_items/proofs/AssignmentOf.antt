@@ -6,7 +6,7 @@ use Rattle.rota_core.specs.Roster.{Roster, InWeek}
 use Rattle.rota_core.specs.RosterTables.{RosterTables, HasShapeOf, cell_place, set_of}
 use Rattle.rota_core.specs.Week.{Week}
 use Rattle.rota_core.specs.declared.values.Cell.{Cell}
-use Rattle.rota_items.specs.Cells.{cell_number, cell_of_number, unit_number}
+use Rattle.rota_items.specs.Variables.{cell_number, cell_of_number, unit_number}
 use Rattle.rota_items.proofs.Numbers.{cell_number-below, cell_number-of, cell_of-cell_number}
 use Rattle.rota_items.specs.WeekModel.{assignment_of}
 

@@ -9,7 +9,8 @@ use Rattle.rota_items.proofs.ListLengths.{length-each-is}
 use Rattle.rota_items.proofs.RisingCells.{rises-on_cells, rises-work_cells, rises-nurse_cells}
 use Rattle.rota_items.specs.CellEvents.{cell_term_events, coefficient_of, sum_events}
 use Rattle.rota_items.specs.Events.{term_events}
-use Rattle.rota_items.specs.rules.ShiftOffRequests.{request_terms_on, request_weight}
+use Rattle.rota_items.specs.rules.ShiftOffRequests.Terms.{request_terms_on}
+use Rattle.rota_items.specs.rules.ShiftOffRequests.Cost.{request_weight}
 use Rattle.rota_items.specs.declared.sums.Sign.{Sign}
 
 module _ (week : Week) where

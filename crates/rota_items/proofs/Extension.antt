@@ -14,7 +14,7 @@ use Rattle.rota_items.proofs.SoftRules.ShiftOffRequests.{value_of-request_terms,
 use Rattle.rota_items.proofs.Satisfied.{hard_constraints-hold, hard_constraints-mean}
 use Rattle.rota_items.proofs.ListSums.{sum_by-map, sum_by-same}
 use Rattle.rota_items.proofs.TermsHold.{OnTerms, value_of-agree}
-use Rattle.rota_items.specs.rules.ShiftOffRequests.{request_cost}
+use Rattle.rota_items.specs.rules.ShiftOffRequests.Cost.{request_cost}
 
 -- ---- the penalty in items
 

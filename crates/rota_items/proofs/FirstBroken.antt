@@ -10,7 +10,7 @@ use Rattle.rota_items.proofs.HardRules.OneCell.{one_cell}
 use Rattle.rota_items.proofs.HardRules.Skills.{skills}
 use Rattle.rota_items.proofs.HardRules.Sound.{AllHold, IsHardRuleSound, IsRowSound, Keeps}
 use Rattle.rota_items.proofs.HardRules.Succession.{succession}
-use Rattle.rota_items.specs.Verdicts.{NamesFirstBroken, first_unmet, later}
+use Rattle.rota_items.specs.FirstUnmet.{NamesFirstBroken, first_unmet, later}
 
 module _ (week : Week) (roster : Roster) (assignment : ℕ → Bool)
     (agree : (c : Cell) → InWeek week c → assignment (cell_number week c) ≡ roster c) where

@@ -3,7 +3,7 @@ use Rattle.rota_items.proofs.LogicWords.{◌≡◌, ℕ, suc, ◌+◌, Bool, tru
 use Rattle.rota_items.proofs.ModelWords.{Rule, Satisfies, value_of, LinearRow, linear_constraint}
 use Rattle.std.specs.Option.{option_or}
 use Rattle.std.proofs.lemmas.List.Elements.{All-cons, All-head, All-nil, All-tail}
-use Rattle.rota_items.specs.Verdicts.{first_failing, first_unmet, later, rule_of_part}
+use Rattle.rota_items.specs.FirstUnmet.{first_failing, first_unmet, later, rule_of_part}
 
 abbrev pub Named : Type 0
 Named = Option (ℕ × Rule)

@@ -7,7 +7,7 @@ use Rattle.std.proofs.lemmas.List.Sums.{sum_by-cons, sum_by-append}
 use Rattle.rota_core.specs.Week.{Week}
 use Rattle.rota_core.specs.declared.values.Cell.{Cell}
 use Rattle.rota_items.proofs.ListSums.{sum_by-map}
-use Rattle.rota_items.specs.Cells.{cell_number}
+use Rattle.rota_items.specs.Variables.{cell_number}
 use Rattle.rota_items.specs.Events.{term, row_events, term_events, events}
 use Rattle.rota_items.specs.ItemEvents.{item_events}
 use Rattle.rota_items.specs.Items.{Item, numbered}

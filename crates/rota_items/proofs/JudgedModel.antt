@@ -7,8 +7,8 @@ use Rattle.rota_items.specs.declared.tallies.RowSums.{RowSums}
 use Rattle.rota_items.specs.declared.tallies.Tally.{Tally}
 use Rattle.rota_items.specs.Events.{events, row_events}
 use Rattle.rota_items.specs.Judging.{Subject, assigned, extended, assignment_in, roster_in, capped, no_sums, no_tally, tallied}
-use Rattle.rota_items.specs.rules.ShiftOffRequests.{request_cost}
-use Rattle.rota_items.specs.Verdicts.{first_unmet}
+use Rattle.rota_items.specs.rules.ShiftOffRequests.Cost.{request_cost}
+use Rattle.rota_items.specs.FirstUnmet.{first_unmet}
 use Rattle.rota_items.proofs.Extension.{extension-roster, shortage-of_item, terms-below, value_of-objective, value_of-of_terms}
 use Rattle.rota_items.proofs.FirstUnmet.{later-zero}
 use Rattle.rota_items.proofs.HardRules.EachRule.{each-row}

@@ -12,8 +12,8 @@ use Rattle.rota_items.specs.declared.tallies.Tally.{Tally}
 use Rattle.rota_items.specs.Counting.{greatest_count}
 use Rattle.rota_items.specs.Events.{row_events, events}
 use Rattle.rota_items.specs.Judging.{Subject, assigned, extended, assignment_in, capped, closed, constraint_closed, lacking, tallied, true_slacks, with_cost}
-use Rattle.rota_items.specs.SoftRules.{soft_place}
-use Rattle.rota_items.specs.Verdicts.{first_unmet, later, rule_of_part}
+use Rattle.rota_items.specs.Verdicts.{soft_place}
+use Rattle.rota_items.specs.FirstUnmet.{first_unmet, later, rule_of_part}
 use Rattle.rota_items.proofs.FirstUnmet.{Named, later-later}
 use Rattle.rota_items.proofs.JudgedTerms.{Before, opened, others-before, row-tallied, slacks-before, sums_of}
 use Rattle.rota_items.proofs.SmallSums.{positive_part-parts, spread}

@@ -6,7 +6,7 @@ use Rattle.rota_core.specs.declared.rule.Rule.TheVariants.{S4}
 use Rattle.rota_items.specs.declared.tallies.Tally.{Tally}
 use Rattle.rota_items.specs.Events.{Event, events}
 use Rattle.rota_items.specs.Judging.{Subject, Judging, assignment_in, roster_in, capped, counts_for, fresh, greatest_sum, judged, no_tally, tallied, WasDriven, with_constants, with_cost}
-use Rattle.rota_items.specs.rules.ShiftOffRequests.{request_cost}
+use Rattle.rota_items.specs.rules.ShiftOffRequests.Cost.{request_cost}
 use Rattle.rota_items.specs.Verdicts.{Judges}
 use Rattle.rota_items.proofs.InstanceLimits.{instance-within_limits}
 use Rattle.rota_items.proofs.JudgedModel.{charges-are, few, given, model-comes, objective-judged, of_rule}

@@ -6,7 +6,7 @@ use Rattle.rota_core.specs.Week.{Week}
 use Rattle.rota_core.specs.declared.values.Cell.{Cell}
 use Rattle.rota_core.proofs.CellPlaces.{cell_at-in, cell_at-place, place-cell_at}
 use Rattle.rota_core.proofs.RosterLemmas.{cell_place-lt}
-use Rattle.rota_items.specs.Cells.{cell_number, cell_of_number, unit_number}
+use Rattle.rota_items.specs.Variables.{cell_number, cell_of_number, unit_number}
 
 pub cell_number-below : (week : Week) (one : Cell) → InWeek week one → cell_number week one < unit_number week
 cell_number-below week one inside =

@@ -9,15 +9,14 @@ use Rattle.rota_core.specs.declared.rule.Rule.{Rule}
 use Rattle.rota_core.specs.declared.rule.Rule.TheVariants.{S1, S2, S3, S5, S6, S7}
 use Rattle.rota_core.specs.declared.values.Cell.{Cell}
 use Rattle.rota_items.specs.Items.{Item}
-use Rattle.rota_items.specs.NurseItems.{nurse_items}
+use Rattle.rota_items.specs.Charges.{nurse_items, items_of_rule}
 use Rattle.rota_items.specs.RunItems.{Runs, pattern_items, run_items}
 use Rattle.rota_items.specs.RunPatterns.{Pattern, patterns, windows}
 use Rattle.rota_items.specs.Slacks.{slack_count}
-use Rattle.rota_items.specs.SoftRules.{items_of_rule}
-use Rattle.rota_items.specs.rules.CompleteWeekends.{complete_weekend_items_of}
-use Rattle.rota_items.specs.rules.ConsecutiveAssignments.{assignment_runs_of, shift_runs, work_runs}
-use Rattle.rota_items.specs.rules.ConsecutiveDaysOff.{off_runs}
-use Rattle.rota_items.specs.rules.WorkedWeekends.{worked_weekend_items_of}
+use Rattle.rota_items.specs.rules.CompleteWeekends.Items.{complete_weekend_items_of}
+use Rattle.rota_items.specs.rules.ConsecutiveAssignments.Items.{assignment_runs_of, shift_runs, work_runs}
+use Rattle.rota_items.specs.rules.ConsecutiveDaysOff.Items.{off_runs}
+use Rattle.rota_items.specs.rules.WorkedWeekends.Items.{worked_weekend_items_of}
 
 pub none-each_below : {A : Type 0} (n : ℕ) → [] ≡ each_below n (λ _. let none : List A = [] in none)
 unfolding each_below

@@ -8,7 +8,7 @@ use Rattle.std.proofs.Math.Nat.{mul-le-mul}
 use Rattle.rota_items.proofs.HardRules.EachRule.{rows-are}
 use Rattle.rota_items.proofs.SoftRules.EachRule.{of_sound, sound-rule, sum_by-soft_items}
 use Rattle.rota_items.proofs.SoftRules.Sound.{IsItemSound, most_items, most_slacks}
-use Rattle.rota_items.specs.Cells.{cell_count}
+use Rattle.rota_items.specs.Variables.{cell_count}
 
 pub length-item_rows : (first : ℕ) (items : List (Item ℕ)) → length (item_rows first items) ≡ length items
 length-item_rows first [] = refl

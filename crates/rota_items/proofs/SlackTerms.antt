@@ -10,7 +10,7 @@ use Rattle.rota_core.specs.declared.values.Cell.{Cell}
 use Rattle.rota_items.proofs.ItemEventLists.{term_events-append, item_events-row, item_events-weights}
 use Rattle.rota_items.proofs.Taking.{numbers_join, Took-then, Refused-before, Refused-after, loop_refused, term_refused, refused_at_start, refused_at_terms, closed}
 use Rattle.rota_items.specs.CellEvents.{cell_term_events}
-use Rattle.rota_items.specs.Cells.{cell_number}
+use Rattle.rota_items.specs.Variables.{cell_number}
 use Rattle.rota_items.specs.Events.{start_row, term, close_row, term_events}
 use Rattle.rota_items.specs.ItemEvents.{item_events}
 use Rattle.rota_items.specs.Items.{Item, numbered}

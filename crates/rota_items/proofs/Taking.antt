@@ -11,7 +11,7 @@ use Rattle.rota_core.specs.Week.{Week}
 use Rattle.rota_core.specs.declared.values.Cell.{Cell}
 use Rattle.rota_core.proofs.Loops.{each_below-zero, each_below-more, last_or_before, only_if-holds, only_if-fails}
 use Rattle.rota_items.specs.CellEvents.{cell_term_events, cell_row_events, coefficient_of, sum_events}
-use Rattle.rota_items.specs.Cells.{cell_number}
+use Rattle.rota_items.specs.Variables.{cell_number}
 use Rattle.rota_items.specs.Events.{Event, start_row, term, close_row, row_events, term_events, events}
 use Rattle.rota_items.specs.Linear.{Term, times}
 use Rattle.rota_items.specs.LinearRow.{LinearRow}

@@ -1,9 +1,8 @@
--- The cells that the sums of the model stand for, and their numbers.
-use Rattle.std.specs.Prelude.{ℕ, ◌+◌, ◌-◌, ◌*◌, List, [], ◌∷◌}
+-- The cells that the sums of the model stand for.
+use Rattle.std.specs.Prelude.{ℕ, List, [], ◌∷◌}
 use Rattle.rota_core.specs.declared.values.Cell.{Cell}
 use Rattle.rota_core.specs.Week.{Week}
 use Rattle.rota_core.specs.Roster.{cell}
-use Rattle.rota_core.specs.RosterTables.{cell_at, cell_place}
 use Rattle.rota_core.specs.Lists.{each_below}
 
 -- the cells of a nurse's day on a shift type
@@ -29,21 +28,3 @@ skill_cells_on week n k d = each_below week.shifts (λ s. cell n d s k ∷ [])
 -- the cells of a nurse that need the skill
 abbrev pub skill_cells : Week → ℕ → ℕ → List Cell
 skill_cells week n k = each_below 7 (λ d. skill_cells_on week n k d)
-
--- the variable that is true where the cell is in the roster
-abbrev pub cell_number : Week → Cell → ℕ
-cell_number week cell = cell_place week.shifts week.skills cell + 1
-
-abbrev pub cell_of_number : Week → ℕ → Cell
-cell_of_number week v = cell_at week.shifts week.skills (v - 1)
-
-abbrev pub cell_count : Week → ℕ
-cell_count week = 7 * week.nurses * week.shifts * week.skills
-
--- the variable that is true in every solution: it follows those of the cells
-abbrev pub unit_number : Week → ℕ
-unit_number week = cell_count week + 1
-
--- the items' slacks follow the unit variable
-abbrev pub first_slack : Week → ℕ
-first_slack week = unit_number week + 1

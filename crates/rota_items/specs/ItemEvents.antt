@@ -2,7 +2,7 @@
 use Rattle.std.specs.Prelude.{◌≡◌, ℕ, ◌+◌, ◌^◌, ◌<◌, List, map, Result, MatchResult}
 use Rattle.rota_core.specs.declared.values.Cell.{Cell}
 use Rattle.rota_core.specs.Week.{Week}
-use Rattle.rota_items.specs.Cells.{cell_number}
+use Rattle.rota_items.specs.Variables.{cell_number}
 use Rattle.rota_items.specs.Events.{Event, term_events, events}
 use Rattle.rota_items.specs.Items.{Item, numbered}
 use Rattle.rota_items.specs.Slacks.{item_rows, slack_weights, slack_count}

@@ -14,14 +14,14 @@ use Rattle.rota_items.specs.declared.part.Part.TheVariants.{Objective, Hard, Sof
 use Rattle.rota_items.specs.declared.tallies.RowSums.{RowSums}
 use Rattle.rota_items.specs.declared.tallies.Tally.{Tally}
 use Rattle.rota_items.specs.declared.verdicts.Verdict.{Verdict}
-use Rattle.rota_items.specs.Cells.{unit_number}
+use Rattle.rota_items.specs.Variables.{unit_number, truth_of, roster_of}
 use Rattle.rota_items.specs.Counting.{greatest_count}
 use Rattle.rota_items.specs.Events.{Event, start_row, term, close_row, events}
 use Rattle.rota_items.specs.Items.{positive_part}
 use Rattle.rota_items.specs.Objective.{objective_rows}
-use Rattle.rota_items.specs.SoftRules.{constant_of_rule, soft_place}
-use Rattle.rota_items.specs.Verdicts.{ExtendsOrBreaks, IsMetOrNot, truth_of}
-use Rattle.rota_items.specs.WeekModel.{assignment_of, extension_of, model_of, roster_of, rows_of, objective_terms}
+use Rattle.rota_items.specs.Charges.{constant_of_rule}
+use Rattle.rota_items.specs.Verdicts.{soft_place, ExtendsOrBreaks, IsMetOrNot}
+use Rattle.rota_items.specs.WeekModel.{assignment_of, extension_of, model_of, rows_of, objective_terms}
 
 -- what a judge evaluates: the variables whose bit is true, or the extension of a roster
 pub data Subject : Type 0 where

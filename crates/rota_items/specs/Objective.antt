@@ -5,8 +5,8 @@ use Rattle.rota_items.specs.declared.part.Part.TheVariants.{Objective}
 use Rattle.rota_core.specs.Lists.{only_if}
 use Rattle.rota_items.specs.Linear.{Term}
 use Rattle.rota_items.specs.LinearRow.{LinearRow}
-use Rattle.rota_items.specs.Cells.{unit_number}
-use Rattle.rota_items.specs.SoftRules.{constant}
+use Rattle.rota_items.specs.Variables.{unit_number}
+use Rattle.rota_items.specs.Charges.{constant}
 
 abbrev pub constant_terms : Week → List (Term ℕ)
 constant_terms week = only_if (nat_lt 0 (constant week)) (pos (constant week), unit_number week)

@@ -1,52 +1,28 @@
 -- What a judge finds of an assignment and its roster.
-use Rattle.std.specs.Prelude.{◌≡◌, ◌⊎◌, ◌↔◌, ℕ, zero, suc, ◌+◌, ◌≤◌, pos, Bool, true, false, if◌then◌else◌, slice_index_or, Option, Some, None, List, [], ◌∷◌, map, sum, IfSome, IsSomeAnd, MatchOption}
+use Rattle.std.specs.Prelude.{◌≡◌, ◌⊎◌, ◌↔◌, ℕ, ◌≤◌, pos, Bool, true, slice_index_or, Option, map, sum, IfSome, IsSomeAnd, MatchOption}
+use Rattle.std.specs.List.{list_any, position}
 use Rattle.rota_core.specs.declared.rule.Rule.{Rule}
-use Rattle.rota_core.specs.declared.rule.Rule.TheVariants.{Unit as UnitRule}
 use Rattle.rota_core.specs.Week.{Week}
 use Rattle.rota_core.specs.Roster.{Roster}
 use Rattle.rota_core.specs.HardRules.{KeepsOneCell, KeepsCompetitionRules, KeepsHardRules, FirstBroken}
-use Rattle.rota_items.specs.declared.part.Part.{Part}
-use Rattle.rota_items.specs.declared.part.Part.TheVariants.{Objective, Hard, Soft}
+use Rattle.rota_core.specs.Rules.{soft_rules, is_rule}
 use Rattle.rota_items.specs.declared.verdicts.Verdict.{Verdict}
-use Rattle.rota_items.specs.Cells.{unit_number}
+use Rattle.rota_items.specs.Variables.{unit_number, roster_of}
 use Rattle.rota_items.specs.Linear.{SatisfiesModel, objective_value}
-use Rattle.rota_items.specs.LinearRow.{LinearRow, is_satisfied}
-use Rattle.rota_core.specs.Rules.{soft_rules}
-use Rattle.rota_items.specs.SoftRules.{charged, is_soft, penalty, rule_cost}
-use Rattle.rota_items.specs.rules.ConsecutiveAssignments.{consecutive_assignment_cost}
-use Rattle.rota_items.specs.rules.ConsecutiveDaysOff.{consecutive_day_off_cost}
-use Rattle.rota_items.specs.WeekModel.{model_of, rows_of, roster_of, extension_of}
+use Rattle.rota_items.specs.Charges.{charged}
+use Rattle.rota_items.specs.Penalty.{penalty, rule_cost}
+use Rattle.rota_items.specs.rules.ConsecutiveAssignments.Cost.{consecutive_assignment_cost}
+use Rattle.rota_items.specs.rules.ConsecutiveDaysOff.Cost.{consecutive_day_off_cost}
+use Rattle.rota_items.specs.WeekModel.{model_of, rows_of, extension_of}
+use Rattle.rota_items.specs.FirstUnmet.{first_unmet}
 
--- the variables whose bit is true, where bit i is that of variable i + 1
-abbrev pub truth_of : List Bool → ℕ → Bool
-truth_of bits zero = false
-truth_of bits (suc place) = slice_index_or bits place false
+-- the place of a soft rule among the soft rules, from 0
+abbrev pub soft_place : Rule → Option ℕ
+soft_place rule = position (is_rule rule) soft_rules
 
--- the rule that a constraint stands for
-abbrev pub rule_of_part : Part → Rule
-rule_of_part Objective = UnitRule
-rule_of_part (Hard rule) = rule
-rule_of_part (Soft rule weight) = rule
-
--- what was found after `before` rows, counted from the first of them
-abbrev pub later : ℕ → Option (ℕ × Rule) → Option (ℕ × Rule)
-later before None = None
-later before (Some (number, rule)) = Some (before + number, rule)
-
--- the number, from 1, and the rule of the first row that fails the test
-abbrev pub first_failing : {X : Type 0} → (LinearRow X → Bool) → List (LinearRow X) → Option (ℕ × Rule)
-first_failing test [] = None
-first_failing test (row ∷ rows) =
-    (if test row then later 1 (first_failing test rows) else Some (1, rule_of_part row.part))
-
--- those of the first row that the assignment does not satisfy
-abbrev pub first_unmet : {X : Type 0} → (X → Bool) → List (LinearRow X) → Option (ℕ × Rule)
-first_unmet assignment rows = first_failing (is_satisfied assignment) rows
-
--- no row is named, and the roster keeps the hard rules; or the rule of the row is the first that the roster breaks
-abbrev pub NamesFirstBroken : Week → Roster → Option (ℕ × Rule) → Type 0
-NamesFirstBroken week roster named =
-    MatchOption named (KeepsHardRules week roster) (λ row. FirstBroken week roster row.1)
+-- whether the rule is a soft one
+abbrev pub is_soft : Rule → Bool
+is_soft rule = list_any (is_rule rule) soft_rules
 
 -- The verdict names the first constraint that the assignment does not satisfy, gives the objective's value, and what
 -- each soft rule is charged on the roster.

@@ -7,11 +7,11 @@ use Rattle.rota_core.specs.Roster.{Roster}
 use Rattle.rota_items.specs.declared.part.Part.TheVariants.{Hard}
 use Rattle.rota_items.specs.Linear.{Term, Constraint, Model}
 use Rattle.rota_items.specs.LinearRow.{LinearRow, linear_constraint}
-use Rattle.rota_items.specs.Cells.{cell_number, cell_of_number, unit_number, first_slack}
+use Rattle.rota_items.specs.Variables.{cell_number, cell_of_number, unit_number, first_slack}
 use Rattle.rota_items.specs.HardRows.{rule_rows}
 use Rattle.rota_items.specs.Items.{Item, numbered}
 use Rattle.rota_items.specs.Slacks.{item_rows, slack_weights, slack_count, extension}
-use Rattle.rota_items.specs.SoftRules.{soft_items, cell_terms}
+use Rattle.rota_items.specs.Charges.{soft_items, cell_terms}
 use Rattle.rota_items.specs.Objective.{constant_terms}
 
 abbrev pub numbered_terms : Week → List (Term Cell) → List (Term ℕ)
@@ -51,10 +51,6 @@ model_of week = record {
 }
 
 -- ---- rosters and assignments
-
--- the roster that an assignment stands for: the cells whose variable is true
-abbrev pub roster_of : Week → (ℕ → Bool) → Roster
-roster_of week assignment cell = assignment (cell_number week cell)
 
 -- the variables of the roster's cells, and the unit variable
 abbrev pub assignment_of : Week → Roster → ℕ → Bool

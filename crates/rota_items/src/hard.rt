@@ -2,7 +2,7 @@
 ghost use Rattle.std.specs.Prelude.{◌≡◌, ◌≤◌, ◌*◌, [], ◌∷◌, length};
 ghost use Rattle.rota_core.specs.InstanceTables.{week_of};
 ghost use Rattle.rota_items.specs.CellEvents.{cell_row_events};
-ghost use Rattle.rota_items.specs.Cells.{unit_number};
+ghost use Rattle.rota_items.specs.Variables.{unit_number};
 ghost use Rattle.rota_items.specs.Events.{events};
 ghost use Rattle.rota_items.specs.HardRows.{rows_of_hard_rule, rule_rows};
 ghost use Rattle.rota_items.specs.Takes.{Takes};

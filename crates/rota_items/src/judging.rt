@@ -3,10 +3,10 @@ ghost use Rattle.std.specs.Prelude.{◌≡◌, if◌then◌else◌, length};
 ghost use Rattle.rota_core.specs.InstanceTables.{week_of};
 ghost use Rattle.rota_core.specs.RosterTables.{HasShapeOf};
 ghost use Rattle.rota_core.specs.Rules.{soft_rules};
-ghost use Rattle.rota_items.specs.Cells.{unit_number};
+ghost use Rattle.rota_items.specs.Variables.{unit_number};
 ghost use Rattle.rota_items.specs.Items.{positive_part};
 ghost use Rattle.rota_items.specs.Judging.{SettlesModel, WasDriven, assigned, assignment_in, counts_for, extended, fresh, judged, lacking, roster_in, with_constants};
-ghost use Rattle.rota_items.specs.SoftRules.{constant};
+ghost use Rattle.rota_items.specs.Charges.{constant};
 ghost use Rattle.rota_items.specs.Verdicts.{Judges, JudgesTheRules};
 ghost use Rattle.rota_items.specs.WeekModel.{model_of};
 

@@ -7,14 +7,14 @@ ghost use Rattle.rota_core.specs.Roster.{Has, Roster, InWeek};
 ghost use Rattle.rota_core.specs.RosterCells.{cells_of};
 ghost use Rattle.rota_core.specs.HardRules.{KeepsHardRules};
 ghost use Rattle.rota_items.specs.Linear.{Satisfies, SatisfiesModel, objective_value};
-ghost use Rattle.rota_items.specs.Cells.{cell_number, cell_of_number, unit_number};
-ghost use Rattle.rota_items.specs.SoftRules.{penalty};
+ghost use Rattle.rota_items.specs.Variables.{cell_number, cell_of_number, unit_number, roster_of};
+ghost use Rattle.rota_items.specs.Penalty.{penalty};
 ghost use Rattle.rota_items.specs.Limits.{IsWithinLimits};
 ghost use Rattle.rota_items.specs.RisingTerms.{RisesFrom, HasRisingTerms};
 ghost use Rattle.rota_items.specs.Standing.{StandsInSome};
-ghost use Rattle.rota_items.specs.Verdicts.{NamesFirstBroken, first_unmet};
+ghost use Rattle.rota_items.specs.FirstUnmet.{NamesFirstBroken, first_unmet};
 ghost use Rattle.rota_items.specs.hard.Held.{without_held};
-ghost use Rattle.rota_items.specs.WeekModel.{extension_of, hard_constraints, hard_rows, model_of, roster_of};
+ghost use Rattle.rota_items.specs.WeekModel.{extension_of, hard_constraints, hard_rows, model_of};
 
 /// An assignment satisfies the hard constraints exactly where the unit variable is true and its roster
 /// keeps the hard rules.

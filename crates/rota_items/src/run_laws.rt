@@ -10,8 +10,8 @@ ghost use Rattle.rota_items.specs.Items.{shortage, weighted_shortages};
 ghost use Rattle.rota_items.specs.RunItems.{Runs, AtMostOneADay, variables_on, has_property, day_items, run_items};
 ghost use Rattle.rota_items.specs.RunPatterns.{DaysFollow, windows, patterns};
 ghost use Rattle.rota_items.specs.Runs.{day_cost, run_cost};
-ghost use Rattle.rota_items.specs.rules.ConsecutiveAssignments.{shift_runs, work_runs};
-ghost use Rattle.rota_items.specs.rules.ConsecutiveDaysOff.{off_runs};
+ghost use Rattle.rota_items.specs.rules.ConsecutiveAssignments.Items.{shift_runs, work_runs};
+ghost use Rattle.rota_items.specs.rules.ConsecutiveDaysOff.Items.{off_runs};
 ghost use Rattle.rota_items.specs.Slacks.{StandBelow, extension, slack_weights};
 
 /// The items of a property's runs charge the cost of the runs.

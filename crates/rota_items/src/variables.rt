@@ -3,7 +3,7 @@
 ghost use Rattle.std.specs.Prelude.{◌≡◌, ◌<◌, ◌≤◌, ◌⊎◌, ◌↔◌, ◌^◌, IfSome, IsNone};
 ghost use Rattle.rota_core.specs.InstanceTables.{week_of};
 ghost use Rattle.rota_core.specs.Roster.{InWeek, cell};
-ghost use Rattle.rota_items.specs.Cells.{cell_number, unit_number};
+ghost use Rattle.rota_items.specs.Variables.{cell_number, unit_number};
 
 use crate::limits::within_limits;
 use rota_core::{Cell, Instance};

@@ -1,7 +1,7 @@
 //! Small weeks whose models and penalties are written out.
 ghost use Rattle.std.specs.Prelude.{◌≡◌, true, false, ◌||◌, ◌==◌};
 ghost use Rattle.rota_core.specs.Week.{no_past};
-ghost use Rattle.rota_items.specs.SoftRules.{penalty};
+ghost use Rattle.rota_items.specs.Penalty.{penalty};
 ghost use Rattle.rota_items.specs.WorkedWeeks.{CompleteWeekends, DaysOff, DemandNobodyCanMeet, FewerThanTheOptimum, HeldCells, HeldCellsCostNothing, NothingToCharge, OneNurseOneShift, RunFarAboveTheMaximum, RequestsOnOneCell, ShiftNobodyShouldWork, SuccessionAfterTheHistory, TotalBelowEarly, TotalBelowInTheLastWeek, TotalReachedEarly, TotalsAbove, TotalsAboveEarly, TotalsAboveInTheLastWeek, VariablesOfTheLastWeek};
 ghost use Rattle.rota_items.specs.WorkedWeeks.{before_the_last, charged_early, closed_shift_week, demanding_week, last_week, on_monday_shift, on_days, requests_week, weekends_week, limits_of, worked_days, working_week};
 

@@ -7,9 +7,10 @@ use Rattle.rota_core.specs.Roster.{InWeek}
 use Rattle.rota_core.specs.RosterTables.{RosterTables, HasShapeOf, cell_place, set_of}
 use Rattle.rota_items.specs.Linear.{objective_value}
 use Rattle.rota_core.specs.Rules.{soft_rules}
-use Rattle.rota_items.specs.SoftRules.{penalty}
-use Rattle.rota_items.specs.Verdicts.{IsMet, truth_of}
-use Rattle.rota_items.specs.WeekModel.{model_of, roster_of}
+use Rattle.rota_items.specs.Penalty.{penalty}
+use Rattle.rota_items.specs.Verdicts.{IsMet}
+use Rattle.rota_items.specs.Variables.{truth_of, roster_of}
+use Rattle.rota_items.specs.WeekModel.{model_of}
 use Rattle.rota_items.specs.declared.verdicts.Verdict.{Verdict}
 use Rattle.solver_text.specs.declared.outcome.Solved.{Solved}
 use Rattle.rota_pb.specs.Decoded.{FindsRoster, IsDecoded}

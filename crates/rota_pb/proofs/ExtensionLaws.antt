@@ -6,10 +6,9 @@ use Rattle.rota_core.specs.Lists.{each_below}
 use Rattle.rota_core.specs.Week.{Week}
 use Rattle.rota_core.specs.Roster.{Roster}
 use Rattle.rota_core.specs.InstanceTables.{week_of}
-use Rattle.rota_items.specs.Cells.{cell_number}
+use Rattle.rota_items.specs.Variables.{cell_number, truth_of}
 use Rattle.rota_items.specs.Limits.{IsWithinLimits}
-use Rattle.rota_items.specs.SoftRules.{penalty}
-use Rattle.rota_items.specs.Verdicts.{truth_of}
+use Rattle.rota_items.specs.Penalty.{penalty}
 use Rattle.rota_items.specs.WeekModel.{extension_of, model_of}
 use Rattle.rota_items.proofs.Extension.{extension-roster}
 use Rattle.rota_items.proofs.InstanceLimits.{instance-within_limits}

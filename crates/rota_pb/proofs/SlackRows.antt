@@ -6,7 +6,7 @@ use Rattle.std.proofs.lemmas.List.Sums.{sum_by-cons, fold-append}
 use Rattle.rota_core.specs.Week.{Week}
 use Rattle.rota_core.specs.InstanceTables.{InstanceTables, week_of}
 use Rattle.rota_core.specs.RosterTables.{RosterTables, set_of}
-use Rattle.rota_items.specs.Cells.{unit_number}
+use Rattle.rota_items.specs.Variables.{unit_number}
 use Rattle.rota_items.specs.Events.{Event, term, close_row, term_events, row_events, events}
 use Rattle.rota_items.specs.Items.{Item, positive_part, shortage}
 use Rattle.rota_items.specs.Judging.{Subject, extended, no_sums, tallied}

@@ -3,7 +3,7 @@ use Rattle.std.proofs.Common.{ℕ, ◌+◌, List, [], ◌∷◌, map, refl, ap}
 use Rattle.std.specs.List.{AllByRecursion}
 use Rattle.rota_core.specs.Week.{Week}
 use Rattle.rota_core.specs.declared.values.Cell.{Cell}
-use Rattle.rota_items.specs.Cells.{first_slack}
+use Rattle.rota_items.specs.Variables.{first_slack}
 use Rattle.rota_items.specs.HardRows.{rule_rows}
 use Rattle.rota_items.specs.Items.{Item}
 use Rattle.rota_items.specs.LinearRow.{LinearRow}

@@ -8,9 +8,10 @@ use Rattle.rota_core.specs.RosterTables.{HasShapeOf, set_of}
 use Rattle.rota_core.specs.HardRules.{KeepsHardRules}
 use Rattle.rota_items.specs.Linear.{SatisfiesModel, objective_value}
 use Rattle.rota_core.specs.Rules.{soft_rules}
-use Rattle.rota_items.specs.SoftRules.{penalty, rule_cost}
-use Rattle.rota_items.specs.Verdicts.{first_unmet, truth_of}
-use Rattle.rota_items.specs.WeekModel.{model_of, rows_of, roster_of}
+use Rattle.rota_items.specs.Penalty.{penalty, rule_cost}
+use Rattle.rota_items.specs.FirstUnmet.{first_unmet}
+use Rattle.rota_items.specs.Variables.{truth_of, roster_of}
+use Rattle.rota_items.specs.WeekModel.{model_of, rows_of}
 use Rattle.solver_text.specs.declared.outcome.Status.{Status}
 use Rattle.solver_text.specs.declared.outcome.Status.TheVariants.{Satisfiable, Optimum, Unsatisfiable, Unknown, Unsupported}
 use Rattle.solver_text.specs.declared.outcome.Solved.{Solved}

@@ -8,9 +8,9 @@ use Rattle.rota_core.specs.declared.values.Cell.{Cell}
 use Rattle.rota_core.specs.declared.fault.FileName.TheVariants as names
 use Rattle.rota_core.specs.Roster.{Roster, InWeek}
 use Rattle.rota_core.specs.HardRules.{KeepsHardRules, FirstBroken}
-use Rattle.rota_items.specs.SoftRules.{penalty}
-use Rattle.rota_items.specs.Verdicts.{truth_of}
-use Rattle.rota_items.specs.WeekModel.{model_of, roster_of, extension_of}
+use Rattle.rota_items.specs.Penalty.{penalty}
+use Rattle.rota_items.specs.Variables.{truth_of, roster_of}
+use Rattle.rota_items.specs.WeekModel.{model_of, extension_of}
 use Rattle.rota_read.specs.SolutionLayout.{solution}
 use Rattle.solver_text.specs.declared.outcome.Status.TheVariants.{Satisfiable}
 use Rattle.solver_text.specs.Answers.{outcome}

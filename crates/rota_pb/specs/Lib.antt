@@ -2,10 +2,12 @@ pub mod AnswerPieces
 pub mod Decoded
 pub mod Decoding
 pub mod Encoding
+pub mod ExactModel
 pub mod Extending
 pub mod FaultTexts
 pub mod Faults
 pub mod Feeding
+pub mod Meaning
 pub mod Readers
 pub mod Report
 pub mod SlackTaker

@@ -4,12 +4,12 @@ use Rattle.rota_core.specs.Lists.{each_below}
 use Rattle.rota_core.specs.Roster.{Roster}
 use Rattle.rota_core.specs.Week.{Week}
 use Rattle.rota_core.specs.declared.ports.Target.{Ghosts}
-use Rattle.rota_items.specs.Cells.{unit_number}
+use Rattle.rota_items.specs.Variables.{unit_number}
 use Rattle.rota_items.specs.Events.{Event, start_row, term, close_row}
 use Rattle.rota_items.specs.Items.{positive_part}
 use Rattle.rota_items.specs.Judging.{Judging, judged, lacking}
 use Rattle.rota_items.specs.Slacks.{is_slack_needed, slack_count}
-use Rattle.rota_items.specs.SoftRules.{soft_items}
+use Rattle.rota_items.specs.Charges.{soft_items}
 use Rattle.rota_items.specs.WeekModel.{assignment_of, numbered_items}
 use Rattle.rota_items.specs.declared.tallies.RowSums.{RowSums}
 use Rattle.opb_text.specs.SinkTaker.{EventTexts}

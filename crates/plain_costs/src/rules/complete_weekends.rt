@@ -3,7 +3,7 @@ ghost use Rattle.std.specs.Prelude.{◌≡◌, ◌<◌, ◌≤◌, ◌&&◌};
 ghost use Rattle.rota_core.specs.HardRules.{works};
 ghost use Rattle.rota_core.specs.InstanceTables.{week_of};
 ghost use Rattle.rota_core.specs.RosterTables.{HasShapeOf, set_of};
-ghost use Rattle.rota_items.specs.rules.CompleteWeekends.{complete_weekend_cost_of, exactly_one};
+ghost use Rattle.rota_items.specs.rules.CompleteWeekends.Cost.{complete_weekend_cost_of, exactly_one};
 
 use crate::days::works;
 use rota_core::{Instance, Roster};

@@ -3,7 +3,7 @@ ghost use Rattle.std.specs.Prelude.{◌≡◌, ◌<◌, ◌≤◌};
 ghost use Rattle.rota_core.specs.Below.{sum_below};
 ghost use Rattle.rota_core.specs.InstanceTables.{week_of};
 ghost use Rattle.rota_core.specs.RosterTables.{HasShapeOf, set_of};
-ghost use Rattle.rota_items.specs.rules.ConsecutiveAssignments.{consecutive_assignment_cost_of, history_on, shift_run_cost, work_run_cost};
+ghost use Rattle.rota_items.specs.rules.ConsecutiveAssignments.Cost.{consecutive_assignment_cost_of, history_on, shift_run_cost, work_run_cost};
 
 use crate::days::{days_on, days_worked};
 use crate::runs::run_cost;

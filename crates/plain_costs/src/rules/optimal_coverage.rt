@@ -3,7 +3,7 @@ ghost use Rattle.std.specs.Prelude.{◌≡◌, ◌<◌, ◌≤◌, ◌-◌};
 ghost use Rattle.rota_core.specs.HardRules.{nurses_at};
 ghost use Rattle.rota_core.specs.InstanceTables.{week_of};
 ghost use Rattle.rota_core.specs.RosterTables.{HasShapeOf, set_of};
-ghost use Rattle.rota_items.specs.rules.OptimalCoverage.{optimum_cost};
+ghost use Rattle.rota_items.specs.rules.OptimalCoverage.Cost.{optimum_cost};
 
 use crate::days::nurses_at;
 use rota_core::{Instance, Roster};

@@ -4,7 +4,7 @@ ghost use Rattle.rota_core.specs.Below.{sum_below};
 ghost use Rattle.rota_core.specs.InstanceTables.{week_of};
 ghost use Rattle.rota_core.specs.Roster.{cell};
 ghost use Rattle.rota_core.specs.RosterTables.{HasShapeOf, set_of};
-ghost use Rattle.rota_items.specs.rules.ShiftOffRequests.{request_cost};
+ghost use Rattle.rota_items.specs.rules.ShiftOffRequests.Cost.{request_cost};
 
 use rota_core::{Cell, Instance, Roster};
 

@@ -2,7 +2,7 @@
 ghost use Rattle.std.specs.Prelude.{◌≡◌, ◌<◌, ◌≤◌, ◌+◌, ◌-◌, if◌then◌else◌};
 ghost use Rattle.rota_core.specs.InstanceTables.{week_of};
 ghost use Rattle.rota_core.specs.RosterTables.{HasShapeOf, set_of};
-ghost use Rattle.rota_items.specs.rules.TotalAssignments.{above_greatest_total, assignment_cost_of, below_least_total};
+ghost use Rattle.rota_items.specs.rules.TotalAssignments.Cost.{above_greatest_total, assignment_cost_of, below_least_total};
 
 use crate::days::assignments_of;
 use crate::excess::charged_excess;

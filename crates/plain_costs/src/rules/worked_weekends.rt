@@ -2,7 +2,7 @@
 ghost use Rattle.std.specs.Prelude.{◌≡◌, ◌<◌, ◌≤◌};
 ghost use Rattle.rota_core.specs.InstanceTables.{week_of};
 ghost use Rattle.rota_core.specs.RosterTables.{HasShapeOf, set_of};
-ghost use Rattle.rota_items.specs.rules.WorkedWeekends.{above_greatest_weekends, worked_weekend_cost_of};
+ghost use Rattle.rota_items.specs.rules.WorkedWeekends.Cost.{above_greatest_weekends, worked_weekend_cost_of};
 
 use crate::days::works;
 use crate::excess::charged_excess;

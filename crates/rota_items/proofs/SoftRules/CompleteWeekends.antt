@@ -6,7 +6,7 @@ use Rattle.rota_items.proofs.AlikeRosters.{works-alike}
 use Rattle.rota_items.proofs.SoftRules.Sound.{IsNurseRuleSound}
 use Rattle.rota_items.proofs.SoftRules.WeekendItems.{length-items_where, sound-items_where, weighted-items_where}
 use Rattle.rota_items.specs.RunPatterns.{with_property, without_property}
-use Rattle.rota_items.specs.rules.CompleteWeekends.{complete_weekend_weight}
+use Rattle.rota_items.specs.rules.CompleteWeekends.Cost.{complete_weekend_weight}
 
 pub sound-complete_weekends : (week : Week) → IsNurseRuleSound week S5
 sound-complete_weekends week =

@@ -9,7 +9,8 @@ use Rattle.rota_items.proofs.SoftRules.NurseProperties.{few-run_items, of_nurse-
 use Rattle.rota_items.proofs.SoftRules.Sound.{IsItemSound, IsNurseRuleSound, charges-nurses, weighted}
 use Rattle.rota_items.proofs.SumsBelow.{sum_by-each-times, sum_below-at_most, sum_below-same}
 use Rattle.rota_items.specs.RunItems.{run_items}
-use Rattle.rota_items.specs.rules.ConsecutiveAssignments.{consecutive_assignment_cost, history_on, shift_run_cost, shift_run_weight, shift_runs, work_run_weight, work_runs}
+use Rattle.rota_items.specs.rules.ConsecutiveAssignments.Cost.{consecutive_assignment_cost, history_on, shift_run_cost, shift_run_weight, work_run_weight}
+use Rattle.rota_items.specs.rules.ConsecutiveAssignments.Items.{shift_runs, work_runs}
 
 module _ (week : Week) where
   abbrev shift_items : ℕ → List (Item Cell)

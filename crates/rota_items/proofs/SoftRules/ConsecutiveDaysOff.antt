@@ -6,7 +6,8 @@ use Rattle.rota_items.proofs.AlikeRosters.{run_cost-alike, works-alike}
 use Rattle.rota_items.proofs.NurseRuns.{run_cost-le, weighted-off_runs}
 use Rattle.rota_items.proofs.SoftRules.NurseProperties.{few-run_items, of_nurse-work, sound-run_items}
 use Rattle.rota_items.proofs.SoftRules.Sound.{IsNurseRuleSound, charges-nurses}
-use Rattle.rota_items.specs.rules.ConsecutiveDaysOff.{consecutive_day_off_cost, off_run_weight, off_runs}
+use Rattle.rota_items.specs.rules.ConsecutiveDaysOff.Cost.{consecutive_day_off_cost, off_run_weight}
+use Rattle.rota_items.specs.rules.ConsecutiveDaysOff.Items.{off_runs}
 
 pub sound-consecutive_days_off : (week : Week) → IsNurseRuleSound week S3
 sound-consecutive_days_off week = record {

@@ -18,8 +18,9 @@ use Rattle.rota_items.proofs.SoftRules.Sound.{IsItemSound, IsNurseRuleSound, IsS
 use Rattle.rota_items.proofs.SoftRules.TotalAssignments.{sound-total_assignments}
 use Rattle.rota_items.proofs.SoftRules.WorkedWeekends.{sound-worked_weekends}
 use Rattle.rota_items.proofs.SumsBelow.{sum_below-at_most, sum_below-same}
-use Rattle.rota_items.specs.NurseItems.{nurse_constant, nurse_cost, nurse_items}
-use Rattle.rota_items.specs.rules.ShiftOffRequests.{request_terms}
+use Rattle.rota_items.specs.Charges.{nurse_constant, nurse_items}
+use Rattle.rota_items.specs.Penalty.{nurse_cost}
+use Rattle.rota_items.specs.rules.ShiftOffRequests.Terms.{request_terms}
 
 module _ (week : Week) where
   -- ---- rule by rule

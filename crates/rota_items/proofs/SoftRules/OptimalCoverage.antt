@@ -8,7 +8,8 @@ use Rattle.rota_items.proofs.SoftRules.Sound.{IsItemSound, IsSoftRuleSound, no_c
 use Rattle.rota_items.proofs.SoundTerms.{sound-demand}
 use Rattle.rota_items.proofs.SumsBelow.{sum_by-each-times, count_by-each, sum_below-at_most, sum_below-same}
 use Rattle.rota_items.proofs.Values.{lacking}
-use Rattle.rota_items.specs.rules.OptimalCoverage.{optimum_cost, optimum_item, optimum_items, optimum_items_at, optimum_items_of, optimum_items_on, optimum_weight}
+use Rattle.rota_items.specs.rules.OptimalCoverage.Cost.{optimum_cost, optimum_weight}
+use Rattle.rota_items.specs.rules.OptimalCoverage.Items.{optimum_item, optimum_items, optimum_items_at, optimum_items_of, optimum_items_on}
 
 module _ (week : Week) where
   abbrev is_wanted : ℕ → ℕ → ℕ → Bool

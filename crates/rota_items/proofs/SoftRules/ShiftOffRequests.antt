@@ -12,7 +12,8 @@ use Rattle.rota_items.proofs.PatternItems.{value_of-append}
 use Rattle.rota_items.proofs.RisingCells.{at, day_start, shift_start, within, within-block}
 use Rattle.rota_items.proofs.SoftRules.Sound.{IsSoftRuleSound, no_constant}
 use Rattle.rota_items.proofs.SumsBelow.{sum_below-at_most, where_in, sum_below-same}
-use Rattle.rota_items.specs.rules.ShiftOffRequests.{request_cost, request_terms, request_terms_on, request_weight}
+use Rattle.rota_items.specs.rules.ShiftOffRequests.Cost.{request_cost, request_weight}
+use Rattle.rota_items.specs.rules.ShiftOffRequests.Terms.{request_terms, request_terms_on}
 
 -- ---- the cost
 

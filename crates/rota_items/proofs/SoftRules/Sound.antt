@@ -7,7 +7,8 @@ use Rattle.rota_core.specs.declared.rule.Rule.TheVariants.{S1, S2, S6, S7}
 use Rattle.rota_items.proofs.AlikeRosters.{AreAlike}
 use Rattle.rota_items.proofs.SoundTerms.{AreSound}
 use Rattle.rota_items.proofs.SumsBelow.{sum_by-each, sum_below-plus, sum_below-same, sum_below-zero}
-use Rattle.rota_items.specs.NurseItems.{nurse_constant, nurse_cost, nurse_items}
+use Rattle.rota_items.specs.Charges.{nurse_constant, nurse_items}
+use Rattle.rota_items.specs.Penalty.{nurse_cost}
 
 -- ---- within the limits of a week's numbers
 

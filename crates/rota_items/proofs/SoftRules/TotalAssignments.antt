@@ -16,7 +16,8 @@ use Rattle.rota_items.proofs.TermsHold.{on-times}
 use Rattle.rota_items.proofs.UnitTerms.{AreUnits, units-times, units-minus}
 use Rattle.rota_items.proofs.Values.{lacking, exceeding}
 use Rattle.rota_items.specs.CountedTotals.{charged_excess, excess_before_counts, greatest_totals_count, least_totals_count}
-use Rattle.rota_items.specs.rules.TotalAssignments.{assignment_weight, assignments_of, greatest_total_item, greatest_totals_of, least_total_item, least_totals_of, still_allowed, still_wanted}
+use Rattle.rota_items.specs.rules.TotalAssignments.Cost.{assignment_weight, assignments_of}
+use Rattle.rota_items.specs.rules.TotalAssignments.Items.{greatest_total_item, greatest_totals_of, least_total_item, least_totals_of, still_allowed, still_wanted}
 
 -- what item and constant charge of the assignments below the least total, and of those above the greatest
 least_charged : (count : Bool) (least before now lacks : ℕ) → now ≤ 7 → lacks ≡ min (least - before) 7 - now →

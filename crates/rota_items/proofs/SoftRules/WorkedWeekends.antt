@@ -10,7 +10,7 @@ use Rattle.rota_items.proofs.SoftRules.WeekendItems.{length-items_where, sound-i
 use Rattle.rota_items.proofs.SumsBelow.{where_in}
 use Rattle.rota_items.specs.CountedTotals.{excess_before_counts, greatest_totals_count}
 use Rattle.rota_items.specs.RunPatterns.{with_property}
-use Rattle.rota_items.specs.rules.WorkedWeekends.{worked_weekend, worked_weekend_weight}
+use Rattle.rota_items.specs.rules.WorkedWeekends.Cost.{worked_weekend, worked_weekend_weight}
 
 pub sound-worked_weekends : (week : Week) → IsNurseRuleSound week S7
 sound-worked_weekends week =

@@ -3,7 +3,7 @@
 ghost use Rattle.std.specs.Prelude.{◌≡◌, ◌<◌, ◌≤◌, length};
 ghost use Rattle.rota_core.specs.InstanceTables.{week_of};
 ghost use Rattle.rota_items.specs.ItemEvents.{SlacksFit, Walks};
-ghost use Rattle.rota_items.specs.rules.CompleteWeekends.{complete_weekends_of};
+ghost use Rattle.rota_items.specs.rules.CompleteWeekends.Items.{complete_weekends_of};
 
 use crate::soft_item::{DayProperty, ItemPart, RunCharge};
 use crate::takers::Taker;

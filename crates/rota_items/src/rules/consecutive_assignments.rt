@@ -5,7 +5,8 @@ ghost use Rattle.rota_core.specs.InstanceTables.{week_of};
 ghost use Rattle.rota_items.specs.ItemEvents.{SlacksFit, Walks};
 ghost use Rattle.rota_items.specs.ItemValues.{IsChargeOf, runs_of};
 ghost use Rattle.rota_items.specs.RunItems.{run_items};
-ghost use Rattle.rota_items.specs.rules.ConsecutiveAssignments.{assignment_runs_of, history_on, shift_runs, work_runs};
+ghost use Rattle.rota_items.specs.rules.ConsecutiveAssignments.Items.{assignment_runs_of, shift_runs, work_runs};
+ghost use Rattle.rota_items.specs.rules.ConsecutiveAssignments.Cost.{history_on};
 
 use crate::run_counts::count_run_items;
 use crate::run_walk::walk_runs;

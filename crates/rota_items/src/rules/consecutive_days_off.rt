@@ -4,7 +4,7 @@ ghost use Rattle.rota_core.specs.InstanceTables.{week_of};
 ghost use Rattle.rota_items.specs.ItemEvents.{SlacksFit, Walks};
 ghost use Rattle.rota_items.specs.ItemValues.{IsChargeOf, runs_of};
 ghost use Rattle.rota_items.specs.RunItems.{run_items};
-ghost use Rattle.rota_items.specs.rules.ConsecutiveDaysOff.{off_runs};
+ghost use Rattle.rota_items.specs.rules.ConsecutiveDaysOff.Items.{off_runs};
 
 use crate::run_counts::count_run_items;
 use crate::run_walk::walk_runs;

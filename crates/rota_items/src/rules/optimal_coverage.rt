@@ -4,7 +4,7 @@ ghost use Rattle.rota_core.specs.InstanceTables.{week_of};
 ghost use Rattle.rota_items.specs.ItemEvents.{SlacksFit, Walks};
 ghost use Rattle.rota_items.specs.ItemValues.{IsSumOf, item_of, items_given};
 ghost use Rattle.rota_items.specs.Slacks.{slack_count};
-ghost use Rattle.rota_items.specs.rules.OptimalCoverage.{optimum_item, optimum_items, optimum_items_at};
+ghost use Rattle.rota_items.specs.rules.OptimalCoverage.Items.{optimum_item, optimum_items, optimum_items_at};
 
 use crate::item_counts::ItemCounts;
 use crate::item_walk::walk_item;

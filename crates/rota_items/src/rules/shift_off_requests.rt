@@ -4,7 +4,7 @@ ghost use Rattle.std.specs.Prelude.{◌<◌};
 ghost use Rattle.rota_core.specs.InstanceTables.{week_of};
 ghost use Rattle.rota_items.specs.CellEvents.{cell_term_events};
 ghost use Rattle.rota_items.specs.Takes.{Takes};
-ghost use Rattle.rota_items.specs.rules.ShiftOffRequests.{request_terms, request_terms_on};
+ghost use Rattle.rota_items.specs.rules.ShiftOffRequests.Terms.{request_terms, request_terms_on};
 
 use crate::limits::DAYS;
 use crate::sums::give_range;

@@ -5,7 +5,7 @@ ghost use Rattle.rota_items.specs.CountedTotals.{greatest_totals_count, least_to
 ghost use Rattle.rota_items.specs.ItemEvents.{SlacksFit, Walks};
 ghost use Rattle.rota_items.specs.ItemValues.{IsSumOf, item_of, items_given};
 ghost use Rattle.rota_items.specs.Slacks.{slack_count};
-ghost use Rattle.rota_items.specs.rules.TotalAssignments.{assignment_constant_of, assignments_above, greatest_total_item, greatest_totals_of, least_total_item, least_totals_of, still_allowed, still_wanted, totals_of, wanted_beyond_days};
+ghost use Rattle.rota_items.specs.rules.TotalAssignments.Items.{assignment_constant_of, assignments_above, greatest_total_item, greatest_totals_of, least_total_item, least_totals_of, still_allowed, still_wanted, totals_of, wanted_beyond_days};
 
 use crate::counted_totals::{excess_before_counts, greatest_totals_count, least_totals_count};
 use crate::item_counts::ItemCounts;

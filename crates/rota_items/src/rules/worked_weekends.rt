@@ -3,7 +3,7 @@ ghost use Rattle.std.specs.Prelude.{◌≡◌, ◌<◌, ◌≤◌, ◌&&◌, nat
 ghost use Rattle.rota_core.specs.InstanceTables.{week_of};
 ghost use Rattle.rota_items.specs.CountedTotals.{greatest_totals_count};
 ghost use Rattle.rota_items.specs.ItemEvents.{SlacksFit, Walks};
-ghost use Rattle.rota_items.specs.rules.WorkedWeekends.{weekend_constant_of, weekends_above, worked_weekends_of};
+ghost use Rattle.rota_items.specs.rules.WorkedWeekends.Items.{weekend_constant_of, weekends_above, worked_weekends_of};
 
 use crate::counted_totals::{excess_before_counts, greatest_totals_count};
 use crate::soft_item::{DayProperty, ItemPart, RunCharge};

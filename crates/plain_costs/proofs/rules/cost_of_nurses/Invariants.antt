@@ -1,6 +1,6 @@
 use Rattle.rota_core.specs.InstanceTables.{week_of}
 use Rattle.rota_core.specs.RosterTables.{set_of}
-use Rattle.rota_items.specs.NurseItems.{nurse_cost}
+use Rattle.rota_items.specs.Penalty.{nurse_cost}
 use Rattle.plain_costs.proofs.LoopSums.{AddsUp}
 use Rattle.plain_costs.proofs.rules.cost_of_nurses.Given as goal
 

@@ -7,7 +7,7 @@ use Rattle.rota_core.specs.declared.rule.Rule.{Rule}
 use Rattle.rota_items.proofs.InstanceLimits.{instance-within_limits}
 use Rattle.rota_items.proofs.ListTotals.{sum-all, sum-more}
 use Rattle.rota_items.proofs.SoftRules.EachRule.{sound-rule}
-use Rattle.rota_items.specs.SoftRules.{rule_cost}
+use Rattle.rota_items.specs.Penalty.{rule_cost}
 use Rattle.plain_costs.proofs.rules.penalty.Goals as goal
 
 small : (t : InstanceTables) (roster : Roster) (rule : Rule) (cost : ℕ) → IsInstance t →

@@ -2,7 +2,7 @@ use Rattle.std.specs.Prelude.{◌≡◌, ◌*◌, ◌≤◌, take}
 use Rattle.std.specs.List.{sum_by}
 use Rattle.rota_core.specs.InstanceTables.{week_of}
 use Rattle.rota_core.specs.RosterTables.{set_of}
-use Rattle.rota_items.specs.SoftRules.{rule_cost}
+use Rattle.rota_items.specs.Penalty.{rule_cost}
 use Rattle.plain_costs.proofs.rules.penalty.Given as goal
 
 abbrev pub invariant-loop-rule : goal.invariant-loop-rule

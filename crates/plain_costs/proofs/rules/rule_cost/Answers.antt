@@ -6,8 +6,7 @@ use Rattle.rota_core.specs.RosterTables.{set_of}
 use Rattle.rota_core.specs.Week.{Week}
 use Rattle.rota_core.specs.declared.rule.Rule.{Rule}
 use Rattle.rota_core.specs.declared.rule.Rule.TheVariants.{S1, S4}
-use Rattle.rota_items.specs.NurseItems.{nurse_cost}
-use Rattle.rota_items.specs.SoftRules.{rule_cost}
+use Rattle.rota_items.specs.Penalty.{nurse_cost, rule_cost}
 use Rattle.plain_costs.proofs.rules.rule_cost.Goals as goal
 
 of_nurses : (week : Week) (roster : Roster) (rule : Rule) → (rule ≡ S1 → ⊥) → (rule ≡ S4 → ⊥) →

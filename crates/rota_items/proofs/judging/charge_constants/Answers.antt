@@ -5,7 +5,7 @@ use Rattle.rota_core.specs.Rules.{soft_rules}
 use Rattle.rota_core.specs.Week.{Week}
 use Rattle.rota_core.specs.declared.rule.Rule.{Rule}
 use Rattle.rota_items.specs.Judging.{with_constants, with_cost}
-use Rattle.rota_items.specs.SoftRules.{constant_of_rule}
+use Rattle.rota_items.specs.Charges.{constant_of_rule}
 use Rattle.rota_items.proofs.judging.charge_constants.Goals as goal
 
 with_next : (week : Week) (rules : List Rule) (i : ℕ) (other : Rule) (charged : ℕ) (start before after : List ℕ) → i < length rules →

@@ -4,7 +4,7 @@ use Rattle.rota_items.proofs.Common.{◌≡◌, ℕ, ◌^◌, ◌<◌, ◌≤◌
 use Rattle.rota_items.proofs.InstanceLimits.{instance-within_limits}
 use Rattle.rota_items.proofs.PenaltyBound.{constant-few}
 use Rattle.rota_items.proofs.Taking.{nothing, numbers_join, term_takes}
-use Rattle.rota_items.specs.SoftRules.{constant}
+use Rattle.rota_items.specs.Charges.{constant}
 use Rattle.rota_items.proofs.objective.give_constant.Goals as goal
 
 pub returns-then-constant-eq0 : goal.returns-then-constant-eq0

@@ -1,7 +1,7 @@
 use Rattle.rota_items.proofs.Common.{arith, week_of}
 use Rattle.rota_core.specs.Rules.{soft_rules}
 use Rattle.rota_items.proofs.ListTotals.{sum-all, sum-more}
-use Rattle.rota_items.specs.SoftRules.{constant_of_rule}
+use Rattle.rota_items.specs.Charges.{constant_of_rule}
 use Rattle.rota_items.proofs.rules.constant.Goals as goal
 
 pub loop-rule-preserved : goal.loop-rule-preserved

@@ -1,5 +1,5 @@
 use Rattle.rota_items.proofs.Common.{◌≡◌, ◌*◌, ◌≤◌, take, sum_by, week_of}
-use Rattle.rota_items.specs.SoftRules.{constant_of_rule}
+use Rattle.rota_items.specs.Charges.{constant_of_rule}
 use Rattle.rota_items.proofs.rules.constant.Given as goal
 
 abbrev pub invariant-loop-rule : goal.invariant-loop-rule

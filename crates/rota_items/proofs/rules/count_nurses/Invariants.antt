@@ -1,6 +1,6 @@
 use Rattle.rota_items.proofs.Common.{week_of}
 use Rattle.rota_items.proofs.ListLengths.{LengthOfEach, SlacksOfEach}
-use Rattle.rota_items.specs.NurseItems.{nurse_items}
+use Rattle.rota_items.specs.Charges.{nurse_items}
 use Rattle.rota_items.proofs.rules.count_nurses.Given as goal
 
 abbrev pub invariant-loop-nurse : goal.invariant-loop-nurse

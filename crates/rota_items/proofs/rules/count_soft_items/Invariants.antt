@@ -1,5 +1,5 @@
 use Rattle.rota_items.proofs.Common.{◌≡◌, ◌*◌, ◌≤◌, length, take, flat_map, week_of, slack_count}
-use Rattle.rota_items.specs.SoftRules.{items_of_rule}
+use Rattle.rota_items.specs.Charges.{items_of_rule}
 use Rattle.rota_items.proofs.rules.count_soft_items.Given as goal
 
 abbrev pub invariant-loop-rule : goal.invariant-loop-rule

@@ -1,5 +1,5 @@
 use Rattle.rota_items.proofs.Common.{week_of, each_below, Walked}
-use Rattle.rota_items.specs.NurseItems.{nurse_items}
+use Rattle.rota_items.specs.Charges.{nurse_items}
 use Rattle.rota_items.proofs.rules.walk_nurses.Given as goal
 
 abbrev pub invariant-loop-nurse : goal.invariant-loop-nurse

@@ -4,7 +4,7 @@ use Rattle.rota_items.proofs.InstanceLimits.{instance-within_limits}
 use Rattle.rota_items.proofs.SlackBound.{variables_fit}
 use Rattle.rota_items.proofs.Taking.{exits}
 use Rattle.rota_items.proofs.Walking.{fits_list, walk_list_more, walk_list_refused}
-use Rattle.rota_items.specs.SoftRules.{items_of_rule}
+use Rattle.rota_items.specs.Charges.{items_of_rule}
 use Rattle.rota_items.proofs.rules.walk_soft_items.Goals as goal
 
 pub walk_rule-requires : goal.walk_rule-requires

@@ -1,6 +1,6 @@
 use Rattle.rota_items.proofs.Common.{take, flat_map, week_of, Walked}
-use Rattle.rota_items.specs.Cells.{first_slack}
-use Rattle.rota_items.specs.SoftRules.{items_of_rule}
+use Rattle.rota_items.specs.Variables.{first_slack}
+use Rattle.rota_items.specs.Charges.{items_of_rule}
 use Rattle.rota_items.proofs.rules.walk_soft_items.Given as goal
 
 abbrev pub invariant-loop-rule : goal.invariant-loop-rule

@@ -2,7 +2,7 @@ use Rattle.std.proofs.Common.{rules, ◌≡◌, ℕ, refl, ap, ◌∙◌, sym, a
 use Rattle.std.specs.Prelude.{◌+◌, ◌-◌, ◌^◌}
 use Rattle.rota_core.specs.InstanceTables.{week_of}
 use Rattle.rota_core.specs.RosterTables.{set_of}
-use Rattle.rota_items.specs.Cells.{unit_number}
+use Rattle.rota_items.specs.Variables.{unit_number}
 use Rattle.rota_items.specs.WeekModel.{assignment_of}
 use Rattle.rota_items.proofs.AssignmentOf.{assignment_of-unit, place-assigned}
 use Rattle.opb_text.proofs.PutsTextLemmas.{puts_same}

@@ -1,6 +1,6 @@
 use Rattle.rota_core.specs.InstanceTables.{week_of}
 use Rattle.rota_core.specs.RosterTables.{set_of}
-use Rattle.rota_items.specs.rules.ConsecutiveAssignments.{shift_run_cost}
+use Rattle.rota_items.specs.rules.ConsecutiveAssignments.Cost.{shift_run_cost}
 use Rattle.plain_costs.proofs.LoopSums.{AddsUp}
 use Rattle.plain_costs.proofs.rules.consecutive_assignments.shift_runs_cost.Given as goal
 

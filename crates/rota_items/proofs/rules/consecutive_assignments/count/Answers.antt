@@ -1,6 +1,6 @@
 use Rattle.rota_items.proofs.Common.{◌≡◌, ◌∙◌, ap, length, length-append, arith, week_of, each_below, Cell, Runs, run_items}
 use Rattle.rota_items.proofs.ListLengths.{counting}
-use Rattle.rota_items.specs.rules.ConsecutiveAssignments.{shift_runs, work_runs}
+use Rattle.rota_items.specs.rules.ConsecutiveAssignments.Items.{shift_runs, work_runs}
 use Rattle.rota_items.proofs.rules.consecutive_assignments.count.Goals as goal
 
 pub loop-shift-preserved : goal.loop-shift-preserved

@@ -1,6 +1,6 @@
 use Rattle.rota_items.proofs.Common.{week_of, run_items}
 use Rattle.rota_items.proofs.ListLengths.{LengthOfEach}
-use Rattle.rota_items.specs.rules.ConsecutiveAssignments.{shift_runs}
+use Rattle.rota_items.specs.rules.ConsecutiveAssignments.Items.{shift_runs}
 use Rattle.rota_items.proofs.rules.consecutive_assignments.count.Given as goal
 
 abbrev pub invariant-loop-shift : goal.invariant-loop-shift

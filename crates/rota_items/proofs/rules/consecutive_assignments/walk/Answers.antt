@@ -1,6 +1,6 @@
 use Rattle.rota_items.proofs.Common.{arith, ap, sym, subst, week_of, Cell, each_below, SlacksFit, Runs, run_items}
 use Rattle.rota_items.proofs.Walking.{walk_exits, walk_more, walk_ends, walk_refused, walk_stops, walk_then, fits_before, fits_after, fits_within}
-use Rattle.rota_items.specs.rules.ConsecutiveAssignments.{shift_runs, work_runs}
+use Rattle.rota_items.specs.rules.ConsecutiveAssignments.Items.{shift_runs, work_runs}
 use Rattle.rota_items.proofs.rules.consecutive_assignments.walk.Goals as goal
 
 pub walk_runs-requires-clause-slacks_fit : goal.walk_runs-requires-clause-slacks_fit

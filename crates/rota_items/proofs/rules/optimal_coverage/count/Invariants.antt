@@ -1,6 +1,6 @@
 use Rattle.rota_items.proofs.Common.{week_of}
 use Rattle.rota_items.proofs.ListLengths.{LengthOfEach, SlacksOfEach}
-use Rattle.rota_items.specs.rules.OptimalCoverage.{optimum_items_at, optimum_items_of, optimum_items_on}
+use Rattle.rota_items.specs.rules.OptimalCoverage.Items.{optimum_items_at, optimum_items_of, optimum_items_on}
 use Rattle.rota_items.proofs.rules.optimal_coverage.count.Given as goal
 
 abbrev pub invariant-loop-skill : goal.invariant-loop-skill

@@ -1,5 +1,5 @@
 use Rattle.rota_items.proofs.Common.{week_of, each_below, Walked}
-use Rattle.rota_items.specs.rules.OptimalCoverage.{optimum_items_at, optimum_items_of, optimum_items_on}
+use Rattle.rota_items.specs.rules.OptimalCoverage.Items.{optimum_items_at, optimum_items_of, optimum_items_on}
 use Rattle.rota_items.proofs.rules.optimal_coverage.walk.Given as goal
 
 abbrev pub invariant-loop-day : goal.invariant-loop-day

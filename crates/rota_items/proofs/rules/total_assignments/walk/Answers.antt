@@ -1,6 +1,6 @@
 use Rattle.rota_items.proofs.Common.{week_of}
 use Rattle.rota_items.proofs.Walking.{walk_exits, walk_stops, walk_then}
-use Rattle.rota_items.specs.rules.TotalAssignments.{least_totals_of, greatest_totals_of}
+use Rattle.rota_items.specs.rules.TotalAssignments.Items.{least_totals_of, greatest_totals_of}
 use Rattle.rota_items.proofs.rules.total_assignments.walk.Goals as goal
 
 pub returns-in_err-next : goal.returns-in_err-next

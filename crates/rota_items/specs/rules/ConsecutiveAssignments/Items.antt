@@ -1,0 +1,36 @@
+-- How the model charges S2: the items of a nurse's runs.
+use Rattle.std.specs.Prelude.{ℕ, List, ◌++◌}
+use Rattle.rota_core.specs.declared.rule.Rule.TheVariants.{S2}
+use Rattle.rota_core.specs.declared.values.Cell.{Cell}
+use Rattle.rota_core.specs.Lists.{each_below}
+use Rattle.rota_core.specs.Week.{Week}
+use Rattle.rota_items.specs.Cells.{on_cells, work_cells}
+use Rattle.rota_items.specs.Items.{Item}
+use Rattle.rota_items.specs.RunItems.{Runs, Present, run_items}
+use Rattle.rota_items.specs.rules.ConsecutiveAssignments.Cost.{shift_run_weight, work_run_weight, history_on}
+
+abbrev pub shift_runs : Week → ℕ → ℕ → Runs Cell
+shift_runs week n s = record {
+  rule = S2;
+  weight = shift_run_weight;
+  property = Present (on_cells week n s);
+  history = history_on week n s;
+  limits = week.limits s;
+}
+
+abbrev pub work_runs : Week → ℕ → Runs Cell
+work_runs week n = record {
+  rule = S2;
+  weight = work_run_weight;
+  property = Present (work_cells week n);
+  history = (week.past n).work_run;
+  limits = (week.contract n).work;
+}
+
+-- those of a nurse
+abbrev pub assignment_runs_of : Week → ℕ → List (Item Cell)
+assignment_runs_of week n =
+    each_below week.shifts (λ s. run_items (shift_runs week n s)) ++ run_items (work_runs week n)
+
+abbrev pub consecutive_assignment_items : Week → List (Item Cell)
+consecutive_assignment_items week = each_below week.nurses (assignment_runs_of week)

@@ -1,0 +1,22 @@
+-- S3, consecutive days off: runs of days off that are too long or too short.
+use Rattle.std.specs.Prelude.{ℕ, ◌*◌}
+use Rattle.rota_core.specs.Below.{sum_below}
+use Rattle.rota_core.specs.HardRules.{is_off}
+use Rattle.rota_core.specs.Roster.{Roster}
+use Rattle.rota_core.specs.Week.{Week}
+use Rattle.rota_items.specs.Runs.{run_cost}
+
+-- for each day that a run is too long or too short
+abbrev pub off_run_weight : ℕ
+off_run_weight = 30
+
+abbrev pub off_run_cost : Week → Roster → ℕ → ℕ
+off_run_cost week roster n =
+    run_cost (is_off week roster n) (week.past n).off_run (week.contract n).off
+
+-- of a nurse
+abbrev pub consecutive_day_off_cost_of : Week → Roster → ℕ → ℕ
+consecutive_day_off_cost_of week roster n = off_run_weight * off_run_cost week roster n
+
+abbrev pub consecutive_day_off_cost : Week → Roster → ℕ
+consecutive_day_off_cost week roster = sum_below week.nurses (consecutive_day_off_cost_of week roster)

@@ -1,0 +1,16 @@
+-- S1, optimal coverage: nurses below the optimal number of a day's shift type and skill.
+use Rattle.std.specs.Prelude.{ℕ, ◌-◌, ◌*◌}
+use Rattle.rota_core.specs.Below.{sum_below}
+use Rattle.rota_core.specs.HardRules.{nurses_at}
+use Rattle.rota_core.specs.Roster.{Roster}
+use Rattle.rota_core.specs.Week.{Week}
+
+-- for each nurse who is missing
+abbrev pub optimum_weight : ℕ
+optimum_weight = 30
+
+abbrev pub optimum_cost : Week → Roster → ℕ
+optimum_cost week roster =
+    optimum_weight *
+    sum_below 7 (λ d. sum_below week.shifts (λ s. sum_below week.skills (λ k.
+    (week.demand d s k).optimal - nurses_at week roster d s k)))

@@ -1,0 +1,33 @@
+-- How the model charges S1: an item for each day, shift type and skill.
+use Rattle.std.specs.Prelude.{ℕ, ◌-◌, pos, nat_lt, List}
+use Rattle.rota_core.specs.declared.rule.Rule.TheVariants.{S1}
+use Rattle.rota_core.specs.declared.values.Cell.{Cell}
+use Rattle.rota_core.specs.Lists.{each_below, only_if}
+use Rattle.rota_core.specs.Week.{Week}
+use Rattle.rota_items.specs.Cells.{demand_cells}
+use Rattle.rota_items.specs.Items.{Item}
+use Rattle.rota_items.specs.Linear.{times}
+use Rattle.rota_items.specs.rules.OptimalCoverage.Cost.{optimum_weight}
+
+abbrev pub optimum_item : Week → ℕ → ℕ → ℕ → Item Cell
+optimum_item week d s k = let demand = week.demand d s k in record {
+  rule = S1;
+  weight = optimum_weight;
+  slacks = demand.optimal - demand.minimum;
+  terms = times (pos 1) (demand_cells week d s k);
+  degree = pos demand.optimal;
+}
+
+-- where the optimal number is above the least
+abbrev pub optimum_items_at : Week → ℕ → ℕ → ℕ → List (Item Cell)
+optimum_items_at week d s k =
+    only_if (nat_lt (week.demand d s k).minimum (week.demand d s k).optimal) (optimum_item week d s k)
+
+abbrev pub optimum_items_on : Week → ℕ → ℕ → List (Item Cell)
+optimum_items_on week d s = each_below week.skills (optimum_items_at week d s)
+
+abbrev pub optimum_items_of : Week → ℕ → List (Item Cell)
+optimum_items_of week d = each_below week.shifts (optimum_items_on week d)
+
+abbrev pub optimum_items : Week → List (Item Cell)
+optimum_items week = each_below 7 (optimum_items_of week)

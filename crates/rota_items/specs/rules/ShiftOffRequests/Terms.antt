@@ -1,0 +1,18 @@
+-- How the model charges S4: by terms of the objective at the cells, with no item.
+use Rattle.std.specs.Prelude.{ℕ, ◌*◌, pos, nat_lt, List}
+use Rattle.rota_core.specs.declared.values.Cell.{Cell}
+use Rattle.rota_core.specs.Lists.{each_below, only_if}
+use Rattle.rota_core.specs.Roster.{cell}
+use Rattle.rota_core.specs.Week.{Week}
+use Rattle.rota_items.specs.Linear.{Term}
+use Rattle.rota_items.specs.rules.ShiftOffRequests.Cost.{request_weight}
+
+-- those of a nurse's day on a shift type
+abbrev pub request_terms_on : Week → ℕ → ℕ → ℕ → List (Term Cell)
+request_terms_on week n d s =
+    each_below week.skills (λ k.
+    only_if (nat_lt 0 (week.requests n d s)) (pos (request_weight * week.requests n d s), cell n d s k))
+
+abbrev pub request_terms : Week → List (Term Cell)
+request_terms week =
+    each_below week.nurses (λ n. each_below 7 (λ d. each_below week.shifts (request_terms_on week n d)))

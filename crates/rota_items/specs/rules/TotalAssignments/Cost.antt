@@ -1,0 +1,41 @@
+-- S6, total assignments: assignments outside the limits of the nurse's total.
+use Rattle.std.specs.Prelude.{ℕ, ◌+◌, ◌-◌, ◌*◌, if◌then◌else◌}
+use Rattle.rota_core.specs.Below.{sum_below, count_below}
+use Rattle.rota_core.specs.Roster.{Roster, cell}
+use Rattle.rota_core.specs.Week.{Week}
+use Rattle.rota_items.specs.CountedTotals.{CountedTotal, charged_total, least_totals_count}
+
+-- for each assignment outside the limits
+abbrev pub assignment_weight : ℕ
+assignment_weight = 20
+
+-- the number of the nurse's cells
+abbrev pub assignments_of : Week → Roster → ℕ → ℕ
+assignments_of week roster n =
+    sum_below 7 (λ d. sum_below week.shifts (λ s. count_below week.skills (λ k. roster (cell n d s k))))
+
+-- assignments below the least total
+abbrev pub below_least_total : Week → Roster → ℕ → ℕ
+below_least_total week roster n =
+    (if least_totals_count week
+    then (week.contract n).total.min - ((week.past n).assignments + assignments_of week roster n)
+    else 0)
+
+-- the nurse's assignments as a total, and those above its greatest number
+abbrev pub assignment_total : ℕ → CountedTotal
+assignment_total n = record {
+  before = λ week. (week.past n).assignments;
+  now = λ week roster. assignments_of week roster n;
+  most = λ week. (week.contract n).total.max;
+}
+
+abbrev pub above_greatest_total : Week → Roster → ℕ → ℕ
+above_greatest_total week roster n = charged_total (assignment_total n) week roster
+
+-- of a nurse
+abbrev pub assignment_cost_of : Week → Roster → ℕ → ℕ
+assignment_cost_of week roster n =
+    assignment_weight * (below_least_total week roster n + above_greatest_total week roster n)
+
+abbrev pub assignment_cost : Week → Roster → ℕ
+assignment_cost week roster = sum_below week.nurses (assignment_cost_of week roster)
