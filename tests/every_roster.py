@@ -1,0 +1,146 @@
+#!/usr/bin/env python3
+"""Weeks so small that every roster can be tried: the model that `encode` writes beside tests/rules.py.
+
+usage: every_roster.py PROGRAM [--weeks N] [--seed N]
+
+For each set of cells: the constraints can be satisfied where the roster keeps the hard rules and nowhere else, and the
+least objective is then its penalty. So the least penalty of all is the optimum, or there is none; where clasp is
+installed it has to prove the same. Each slack must be of one constraint alone, with the coefficient 1, so that the
+least objective for some cells is a sum over constraints of their cheapest slacks.
+"""
+
+import argparse
+import random
+import re
+import shutil
+import subprocess
+import sys
+import tempfile
+
+from random_weeks import files_of, legal_roster, random_held, random_week, solution_text
+from rules import costs, first_broken
+from runs import Runs, Wrong
+
+# Nurses, shift types and skills, and how many weeks of this size stand for one of the largest.
+SIZES = [(1, 1, 1)] * 12 + [(1, 2, 1)] * 2 + [(2, 1, 1), (1, 1, 2)]
+
+
+# ---- the model
+
+
+class Model:
+    """An OPB text by masks over the cells' variables."""
+
+    def __init__(self, text, cells):
+        lines = text.split("\n")[1:-1]
+        objective = lines.pop(0)[4:] if lines[0].startswith("min:") else ""
+        self.price = {int(variable): int(price) for price, variable in re.findall(r"([+-]\d+) x(\d+)", objective)}
+        self.cell_prices = [self.price.get(cell + 1, 0) for cell in range(cells)]
+        self.rows, self.constant, used = [], 0, set()
+        for line in lines:
+            terms = [(sign, int(variable)) for sign, variable in re.findall(r"([+-])1 x(\d+)", line)]
+            degree = int(re.search(r">= (-?\d+) ;$", line).group(1))
+            if line != " ".join([*(f"{sign}1 x{variable}" for sign, variable in terms), f">= {degree} ;"]):
+                raise Wrong("a constraint", line)
+            plus, minus = (sum(1 << v - 1 for sign, v in terms if sign == of and v <= cells) for of in "+-")
+            slacks = [variable for sign, variable in terms if variable > cells]
+            if any(sign == "-" and variable > cells for sign, variable in terms) or used & set(slacks):
+                raise Wrong("a slack", f"below zero or of two constraints: {line}")
+            used |= set(slacks)
+            self.rows.append((plus, minus, degree, sorted(self.price.get(variable, 0) for variable in slacks)))
+
+    def least(self, bits):
+        """The least objective for these cells, or None where a constraint cannot be satisfied."""
+        objective = sum(price for cell, price in enumerate(self.cell_prices) if bits >> cell & 1)
+        for plus, minus, degree, prices in self.rows:
+            lacking = degree - bin(bits & plus).count("1") + bin(bits & minus).count("1")
+            if lacking > len(prices):
+                return None
+            objective += sum(prices[: max(0, lacking)])
+        return objective
+
+
+def clasp_optimum(text):
+    """The optimum that clasp proves, or None where there is no solution."""
+    said = subprocess.run(["clasp", "--quiet=1"], input=text, capture_output=True, text=True, timeout=60).stdout
+    if "s UNSATISFIABLE" in said:
+        return None
+    status = re.search(r"^s (.*)$", said, re.MULTILINE).group(1)
+    if (status == "OPTIMUM FOUND") != ("\nmin:" in text) or status not in ("OPTIMUM FOUND", "SATISFIABLE"):
+        raise Wrong("clasp", status)
+    return int(re.findall(r"^o (-?\d+)$", said, re.MULTILINE)[-1]) if status == "OPTIMUM FOUND" else 0
+
+
+# ---- one week
+
+
+def cells_of(week):
+    """The cells by their variables: by nurse, day, shift type and skill."""
+    return [(n, d, s, k) for n in week.nurses for d in range(7) for s in week.shifts for k in week.skills]
+
+
+def small_case(seed, number):
+    """A week of one of the sizes with exactly so many names, its held cells, and its files."""
+    chance = random.Random(f"small {seed} {number}")
+    size = SIZES[number % len(SIZES)]
+    week = None
+    while week is None or (len(week.nurses), len(week.shifts), len(week.skills)) != size:
+        week, _ = random_week(chance, *size)
+    held = random_held(chance, week, legal_roster(chance, week))[:2] if chance.random() < 0.4 else None
+    case = files_of(week)
+    if held is not None:
+        case["fix"] = solution_text(week, held)
+    if chance.random() < 0.4:
+        case["early"] = ""
+    return week, held or [], case
+
+
+def try_week(runs, week, held, case, with_clasp):
+    """Compares every roster of the week; the optimum, how many rosters there are, and how many keep the hard rules."""
+    runs.put(case)
+    status, text, err = runs.run("encode")
+    if status or err:
+        raise Wrong("encode", f"status {status}, {err!r}")
+    cells, kept = cells_of(week), []
+    model = Model(text, len(cells))
+    for bits in range(1 << len(cells)):
+        roster = [cell for at, cell in enumerate(cells) if bits >> at & 1]
+        penalty = None if first_broken(week, roster, held) else sum(costs(week, roster, "early" in case))
+        if model.least(bits) != penalty:
+            raise Wrong("least objective", f"{model.least(bits)} is not {penalty} for {roster}")
+        if penalty is not None:
+            kept.append(penalty)
+    optimum = min(kept, default=None)
+    if with_clasp and clasp_optimum(text) != optimum:
+        raise Wrong("clasp's optimum", f"{clasp_optimum(text)} is not {optimum}")
+    return optimum, 1 << len(cells), len(kept)
+
+
+def main():
+    reader = argparse.ArgumentParser(description=__doc__, formatter_class=argparse.RawDescriptionHelpFormatter)
+    reader.add_argument("program")
+    reader.add_argument("--weeks", type=int, default=96)
+    reader.add_argument("--seed", type=int, default=1)
+    given = reader.parse_args()
+    with_clasp = shutil.which("clasp") is not None
+    tried = legal = without = failed = 0
+    with tempfile.TemporaryDirectory(prefix="inrc2pb-") as folder:
+        runs = Runs(given.program, folder)
+        for number in range(given.weeks):
+            try:
+                optimum, rosters, kept = try_week(runs, *small_case(given.seed, number), with_clasp)
+            except Wrong as wrong:
+                failed += 1
+                print(f"FAILED: week {number}: {wrong}")
+                continue
+            tried, legal, without = tried + rosters, legal + kept, without + (optimum is None)
+    if not without or without == given.weeks:
+        failed += 1
+        print(f"FAILED: {without} weeks without a roster")
+    print(f"every_roster.py: seed {given.seed}, {given.weeks} weeks, {tried} rosters, {legal} of them kept the hard rules, "
+          f"{without} weeks had none, optima {'as clasp proves them' if with_clasp else 'not by a solver'}, {failed} failed")
+    sys.exit(1 if failed else 0)
+
+
+if __name__ == "__main__":
+    main()

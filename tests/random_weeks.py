@@ -1,0 +1,190 @@
+"""Weeks, rosters and held cells made at random, as tests/rules.py reads them, and the files that say them."""
+
+import random
+from types import SimpleNamespace
+
+from rules import DAYS, first_broken
+
+ROSTERS_OF_A_WEEK = 8
+
+
+# ---- files
+
+
+def pairs(*of):
+    return " ".join(f"({least},{most})" for least, most in of)
+
+
+def counted(heading, rows):
+    return [f"{heading} = {len(rows)}", *rows]
+
+
+def names(of):
+    return " ".join([str(len(of)), *of])
+
+
+def scenario_text(week):
+    after = {before: [t for t in week.shifts if (before, t) in week.forbidden] for before in week.shifts}
+    return lines_text([
+        f"SCENARIO = {week.name}", f"WEEKS = {week.weeks}",
+        *counted("SKILLS", week.skills),
+        *counted("SHIFT_TYPES", [f"{shift} {pairs(limits)}" for shift, limits in week.shifts.items()]),
+        "FORBIDDEN_SHIFT_TYPES_SUCCESSIONS", *(f"{before} {names(after[before])}" for before in week.shifts),
+        *counted("CONTRACTS", [
+            f"{name} {pairs(of.total, of.work, of.off)} {of.weekends} {of.complete}" for name, of in week.contracts.items()]),
+        *counted("NURSES", [f"{nurse} {of.contract} {names(of.skills)}" for nurse, of in week.nurses.items()])])
+
+
+def history_text(week):
+    return lines_text(["HISTORY", f"{week.number} {week.name}", "NURSE_HISTORY", *(
+        f"{nurse} {of.assignments} {of.weekends} {of.last} {of.same} {of.work} {of.off}"
+        for nurse, of in week.history.items())])
+
+
+def week_text(week):
+    rows = dict.fromkeys((shift, skill) for _, shift, skill in week.required)
+    return lines_text([
+        "WEEK_DATA", week.name, "REQUIREMENTS",
+        *(f"{shift} {skill} {pairs(*(week.required[day, shift, skill] for day in range(7)))}" for shift, skill in rows),
+        *counted("SHIFT_OFF_REQUESTS", [f"{nurse} {shift} {DAYS[day]}" for nurse, shift, day in week.requests])])
+
+
+def solution_text(week, cells):
+    return lines_text(["SOLUTION", f"{week.number} {week.name}", "", *counted("ASSIGNMENTS", [
+        f"{nurse} {DAYS[day]} {shift} {skill}" for nurse, day, shift, skill in cells])])
+
+
+def lines_text(lines):
+    return "".join(f"{line}\n" for line in lines)
+
+
+def files_of(week):
+    return {"sce": scenario_text(week), "his": history_text(week), "week": week_text(week)}
+
+
+# ---- weeks
+
+
+def limits(chance, most):
+    """Mostly a minimum and a maximum, now and then with the minimum above the maximum."""
+    pair = chance.randint(0, most), chance.randint(0, most)
+    return pair if chance.random() < 0.2 else (min(pair), max(pair))
+
+
+def shuffled(chance, items):
+    return chance.sample(list(items), len(items))
+
+
+def random_week(chance, nurses=5, shifts=3, skills=3):
+    """A week of at most so many nurses, shift types and skills, with a roster that keeps its hard rules (mostly)."""
+    week = SimpleNamespace(name="w", weeks=chance.randint(1, 4))
+    week.number = week.weeks - 1 if chance.random() < 0.5 else chance.randrange(week.weeks)
+    week.skills = [f"k{k}" for k in range(chance.randint(1, skills))]
+    week.shifts = {f"s{s}": limits(chance, 5) for s in range(chance.randint(1, shifts))}
+    week.forbidden = {(p, t) for p in week.shifts for t in week.shifts if chance.random() < 0.25}
+    week.contracts = {
+        f"c{c}": SimpleNamespace(
+            total=limits(chance, 20), work=limits(chance, 6), off=limits(chance, 5),
+            weekends=chance.randint(0, 3), complete=chance.randint(0, 1))
+        for c in range(chance.randint(1, 3))}
+    week.nurses = {
+        f"n{n}": SimpleNamespace(
+            contract=chance.choice(list(week.contracts)), skills=[k for k in week.skills if chance.random() < 0.8])
+        for n in range(chance.randint(1, nurses))}
+    week.history = {
+        nurse: SimpleNamespace(
+            assignments=chance.randint(0, 12), weekends=chance.randint(0, 4), last=chance.choice(["None", *week.shifts]),
+            same=chance.randint(0, 5), work=chance.randint(0, 6), off=chance.randint(0, 5))
+        for nurse in shuffled(chance, week.nurses)}
+    week.requests = [
+        (chance.choice(list(week.nurses)), chance.choice(["Any", *week.shifts]), chance.randrange(7))
+        for _ in range(chance.randint(0, 8))]
+    week.requests += [chance.choice(week.requests) for _ in range(chance.randint(0, 2)) if week.requests]
+    roster = legal_roster(chance, week)
+    week.required = random_requirements(chance, week, roster)
+    return week, roster
+
+
+def random_requirements(chance, week, roster):
+    """Requirements that the roster mostly meets; rows of some shift types and skills are left out."""
+    required, most = {}, chance.choice([0, 1, 3])
+    for shift, skill in shuffled(chance, [(s, k) for s in week.shifts for k in week.skills]):
+        if chance.random() < 0.2:
+            continue
+        for day in range(7):
+            number = sum(cell[1:] == (day, shift, skill) for cell in roster)
+            least = chance.randint(0, number) if chance.random() < 0.4 else 0
+            required[day, shift, skill] = least + (chance.random() < 0.003), chance.randint(0, most)
+    return required
+
+
+# ---- rosters
+
+
+def legal_days(chance, week, nurse):
+    """Cells of a nurse that break no rule of her own."""
+    skills, before, likely = week.nurses[nurse].skills, week.history[nurse].last, chance.choice([0.2, 0.5, 0.8, 1])
+    for day in range(7):
+        allowed = [shift for shift in week.shifts if (before, shift) not in week.forbidden]
+        before = None
+        if skills and allowed and chance.random() < likely:
+            before = chance.choice(allowed)
+            yield nurse, day, before, chance.choice(skills)
+
+
+def legal_roster(chance, week):
+    return [cell for nurse in week.nurses for cell in legal_days(chance, week, nurse)]
+
+
+def any_cell(chance, week):
+    day = chance.choice([0, 0, *range(7)])  # on Monday more often: there the history has a say
+    return chance.choice(list(week.nurses)), day, chance.choice(list(week.shifts)), chance.choice(week.skills)
+
+
+def changed_roster(chance, week, roster):
+    """The roster with a change that may break a rule: a cell less, one more, another one, other days of a nurse."""
+    kind = chance.randrange(5)
+    if kind == 0 or not roster:
+        return roster + [any_cell(chance, week)]
+    at = chance.randrange(len(roster))
+    nurse, day, shift, skill = roster[at]
+    if kind == 1:
+        return roster[:at] + roster[at + 1 :]
+    if kind == 2:
+        return roster[:at] + roster[at + 1 :] + [(nurse, day, chance.choice(list(week.shifts)), skill)]
+    if kind == 3:
+        return roster[:at] + roster[at + 1 :] + [(nurse, day, shift, chance.choice(week.skills))]
+    return [cell for cell in roster if cell[0] != nurse] + list(legal_days(chance, week, nurse))
+
+
+def random_roster(chance, week, roster):
+    """The roster after some changes, mostly such that it keeps the hard rules; no row stands twice."""
+    for _ in range(chance.choice([0, 1, 2, 4, 8])):
+        other = changed_roster(chance, week, roster)
+        if chance.random() < 0.3 or not first_broken(week, other):
+            roster = other
+    return shuffled(chance, dict.fromkeys(roster))
+
+
+def random_held(chance, week, roster):
+    """Cells of the roster; now and then one more."""
+    held = [cell for cell in roster if chance.random() < 0.2]
+    if chance.random() < 0.3:
+        held = changed_roster(chance, week, held)
+    return shuffled(chance, dict.fromkeys(held))
+
+
+def random_cases(seed, number):
+    """A week, and rosters of it: the texts of each case's files, by the options of the program; an early week has one
+    file more."""
+    chance = random.Random(f"{seed} {number}")
+    week, roster = random_week(chance)
+    files = files_of(week)
+    for _ in range(ROSTERS_OF_A_WEEK):
+        cells = random_roster(chance, week, roster)
+        case = dict(files, roster=solution_text(week, cells))
+        if chance.random() < 0.5:
+            case["fix"] = solution_text(week, random_held(chance, week, cells))
+        if chance.random() < 0.5:
+            case["early"] = ""
+        yield case

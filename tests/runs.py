@@ -1,0 +1,70 @@
+"""Runs of the built program on a case: texts by the option that names them, and what is wrong with an answer."""
+
+import os
+import subprocess
+
+FILES = {
+    "sce": "scenario.txt", "his": "history.txt", "week": "week.txt", "fix": "fix.txt",
+    "roster": "roster.txt", "answer": "answer.txt"}
+
+
+class Wrong(Exception):
+    """What the program did is not what the documents say: in what it differs, and how."""
+
+    def __init__(self, kind, how):
+        super().__init__(f"{kind}: {how}")
+        self.kind = kind
+
+
+class Runs:
+    """A folder with a case's files, and the runs there. A case that has the text `early` is one with that option."""
+
+    def __init__(self, program, folder):
+        self.program, self.folder, self.case = os.path.abspath(program), folder, {}
+        self.shown = ""
+
+    def path(self, name):
+        return f"{self.folder}/{name}"
+
+    def put(self, case):
+        """The folder's files are those of the case; only what differs from the case before is written."""
+        for name, file in FILES.items():
+            if name in case and case[name] != self.case.get(name):
+                with open(self.path(file), "w", encoding="latin-1", newline="") as opened:
+                    opened.write(case[name])
+        self.case = dict(case)
+
+    def words(self, command, *words):
+        week = [word for name in ("sce", "his", "week", "fix") if name in self.case for word in (f"--{name}", FILES[name])]
+        return [command, *week, *["--early"] * ("early" in self.case), *words]
+
+    def run(self, command, *words, pieces=None):
+        """The status, standard output and standard error of a run; with pieces, those of an answer at standard input."""
+        words = self.words(command, *words)
+        self.shown = " ".join(["inrc2pb", *words]) + (" < answer.txt, in pieces" if pieces else "")
+        process = subprocess.Popen(
+            [self.program, *words], cwd=self.folder, stdout=subprocess.PIPE, stderr=subprocess.PIPE,
+            stdin=subprocess.PIPE if pieces else subprocess.DEVNULL)
+        try:
+            for piece in pieces or ():
+                process.stdin.write(piece.encode("latin-1"))
+                process.stdin.flush()
+        except BrokenPipeError:
+            pass
+        try:
+            out, err = process.communicate(timeout=60)
+        except subprocess.TimeoutExpired:
+            process.kill()
+            raise Wrong("no end", "after a minute") from None
+        return process.returncode, out.decode("latin-1"), err.decode("latin-1")
+
+    def decode(self, pieces=None):
+        """As `run`, and the solution file, or None."""
+        solution = self.path("solution.txt")
+        if os.path.exists(solution):
+            os.remove(solution)
+        ended = self.run("decode", "--sol", "solution.txt", *[] if pieces else ["--answer", "answer.txt"], pieces=pieces)
+        if not os.path.exists(solution):
+            return (*ended, None)
+        with open(solution, encoding="latin-1", newline="") as opened:
+            return (*ended, opened.read())

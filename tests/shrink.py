@@ -1,0 +1,111 @@
+"""Makes a case that fails smaller, as long as it fails."""
+
+import re
+import time
+
+from random_weeks import files_of, solution_text
+from rules import read_roster, read_week
+
+NUMBER = re.compile(r"\b\d+\b")
+
+
+def consistent(week, rosters):
+    """The week and rosters without what speaks of names that are gone."""
+    week.history = {nurse: of for nurse, of in week.history.items() if nurse in week.nurses}
+    for of in week.history.values():
+        of.last = of.last if of.last in week.shifts else "None"
+    for of in week.nurses.values():
+        of.contract = of.contract if of.contract in week.contracts else next(iter(week.contracts), of.contract)
+        of.skills = [skill for skill in of.skills if skill in week.skills]
+    week.forbidden = {pair for pair in week.forbidden if set(pair) <= set(week.shifts)}
+    week.required = {(d, s, k): pair for (d, s, k), pair in week.required.items() if s in week.shifts and k in week.skills}
+    week.requests = [(n, s, d) for n, s, d in week.requests if n in week.nurses and (s == "Any" or s in week.shifts)]
+    return week, {
+        name: [(n, d, s, k) for n, d, s, k in roster if n in week.nurses and s in week.shifts and k in week.skills]
+        for name, roster in rosters.items()}
+
+
+class Shrinking:
+    """A case that fails, and what makes it smaller; after some seconds nothing more is tried."""
+
+    def __init__(self, case, fails, seconds):
+        self.case, self.fails, self.end = case, fails, time.monotonic() + seconds
+
+    def accepts(self, case):
+        if case == self.case or time.monotonic() > self.end or not self.fails(case):
+            return False
+        self.case = case
+        return True
+
+    def drop(self, items, case_of):
+        """Drops items as long as the case of the others fails: all, then pieces of half the length, down to one."""
+        size = len(items)
+        while size:
+            at = 0
+            while at < len(items):
+                fewer = items[:at] + items[at + size :]
+                if self.accepts(case_of(fewer)):
+                    items = fewer
+                else:
+                    at += size
+            size //= 2
+
+    def drop_files(self):
+        self.drop([name for name in self.case if name not in ("sce", "his", "week")], lambda kept: {
+            name: text for name, text in self.case.items() if name in ("sce", "his", "week", *kept)})
+
+    def drop_of_week(self):
+        """Names with all that speaks of them, rows of requests, requirements and successions, cells."""
+        try:
+            week, rosters = self.read()
+        except (IndexError, ValueError):
+            return  # a file with a fault
+        for name in ("nurses", "shifts", "skills", "contracts", "requests", "forbidden", "required"):
+            self.drop(list(getattr(week, name)), lambda kept, name=name: self.week_with(name, kept))
+        for name in rosters:
+            self.drop(read_roster(self.case[name]), lambda kept, name=name: self.roster_with(name, kept))
+
+    def read(self):
+        rosters = {name: read_roster(self.case[name]) for name in ("roster", "fix") if name in self.case}
+        return read_week(self.case["sce"], self.case["his"], self.case["week"]), rosters
+
+    def written(self, week, rosters):
+        week, rosters = consistent(week, rosters)
+        return {**self.case, **files_of(week), **{name: solution_text(week, of) for name, of in rosters.items()}}
+
+    def week_with(self, name, kept):
+        week, rosters = self.read()
+        of = getattr(week, name)
+        setattr(week, name, {key: of[key] for key in kept} if isinstance(of, dict) else type(of)(kept))
+        return self.written(week, rosters)
+
+    def roster_with(self, name, kept):
+        week, rosters = self.read()
+        return self.written(week, {**rosters, name: kept})
+
+    def lower_numbers(self):
+        for name in self.case:
+            for place in range(len(NUMBER.findall(self.case[name]))):
+                number = list(NUMBER.finditer(self.case[name]))[place]
+                for lower in sorted({0, 1, int(number.group()) // 2, int(number.group()) - 1}):
+                    text = self.case[name][: number.start()] + str(lower) + self.case[name][number.end() :]
+                    if 0 <= lower < int(number.group()) and self.accepts({**self.case, name: text}):
+                        break
+
+    def drop_text(self):
+        """Lines, words and letters of each file."""
+        for name in self.case:
+            for parts in (r"[^\n]*\n|[^\n]+", r"\s+|[(),=]|[^\s(),=]+", r"(?s:.)"):
+                self.drop(re.findall(parts, self.case[name]), lambda kept, name=name: {**self.case, name: "".join(kept)})
+
+
+def shrunk(case, fails, seconds=20):
+    """The smallest case that was found at which `fails` is still true."""
+    shrinking, before = Shrinking(case, fails, seconds), None
+    while before != shrinking.case:
+        before = shrinking.case
+        shrinking.drop_files()
+        shrinking.drop_of_week()
+        shrinking.lower_numbers()
+        shrinking.drop_text()
+    return shrinking.case
