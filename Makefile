@@ -35,7 +35,8 @@ test:
 bench: build
 	python3 bench/run.py
 
-# Changed files and answers at random, for some seconds; tests/fuzz.py says more. SEED tries the same cases again.
+# Weeks and rosters at random, and changed files and answers, for some seconds; tests/fuzz.py says more. SEED tries the
+# same cases again.
 SECONDS ?= 60
 fuzz: build
 	python3 tests/fuzz.py --seconds $(SECONDS) $(if $(SEED),--seed $(SEED))

@@ -10,6 +10,8 @@ least objective for some cells is a sum over constraints of their cheapest slack
 """
 
 import argparse
+import concurrent.futures
+import functools
 import random
 import re
 import shutil
@@ -17,11 +19,11 @@ import subprocess
 import sys
 import tempfile
 
-from random_weeks import files_of, legal_roster, random_held, random_week, solution_text
+from random_weeks import any_cell, cells_of, files_of, legal_roster, random_week, solution_text
 from rules import costs, first_broken
 from runs import Runs, Wrong
 
-# Nurses, shift types and skills, and how many weeks of this size stand for one of the largest.
+# Nurses, shift types and skills of the weeks, in turn: 7 cells, and now and then 14.
 SIZES = [(1, 1, 1)] * 12 + [(1, 2, 1)] * 2 + [(2, 1, 1), (1, 1, 2)]
 
 
@@ -74,11 +76,6 @@ def clasp_optimum(text):
 # ---- one week
 
 
-def cells_of(week):
-    """The cells by their variables: by nurse, day, shift type and skill."""
-    return [(n, d, s, k) for n in week.nurses for d in range(7) for s in week.shifts for k in week.skills]
-
-
 def small_case(seed, number):
     """A week of one of the sizes with exactly so many names, its held cells, and its files."""
     chance = random.Random(f"small {seed} {number}")
@@ -86,17 +83,16 @@ def small_case(seed, number):
     week = None
     while week is None or (len(week.nurses), len(week.shifts), len(week.skills)) != size:
         week, _ = random_week(chance, *size)
-    held = random_held(chance, week, legal_roster(chance, week))[:2] if chance.random() < 0.4 else None
-    case = files_of(week)
-    if held is not None:
+    case, held = files_of(week), chance.choice([[], legal_roster(chance, week)[:2], [any_cell(chance, week)]])
+    if held or chance.random() < 0.5:
         case["fix"] = solution_text(week, held)
     if chance.random() < 0.4:
         case["early"] = ""
-    return week, held or [], case
+    return week, held, case
 
 
 def try_week(runs, week, held, case, with_clasp):
-    """Compares every roster of the week; the optimum, how many rosters there are, and how many keep the hard rules."""
+    """Compares every roster of the week; how many there are, how many keep the hard rules, and the least penalty."""
     runs.put(case)
     status, text, err = runs.run("encode")
     if status or err:
@@ -110,35 +106,39 @@ def try_week(runs, week, held, case, with_clasp):
             raise Wrong("least objective", f"{model.least(bits)} is not {penalty} for {roster}")
         if penalty is not None:
             kept.append(penalty)
-    optimum = min(kept, default=None)
-    if with_clasp and clasp_optimum(text) != optimum:
-        raise Wrong("clasp's optimum", f"{clasp_optimum(text)} is not {optimum}")
-    return optimum, 1 << len(cells), len(kept)
+    least = min(kept, default=None)
+    if with_clasp and clasp_optimum(text) != least:
+        raise Wrong("clasp's optimum", f"{clasp_optimum(text)} is not {least}")
+    return 1 << len(cells), len(kept), least
+
+
+def try_number(program, seed, with_clasp, number):
+    """As `try_week`, or what is wrong."""
+    with tempfile.TemporaryDirectory(prefix="inrc2pb-") as folder:
+        try:
+            return try_week(Runs(program, folder), *small_case(seed, number), with_clasp)
+        except Wrong as wrong:
+            return f"week {number}: {wrong}"
 
 
 def main():
     reader = argparse.ArgumentParser(description=__doc__, formatter_class=argparse.RawDescriptionHelpFormatter)
     reader.add_argument("program")
-    reader.add_argument("--weeks", type=int, default=96)
+    reader.add_argument("--weeks", type=int, default=64)
     reader.add_argument("--seed", type=int, default=1)
     given = reader.parse_args()
     with_clasp = shutil.which("clasp") is not None
-    tried = legal = without = failed = 0
-    with tempfile.TemporaryDirectory(prefix="inrc2pb-") as folder:
-        runs = Runs(given.program, folder)
-        for number in range(given.weeks):
-            try:
-                optimum, rosters, kept = try_week(runs, *small_case(given.seed, number), with_clasp)
-            except Wrong as wrong:
-                failed += 1
-                print(f"FAILED: week {number}: {wrong}")
-                continue
-            tried, legal, without = tried + rosters, legal + kept, without + (optimum is None)
-    if not without or without == given.weeks:
-        failed += 1
-        print(f"FAILED: {without} weeks without a roster")
-    print(f"every_roster.py: seed {given.seed}, {given.weeks} weeks, {tried} rosters, {legal} of them kept the hard rules, "
-          f"{without} weeks had none, optima {'as clasp proves them' if with_clasp else 'not by a solver'}, {failed} failed")
+    with concurrent.futures.ProcessPoolExecutor() as pool:
+        found = list(pool.map(functools.partial(try_number, given.program, given.seed, with_clasp), range(given.weeks)))
+    failed = [wrong for wrong in found if isinstance(wrong, str)]
+    tried = [week for week in found if not isinstance(week, str)]
+    without = sum(least is None for _, _, least in tried)
+    if not 0 < without < len(tried):
+        failed.append(f"{without} of {len(tried)} weeks without a roster")
+    print("".join(f"FAILED: {line}\n" for line in failed), end="")
+    print(f"every_roster.py: seed {given.seed}, {given.weeks} weeks, {sum(week[0] for week in tried)} sets of cells, "
+          f"{sum(week[1] for week in tried)} keep the hard rules, {without} weeks have no roster, "
+          f"{'clasp proves the same' if with_clasp else 'no clasp here'}, {len(failed)} failed")
     sys.exit(1 if failed else 0)
 
 

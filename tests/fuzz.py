@@ -29,13 +29,13 @@ import tempfile
 import time
 
 from random_rosters import check_roster
-from random_weeks import any_cell, files_of, legal_roster, random_cases, random_roster, random_week, solution_text
+from random_weeks import (
+    ROOT, any_cell, example_files, files_of, legal_roster, random_cases, random_roster, random_week, read, solution_text)
 from rules import read_week
 from runs import FILES, Runs, Wrong
 from shrink import shrunk
 
-HERE = os.path.dirname(os.path.abspath(__file__))
-ROOT = os.path.dirname(HERE)
+MOST_FAILURES = 5  # then it ends, since each takes some seconds to be made small
 
 TEXTS = r"(end of file|another word expected|number expected|out of limits|unknown name|repeated|text after the end)"
 FAULTS = {
@@ -49,17 +49,10 @@ FAULTS = {
 }
 
 
-def read(path):
-    with open(path, encoding="latin-1", newline="") as file:
-        return file.read()
-
-
 def example_weeks():
     """The files of each example week, and the answers that solvers gave."""
     for folder in sorted(glob.glob(f"{ROOT}/examples/*/")):
-        found = {name: glob.glob(f"{folder}{begins}*.txt") for name, begins in (("sce", "Sc-"), ("his", "H0-"), ("week", "WD-"))}
-        if all(found.values()):
-            yield {name: read(paths[0]) for name, paths in found.items()}, [read(path) for path in sorted(glob.glob(f"{folder}answers/*"))]
+        yield example_files(os.path.basename(folder[:-1])), [read(path) for path in sorted(glob.glob(f"{folder}answers/*"))]
 
 
 # ---- changes
@@ -144,7 +137,7 @@ def changed_case(chance, weeks):
         week, roster = random_week(chance)
         case, answers = files_of(week), []
     case["answer"] = chance.choice(answers or ["s SATISFIABLE\nv x1\n", "o 5\ns OPTIMUM FOUND\nv -x1 x2 x3\nv x4 -x5\n"])
-    case["roster"] = solution_text(week, random_roster(chance, week, roster) if week.required else roster)
+    case["roster"] = solution_text(week, random_roster(chance, week, roster))
     if chance.random() < 0.3:
         case["fix"] = solution_text(week, [any_cell(chance, week) for _ in range(chance.randint(0, 3))])
     if chance.random() < 0.4:
@@ -242,7 +235,7 @@ def main():
     weeks = list(example_weeks())
     print(f"seed {given.seed}", flush=True)
     end, number, tried, failed = time.monotonic() + given.seconds, 0, 0, 0
-    while time.monotonic() < end:
+    while time.monotonic() < end and failed < MOST_FAILURES:
         number += 1
         with tempfile.TemporaryDirectory(prefix="inrc2pb-") as folder:
             runs = Runs(given.program, folder)

@@ -5,7 +5,7 @@
 #   tests/held_cells.sh [PROGRAM..]
 #
 # Without a PROGRAM it takes those that `rt ci` or `make build` left in the program's crate. It takes
-# `week_report` of `rt ci` beside them. Needs bash, the usual tools of a shell, and python3.
+# `week_report` of `rt ci` beside them. Needs bash and the usual tools of a shell.
 . "$(dirname "$0")/small_weeks.sh"
 
 # A shift type that nobody should work; two shift types, and requests.
@@ -77,18 +77,10 @@ cut_held_cells() {
     run 'no last end of line' 0 held_model nothing encode --fix cut --sce scenario.txt --his history.txt --week week.txt
 }
 
-# Rosters made at random with cells held at random, beside a plain program that looks for the first broken rule.
-random_rosters() {
-    what='rosters made at random'
-    checked=$((checked + 1))
-    python3 tests/held_rosters.py "$program" > "$room/rosters" || complain "$(head -n 3 "$room/rosters")"
-}
-
 held_cells() {
     models_and_answers
     faults_in_order
     cut_held_cells
-    random_rosters
 }
 
 for_each_program held_cells "$@"

@@ -17,7 +17,7 @@ import sys
 import tempfile
 
 from random_weeks import random_cases, solution_text
-from rules import HARD_RULES, SOFT_RULES, costs, counts, first_broken, read_roster, read_week, shifts_of
+from rules import SOFT_RULES, costs, counts, first_broken, read_roster, read_week, shifts_by_day
 from runs import Runs, Wrong
 
 COLUMNS = ["", "early", "fix", "fix early"]
@@ -66,19 +66,18 @@ def check_roster(runs, case):
 
 def hard_class(week, roster, held):
     """The first broken rule, and in which of its ways it is broken."""
-    broken = first_broken(week, roster, held)
+    broken, shifts = first_broken(week, roster, held), shifts_by_day(roster)
     if broken == "H1":
-        twice = [(n, d) for n in week.nurses for d in range(7) if len(shifts_of(roster, n, d)) > 1]
-        return "H1 two shift types" if any(len(set(shifts_of(roster, *of))) > 1 for of in twice) else "H1 two skills"
+        return "H1 two shift types" if any(len(set(on)) > 1 for on in shifts.values()) else "H1 two skills"
     if broken == "H3":
-        monday = any((week.history[n].last, s) in week.forbidden for n in week.nurses for s in shifts_of(roster, n, 0))
+        monday = any((week.history[n].last, s) in week.forbidden for n in week.nurses for s in shifts[n, 0])
         return "H3 after the history" if monday else "H3 within the week"
     if broken == "H5":
         missing = [cell for cell in held if cell not in roster]
         if held.index(missing[0]) > 0:
             return "H5 a later row"
-        others = [s for n, d, s, _ in missing if s in shifts_of(roster, n, d)]
-        return "H5 another skill" if others else "H5 the first row"
+        other = any(s in shifts[n, d] for n, d, s, _ in missing)
+        return "H5 another skill" if other else "H5 the first row"
     return broken or "kept"
 
 

@@ -1,10 +1,15 @@
 """Weeks, rosters and held cells made at random, as tests/rules.py reads them, and the files that say them."""
 
+import glob
+import os
 import random
+import re
 from types import SimpleNamespace
 
-from rules import DAYS, first_broken
+from rules import DAYS, first_broken, read_week
 
+ROOT = os.path.dirname(os.path.dirname(os.path.abspath(__file__)))
+EXAMPLES = [("n005w4", "examples/n005w4/answers/clasp.txt"), ("n030w4", "tests/n030w4_clasp_early.txt")]
 ROSTERS_OF_A_WEEK = 8
 
 
@@ -45,7 +50,7 @@ def week_text(week):
     rows = dict.fromkeys((shift, skill) for _, shift, skill in week.required)
     return lines_text([
         "WEEK_DATA", week.name, "REQUIREMENTS",
-        *(f"{shift} {skill} {pairs(*(week.required[day, shift, skill] for day in range(7)))}" for shift, skill in rows),
+        *(f"{shift} {skill} {pairs(*(week.required.get((day, shift, skill), (0, 0)) for day in range(7)))}" for shift, skill in rows),
         *counted("SHIFT_OFF_REQUESTS", [f"{nurse} {shift} {DAYS[day]}" for nurse, shift, day in week.requests])])
 
 
@@ -62,7 +67,30 @@ def files_of(week):
     return {"sce": scenario_text(week), "his": history_text(week), "week": week_text(week)}
 
 
+def read(path):
+    with open(path, encoding="latin-1", newline="") as file:
+        return file.read()
+
+
 # ---- weeks
+
+
+def example_files(name):
+    paths = {of: glob.glob(f"{ROOT}/examples/{name}/{begins}-*.txt") for of, begins in (("sce", "Sc"), ("his", "H0"), ("week", "WD"))}
+    return {of: read(found[0]) for of, found in paths.items()}
+
+
+def example_week(name, answer):
+    """A week of examples/, and the roster of a solver's answer."""
+    files = example_files(name)
+    week = read_week(files["sce"], files["his"], files["week"])
+    true = {int(variable) for variable in re.findall(r" x(\d+)", read(f"{ROOT}/{answer}"))}
+    return week, [cell for at, cell in enumerate(cells_of(week)) if at + 1 in true]
+
+
+def cells_of(week):
+    """All cells by their variables: by nurse, day, shift type and skill."""
+    return [(n, d, s, k) for n in week.nurses for d in range(7) for s in week.shifts for k in week.skills]
 
 
 def limits(chance, most):
@@ -175,10 +203,10 @@ def random_held(chance, week, roster):
 
 
 def random_cases(seed, number):
-    """A week, and rosters of it: the texts of each case's files, by the options of the program; an early week has one
-    file more."""
+    """A week, the first ones of examples/, and rosters of it: each case has the texts of its files by the program's
+    options; one with `--early` has that name too."""
     chance = random.Random(f"{seed} {number}")
-    week, roster = random_week(chance)
+    week, roster = example_week(*EXAMPLES[number]) if number < len(EXAMPLES) else random_week(chance)
     files = files_of(week)
     for _ in range(ROSTERS_OF_A_WEEK):
         cells = random_roster(chance, week, roster)

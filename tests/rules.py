@@ -8,12 +8,12 @@ costs as `decode` reports them. The files are taken to be without fault: what a 
 """
 
 import argparse
+import collections
 import re
 import types
 
 DAYS = ["Mon", "Tue", "Wed", "Thu", "Fri", "Sat", "Sun"]
 SATURDAY, SUNDAY = 5, 6
-HARD_RULES = ["H1", "H2", "H3", "H4", "H5"]
 SOFT_RULES = ["S1", "S2", "S3", "S4", "S5", "S6", "S7"]
 
 
@@ -105,34 +105,47 @@ def read_roster(solution):
 # ---- hard rules
 
 
-def shifts_of(roster, nurse, day):
-    return [s for (n, d, s, _) in roster if (n, d) == (nurse, day)]
+def shifts_by_day(roster):
+    """The shift types that a nurse has on a day."""
+    shifts = collections.defaultdict(list)
+    for nurse, day, shift, _ in roster:
+        shifts[nurse, day].append(shift)
+    return shifts
 
 
-def number_of(roster, day, shift, skill):
-    return sum((d, s, k) == (day, shift, skill) for (_, d, s, k) in roster)
+def numbers(roster):
+    """The number for a day, shift type and skill."""
+    return collections.Counter(cell[1:] for cell in roster)
 
 
-def follows_forbidden(week, roster, nurse):
+def follows_forbidden(week, shifts, nurse):
     before = [week.history[nurse].last]
     for day in range(7):
-        now = shifts_of(roster, nurse, day)
+        now = shifts[nurse, day]
         if any((p, t) in week.forbidden for p in before for t in now):
             return True
         before = now
     return False
 
 
+def broken(week, roster, held):
+    """The hard rules that the roster breaks, in their order."""
+    shifts, number = shifts_by_day(roster), numbers(roster)
+    if any(len(shifts[nurse, day]) > 1 for nurse in week.nurses for day in range(7)):
+        yield "H1"
+    if any(number[where] < least for where, (least, _) in week.required.items()):
+        yield "H2"
+    if any(follows_forbidden(week, shifts, nurse) for nurse in week.nurses):
+        yield "H3"
+    if any(skill not in week.nurses[nurse].skills for nurse, _, _, skill in roster):
+        yield "H4"
+    if any(cell not in roster for cell in held):
+        yield "H5"
+
+
 def first_broken(week, roster, held=()):
     """The first hard rule that the roster breaks, or None."""
-    broken = {
-        "H1": any(len(shifts_of(roster, nurse, day)) > 1 for nurse in week.nurses for day in range(7)),
-        "H2": any(number_of(roster, *where) < least for where, (least, _) in week.required.items()),
-        "H3": any(follows_forbidden(week, roster, nurse) for nurse in week.nurses),
-        "H4": any(skill not in week.nurses[nurse].skills for nurse, _, _, skill in roster),
-        "H5": any(cell not in roster for cell in held),
-    }
-    return next((rule for rule in HARD_RULES if broken[rule]), None)
+    return next(broken(week, roster, held), None)
 
 
 # ---- soft rules
@@ -155,11 +168,12 @@ def run_units(has, before, limits):
 
 def counts(week, roster, early=False):
     """Each thing that the soft rules count: (rule, what, count, weight)."""
-    for (day, shift, skill), (_, optimal) in week.required.items():
-        yield "S1", "missing", max(0, optimal - number_of(roster, day, shift, skill)), 30
+    shifts, number = shifts_by_day(roster), numbers(roster)
+    for where, (_, optimal) in week.required.items():
+        yield "S1", "missing", max(0, optimal - number[where]), 30
     for nurse, of in week.nurses.items():
         contract, history = week.contracts[of.contract], week.history[nurse]
-        shift_on = [shifts_of(roster, nurse, day) for day in range(7)]
+        shift_on = [shifts[nurse, day] for day in range(7)]
         for shift, limits in week.shifts.items():
             before = history.same if history.last == shift else 0
             above, below = run_units([shift in now for now in shift_on], before, limits)
@@ -217,9 +231,9 @@ def main():
             return file.read()
 
     week, roster = read_week(text(given.sce), text(given.his), text(given.week)), read_roster(text(given.roster))
-    broken = first_broken(week, roster, read_roster(text(given.fix)) if given.fix else ())
-    if broken:
-        print(f"roster breaks {broken}")
+    rule = first_broken(week, roster, read_roster(text(given.fix)) if given.fix else ())
+    if rule:
+        print(f"roster breaks {rule}")
         return
     found = costs(week, roster, given.early)
     print(f"penalty {sum(found)}", *(f"{rule} {cost}" for rule, cost in zip(SOFT_RULES, found)), sep="\n")

@@ -41,7 +41,8 @@ class Runs:
     def run(self, command, *words, pieces=None):
         """The status, standard output and standard error of a run; with pieces, those of an answer at standard input."""
         words = self.words(command, *words)
-        self.shown = " ".join(["inrc2pb", *words]) + (" < answer.txt, in pieces" if pieces else "")
+        self.shown = " ".join(["inrc2pb", *words]) + (
+            f" < answer.txt, in pieces of {', '.join(str(len(piece)) for piece in pieces)} bytes" if pieces else "")
         process = subprocess.Popen(
             [self.program, *words], cwd=self.folder, stdout=subprocess.PIPE, stderr=subprocess.PIPE,
             stdin=subprocess.PIPE if pieces else subprocess.DEVNULL)

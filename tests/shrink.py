@@ -55,33 +55,34 @@ class Shrinking:
             name: text for name, text in self.case.items() if name in ("sce", "his", "week", *kept)})
 
     def drop_of_week(self):
-        """Names with all that speaks of them, rows of requests, requirements and successions, cells."""
+        """What is asked for, then cells, then names with all that speaks of them. Whether the files are laid out plainly."""
         try:
-            week, rosters = self.read()
-        except (IndexError, ValueError):
-            return  # a file with a fault
-        for name in ("nurses", "shifts", "skills", "contracts", "requests", "forbidden", "required"):
-            self.drop(list(getattr(week, name)), lambda kept, name=name: self.week_with(name, kept))
-        for name in rosters:
-            self.drop(read_roster(self.case[name]), lambda kept, name=name: self.roster_with(name, kept))
+            self.accepts(self.plain())
+            for name in ("required", "forbidden", "requests", "fix", "roster", "nurses", "shifts", "skills", "contracts"):
+                week, rosters = self.read()
+                items = rosters.get(name, []) if name in ("fix", "roster") else list(getattr(week, name))
+                self.drop(items, lambda kept, name=name: self.only(name, kept))
+            return self.case == self.plain()
+        except (IndexError, KeyError, ValueError):
+            return False  # a file with a fault
 
     def read(self):
         rosters = {name: read_roster(self.case[name]) for name in ("roster", "fix") if name in self.case}
         return read_week(self.case["sce"], self.case["his"], self.case["week"]), rosters
 
-    def written(self, week, rosters):
+    def plain(self):
+        return self.only("requests", self.read()[0].requests)
+
+    def only(self, name, kept):
+        """The case with these items of the week or of a roster alone."""
+        week, rosters = self.read()
+        if name in rosters:
+            rosters[name] = kept
+        else:
+            of = getattr(week, name)
+            setattr(week, name, {key: of[key] for key in kept} if isinstance(of, dict) else type(of)(kept))
         week, rosters = consistent(week, rosters)
         return {**self.case, **files_of(week), **{name: solution_text(week, of) for name, of in rosters.items()}}
-
-    def week_with(self, name, kept):
-        week, rosters = self.read()
-        of = getattr(week, name)
-        setattr(week, name, {key: of[key] for key in kept} if isinstance(of, dict) else type(of)(kept))
-        return self.written(week, rosters)
-
-    def roster_with(self, name, kept):
-        week, rosters = self.read()
-        return self.written(week, {**rosters, name: kept})
 
     def lower_numbers(self):
         for name in self.case:
@@ -92,9 +93,9 @@ class Shrinking:
                     if 0 <= lower < int(number.group()) and self.accepts({**self.case, name: text}):
                         break
 
-    def drop_text(self):
-        """Lines, words and letters of each file."""
-        for name in self.case:
+    def drop_text(self, names):
+        """Lines, words and letters of these files."""
+        for name in names:
             for parts in (r"[^\n]*\n|[^\n]+", r"\s+|[(),=]|[^\s(),=]+", r"(?s:.)"):
                 self.drop(re.findall(parts, self.case[name]), lambda kept, name=name: {**self.case, name: "".join(kept)})
 
@@ -105,7 +106,7 @@ def shrunk(case, fails, seconds=20):
     while before != shrinking.case:
         before = shrinking.case
         shrinking.drop_files()
-        shrinking.drop_of_week()
+        is_plain = shrinking.drop_of_week()
         shrinking.lower_numbers()
-        shrinking.drop_text()
+        shrinking.drop_text([name for name in shrinking.case if name in ("answer", "cuts") or not is_plain])
     return shrinking.case
