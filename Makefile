@@ -3,7 +3,7 @@
 PREFIX ?= /usr/local
 SHARE = $(DESTDIR)$(PREFIX)/share
 
-.PHONY: build try example tour solvers test bench fuzz install uninstall clean
+.PHONY: build try example tour solvers test programs bench fuzz install uninstall clean
 
 # `rt run` proves the program and all it stands on, and leaves it in its crate.
 build:
@@ -30,6 +30,15 @@ solvers: build
 
 test:
 	.ci/run
+
+# What the scripts of tests/ run, without the gate: the program by LLVM and by Rattle's own compiler, and what looks into the
+# libraries.
+programs: build
+	cd crates/inrc2pb && rt run --backend rattle -- --version && mv out/inrc2pb out/inrc2pb.by-rattle
+	cp out/inrc2pb crates/inrc2pb/out/inrc2pb
+	cd crates/week_report && rt run -- data/scenario.txt data/history.txt data/week.txt > /dev/null
+	cd crates/rota_tests && rt test
+	cd crates/part_tests && rt test
 
 # Seconds, MB/s and memory on made-up weeks: bench/README.md says more.
 bench: build

@@ -2,27 +2,14 @@
 # Runs each shell block of README.md, bench/README.md and docs/, in the order of its page, in a copy of the repository,
 # and compares what a block prints with the block of text that follows it. Checks the links between the pages, that
 # README.md has at most 900 words and shows the roster that it speaks of, that the example weeks are those of their
-# generator, that the libraries' examples are their tests, and that `make install` puts the parts in their places.
+# generator, that the libraries' examples are their tests, that `make install` puts the parts in their places, and the
+# scripts by shellcheck, where that is installed.
 #
-#   tests/documents.sh [PROGRAM]
+#   tests/documents.sh [llvm | rattle | PROGRAM]
 #
-# Without a PROGRAM it takes the one that `rt ci` or `make build` left in its crate. Nothing is proved: a stand-in for
-# `rt` gives the program. Where no clasp is installed a stand-in gives its stored answers. Needs bash, the usual tools
-# of a shell, make and Python 3.8.
-set -u
-cd "$(dirname "$0")/.." || exit 2
-
-program=$(realpath "${1:-crates/inrc2pb/out/inrc2pb}")
-[ -x "$program" ] || { echo "FAILED: no program: run 'make build' first"; exit 2; }
-room=$(mktemp -d) || exit 2
-trap 'rm -rf "$room"' EXIT
-failed=0
-blocks=0
-
-complain() {
-    echo "FAILED: $*"
-    failed=$((failed + 1))
-}
+# Nothing is proved: a stand-in for `rt` gives the program. Where no clasp is installed a stand-in gives its stored
+# answers. Needs bash, the usual tools of a shell, make and Python 3.8.
+. "$(dirname "$0")/kit.sh"
 
 stand_in() {
     cat > "$room/bin/$1"
@@ -81,46 +68,49 @@ script_of() {
 
 runs_blocks() {
     local page=$1 text
+    what=$page
     script_of "$page" > "$room/script"
-    blocks=$((blocks + $(grep -c '^exec > ' "$room/script")))
+    checked=$((checked + $(grep -c '^exec > ' "$room/script")))
     rm -rf "$room/work"
     cp -r "$room/copy" "$room/work"
     (cd "$room/work" && HOME=$room/home PATH=$room/bin:$PATH LIMIT=20 timeout 120 bash -eu "$room/script" < /dev/null) ||
-        complain "$page: a block ends with $?: $(tail -n 3 "$room/$(basename "$page")".*.out)"
+        complain "a block ends with $?: $(tail -n 3 "$room/$(basename "$page")".*.out)"
     for text in "$room/$(basename "$page")".*.text; do
         [ -e "$text" ] || continue
         # Each line of the text is printed, in this order.
         awk 'NR == FNR { wanted[NR] = $0; lines = NR; next } $0 == wanted[at + 1] { at += 1 } END { exit at < lines }' \
-            "$text" "${text%.text}.out" || complain "$page: not printed as shown: $(cat "${text%.text}.out")"
+            "$text" "${text%.text}.out" || complain "not printed as shown: $(cat "${text%.text}.out")"
     done
 }
 
 # The pages that a page names are there.
 links_hold() {
     local folder link
+    begins_case "the links of $1"
     folder=$(dirname "$1")
     while read -r link; do
-        [ -e "$folder/$link" ] || complain "$1 names $link, which is not there"
+        [ -e "$folder/$link" ] || complain "there is no $link"
     done < <(grep -oE '\]\([^)#]+' "$1" | sed 's/^](//' | grep -v '://')
 }
 
 shows_roster() {
-    local week='--sce Sc-n005w4.txt --his H0-n005w4-0.txt --week WD-n005w4-0.txt' line
-    # shellcheck disable=SC2086
-    (cd examples/n005w4 && "$program" decode $week --answer answers/clasp-optimum.txt --sol "$room/roster.txt" > "$room/report")
+    local five=(--sce Sc-n005w4.txt --his H0-n005w4-0.txt --week WD-n005w4-0.txt) line
+    begins_case 'the roster and its costs in README.md'
+    (cd examples/n005w4 && "$program" decode "${five[@]}" --answer answers/clasp-optimum.txt --sol "$room/roster.txt" > "$room/report")
     while read -r line; do
-        grep -qF -- "$line" README.md || complain "README.md does not show: $line"
+        grep -qF -- "$line" README.md || complain "not shown: $line"
     done < <(examples/roster_table.py "$room/roster.txt" | sed -n '3,8p')
     examples/roster_table.py --svg "$room/roster.txt" | cmp -s - docs/roster.svg || complain 'docs/roster.svg is another picture'
     while read -r name cost; do
         case $name in
-            S?) grep -q "^| $name |.* $cost |$" README.md || complain "README.md: another cost of $name than $cost" ;;
+            S?) grep -q "^| $name |.* $cost |$" README.md || complain "another cost of $name than $cost" ;;
         esac
     done < "$room/report"
 }
 
 weeks_are_made() {
     local name
+    begins_case 'the example weeks'
     examples/make_weeks.py "$room/weeks"
     for name in n008w4 n030w4; do
         diff -r "$room/weeks/$name" examples/$name > "$room/diff" || complain "examples/$name: $(head -n 5 "$room/diff")"
@@ -129,6 +119,7 @@ weeks_are_made() {
 
 installs() {
     local part
+    begins_case 'make install and uninstall'
     make -s -C "$room/copy" install DESTDIR="$room/installed" PREFIX=/usr > /dev/null || complain 'make install fails'
     for part in bin/inrc2pb share/man/man1/inrc2pb.1 share/bash-completion/completions/inrc2pb share/zsh/site-functions/_inrc2pb \
         share/fish/vendor_completions.d/inrc2pb.fish share/doc/inrc2pb/docs/rules.md; do
@@ -137,13 +128,14 @@ installs() {
     make -s -C "$room/copy" uninstall DESTDIR="$room/installed" PREFIX=/usr > /dev/null || complain 'make uninstall fails'
     [ -z "$(find "$room/installed" -type f)" ] || complain "make uninstall leaves $(find "$room/installed" -type f | head -n 3)"
     rm "$room/copy/out/inrc2pb"
-    make -s -C "$room/copy" install DESTDIR="$room/installed" > /dev/null 2>&1 && complain 'make install with nothing built'
+    make -s -C "$room/copy" install DESTDIR="$room/installed" > /dev/null 2>&1 && complain 'it installs where nothing was built'
     cp "$program" "$room/copy/out/inrc2pb"
 }
 
 # The example with which a library opens is the text of a test, line for line.
 examples_are_tests() {
     local crate example test
+    begins_case "the libraries' examples"
     for crate in rota_core rota_read rota_items opb_text solver_text rota_pb; do
         example=$(awk '/^\/\/! ```$/ { inside = !inside; next } inside { sub(/^\/\/! /, "    "); print }' "crates/$crate/src/lib.rt")
         test=$(sed -n "/^fn example_of_$crate(/,/^}/p" crates/*_tests/src/examples.rt)
@@ -156,12 +148,15 @@ for page in README.md bench/README.md docs/*.md CHANGELOG.md; do
     runs_blocks "$page"
     links_hold "$page"
 done
-[ "$(wc -w < README.md)" -le 900 ] || complain "README.md has $(wc -w < README.md) words"
+begins_case 'the length of README.md'
+[ "$(wc -w < README.md)" -le 900 ] || complain "$(wc -w < README.md) words"
+begins_case 'the version in CHANGELOG.md'
 version=$("$program" --version)
-grep -m 1 '^## ' CHANGELOG.md | grep -qx "## ${version#inrc2pb }" || complain "CHANGELOG.md does not begin with ${version#inrc2pb }"
+grep -m 1 '^## ' CHANGELOG.md | grep -qx "## ${version#inrc2pb }" || complain "it does not begin with ${version#inrc2pb }"
 shows_roster
 weeks_are_made
 examples_are_tests
 installs
-echo "documents.sh: $blocks blocks, $failed failed"
-[ $blocks -gt 0 ] && [ $failed = 0 ]
+begins_case 'the scripts'
+[ -n "$ending" ] || ! command -v shellcheck > /dev/null || shellcheck .ci/run tests/*.sh > "$room/checked" || complain "$(head -n 20 "$room/checked")"
+finish

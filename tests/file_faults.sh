@@ -1,31 +1,20 @@
 #!/usr/bin/env bash
-# Files with a fault, and the fault and line that the built program tells; files that are spelled in another
-# way, and mean the same; and each file cut after every byte. What is expected stands in docs/formats.md.
+# Files with a fault, and the fault and line that the program tells; files that are spelled in another way, and mean the
+# same; and each file cut after every byte.
 #
-#   tests/file_faults.sh [PROGRAM..]
+#   tests/file_faults.sh [llvm | rattle | PROGRAM]
 #
-# Without a PROGRAM it takes those that `rt ci` or `make build` left in the program's crate. It takes
-# `week_report` of `rt ci` beside them. Needs bash and the usual tools of a shell.
-. "$(dirname "$0")/program_runs.sh"
+# Takes `week_report` beside the program. Needs bash and the usual tools of a shell.
+. "$(dirname "$0")/kit.sh"
+needs_reporter
 
-# Two nurses, and two shift types.
-sed '11s/.*/NURSES = 2/;12s/.*/Ann Full 1 Nurse Bob Full 1 Nurse/' "$room/scenario.txt" > "$room/two_nurses.txt"
-sed '5s/.*/SHIFT_TYPES = 2/;6s/.*/Early (1,9) Late (1,9)/;8s/.*/Early 0 Late 0/' "$room/two_nurses.txt" > "$room/two_shifts.txt"
-sed '12s/.*/Bea Full 1 Nurse Ann Full 1 Nurse/' "$room/two_shifts.txt" > "$room/bea_and_ann.txt"
-printf 'HISTORY 0 s1 NURSE_HISTORY Ann 0 0 None 0 0 0 Bob 0 0 None 0 0 0' > "$room/two_pasts.txt"
-printf 'HISTORY 0 s1 NURSE_HISTORY Ann 0 0 None 0 0 0 Bea 0 0 None 0 0 0' > "$room/bea_and_anns_pasts.txt"
-sed '2s/^0 /1 /' "$room/history.txt" > "$room/last_week.txt"
-cat > "$room/two_requests.txt" <<'END_OF_WEEK'
-WEEK_DATA
-s1
-REQUIREMENTS
-Early Nurse (1,3) (0,0) (0,0) (0,0) (0,0) (0,0) (0,0)
-SHIFT_OFF_REQUESTS = 3
-Ann Early Mon
-Ann Any Mon
-Ann Early Mon
-END_OF_WEEK
-printf 'SOLUTION\n0 s1\n\nASSIGNMENTS = 1\nAnn Mon Day Nurse\n' > "$room/monday.txt"
+# Two nurses, of two shift types and of one.
+changed scenario.txt two_nurses.txt 11 'NURSES = 2' 12 'Ann Full 1 Nurse Bob Full 1 Nurse'
+changed two_shifts.txt two_of_each.txt 11 'NURSES = 2' 12 'Ann Full 1 Nurse Bob Full 1 Nurse'
+changed two_of_each.txt bea_and_ann.txt 12 'Bea Full 1 Nurse Ann Full 1 Nurse'
+line two_pasts.txt 'HISTORY 0 s1 NURSE_HISTORY Ann 0 0 None 0 0 0 Bob 0 0 None 0 0 0'
+line bea_and_anns_pasts.txt 'HISTORY 0 s1 NURSE_HISTORY Ann 0 0 None 0 0 0 Bea 0 0 None 0 0 0'
+changed week.txt three_requests.txt 3 'REQUIREMENTS\nEarly Nurse (1,3) (0,0) (0,0) (0,0) (0,0) (0,0) (0,0)' 4 'SHIFT_OFF_REQUESTS = 3\nAnn Early Mon\nAnn Any Mon\nAnn Early Mon'
 
 # with_line FILE LINE TEXT: the file with another line in place of this one; TEXT as printf has it.
 with_line() {
@@ -45,15 +34,10 @@ ending_with() {
 }
 
 # encode_of SCENARIO HISTORY WEEK: the words.
-encode_of() {
-    words=(encode --sce "$1" --his "$2" --week "$3")
-}
+encode_of() { words=(encode --sce "$1" --his "$2" --week "$3"); }
 
-# tells TEXT: the program refuses the words so.
-tells() {
-    line fault "inrc2pb: $1"
-    run "$1" 1 nothing fault "${words[@]}"
-}
+# tells FAULT: the program refuses the words so.
+tells() { refuses "$1" 1 "$1" "${words[@]}"; }
 
 # scenario_line LINE TEXT FAULT, scenario_end LINE TEXT FAULT: the scenario has another line, or ends with it.
 scenario_line() {
@@ -94,23 +78,23 @@ scenarios() {
 means() {
     with_line scenario.txt "$1" "$2" > "$room/spelled"
     sed "s/Ok(\"Ann\")/$3/" "$room/plain_report" > "$room/wanted"
-    reports "line $1 spelled $2" wanted spelled last_week.txt week.txt
+    reports "line $1 spelled $2" wanted spelled last.txt week.txt
 }
 
 spellings() {
-    reports 'the last week' text scenario.txt last_week.txt week.txt
+    reports 'the last week' text scenario.txt last.txt week.txt
     cp "$room/out" "$room/plain_report"
-    grep -qx 'week 1 last true' "$room/plain_report" || complain 'not the last week'
+    has_line 'week 1 last true'
     means 1 'SCENARIO = s1' 'Ok("Ann")'
     means 2 "WEEKS = $(printf '%041d' 2)" 'Ok("Ann")'
     means 2 '\r\n\r\nWEEKS\t=2\r' 'Ok("Ann")'
     means 10 'Full( 1 , 9 )(1,9) (1,\n9) 9 0' 'Ok("Ann")'
-    sed 's/^Ann/\xff\x00:;/' "$room/last_week.txt" > "$room/odd_history.txt"
+    sed 's/^Ann/\xff\x00:;/' "$room/last.txt" > "$room/odd_history.txt"
     with_line scenario.txt 12 '\377\000:; Full 1 Nurse' > "$room/odd.txt"
     reports 'a name that is not text' text odd.txt odd_history.txt week.txt
     [ "$(grep -c '^Err(.*Some(0) None None$' "$room/out")" = 1 ] || complain 'no nurse of that name'
     printf '%s' "$(cat "$room/scenario.txt")" > "$room/spelled"
-    reports 'no end of the last line' plain_report spelled last_week.txt week.txt
+    reports 'no end of the last line' plain_report spelled last.txt week.txt
 }
 
 # history_of SCENARIO ROWS FAULT: the history of these rows, which stand from line 4 on, is refused so.
@@ -146,11 +130,11 @@ END_OF_PASTS
 
 # week_line LINE TEXT FAULT, week_end LINE TEXT FAULT: the week has another line, or ends with it.
 week_line() {
-    with_line two_requests.txt "$1" "$2" > "$room/faulty"
+    with_line three_requests.txt "$1" "$2" > "$room/faulty"
     tells "week line $1: $3"
 }
 week_end() {
-    ending_with two_requests.txt "$1" "$2" > "$room/faulty"
+    ending_with three_requests.txt "$1" "$2" > "$room/faulty"
     tells "week line $1: $3"
 }
 
@@ -171,7 +155,7 @@ weeks() {
     tells 'week line 2: another word expected'
     printf 'WEEK_DATA' > "$room/faulty"
     tells 'week line 1: end of file'
-    reports 'requirements and requests' text bea_and_ann.txt bea_and_anns_pasts.txt two_requests.txt
+    reports 'requirements and requests' text bea_and_ann.txt bea_and_anns_pasts.txt three_requests.txt
     sed -n '/^nurse /p;/^off /p;/^demand /p' "$room/out" > "$room/tables"
     printf '%s\n' 'nurse 0' 'nurse 1' 'off 0 0: 3' 'off 0 1: 1' 'demand 0 0 0: Demand { minimum: 1, optimal: 3 }' > "$room/wanted"
     holds tables wanted
@@ -185,7 +169,7 @@ solution_of() {
 }
 
 solutions() {
-    words=(extend --sce two_shifts.txt --his two_pasts.txt --week week.txt --from faulty)
+    words=(extend --sce two_of_each.txt --his two_pasts.txt --week week.txt --from faulty)
     solution_of 'ASSIGNMENTS = 10000' '2: out of limits'
     solution_of 'ASSIGNMENTS = 1\nCid Mon Early Nurse' '3: unknown name'
     solution_of 'ASSIGNMENTS = 1\nAnn mon Early Nurse' '3: unknown name'
@@ -196,8 +180,8 @@ solutions() {
     solution_of 'ASSIGNMENTS = 2\nAnn Mon Early Nurse\nAnn Mon Early\nNurse' '5: repeated'
     solution_of 'ASSIGNMENTS = 0\nAnn Mon Early Nurse' '3: text after the end'
     printf 'SOLUTION 9 other ASSIGNMENTS = 2 Bob Sun Late Nurse Bob Sun Early Nurse' > "$room/one_day"
-    reports 'two cells of a nurse and day' text two_shifts.txt two_pasts.txt week.txt one_day
-    grep -qx 'cells 2' "$room/out" || complain 'not two cells'
+    reports 'two cells of a nurse and day' text two_of_each.txt two_pasts.txt week.txt one_day
+    has_line 'cells 2'
 }
 
 # cuts FILE NAME WORDS..: the program on these words, which name the file `cut`, with FILE cut after each byte.
@@ -222,16 +206,13 @@ cut_files() {
     cuts scenario.txt scenario encode --sce cut --his history.txt --week week.txt
     cuts history.txt history encode --sce scenario.txt --his cut --week week.txt
     cuts week.txt week encode --sce scenario.txt --his history.txt --week cut
-    cuts monday.txt solution extend --sce scenario.txt --his history.txt --week week.txt --from cut
+    cuts monday solution extend --sce scenario.txt --his history.txt --week week.txt --from cut
 }
 
-file_faults() {
-    scenarios
-    spellings
-    histories
-    weeks
-    solutions
-    cut_files
-}
-
-for_each_program file_faults "$@"
+scenarios
+spellings
+histories
+weeks
+solutions
+cut_files
+finish

@@ -1,13 +1,12 @@
 #!/usr/bin/env bash
-# Runs the built program at the greatest sizes: the week with most variables, rosters and requests of as many
-# rows as a file may have, names of a million bytes, long command lines. None of them is out of memory. What
-# is expected stands in docs/formats.md.
+# Runs the program at the greatest sizes: the week with most variables, rosters and requests of as many rows as a file may
+# have, names of a million bytes, long command lines. None of them is out of memory.
 #
-#   tests/great_sizes.sh [PROGRAM..]
+#   tests/great_sizes.sh [llvm | rattle | PROGRAM]
 #
-# Without a PROGRAM it takes those that `rt ci` or `make build` left in the program's crate. It takes
-# `week_report` of `rt ci` beside them. Needs bash and the usual tools of a shell.
-. "$(dirname "$0")/program_runs.sh"
+# Takes `week_report` beside the program. Needs bash and the usual tools of a shell.
+. "$(dirname "$0")/kit.sh"
+needs_reporter
 
 # The greatest week: 1000 nurses with all of 16 skills, and 16 shift types.
 skills='a b c d e f g h i j k l m n o p'
@@ -35,17 +34,15 @@ rows() {
     }'
 }
 
-# roster NAME NUMBER: a solution file of this many rows.
-roster() {
-    { printf 'SOLUTION\n0 s1\n\nASSIGNMENTS = %s\n' "$2"; rows "$2"; } > "$room/$1"
+# of_rows NAME NUMBER: a solution file of so many rows.
+of_rows() {
+    mapfile -t many < <(rows "$2")
+    solution "$1" "${many[@]}"
 }
 
-roster one_a_day 7000
-roster most_rows 9999
-roster too_many_rows 10000
-line breaks_h1 'inrc2pb: roster breaks H1'
-line last_row 'inrc2pb: constraint 7001 is not satisfied'
-line rows_limit 'inrc2pb: solution line 4: out of limits'
+of_rows one_a_day 7000
+of_rows most_rows 9999
+of_rows too_many_rows 10000
 
 greatest_week() {
     run 'the greatest week' 0 text nothing encode "${greatest[@]}"
@@ -68,14 +65,13 @@ greatest_rosters() {
     [ "$(head -n 2 "$room/answer" | tr '\n' /)" = 'o 0/s SATISFIABLE/' ] || complain 'another head'
     run 'its answer' 0 text nothing decode "${greatest[@]}" --answer answer --sol solution
     holds solution one_a_day
-    grep -qx 'penalty 0' "$room/out" || complain 'another penalty'
+    has_line 'penalty 0'
     printf 's SATISFIABLE\nv x1792001 x1792000 x1791999\n' > "$room/answer"
-    run 'two cells of the last nurse and day' 6 nothing last_row decode "${greatest[@]}" --answer answer --sol unmade
-    is_missing unmade
-    run 'a roster of 9999 rows' 6 nothing breaks_h1 extend "${greatest[@]}" --from most_rows
+    refuses 'two cells of the last nurse and day' 6 'constraint 7001 is not satisfied' decode "${greatest[@]}" --answer answer --sol unmade
+    refuses 'a roster of 9999 rows' 6 'roster breaks H1' extend "${greatest[@]}" --from most_rows
     reports 'the cells of 9999 rows' text greatest.txt greatest_history.txt week.txt most_rows
-    grep -qx 'cells 9999' "$room/out" || complain 'not 9999 cells'
-    run 'a roster of 10000 rows' 1 nothing rows_limit extend "${greatest[@]}" --from too_many_rows
+    has_line 'cells 9999'
+    refuses 'a roster of 10000 rows' 1 'solution line 4: out of limits' extend "${greatest[@]}" --from too_many_rows
 }
 
 # Each row asks for Monday off on one shift type: 7000 rows of 1000 nurses on one, 2999 rows of 429 on another,
@@ -93,7 +89,7 @@ long_names() {
     name=$(head -c 1000000 /dev/zero | tr '\0' n)
     printf '%s\n' "s/Ann/$name/" > "$room/longer"
     for file in scenario.txt history.txt; do sed -f "$room/longer" "$room/$file" > "$room/long_$file"; done
-    printf 'SOLUTION\n0 s1\n\nASSIGNMENTS = 1\n%s Mon Day Nurse\n' "$name" > "$room/long_roster"
+    solution long_roster "$name Mon Day Nurse"
     run 'a long name' 0 text nothing extend --sce long_scenario.txt --his long_history.txt --week week.txt --from long_roster
     cp "$room/out" "$room/answer"
     run 'a long name back' 0 text nothing decode --sce long_scenario.txt --his long_history.txt --week week.txt --answer answer --sol solution
@@ -109,20 +105,16 @@ long_command_lines() {
     path=$(printf './%.0s' {1..2000})scenario.txt
     run 'a path of 4000 bytes' 0 text nothing encode --sce "$path" --his history.txt --week week.txt
     word=$(head -c 100000 /dev/zero | tr '\0' w)
-    run 'a path of 100000 bytes' 3 nothing read_failed encode --sce "$word" --his history.txt --week week.txt
-    run 'an output of 100000 bytes' 3 nothing write_failed encode --sce scenario.txt --his history.txt --week week.txt --opb "$word"
+    refuses 'a path of 100000 bytes' 3 'read failed' encode --sce "$word" --his history.txt --week week.txt
+    refuses 'an output of 100000 bytes' 3 'write failed' encode "${week[@]}" --opb "$word"
     run 'an option of 100000 bytes' 2 nothing text encode "--$word"
     mapfile -t words < <(printf 'w%d\n' {1..20000})
     run '20000 words' 2 nothing text encode "${words[@]}"
 }
 
-great_sizes() {
-    greatest_week
-    greatest_rosters
-    most_requests
-    long_names
-    long_command_lines
-    rm -f "$room/solution"
-}
-
-for_each_program great_sizes "$@"
+greatest_week
+greatest_rosters
+most_requests
+long_names
+long_command_lines
+finish

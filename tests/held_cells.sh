@@ -2,85 +2,59 @@
 # `--fix`: models and answers of small weeks with held cells, written out by hand; the order of faults; and the file of
 # held cells cut after every byte.
 #
-#   tests/held_cells.sh [PROGRAM..]
+#   tests/held_cells.sh [llvm | rattle | PROGRAM]
 #
-# Without a PROGRAM it takes those that `rt ci` or `make build` left in the program's crate. It takes
-# `week_report` of `rt ci` beside them. Needs bash and the usual tools of a shell.
-. "$(dirname "$0")/small_weeks.sh"
+# Takes `week_report` beside the program. Needs bash and the usual tools of a shell.
+. "$(dirname "$0")/kit.sh"
+needs_reporter
 
-# A shift type that nobody should work; two shift types, and requests.
-changed scenario.txt 6 'Day (1,0)' closed.txt
-changed scenario.txt 5 'SHIFT_TYPES = 2' two.1
-changed two.1 6 'Early (1,9) Late (1,9)' two.2
-changed two.2 8 'Early 0 Late 0' two_shifts.txt
-changed week.txt 4 'SHIFT_OFF_REQUESTS = 3\nAnn Early Mon\nAnn Early Mon\nAnn Any Mon' requests.txt
-
-rows_of monday 'Ann Mon Day Nurse'
-rows_of wednesday 'Ann Wed Day Nurse'
-rows_of nobody
-rows_of both 'Ann Mon Early Nurse' 'Ann Mon Late Nurse'
-printf 'SOLUTION\n0 s1\nASSIGNMENTS = 1\nAnn Wed Day Nurse\n' > "$room/fix.txt"
-
-model held_model 8 9 '' one_cell '+1 x3 >= 1 ;'
-model both_model 15 10 'min: +30 x1 +10 x2 ;' two_cells '+1 x1 >= 1 ;' '+1 x2 >= 1 ;'
-
-# refuses STATUS TEXT WORDS..: the program ends so, and writes nothing.
-refuses() {
-    local status=$1
-    line fault "inrc2pb: $2"
-    shift 2
-    rm -f "$room/solution"
-    run "$(cat "$room/fault")" "$status" nothing fault "$@"
-    is_missing solution
-}
+solution both_shifts 'Ann Mon Early Nurse' 'Ann Mon Late Nurse'
+# In the form that has no empty line.
+sed 3d "$room/wednesday" > "$room/fix.txt"
+printf 's SATISFIABLE\nv x8\n' > "$room/without"
+printf 's SATISFIABLE\nv x8 x3\n' > "$room/with"
+printf 'v x9\n' > "$room/faulty_answer"
+model held_model one_cell '+1 x3 >= 1 ;'
+model both_model two_cells 'min: +30 x1 +10 x2 ;' '+1 x1 >= 1 ;' '+1 x2 >= 1 ;'
+two_shifts=(--sce two_shifts.txt --his history.txt --week requests.txt)
 
 models_and_answers() {
-    local files=(--sce scenario.txt --his history.txt --week week.txt)
-    local twos=(--sce two_shifts.txt --his history.txt --week requests.txt)
     encodes 'Wednesday held' held_model --fix fix.txt scenario.txt history.txt week.txt
-    encodes 'two cells of a day held' both_model --fix both two_shifts.txt history.txt requests.txt
-    encodes 'no cell held' plain_model --fix nobody scenario.txt history.txt week.txt
-    refuses 6 'roster breaks H5' extend --fix fix.txt "${files[@]}" --from monday
-    refuses 6 'roster breaks H1' extend --fix both "${twos[@]}" --from both
-    printf 's SATISFIABLE\nv x8\n' > "$room/without"
-    printf 's SATISFIABLE\nv x8 x3\n' > "$room/with"
-    refuses 6 'constraint 9 is not satisfied' decode --fix fix.txt "${files[@]}" --answer without --sol solution
-    run 'Wednesday held, and worked' 0 text nothing decode --fix fix.txt "${files[@]}" --answer with --sol solution
+    encodes 'two cells of a day held' both_model --fix both_shifts two_shifts.txt history.txt requests.txt
+    encodes 'no cell held' model --fix nobody scenario.txt history.txt week.txt
+    refuses 'Wednesday held, and Monday worked' 6 'roster breaks H5' extend --fix fix.txt "${week[@]}" --from monday
+    refuses 'two cells of a day held, and worked' 6 'roster breaks H1' extend --fix both_shifts "${two_shifts[@]}" --from both_shifts
+    refuses 'Wednesday held, and off' 6 'constraint 9 is not satisfied' decode --fix fix.txt "${week[@]}" --answer without --sol unmade
+    run 'Wednesday held, and worked' 0 text nothing decode --fix fix.txt "${week[@]}" --answer with --sol solution
     holds solution wednesday
-    costs 'Wednesday held, where a day costs 15' '0, 15, 0, 0, 0, 0, 0' 15 --fix fix.txt closed.txt history.txt week.txt wednesday
+    costs 'Wednesday held, where a day costs 15' --fix fix.txt closed.txt history.txt week.txt wednesday S2=15
 }
 
 faults_in_order() {
-    local files=(--sce scenario.txt --his history.txt --week week.txt)
-    printf 'SOLUTION\n0 s1\nASSIGNMENTS = 1\nAnn Wed Day' > "$room/cut"
-    printf 'v x9\n' > "$room/faulty_answer"
-    refuses 1 'fix line 4: end of file' encode --fix cut "${files[@]}"
-    refuses 1 'fix line 4: end of file' decode --fix cut "${files[@]}" --answer faulty_answer --sol solution
-    refuses 1 'fix line 4: end of file' extend --fix cut "${files[@]}" --from cut
-    refuses 1 'history: week not below WEEKS' encode --fix cut --sce scenario.txt --his late.txt --week week.txt
-    refuses 1 'answer: variable out of range' decode --fix fix.txt "${files[@]}" --answer faulty_answer --sol solution
-    refuses 1 'solution line 4: end of file' extend --fix fix.txt "${files[@]}" --from cut
-    refuses 3 'read failed' encode --fix missing "${files[@]}"
-    refuses 3 'read failed' encode --fix missing --sce cut --his history.txt --week week.txt
-    refuses 3 'read failed' encode --fix . "${files[@]}"
+    refuses 'cut, for encode' 1 'fix line 5: end of file' encode --fix cut "${week[@]}"
+    refuses 'cut, before the answer' 1 'fix line 5: end of file' decode --fix cut "${week[@]}" --answer faulty_answer --sol unmade
+    refuses 'cut, before the roster' 1 'fix line 5: end of file' extend --fix cut "${week[@]}" --from cut
+    refuses 'a late week first' 1 'history: week not below WEEKS' encode --fix cut --sce scenario.txt --his late.txt --week week.txt
+    refuses 'then the answer' 1 'answer: variable out of range' decode --fix fix.txt "${week[@]}" --answer faulty_answer --sol unmade
+    refuses 'then the roster' 1 'solution line 5: end of file' extend --fix fix.txt "${week[@]}" --from cut
+    refuses 'no such file' 3 'read failed' encode --fix missing "${week[@]}"
+    refuses 'no such file, and a fault' 3 'read failed' encode --fix missing --sce cut --his history.txt --week week.txt
+    refuses 'a directory' 3 'read failed' encode --fix . "${week[@]}"
 }
 
 cut_held_cells() {
     local size length
     size=$(wc -c < "$room/fix.txt")
     for ((length = 0; length < size - 1; length++)); do
-        head -c "$length" "$room/fix.txt" > "$room/cut"
-        run "the held cells cut after $length bytes" 1 nothing text encode --fix cut --sce scenario.txt --his history.txt --week week.txt
+        head -c "$length" "$room/fix.txt" > "$room/cut_fix"
+        run "the held cells cut after $length bytes" 1 nothing text encode --fix cut_fix "${week[@]}"
         grep -qxE 'inrc2pb: fix line [1-4]: (end of file|another word expected|unknown name)' "$room/err" || complain "$(cat "$room/err")"
     done
-    head -c "$length" "$room/fix.txt" > "$room/cut"
-    run 'no last end of line' 0 held_model nothing encode --fix cut --sce scenario.txt --his history.txt --week week.txt
+    head -c "$length" "$room/fix.txt" > "$room/cut_fix"
+    run 'no last end of line' 0 held_model nothing encode --fix cut_fix "${week[@]}"
 }
 
-held_cells() {
-    models_and_answers
-    faults_in_order
-    cut_held_cells
-}
-
-for_each_program held_cells "$@"
+models_and_answers
+faults_in_order
+cut_held_cells
+finish

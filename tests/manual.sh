@@ -1,12 +1,11 @@
 #!/usr/bin/env bash
-# The manual page, the completions and the built program's help name the same commands and options.
+# The manual page, the completions and the program's help name the same commands and options.
 #
-#   tests/manual.sh [PROGRAM..]
+#   tests/manual.sh [llvm | rattle | PROGRAM]
 #
-# Without a PROGRAM it takes those that `rt ci` or `make build` left in the program's crate. Needs bash and the usual
-# tools of a shell and Python; where mandoc or man is installed, the manual page is checked by it too, and where zsh or
-# fish is, the completion for it.
-. "$(dirname "$0")/program_runs.sh"
+# Needs bash, the usual tools of a shell and Python 3.8; where mandoc or man is installed, the manual page is checked by it
+# too, and where zsh or fish is, the completion for it.
+. "$(dirname "$0")/kit.sh"
 # shellcheck source=docs/completions/inrc2pb.bash
 . docs/completions/inrc2pb.bash
 
@@ -34,9 +33,9 @@ complete_words() {
     printf '%s\n' "${COMPREPLY[@]}" | sort | tr '\n' ' '
 }
 
+# is WHAT FOUND WANTED
 is() {
-    what=$1
-    checked=$((checked + 1))
+    begins_case "$1"
     [ "$2" = "$3" ] || complain "'$2', not '$3'"
 }
 
@@ -64,7 +63,7 @@ completes() {
 # The completions are those of their one description, and are read by their shells.
 completions_are_written() {
     local file offered
-    what='the completions'
+    begins_case 'the completions'
     docs/completions/write.py "$room"
     for file in inrc2pb.bash _inrc2pb inrc2pb.fish; do
         cmp -s "$room/$file" "docs/completions/$file" || complain "$file is not as write.py writes it"
@@ -81,7 +80,7 @@ completions_are_written() {
 }
 
 is_manual() {
-    what='the manual page'
+    begins_case 'the manual page'
     if command -v mandoc > /dev/null; then
         # What it says of other pages depends on the machine.
         mandoc -Tlint docs/inrc2pb.1 | grep -v ' STYLE: referenced manual not found' && complain 'mandoc complains'
@@ -91,8 +90,8 @@ is_manual() {
     fi
 }
 
-program=''
+names_the_same
 completes
 completions_are_written
 is_manual
-for_each_program names_the_same "$@"
+finish

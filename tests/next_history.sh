@@ -1,13 +1,11 @@
 #!/usr/bin/env bash
 # Tests examples/next_history.py on weeks at random, and on files that do not fit: tests/next_history.py says how.
 #
-#   tests/next_history.sh [PROGRAM]
+#   tests/next_history.sh [llvm | rattle | PROGRAM]
 #
-# Without a PROGRAM it takes the one that `rt ci` or `make build` left in its crate. Needs Python 3.8; where clasp is
-# installed, four weeks in a row go through it.
-set -u
-cd "$(dirname "$0")/.." || exit 2
+# Needs Python 3.8; where clasp is installed, four weeks in a row go through it.
+. "$(dirname "$0")/kit.sh"
 
-program=$(realpath "${1:-crates/inrc2pb/out/inrc2pb}")
-[ -x "$program" ] || { echo "next_history.sh: no program: run 'make build' first"; exit 2; }
-exec tests/next_history.py "$program"
+begins_case 'the next history'
+tests/next_history.py "$program" || complain 'tests/next_history.py fails'
+finish

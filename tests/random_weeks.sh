@@ -2,13 +2,13 @@
 # The program beside tests/rules.py, which was written from docs/rules.md alone: on weeks, rosters and held cells made at
 # random, and on every roster of weeks so small that all can be tried.
 #
-#   tests/random_weeks.sh [PROGRAM]
+#   tests/random_weeks.sh [llvm | rattle | PROGRAM]
 #
-# Without a PROGRAM it takes the one that `rt ci` or `make build` left in its crate. Needs Python 3.8; where clasp is
-# installed, it has to prove the optima of the small weeks.
-set -u
-cd "$(dirname "$0")/.." || exit 2
+# Needs Python 3.8; where clasp is installed, it has to prove the optima of the small weeks.
+. "$(dirname "$0")/kit.sh"
 
-program=$(realpath "${1:-crates/inrc2pb/out/inrc2pb}")
-[ -x "$program" ] || { echo "random_weeks.sh: no program: run 'make build' first"; exit 2; }
-tests/random_rosters.py "$program" && tests/every_roster.py "$program"
+begins_case 'rosters made at random'
+tests/random_rosters.py "$program" || complain 'tests/random_rosters.py fails'
+begins_case 'every roster of small weeks'
+tests/every_roster.py "$program" || complain 'tests/every_roster.py fails'
+finish

@@ -1,30 +1,12 @@
 #!/usr/bin/env bash
-# Runs the built program on words and on the files of `encode`, and checks its exit status and what it
-# writes where. What is expected stands in docs/formats.md.
+# Runs the program on words and on the files of `encode`, and checks its exit status and what it writes where.
 #
-#   tests/usage.sh [PROGRAM..]
+#   tests/usage.sh [llvm | rattle | PROGRAM]
 #
-# Without a PROGRAM it takes those that `rt ci` or `make build` left in the program's crate. Needs bash and
-# the usual tools of a shell.
-. "$(dirname "$0")/program_runs.sh"
+# Needs bash and the usual tools of a shell.
+. "$(dirname "$0")/kit.sh"
 
-# The model of the week: 141 bytes.
-cat > "$room/model" <<'END'
-* #variable= 8 #constraint= 8
-+1 x8 >= 1 ;
--1 x1 >= -1 ;
--1 x2 >= -1 ;
--1 x3 >= -1 ;
--1 x4 >= -1 ;
--1 x5 >= -1 ;
--1 x6 >= -1 ;
--1 x7 >= -1 ;
-END
 line version "inrc2pb $(sed -n 's/^const VERSION: &str = "\(.*\)";$/\1/p' crates/inrc2pb/src/command.rt)"
-line scenario_ends 'inrc2pb: scenario line 10: end of file'
-line scenario_empty 'inrc2pb: scenario line 1: end of file'
-for name in scenario history week fix solution; do line ${name}_long "inrc2pb: $name: out of limits"; done
-line history_word 'inrc2pb: history line 1: another word expected'
 
 # The help that was shown last ends with an example of the command and where more is said.
 ends_with_example() {
@@ -61,36 +43,31 @@ asks_for_help() {
     tells_options decode --sce --his --week --fix --sol --answer
     tells_options extend --sce --his --week --fix --from
     run 'the version' 0 version nothing --version
-    out=/dev/full
-    run 'help that cannot be written' 3 nothing write_failed --help
-    run 'a version that cannot be written' 3 nothing write_failed --version
-    out=$room/out
+    out=/dev/full refuses 'help that cannot be written' 3 'write failed' --help
+    out=/dev/full refuses 'a version that cannot be written' 3 'write failed' --version
 }
 
-refuses_words() {
-    local not_text subcommand
-    refused 'an unknown word' "unrecognized subcommand 'solve'" solve
-    refused 'help as a word' "unrecognized subcommand 'help'" help
+takes_no_other_words() {
+    local subcommand
+    misused 'an unknown word' "unrecognized subcommand 'solve'" solve
+    misused 'help as a word' "unrecognized subcommand 'help'" help
     for subcommand in encode decode extend; do
-        refused "no options of $subcommand" "$lacking" $subcommand
+        misused "no options of $subcommand" "$lacking" $subcommand
     done
-    refused 'no scenario' "$lacking" encode --his=history.txt --week=week.txt
-    refused 'no history' "$lacking" encode --sce=scenario.txt --week=week.txt
-    refused 'no week' "$lacking" encode --sce=scenario.txt --his=history.txt
-    refused 'an option twice' "the argument '--sce <FILE>' cannot be used multiple times" "${week[@]}" --sce scenario.txt
-    refused 'an option twice, and no other' "the argument '--sce <FILE>' cannot be used multiple times" encode --sce=a --sce=a
-    refused 'an output twice' "the argument '--opb <FILE>' cannot be used multiple times" "${week[@]}" --opb a --opb b
-    is_missing a
-    refused 'an option without its value' "a value is required for '--opb <FILE>' but none was supplied" "${week[@]}" --opb
-    refused 'no value, and no other option' "a value is required for '--opb <FILE>' but none was supplied" encode --opb
-    refused 'an unknown option' "unexpected argument '--random' found" "${week[@]}" --random 1
-    refused 'an option of decode' "unexpected argument '--sol' found" encode --sol a
-    refused 'a word too many' "unexpected argument 'week.txt' found" "${week[@]}" week.txt
-    not_text=$(printf '\377')
-    run 'a word that is not text' 2 nothing text encode --sce "$not_text" --his history.txt --week week.txt
-    err=/dev/full
-    run 'a refusal that cannot be written' 2 nothing nothing solve
-    err=$room/err
+    misused 'no scenario' "$lacking" encode --his=history.txt --week=week.txt
+    misused 'no history' "$lacking" encode --sce=scenario.txt --week=week.txt
+    misused 'no week' "$lacking" encode --sce=scenario.txt --his=history.txt
+    misused 'an option twice' "the argument '--sce <FILE>' cannot be used multiple times" encode "${week[@]}" --sce scenario.txt
+    misused 'an option twice, and no other' "the argument '--sce <FILE>' cannot be used multiple times" encode --sce=a --sce=a
+    misused 'an output twice' "the argument '--opb <FILE>' cannot be used multiple times" encode "${week[@]}" --opb unmade --opb b
+    is_missing unmade
+    misused 'an option without its value' "a value is required for '--opb <FILE>' but none was supplied" encode "${week[@]}" --opb
+    misused 'no value, and no other option' "a value is required for '--opb <FILE>' but none was supplied" encode --opb
+    misused 'an unknown option' "unexpected argument '--random' found" encode "${week[@]}" --random 1
+    misused 'an option of decode' "unexpected argument '--sol' found" encode --sol a
+    misused 'a word too many' "unexpected argument 'week.txt' found" encode "${week[@]}" week.txt
+    run 'a word that is not text' 2 nothing text encode --sce $'\377' --his history.txt --week week.txt
+    err=/dev/full run 'a refusal that cannot be written' 2 nothing nothing solve
 }
 
 # Options in any order, and each path as it is given.
@@ -101,75 +78,65 @@ takes_words() {
     for path in '=x' ' s ' 'ä'; do
         cp "$room/history.txt" "$room/$path"
         run "the path '$path'" 0 model nothing encode --sce=scenario.txt --his "$path" --week=week.txt
-        rm "$room/$path"
     done
-    run 'a path of no letters' 3 nothing read_failed encode --sce=scenario.txt --his '' --week=week.txt
-    rm -f "$room/a b"
+    refuses 'a path of no letters' 3 'read failed' encode --sce=scenario.txt --his '' --week=week.txt
 }
 
 fails_to_read() {
-    local missing=missing.txt
-    run 'no such scenario' 3 nothing read_failed encode --sce $missing --his history.txt --week week.txt
-    run 'no such history' 3 nothing read_failed encode --sce scenario.txt --his $missing --week week.txt
-    run 'no such week' 3 nothing read_failed encode --sce scenario.txt --his history.txt --week $missing
-    run 'a file that does not open comes first' 3 nothing read_failed encode --sce cut.txt --his history.txt --week $missing
-    run 'so does a history' 3 nothing read_failed encode --sce cut.txt --his $missing --week week.txt
-    run 'a path without a name' 3 nothing read_failed encode --sce= --his history.txt --week week.txt
-    run 'a directory as scenario' 3 nothing read_failed encode --sce . --his history.txt --week week.txt
-    run 'a directory as history' 3 nothing read_failed encode --sce scenario.txt --his . --week week.txt
-    run 'a directory as week' 3 nothing read_failed encode --sce scenario.txt --his history.txt --week .
-    run 'a directory after a fault' 1 nothing scenario_ends encode --sce cut.txt --his . --week week.txt
-    err=/dev/full
-    run 'a fault that cannot be told' 3 nothing nothing encode --sce $missing --his history.txt --week week.txt
-    err=$room/err
+    refuses 'no such scenario' 3 'read failed' encode --sce missing --his history.txt --week week.txt
+    refuses 'no such history' 3 'read failed' encode --sce scenario.txt --his missing --week week.txt
+    refuses 'no such week' 3 'read failed' encode --sce scenario.txt --his history.txt --week missing
+    refuses 'a file that does not open comes first' 3 'read failed' encode --sce cut.txt --his history.txt --week missing
+    refuses 'so does a history' 3 'read failed' encode --sce cut.txt --his missing --week week.txt
+    refuses 'a path without a name' 3 'read failed' encode --sce= --his history.txt --week week.txt
+    refuses 'a directory as scenario' 3 'read failed' encode --sce . --his history.txt --week week.txt
+    refuses 'a directory as history' 3 'read failed' encode --sce scenario.txt --his . --week week.txt
+    refuses 'a directory as week' 3 'read failed' encode --sce scenario.txt --his history.txt --week .
+    refuses 'a directory after a fault' 1 'scenario line 10: end of file' encode --sce cut.txt --his . --week week.txt
+    err=/dev/full run 'a fault that cannot be told' 3 nothing nothing encode --sce missing --his history.txt --week week.txt
 }
 
 finds_faults() {
-    run 'an empty scenario' 1 nothing scenario_empty encode --sce nothing --his history.txt --week week.txt
-    run 'a scenario that is cut' 1 nothing scenario_ends encode --sce cut.txt --his history.txt --week week.txt
+    refuses 'an empty scenario' 1 'scenario line 1: end of file' encode --sce nothing --his history.txt --week week.txt
+    refuses 'a scenario that is cut' 1 'scenario line 10: end of file' encode --sce cut.txt --his history.txt --week week.txt
     run 'a scenario of the greatest length' 0 model nothing encode --sce longest.txt --his history.txt --week week.txt
-    run 'a scenario that is too long' 1 nothing scenario_long encode --sce too_long.txt --his history.txt --week week.txt
-    run 'a history that is too long' 1 nothing history_long encode --sce scenario.txt --his too_long.txt --week week.txt
-    run 'a week that is too long' 1 nothing week_long encode --sce scenario.txt --his history.txt --week too_long.txt
-    run 'held cells that are too long' 1 nothing fix_long "${week[@]}" --fix too_long.txt
-    run 'a roster that is too long' 1 nothing solution_long extend "${week[@]:1}" --from too_long.txt
-    run 'another word in the history' 1 nothing history_word encode --sce scenario.txt --his week.txt --week week.txt
-    run 'a week that is too late' 1 nothing week_late encode --sce scenario.txt --his late.txt --week week.txt
+    refuses 'a scenario that is too long' 1 'scenario: out of limits' encode --sce too_long.txt --his history.txt --week week.txt
+    refuses 'a history that is too long' 1 'history: out of limits' encode --sce scenario.txt --his too_long.txt --week week.txt
+    refuses 'a week that is too long' 1 'week: out of limits' encode --sce scenario.txt --his history.txt --week too_long.txt
+    refuses 'held cells that are too long' 1 'fix: out of limits' encode "${week[@]}" --fix too_long.txt
+    refuses 'a roster that is too long' 1 'solution: out of limits' extend "${week[@]}" --from too_long.txt
+    refuses 'another word in the history' 1 'history line 1: another word expected' encode --sce scenario.txt --his week.txt --week week.txt
+    refuses 'a week that is too late' 1 'history: week not below WEEKS' encode --sce scenario.txt --his late.txt --week week.txt
 }
 
 writes_the_model() {
-    run 'to standard output' 0 model nothing "${week[@]}"
-    run 'to a file' 0 nothing nothing "${week[@]}" --opb new.opb
+    run 'to standard output' 0 model nothing encode "${week[@]}"
+    run 'to a file' 0 nothing nothing encode "${week[@]}" --opb new.opb
     holds new.opb model
     cp "$room/longest.txt" "$room/old.opb"
-    run 'over a longer file' 0 nothing nothing "${week[@]}" --opb old.opb
+    run 'over a longer file' 0 nothing nothing encode "${week[@]}" --opb old.opb
     holds old.opb model
-    run 'to standard output by name' 0 model nothing "${week[@]}" --opb /dev/stdout
-    in=$room/scenario.txt
-    run 'from standard input' 0 model nothing encode --sce /dev/stdin --his history.txt --week week.txt
-    in=/dev/null
+    run 'to standard output by name' 0 model nothing encode "${week[@]}" --opb /dev/stdout
+    in=$room/scenario.txt run 'from standard input' 0 model nothing encode --sce /dev/stdin --his history.txt --week week.txt
 }
 
 leaves_files_alone() {
     cp "$room/longest.txt" "$room/kept.opb"
-    run 'a fault beside an older file' 1 nothing scenario_ends encode --sce cut.txt --his history.txt --week week.txt --opb kept.opb
+    refuses 'a fault beside an older file' 1 'scenario line 10: end of file' encode --sce cut.txt --his history.txt --week week.txt --opb kept.opb
     holds kept.opb longest.txt
-    run 'a late week beside an older file' 1 nothing week_late encode --sce scenario.txt --his late.txt --week week.txt --opb kept.opb
+    refuses 'a late week beside an older file' 1 'history: week not below WEEKS' encode --sce scenario.txt --his late.txt --week week.txt --opb kept.opb
     holds kept.opb longest.txt
-    run 'a missing week beside an older file' 3 nothing read_failed encode --sce scenario.txt --his history.txt --week missing.txt --opb kept.opb
+    refuses 'a missing week beside an older file' 3 'read failed' encode --sce scenario.txt --his history.txt --week missing --opb kept.opb
     holds kept.opb longest.txt
-    run 'a fault and no file' 1 nothing week_late encode --sce scenario.txt --his late.txt --week week.txt --opb unmade.opb
-    is_missing unmade.opb
+    refuses 'a fault and no file' 1 'history: week not below WEEKS' encode --sce scenario.txt --his late.txt --week week.txt --opb unmade
 }
 
 fails_to_write() {
-    run 'a file in no folder' 3 nothing write_failed "${week[@]}" --opb missing/week.opb
-    run 'a folder as output' 3 nothing write_failed "${week[@]}" --opb .
-    run 'an output without a name' 3 nothing write_failed "${week[@]}" --opb=
-    run 'a full device' 3 nothing write_failed "${week[@]}" --opb /dev/full
-    out=/dev/full
-    run 'a full standard output' 3 nothing write_failed "${week[@]}"
-    out=$room/out
+    refuses 'a file in no folder' 3 'write failed' encode "${week[@]}" --opb missing/week.opb
+    refuses 'a folder as output' 3 'write failed' encode "${week[@]}" --opb .
+    refuses 'an output without a name' 3 'write failed' encode "${week[@]}" --opb=
+    refuses 'a full device' 3 'write failed' encode "${week[@]}" --opb /dev/full
+    out=/dev/full refuses 'a full standard output' 3 'write failed' encode "${week[@]}"
 }
 
 # The scenario cut in line 10, and filled up with blanks to so many bytes.
@@ -181,18 +148,12 @@ fill() {
 fill 4194304 > "$room/longest.txt"
 fill 4194305 > "$room/too_long.txt"
 
-week=(encode --sce scenario.txt --his history.txt --week week.txt)
-
-usage() {
-    rm -f "$room"/*.opb
-    asks_for_help
-    refuses_words
-    takes_words
-    fails_to_read
-    finds_faults
-    writes_the_model
-    leaves_files_alone
-    fails_to_write
-}
-
-for_each_program usage "$@"
+asks_for_help
+takes_no_other_words
+takes_words
+fails_to_read
+finds_faults
+writes_the_model
+leaves_files_alone
+fails_to_write
+finish

@@ -1,0 +1,12 @@
+#!/usr/bin/env bash
+# Runs the scripts of this folder, and tells what each took.
+#
+#   tests/all.sh [llvm | rattle | PROGRAM]
+#
+# The last line is `N passed, M failed`. `make programs` builds what they need, without the gate.
+cd "$(dirname "$0")/.." || exit 2
+. tests/parts.sh
+
+all_scripts "$@"
+tell_parts
+[ $failed = 0 ]

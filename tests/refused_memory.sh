@@ -1,0 +1,145 @@
+#!/usr/bin/env bash
+# Refuses each allocation in turn, up to the first run that meets no refusal, of the program and of the tests of refused
+# memory.
+#
+#   tests/refused_memory.sh [llvm | rattle | PROGRAM]
+#
+# A refused run of the program ends as `out of memory` with nothing written. The one exception are growths ahead of need,
+# by std's `collect` and in clap's suggestions: such a run goes on without the room, and ends just as a run with ample
+# memory does. A test passes each time; one of a table says in its first line that memory ran out, and without a refusal
+# what it finds: a reader, a roster, truth values or an answer is made whole, or answers so.
+#
+# Takes the tests of `rota_tests` and `part_tests` beside the program, as LLVM builds them. Needs bash, the usual tools of a
+# shell, and a C compiler: $CC, else cc, else the clang of Rattle's kit.
+. "$(dirname "$0")/kit.sh"
+whole_runs=crates/rota_tests/out/rota_tests_tests
+tables=crates/part_tests/out/part_tests_tests
+if [ -z "$ending" ]; then
+    needs $whole_runs
+    needs $tables
+fi
+
+kit_clang() { echo "$(dirname "$(realpath "$(command -v rt)")")/../toolchain/bin/clang"; }
+"${CC:-$(command -v cc || kit_clang)}" -O1 -shared -fPIC -o "$room/refuse.so" tests/refused_allocations.c || exit 2
+line out_of_memory 'inrc2pb: out of memory'
+refusals=0
+went_on=0
+
+# refuse NUMBER COMMAND WORD..: runs it in the room with the allocation of this number refused. Its status goes to $ended.
+refuse() {
+    rm -f "$room/made"
+    (cd "$room" && REFUSED=$1 LD_PRELOAD=$room/refuse.so exec "${@:2}" < /dev/null > out 2> err 9> refused)
+    ended=$?
+}
+
+# sweep IS_RIGHT COMMAND WORD..: refuses each allocation of the command in turn. IS_RIGHT says of each run whether it ended
+# as it has to: of those with a `refused` allocation, and of the last one, which is `whole`. Their number goes to $number.
+sweep() {
+    local is_right=$1
+    shift
+    for ((number = 1; ; number++)); do
+        refuse $number "$@"
+        [ -s "$room/refused" ] || break
+        refusals=$((refusals + 1))
+        $is_right refused || complain "allocation $number refused: status $ended: $(cat "$room/out" "$room/err" | head -c 200)"
+    done
+    [ $number -gt 1 ] || complain 'no allocation at all'
+    $is_right whole || complain "without a refusal: status $ended: $(cat "$room/out" "$room/err" | head -c 200)"
+}
+
+# Of the program: a refused run is for memory, or like the run with ample memory.
+is_like_ample() {
+    local stream
+    [ $ended = "$ample" ] || return 1
+    for stream in out err made; do cmp -s "$room/$stream" "$room/ample_$stream" || return 1; done
+}
+ends_for_memory() { [ $ended = 4 ] && cmp -s "$room/err" "$room/out_of_memory" && ! [ -s "$room/out" ] && ! [ -e "$room/made" ]; }
+ends_right() {
+    if [ "$1" = refused ] && ends_for_memory; then return; fi
+    [ "$1" = whole ] || went_on=$((went_on + 1))
+    [ -e "$room/made" ] || : > "$room/made"
+    is_like_ample
+}
+
+# sweep_program WHAT GO_ON STATUS STDOUT MADE WORD..: sweeps the program, of which so many refusals go on, `some` for any number.
+# With ample memory it ends so, and what it writes to the file `made` is what MADE holds.
+sweep_program() {
+    local go_on=$2 before=$went_on wants_err=nothing
+    ample=$3
+    [ "$ample" = 0 ] || wants_err=text
+    rm -f "$room/made"
+    run "$1" "$ample" "$4" $wants_err "${@:6}"
+    [ -e "$room/made" ] || : > "$room/made"
+    [ "$5" = text ] || holds made "$5"
+    for stream in out err made; do mv "$room/$stream" "$room/ample_$stream"; done
+    sweep ends_right "$program" "${@:6}"
+    [ "$go_on" = some ] || [ $((went_on - before)) = "$go_on" ] || complain "$((went_on - before)) refusals went on, not $go_on"
+}
+
+# Of a test, and of one whose first line tells what it met.
+passes() { [ $ended = 0 ]; }
+tells() {
+    local wanted=$found
+    [ "$1" = whole ] || wanted='out of memory'
+    [ $ended = 0 ] && [ "$(head -n 1 "$room/out")" = "$wanted" ]
+}
+
+# test_of NAME: sweeps a test of whole runs. table NAME FOUND: sweeps a test of a table, which finds this.
+test_of() {
+    begins_case "$1"
+    sweep passes "$PWD/$whole_runs" "$1"
+}
+table() {
+    begins_case "refused_tables::$1"
+    found=$2
+    swept=$((swept + 1))
+    sweep tells "$PWD/$tables" "refused_tables::$1"
+}
+
+cp examples/n005w4/*.txt examples/n005w4/week0.opb examples/n005w4/answers/sat4j.txt "$room"
+five=(--sce Sc-n005w4.txt --his H0-n005w4-0.txt --week WD-n005w4-0.txt)
+closed_week=(--sce closed.txt --his history.txt --week week.txt)
+printf '%s\r\n' 'c hello' 'd 1 2' 'o 5' 's OPTIMUM FOUND' 'v x1 -x2' 'v -x3 x1 -x4' 'v -x5 -x6 x8 ' > "$room/answer.txt"
+report answer_report 'OPTIMUM FOUND' last=5
+printf '%s\n' 'o 15' 's SATISFIABLE' 'v x1 -x2 -x3 -x4 -x5 -x6 -x7 x8 x9 -x10' 'v -x11 -x12 -x13 -x14 -x15' > "$room/monday_answer"
+
+# Two refusals alone go on in a whole run: those of the lists of words that `main` makes. Each refusal in `job`, a reader or
+# an engine ends it.
+sweep_program 'one nurse' 2 0 model nothing encode "${week[@]}"
+sweep_program 'one nurse, to a file' 2 0 nothing model encode "${week[@]}" --opb made
+sweep_program 'five nurses' 2 0 week0.opb nothing encode "${five[@]}"
+sweep_program 'no words' some 2 nothing nothing
+sweep_program 'help' some 0 text nothing --help
+sweep_program 'the version' some 0 text nothing --version
+sweep_program 'a word that is refused' some 2 nothing nothing solve
+sweep_program 'a missing option' some 2 nothing nothing encode --sce Sc-n005w4.txt
+sweep_program 'an answer for one nurse' 2 0 answer_report monday decode "${week[@]}" --answer answer.txt --sol made
+sweep_program 'a roster of one nurse' 2 0 monday_answer nothing extend "${closed_week[@]}" --from monday
+sweep_program 'an answer' 2 0 text text decode "${five[@]}" --answer sat4j.txt --sol made
+cp "$room/ample_made" "$room/roster"
+sweep_program 'a roster' 2 0 text nothing extend "${five[@]}" --from roster
+sweep_program 'an empty answer' some 1 nothing nothing decode "${five[@]}" --answer nothing --sol made
+
+begins_case 'an answer of one long line makes no more allocations than an empty one'
+(printf c; head -c 10000000 /dev/zero | tr '\0' x) > "$room/long_answer"
+refuse $number "$program" decode "${five[@]}" --answer long_answer --sol made
+[ ! -s "$room/refused" ] || complain 'it makes more'
+
+if [ -z "$ending" ]; then
+    test_of refused_memory::encoding_wants_memory_before_the_first_write
+    test_of refused_memory::decoding_wants_memory_before_the_first_write
+    test_of refused_memory::extending_wants_memory_before_the_first_write
+    swept=0
+    table scenario_read '(2, 1)'
+    table history_read 1
+    table week_read 7
+    table solution_read 1
+    table new_roster 0
+    table new_bits '(65, false)'
+    table new_answer 'an answer'
+    table whole_answer 'Ok(Said { status: Optimum, last_o: Some(5), values: [true, false, false, false, false, false, false, true] })'
+    begins_case 'all tables'
+    [ $swept = "$($tables --list | grep -c '^refused_tables::.*: test$')" ] || complain 'one is not swept'
+fi
+echo "$script: $refusals refusals, of which $went_on went on without the room"
+finish
