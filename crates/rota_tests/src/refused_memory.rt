@@ -1,4 +1,4 @@
-//! Want of memory in the middle of a run. With ample memory the run is whole; `tests/refusals.sh` and
+//! Want of memory in the middle of a run. With ample memory the run is whole; `tests/refused_memory.sh` and
 //! `rt try --test --fail-alloc N` refuse one allocation.
 use crate::job_runs::{Paces, done, end_of, even, refused};
 use crate::jobs::{Job, decoding_held, extending_held, holding};
