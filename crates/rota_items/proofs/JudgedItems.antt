@@ -13,7 +13,7 @@ use Rattle.rota_items.specs.declared.tallies.Tally.{Tally}
 use Rattle.rota_items.specs.Events.{row_events, events}
 use Rattle.rota_items.proofs.JudgedRows.{Comes, IsJudged, covers, positive-saturated, row-comes, same}
 use Rattle.rota_items.proofs.JudgedTerms.{AtSlacks, Before, others-of, slacks-of, sums_of}
-use Rattle.rota_items.proofs.PenaltyBound.{length-range}
+use Rattle.std.proofs.lemmas.List.FromFn.{length-range_with_len as length-range}
 use Rattle.rota_items.proofs.PatternItems.{value_of-append}
 use Rattle.rota_items.proofs.SmallSums.{positive_part-parts, shortage-least, spread}
 use Rattle.rota_items.proofs.TermsHold.{value_of-agree}

@@ -1,10 +1,11 @@
 -- What a judge makes of the model of a week.
 use Rattle.rota_items.proofs.LogicWords.{◌≡◌, ℕ, ◌+◌, ◌*◌, ◌^◌, ◌<◌, ◌≤◌, Bool, true, List, [], ◌∷◌, ◌++◌, refl, ap, ◌∙◌, cond, arith, pos, negsuc, nat_abs, if◌then◌else◌, AllByRecursion, fold, sum_by, ints, fold-append, sum_by-cons, AllByRecursion-append}
-use Rattle.rota_items.proofs.ModelWords.{Roster, InWeek, set_of, soft_rules, Week, Rule, Cell, cell_number, unit_number, first_slack, Item, numbered, shortage, weighted_shortages, IsWithinLimits, Term, value_of, times, LinearRow, objective_rows, item_rows, slack_variables, slack_weights, cell_terms, constant, items_of_rule, soft_items, rule_rows, hard_rows, numbered_items, numbered_row, numbered_terms, objective_terms, rows_of}
+use Rattle.rota_items.proofs.ModelWords.{Roster, InWeek, set_of, soft_rules, Week, Rule, Cell, cell_number, unit_number, first_slack, Item, numbered, positive_part, shortage, weighted_shortages, IsWithinLimits, Term, value_of, times, LinearRow, objective_rows, item_rows, slack_variables, slack_weights, cell_terms, constant, items_of_rule, soft_items, rule_rows, hard_rows, numbered_items, numbered_row, numbered_terms, objective_terms, rows_of}
 use Rattle.rota_core.specs.declared.rule.Rule.TheVariants.{Unit as UnitRule}
 use Rattle.rota_items.specs.declared.part.Part.TheVariants.{Objective}
 use Rattle.rota_items.specs.declared.tallies.RowSums.{RowSums}
 use Rattle.rota_items.specs.declared.tallies.Tally.{Tally}
+use Rattle.rota_items.specs.Bounds.{most_objective}
 use Rattle.rota_items.specs.Events.{events, row_events}
 use Rattle.rota_items.specs.Judging.{Subject, assigned, extended, assignment_in, roster_in, capped, no_sums, no_tally, tallied}
 use Rattle.rota_items.specs.rules.ShiftOffRequests.Cost.{request_cost}
@@ -15,30 +16,32 @@ use Rattle.rota_items.proofs.HardRules.EachRule.{each-row}
 use Rattle.rota_items.proofs.ItemEventLists.{slack_count-numbered}
 use Rattle.rota_items.proofs.ItemLaw.{extension-extends}
 use Rattle.rota_items.proofs.JudgedItems.{Follows, IsFit, at_slacks, charge_of, items-come, paid_for, paid_for-is}
+use Rattle.rota_items.proofs.ItemSizes.{slacks-few}
 use Rattle.rota_items.proofs.JudgedRows.{Comes, IsHardRow, rows-come, same}
 use Rattle.rota_items.proofs.JudgedTerms.{AtSlacks, counted-before, counted_other, others-at_slacks, others-before, row-tallied}
-use Rattle.rota_items.proofs.ListAll.{all-map}
-use Rattle.rota_items.proofs.ListSums.{sum_by-each-same, sum_by-map}
-use Rattle.rota_items.proofs.PenaltyBound.{objective-below}
+use Rattle.rota_items.proofs.ListAll.{all-both, all-map}
+use Rattle.rota_items.proofs.ListSums.{sum_by-each-same, sum_by-flat_map, sum_by-map}
+use Rattle.rota_items.proofs.ObjectiveBound.{objective-below}
+use Rattle.rota_items.proofs.RuleSizes.{each-small}
 use Rattle.rota_items.proofs.SlackBound.{rows-below, variables-below}
 use Rattle.rota_items.proofs.SmallSums.{spread}
 use Rattle.rota_items.proofs.SoftRules.AllItems.{in-cell_terms}
-use Rattle.rota_items.proofs.SoftRules.EachRule.{cell_terms-are, each-item, sound-rule, sum_by-soft_items}
+use Rattle.rota_items.proofs.SoftRules.EachRule.{cell_terms-are, each-item, sound-rule}
 use Rattle.rota_items.proofs.SoftRules.ShiftOffRequests.{value_of-request_terms}
 use Rattle.rota_items.proofs.SoftRules.Sound.{IsItemSound}
-use Rattle.rota_items.proofs.SoundTerms.{AreSound, spread-sound}
+use Rattle.rota_items.proofs.SoundTerms.{spread-sound}
+use Rattle.rota_items.proofs.TermsHold.{OnTerms}
 use Rattle.rota_items.proofs.UnitTerms.{OnCoefficients}
 use Rattle.rota_items.proofs.Weights.{IsPositive, coefficients-positive}
 
 -- ---- how large the rows are
 
-few-terms : (week : Week) (terms : List (Term Cell)) → AreSound week terms → spread (numbered_terms week terms) ≤ unit_number week
-few-terms week terms sound =
-    omega (
-      arith,
-      sum_by-map (λ (term : Term ℕ). nat_abs term.0) (λ (term : Term Cell). (term.0, cell_number week term.1)) terms,
-      spread-sound week terms sound,
-    )
+spread-numbered : (week : Week) (terms : List (Term Cell)) → spread (numbered_terms week terms) ≡ spread terms
+spread-numbered week terms =
+    sum_by-map (λ (term : Term ℕ). nat_abs term.0) (λ (term : Term Cell). (term.0, cell_number week term.1)) terms
+
+abbrev FitsIn : Item Cell → Type 0
+FitsIn item = spread item.terms + item.slacks + positive_part item.degree < 2 ^ 62
 
 spread-positive : (terms : List (Term ℕ)) → OnCoefficients IsPositive terms → value_of (λ v. true) terms ≡ pos (spread terms)
 spread-positive [] all = refl
@@ -119,7 +122,7 @@ module _ (week : Week) (subject : Subject) where
   pub charges-are : (rule : Rule) → charges rule ≡ of_rule (λ own. weighted_shortages roster (items_of_rule week own)) rule
   charges-are rule =
       sum_by-map (charge_of week subject rule) (numbered (cell_number week)) (soft_items week) ∙
-      sum_by-soft_items week (λ item. charge_of week subject rule (numbered (cell_number week) item)) soft_rules ∙
+      sum_by-flat_map (λ item. charge_of week subject rule (numbered (cell_number week) item)) (items_of_rule week) soft_rules ∙
       sum_by-each-same _ _ of_own soft_rules
     where
       of_own : (own : Rule) →
@@ -158,27 +161,23 @@ module _ (week : Week) (subject : Subject) (limits : IsWithinLimits week) where
           rule = rule;
           part_is = sound.part_is;
           before = terms-below week row.terms sound.terms.in_week;
-          small = omega (arith, few-terms week row.terms sound.terms, variables-below week limits);
+          small = omega (arith, spread-numbered week row.terms, spread-sound week row.terms sound.terms, variables-below week limits);
         })),
   )
 
   pub items-fit : AllByRecursion (IsFit week subject) (numbered_items week)
   items-fit =
       all-map (IsFit week subject) (numbered (cell_number week)) (soft_items week)
-      (each-item week (λ item. IsFit week subject (numbered (cell_number week) item)) (λ rule item _ sound. record {
-        before = terms-below week item.terms sound.terms.in_week;
-        small = omega (
-          arith,
-          few-terms week item.terms sound.terms,
-          variables-below week limits,
-          (sound.small limits).slacks,
-          (sound.small limits).degree,
-        );
-      }))
+      (all-both (λ item. OnTerms (InWeek week) item.terms) FitsIn (λ item. IsFit week subject (numbered (cell_number week) item))
+      (λ item in_week fits. record {
+        before = terms-below week item.terms in_week;
+        small = omega (arith, spread-numbered week item.terms, fits);
+      }) (soft_items week) (each-item week (λ item. OnTerms (InWeek week) item.terms) (λ _ _ _ sound. sound.terms.in_week))
+      (each-small week limits FitsIn (λ rule item small. omega (arith, small.terms, small.slacks, slacks-few rule, small.degree))))
 
   -- ---- the judge finds what stands there
 
-  pub few : given week subject + paid week subject ≤ 700000000000
+  pub few : given week subject + paid week subject ≤ most_objective
   few = omega (arith, ints, objective-judged week subject, objective-below week (assignment_in week subject) limits)
 
   abbrev pub ComesTo : Tally → List (LinearRow ℕ) → ℕ → (Rule → ℕ) → Type 0

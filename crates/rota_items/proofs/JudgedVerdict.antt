@@ -12,10 +12,8 @@ use Rattle.rota_items.proofs.InstanceLimits.{instance-within_limits}
 use Rattle.rota_items.proofs.JudgedModel.{charges-are, few, given, model-comes, objective-judged, of_rule}
 use Rattle.rota_items.proofs.JudgedRows.{cost-raised, costs_of, or_else-none, same}
 use Rattle.rota_items.proofs.JudgedTerms.{counts-before}
-use Rattle.rota_items.proofs.PenaltyBound.{shortages-few}
-use Rattle.rota_items.proofs.SoftRules.EachRule.{sound-rule}
+use Rattle.rota_items.proofs.PenaltyBound.{constant_of_rule-few, shortages-few}
 use Rattle.rota_items.proofs.SoftRules.ShiftOffRequests.{value_of-request_terms}
-use Rattle.rota_items.proofs.SoftRules.Sound.{most_constant-few, most_items-few}
 
 abbrev pub model_events : InstanceTables → List Event
 model_events instance =
@@ -43,9 +41,6 @@ is-capped : (n : ℕ) → n ≤ greatest_sum → n ≡ capped n
 is-capped n few = omega arith
 
 module _ (week : Week) (within : IsWithinLimits week) where
-  constant-within : (rule : Rule) → constant_of_rule week rule ≤ 400000000
-  constant-within rule = omega (arith, (sound-rule week rule).constant_most within, most_constant-few rule)
-
   constants-raised : (rules : List Rule) (f at_last : Rule → ℕ) →
       ((rule : Rule) → f rule + sum_by (λ own. same own rule * constant_of_rule week own) rules ≡ at_last rule) →
       with_constants week rules (costs_of f) ≡ costs_of at_last
@@ -53,7 +48,7 @@ module _ (week : Week) (within : IsWithinLimits week) where
       let are : (rule : Rule) → f rule ≡ at_last rule = λ rule. omega (arith, sums rule) in λ i. costs_of (λ rule. are rule i)
   constants-raised (own ∷ rules) f at_last sums =
       ap (with_constants week rules)
-      (ap (λ n. with_cost own n (costs_of f)) (is-capped (constant_of_rule week own) (omega (arith, constant-within own))) ∙
+      (ap (λ n. with_cost own n (costs_of f)) (is-capped (constant_of_rule week own) (omega (arith, constant_of_rule-few week within own))) ∙
       cost-raised own (constant_of_rule week own) f) ∙
       constants-raised rules (λ rule. f rule + same own rule * constant_of_rule week own) at_last
       (λ rule. omega (arith, sums rule, sum_by-cons (λ other. same other rule * constant_of_rule week other) own rules))
@@ -83,9 +78,8 @@ module _ (week : Week) (within : IsWithinLimits week) (subject : Subject) where
         once (λ own. weighted_shortages (roster_in week subject) (items_of_rule week own)),
         once (constant_of_rule week),
         cells-charged rule,
-        shortages-few week (roster_in week subject) rule within,
-        most_items-few rule,
-        constant-within week within rule,
+        shortages-few week within (roster_in week subject) rule,
+        constant_of_rule-few week within rule,
       )
 
   charges-last : (rules : List Rule) → AllByRecursion StandsOnce rules →

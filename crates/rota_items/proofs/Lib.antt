@@ -20,6 +20,7 @@ pub mod HeldModel
 pub mod InstanceLimits
 pub mod ItemEventLists
 pub mod ItemLaw
+pub mod ItemSizes
 pub mod JudgedItems
 pub mod JudgedModel
 pub mod JudgedRows
@@ -37,6 +38,7 @@ pub mod ModelWords
 pub mod Numbers
 pub mod NurseItemLists
 pub mod NurseRuns
+pub mod ObjectiveBound
 pub mod ObjectiveTaking
 pub mod PatternItems
 pub mod PenaltyBound
@@ -44,6 +46,7 @@ pub mod RisingCells
 pub mod RisingTerms
 pub mod RunItemLists
 pub mod RunLaw
+pub mod RuleSizes
 pub mod Satisfied
 pub mod SlackBound
 pub mod SlackTerms

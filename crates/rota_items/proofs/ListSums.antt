@@ -1,8 +1,8 @@
 -- Sums and tests over lists.
 use Rattle.std.proofs.Common.{◌≡◌, ℕ, ◌+◌, Bool, true, false, cond, List, [], ◌∷◌, map, refl, ap, arith, zero-add}
-use Rattle.std.specs.List.{sum_by, AllByRecursion}
+use Rattle.std.specs.List.{flat_map, sum_by, AllByRecursion}
 use Rattle.std.proofs.lemmas.List.Folds.{fold-map}
-use Rattle.std.proofs.lemmas.List.Sums.{sum_by-cons}
+use Rattle.std.proofs.lemmas.List.Sums.{sum_by-append, sum_by-cons}
 use Rattle.rota_core.specs.Lists.{only_if}
 
 pub sum_by-map : {X Y : Type 0} (f : Y → ℕ) (g : X → Y) (xs : List X) →
@@ -24,3 +24,9 @@ pub sum_by-only_if : {X : Type 0} (f : X → ℕ) (test : Bool) (x : X) →
 unfolding only_if
 sum_by-only_if f true x = zero-add (f x)
 sum_by-only_if f false x = refl
+
+pub sum_by-flat_map : {X Y : Type 0} (f : Y → ℕ) (g : X → List Y) (xs : List X) →
+    sum_by f (flat_map g xs) ≡ sum_by (λ x. sum_by f (g x)) xs
+sum_by-flat_map f g [] = refl
+sum_by-flat_map f g (x ∷ xs) =
+    omega (arith, sum_by-append f (g x) (flat_map g xs), sum_by-cons (λ x. sum_by f (g x)) x xs, sum_by-flat_map f g xs)

@@ -1,14 +1,12 @@
--- What the items of a nurse's runs charge on a roster with one cell a day, and how much runs cost.
-use Rattle.rota_items.proofs.LogicWords.{◌≡◌, ℕ, ◌-◌, ◌*◌, ◌<◌, ◌≤◌, Bool, not, ap, ◌∙◌, arith, list_any, count_by-le-length}
-use Rattle.std.proofs.lemmas.List.Sums.{sum_by-le-sum_by}
+-- What the items of a nurse's runs charge on a roster with one cell a day.
+use Rattle.rota_items.proofs.LogicWords.{◌≡◌, ℕ, ◌*◌, ◌<◌, Bool, not, ap, ◌∙◌, list_any}
 use Rattle.rota_items.proofs.ModelWords.{KeepsOneCell, is_off, is_on, works, Roster, Week, Rule, Cell, on_cells, work_cells, weighted_shortages}
 use Rattle.rota_core.specs.declared.values.Span.{Span}
 use Rattle.rota_items.proofs.CellCounts.{any-on, any-works, any-work_cells}
 use Rattle.rota_items.proofs.RunLaw.{weighted_shortages-run_items}
-use Rattle.rota_items.proofs.SumsBelow.{where_in}
 use Rattle.rota_items.proofs.SoftRules.NurseProperties.{of_nurse-on, one-at_work}
 use Rattle.rota_items.specs.RunItems.{Property, Present, Absent, Runs, run_items}
-use Rattle.rota_items.specs.Runs.{week_days, is_over, missing_on, ends_run, run_length_before, run_over, run_under, run_cost}
+use Rattle.rota_items.specs.Runs.{run_cost}
 
 abbrev runs_with : Rule → ℕ → Property Cell → ℕ → Span → Runs Cell
 runs_with rule weight property history limits =
@@ -44,13 +42,3 @@ module _ (week : Week) (roster : Roster) (one : KeepsOneCell week roster) (n : �
       weighted_shortages-run_items (runs_with rule weight (Absent (work_cells week n)) history limits) roster
       (one-at_work week n n_in roster one) ∙
       ap (cost_with weight history limits) none-works
-
-pub run_cost-le : (has : ℕ → Bool) (history : ℕ) (limits : Span) → limits.min ≤ 9999 → run_cost has history limits ≤ 70000
-unfolding run_over run_under
-run_cost-le has history limits small =
-    omega (
-      arith,
-      count_by-le-length (is_over has history limits.max) week_days,
-      sum_by-le-sum_by (missing_on has history limits.min) (λ _. 9999) week_days
-          (λ d. omega (arith, where_in (ends_run has history d) (limits.min - run_length_before has history d))),
-    )

@@ -6,9 +6,13 @@ use Rattle.std.proofs.lemmas.List.Sums.{sum_by-le-sum_by}
 use Rattle.std.proofs.lemmas.Nat.{mul-le}
 use Rattle.std.proofs.Math.Nat.{mul-le-mul}
 use Rattle.rota_items.proofs.HardRules.EachRule.{rows-are}
-use Rattle.rota_items.proofs.SoftRules.EachRule.{of_sound, sound-rule, sum_by-soft_items}
-use Rattle.rota_items.proofs.SoftRules.Sound.{IsItemSound, most_items, most_slacks}
+use Rattle.rota_items.proofs.ItemSizes.{IsItemSmall}
+use Rattle.rota_items.proofs.ListAll.{all-weaker}
+use Rattle.rota_items.proofs.ListSums.{sum_by-flat_map}
+use Rattle.rota_items.proofs.RuleSizes.{small-rule}
+use Rattle.rota_items.specs.Bounds.{most_cells, most_items, most_slacks}
 use Rattle.rota_items.specs.Variables.{cell_count}
+use Rattle.rota_items.specs.Limits.{most_nurses}
 
 pub length-item_rows : (first : ℕ) (items : List (Item ℕ)) → length (item_rows first items) ≡ length items
 length-item_rows first [] = refl
@@ -22,40 +26,41 @@ module _ (week : Week) (limits : IsWithinLimits week) where
       omega (
         arith,
         length-flat_map (items_of_rule week) soft_rules,
-        sum_by-le-sum_by (λ rule. length (items_of_rule week rule)) most_items soft_rules (λ rule. (sound-rule week rule).few limits),
+        sum_by-le-sum_by (λ rule. length (items_of_rule week rule)) most_items soft_rules (λ rule. (small-rule week limits rule).few),
       )
 
   module _ (f : Item Cell → ℕ) (most : Rule → ℕ) where
     -- numbers of items that are no greater than the most sum to no more than so many times the most
-    pub items-le : (rule : Rule) → ((item : Item Cell) → IsItemSound week rule item → f item ≤ most rule) →
+    pub items-le : (rule : Rule) → ((item : Item Cell) → IsItemSmall rule item → f item ≤ most rule) →
         sum_by f (items_of_rule week rule) ≤ most_items rule * most rule
     items-le rule each =
         let items : List (Item Cell) = items_of_rule week rule in
+        let small = small-rule week limits rule in
         omega (
           arith,
           sum_by-le f (most rule) items
-              (All-from_recursion _ items (of_sound week (λ item. f item ≤ most rule) rule each items (sound-rule week rule).items)),
-          mul-le (length items) (most rule) (most_items rule) (most rule) ((sound-rule week rule).few limits) (omega arith),
+              (All-from_recursion _ items (all-weaker (IsItemSmall rule) (λ item. f item ≤ most rule) each items small.items)),
+          mul-le (length items) (most rule) (most_items rule) (most rule) small.few (omega arith),
         )
 
-    pub soft_items-le : ((rule : Rule) (item : Item Cell) → IsItemSound week rule item → f item ≤ most rule) →
+    pub soft_items-le : ((rule : Rule) (item : Item Cell) → IsItemSmall rule item → f item ≤ most rule) →
         sum_by f (soft_items week) ≤ sum_by (λ rule. most_items rule * most rule) soft_rules
     soft_items-le each =
         omega (
           arith,
-          sum_by-soft_items week f soft_rules,
+          sum_by-flat_map f (items_of_rule week) soft_rules,
           sum_by-le-sum_by (λ rule. sum_by f (items_of_rule week rule)) (λ rule. most_items rule * most rule) soft_rules
               (λ rule. items-le rule (each rule)),
         )
 
   slacks-few : slack_count (soft_items week) ≤ sum_by (λ rule. most_items rule * most_slacks rule) soft_rules
-  slacks-few = soft_items-le (λ item. item.slacks) most_slacks (λ rule item sound. (sound.small limits).slacks_of_rule)
+  slacks-few = soft_items-le (λ item. item.slacks) most_slacks (λ rule item small. small.slacks)
 
   -- ---- variables
 
-  cells-few : cell_count week ≤ 1792000
+  cells-few : cell_count week ≤ most_cells
   cells-few =
-      let days : 7 * week.nurses ≤ 7000 = omega (arith, limits.nurses) in
+      let days : 7 * week.nurses ≤ 7 * most_nurses = omega (arith, limits.nurses) in
       omega (arith, mul-le-mul (mul-le-mul days limits.shifts) limits.skills)
 
   -- the number after that of the last slack

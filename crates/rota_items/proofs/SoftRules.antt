@@ -4,7 +4,6 @@ pub mod CompleteWeekends
 pub mod ConsecutiveAssignments
 pub mod ConsecutiveDaysOff
 pub mod EachRule
-pub mod GreatestTotals
 pub mod NurseProperties
 pub mod OptimalCoverage
 pub mod ShiftOffRequests

@@ -1,13 +1,14 @@
 -- The coefficients of the objective are positive and small.
-use Rattle.rota_items.proofs.LogicWords.{◌≡◌, ℕ, ◌+◌, ◌^◌, ◌<◌, Bool, true, false, cond, List, [], ◌∷◌, map, arith, ℤ, pos, ◌+ℤ◌, ◌≤ℤ◌, ◌<ℤ◌, nat_lt, All, AllByRecursion, ints, All-from_recursion, AllByRecursion-append, AllByRecursion-only_if}
-use Rattle.rota_items.proofs.ModelWords.{Week, Rule, Cell, cell_number, first_slack, Item, numbered, IsWithinLimits, Term, times, value_of, objective_value, constant_terms, slack_variables, slack_weights, cell_terms, constant, soft_items, numbered_terms, numbered_items, objective_terms, model_of}
+use Rattle.rota_items.proofs.LogicWords.{◌≡◌, ℕ, ◌+◌, ◌<◌, Bool, true, false, cond, List, [], ◌∷◌, map, arith, ℤ, pos, ◌+ℤ◌, ◌≤ℤ◌, ◌<ℤ◌, nat_lt, All, AllByRecursion, ints, All-from_recursion, AllByRecursion-append, AllByRecursion-only_if}
+use Rattle.rota_items.proofs.ModelWords.{Week, Cell, cell_number, first_slack, Item, numbered, IsWithinLimits, Term, times, value_of, objective_value, constant_terms, slack_variables, slack_weights, cell_terms, constant, soft_items, numbered_terms, numbered_items, objective_terms, model_of}
 use Rattle.rota_items.proofs.ListAll.{all-weaker}
 use Rattle.rota_items.proofs.PenaltyBound.{constant-few}
+use Rattle.rota_items.proofs.RuleSizes.{each-small}
 use Rattle.rota_items.proofs.SoftRules.AllItems.{sound-cell_terms}
 use Rattle.rota_items.proofs.SoftRules.EachRule.{each-item}
 use Rattle.rota_items.proofs.SoftRules.ShiftOffRequests.{IsTermSound}
-use Rattle.rota_items.proofs.SoftRules.Sound.{IsItemSound}
 use Rattle.rota_items.proofs.UnitTerms.{OnCoefficients, on-times, on-numbered}
+use Rattle.rota_items.specs.Bounds.{most_coefficient}
 
 some_of_test : (n : ℕ) → nat_lt 0 n ≡ true → 0 < n
 some_of_test n test = grind arith
@@ -28,14 +29,14 @@ module _ (week : Week) (P : ℤ → Type 0) where
 
   -- P holds of each coefficient of the objective
   on-objective : ((term : Term Cell) → IsTermSound week term → P term.0) → (0 < constant week → P (pos (constant week))) →
-      ((rule : Rule) (item : Item Cell) → IsItemSound week rule item → OnWeight item) → OnCoefficients P (objective_terms week)
-  on-objective of_term of_constant of_item =
+      AllByRecursion OnWeight (soft_items week) → OnCoefficients P (objective_terms week)
+  on-objective of_term of_constant of_items =
       AllByRecursion-append (λ (term : Term ℕ). P term.0) (numbered_terms week (cell_terms week)) _
       (on-numbered P (cell_number week) (cell_terms week) (all-weaker (IsTermSound week) (λ (term : Term Cell). P term.0) of_term (cell_terms week) (sound-cell_terms week)))
       (AllByRecursion-append (λ (term : Term ℕ). P term.0) (constant_terms week)
       (slack_weights (first_slack week) (numbered_items week))
       (AllByRecursion-only_if (λ (term : Term ℕ). P term.0) _ _ (λ test. of_constant (some_of_test (constant week) test)))
-      (on-slack_weights (first_slack week) (soft_items week) (each-item week OnWeight (λ rule item _. of_item rule item))))
+      (on-slack_weights (first_slack week) (soft_items week) of_items))
 
 -- ---- positive
 
@@ -45,7 +46,7 @@ IsPositive coefficient = pos 0 <ℤ coefficient
 pub coefficients-positive : (week : Week) → OnCoefficients IsPositive (objective_terms week)
 coefficients-positive week =
     on-objective week IsPositive (λ term sound. sound.positive) (λ some. omega (arith, ints, some))
-    (λ rule item sound. omega (arith, ints, sound.weighs))
+    (each-item week (OnWeight week IsPositive) (λ rule item _ sound. omega (arith, ints, sound.weighs)))
 
 pub objective-positive : (week : Week) → All (λ (term : Term ℕ). pos 0 <ℤ term.0) (model_of week).objective
 objective-positive week =
@@ -68,10 +69,10 @@ objective_value-positive week assignment = value_of-positive assignment (objecti
 -- ---- small
 
 abbrev IsSmall : ℤ → Type 0
-IsSmall coefficient = coefficient <ℤ pos (2 ^ 30)
+IsSmall coefficient = coefficient ≤ℤ pos most_coefficient
 
-pub objective-small : (week : Week) → IsWithinLimits week → All (λ (term : Term ℕ). term.0 <ℤ pos (2 ^ 30)) (model_of week).objective
+pub objective-small : (week : Week) → IsWithinLimits week → All (λ (term : Term ℕ). IsSmall term.0) (model_of week).objective
 objective-small week limits =
-    All-from_recursion (λ (term : Term ℕ). term.0 <ℤ pos (2 ^ 30)) (objective_terms week)
-    (on-objective week IsSmall (λ term sound. sound.small limits) (λ _. omega (arith, ints, constant-few week limits))
-    (λ rule item sound. omega (arith, ints, (sound.small limits).weight)))
+    All-from_recursion (λ (term : Term ℕ). IsSmall term.0) (objective_terms week)
+    (on-objective week IsSmall (λ term sound. omega (arith, ints, sound.small limits)) (λ _. omega (arith, ints, constant-few week limits))
+    (each-small week limits (OnWeight week IsSmall) (λ rule item small. omega (arith, ints, small.weight))))

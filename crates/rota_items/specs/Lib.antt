@@ -1,3 +1,4 @@
+pub mod Bounds
 pub mod CellEvents
 pub mod Cells
 pub mod Charges

@@ -2,16 +2,32 @@
 use Rattle.std.specs.Prelude.{ℕ, ◌≤◌}
 use Rattle.rota_core.specs.Week.{Week}
 
+abbrev pub most_nurses : ℕ
+most_nurses = 1000
+
+abbrev pub most_shifts : ℕ
+most_shifts = 16
+
+abbrev pub most_skills : ℕ
+most_skills = 16
+
+abbrev pub most_weeks : ℕ
+most_weeks = 52
+
+-- every other number of the files
+abbrev pub most_number : ℕ
+most_number = 9999
+
 -- the numbers that the penalty grows with are small
 pub record IsWithinLimits (week : Week) : Type 0 where
-  pub nurses : week.nurses ≤ 1000
-  pub shifts : week.shifts ≤ 16
-  pub skills : week.skills ≤ 16
-  pub optimal : (d s k : ℕ) → (week.demand d s k).optimal ≤ 9999
-  pub limits : (s : ℕ) → (week.limits s).min ≤ 9999
-  pub work_limits : (n : ℕ) → (week.contract n).work.min ≤ 9999
-  pub off_limits : (n : ℕ) → (week.contract n).off.min ≤ 9999
-  pub totals : (n : ℕ) → (week.contract n).total.min ≤ 9999
-  pub assignments : (n : ℕ) → (week.past n).assignments ≤ 9999
-  pub weekends : (n : ℕ) → (week.past n).weekends ≤ 9999
-  pub requests : (n d s : ℕ) → week.requests n d s ≤ 9999
+  pub nurses : week.nurses ≤ most_nurses
+  pub shifts : week.shifts ≤ most_shifts
+  pub skills : week.skills ≤ most_skills
+  pub optimal : (d s k : ℕ) → (week.demand d s k).optimal ≤ most_number
+  pub limits : (s : ℕ) → (week.limits s).min ≤ most_number
+  pub work_limits : (n : ℕ) → (week.contract n).work.min ≤ most_number
+  pub off_limits : (n : ℕ) → (week.contract n).off.min ≤ most_number
+  pub totals : (n : ℕ) → (week.contract n).total.min ≤ most_number
+  pub assignments : (n : ℕ) → (week.past n).assignments ≤ most_number
+  pub weekends : (n : ℕ) → (week.past n).weekends ≤ most_number
+  pub requests : (n d s : ℕ) → week.requests n d s ≤ most_number

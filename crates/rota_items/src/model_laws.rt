@@ -6,6 +6,7 @@ ghost use Rattle.rota_core.specs.Week.{Week};
 ghost use Rattle.rota_core.specs.Roster.{Has, Roster, InWeek};
 ghost use Rattle.rota_core.specs.RosterCells.{cells_of};
 ghost use Rattle.rota_core.specs.HardRules.{KeepsHardRules};
+ghost use Rattle.rota_items.specs.Bounds.{most_objective};
 ghost use Rattle.rota_items.specs.Linear.{Satisfies, SatisfiesModel, objective_value};
 ghost use Rattle.rota_items.specs.Variables.{cell_number, cell_of_number, unit_number, roster_of};
 ghost use Rattle.rota_items.specs.Penalty.{penalty};
@@ -97,11 +98,11 @@ pub fn objective_has_rising_terms()
     ensures { (week : Week) → RisesFrom 1 (model_of week).objective }
 {}
 
-/// Within the limits the objective of any assignment is small.
+/// Within the limits the objective of any assignment is small: at INRC-II's weights below 2^40.
 pub fn objective_is_small()
     ensures { (week : Week) (assignment : ℕ → Bool) →
         IsWithinLimits week →
-        objective_value assignment (model_of week) ≤ℤ pos 700000000000 }
+        objective_value assignment (model_of week) ≤ℤ pos most_objective }
 {}
 
 /// A variable stands in some constraint exactly where it is one of the numbers from 1 to the number of

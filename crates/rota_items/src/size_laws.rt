@@ -2,6 +2,7 @@
 ghost use Rattle.std.specs.Prelude.{ℕ, ◌<◌, ◌^◌, pos, ◌<ℤ◌, ◌≤ℤ◌, Bool, All, length};
 ghost use Rattle.rota_core.specs.InstanceTables.{InstanceTables, IsInstance, week_of};
 ghost use Rattle.rota_core.specs.Week.{Week};
+ghost use Rattle.rota_items.specs.Bounds.{most_coefficient};
 ghost use Rattle.rota_items.specs.Coefficients.{HasUnitCoefficients};
 ghost use Rattle.rota_items.specs.Limits.{IsWithinLimits};
 ghost use Rattle.rota_items.specs.Linear.{Term, objective_value};
@@ -32,11 +33,12 @@ pub fn objective_coefficients_are_positive()
     ensures { (week : Week) → All (λ (term : Term ℕ). pos 0 <ℤ term.0) (model_of week).objective }
 {}
 
-/// Within the limits each coefficient of the objective has at most 10 digits.
+/// Within the limits each coefficient of the objective is small: at INRC-II's weights at most 699,930,000,
+/// which is below 2^30.
 pub fn objective_coefficients_are_small()
     ensures { (week : Week) →
         IsWithinLimits week →
-        All (λ (term : Term ℕ). term.0 <ℤ pos (2 ^ 30)) (model_of week).objective }
+        All (λ (term : Term ℕ). term.0 ≤ℤ pos most_coefficient) (model_of week).objective }
 {}
 
 /// No assignment has an objective below 0.

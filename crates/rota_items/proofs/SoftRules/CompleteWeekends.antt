@@ -4,7 +4,7 @@ use Rattle.rota_items.proofs.ModelWords.{Week}
 use Rattle.rota_core.specs.declared.rule.Rule.TheVariants.{S5}
 use Rattle.rota_items.proofs.AlikeRosters.{works-alike}
 use Rattle.rota_items.proofs.SoftRules.Sound.{IsNurseRuleSound}
-use Rattle.rota_items.proofs.SoftRules.WeekendItems.{length-items_where, sound-items_where, weighted-items_where}
+use Rattle.rota_items.proofs.SoftRules.WeekendItems.{sound-items_where, weighted-items_where}
 use Rattle.rota_items.specs.RunPatterns.{with_property, without_property}
 use Rattle.rota_items.specs.rules.CompleteWeekends.Cost.{complete_weekend_weight}
 
@@ -13,15 +13,8 @@ sound-complete_weekends week =
     let on_saturday = with_property 5 ∷ without_property 6 ∷ [] in
     record {
       items = λ n n_in.
-          sound-items_where week S5 complete_weekend_weight n on_saturday (refl, omega arith) n_in (omega arith) (omega arith)
-          (omega arith) (week.contract n).complete;
-      few = λ _ n.
-          omega (
-            arith,
-            length-items_where week S5 complete_weekend_weight n on_saturday (refl, omega arith) (week.contract n).complete,
-          );
-      constant_most = λ _ _. omega arith;
-      cost_most = λ _ roster n. grind arith;
+          sound-items_where week S5 complete_weekend_weight n on_saturday (refl, omega arith) n_in (omega arith)
+          (week.contract n).complete;
       charges = λ roster one n n_in.
           grind (
             arith,

@@ -1,13 +1,13 @@
 -- The items of the runs on shift types and of working days charge the cost of those runs.
-use Rattle.rota_items.proofs.LogicWords.{◌≡◌, ℕ, List, arith, refl, pos, ints, length-append, sum_by-append, AllByRecursion-append, AllByRecursion-each_below, length-each_below}
+use Rattle.rota_items.proofs.LogicWords.{◌≡◌, ℕ, List, arith, refl, pos, ints, sum_by-append, AllByRecursion-append, AllByRecursion-each_below}
 use Rattle.rota_items.proofs.ModelWords.{KeepsOneCell, is_on, works, Roster, Week, Cell, Item, charged}
 use Rattle.rota_core.specs.Lists.{each_below}
 use Rattle.rota_core.specs.declared.rule.Rule.TheVariants.{S2}
 use Rattle.rota_items.proofs.AlikeRosters.{on-alike, run_cost-alike, works-alike}
-use Rattle.rota_items.proofs.NurseRuns.{run_cost-le, weighted-on_runs, weighted-work_runs}
-use Rattle.rota_items.proofs.SoftRules.NurseProperties.{few-run_items, of_nurse-on, of_nurse-work, sound-run_items}
+use Rattle.rota_items.proofs.NurseRuns.{weighted-on_runs, weighted-work_runs}
+use Rattle.rota_items.proofs.SoftRules.NurseProperties.{of_nurse-on, of_nurse-work, sound-run_items}
 use Rattle.rota_items.proofs.SoftRules.Sound.{IsItemSound, IsNurseRuleSound, charges-nurses, weighted}
-use Rattle.rota_items.proofs.SumsBelow.{sum_by-each-times, sum_below-at_most, sum_below-same}
+use Rattle.rota_items.proofs.SumsBelow.{sum_by-each-times, sum_below-same}
 use Rattle.rota_items.specs.RunItems.{run_items}
 use Rattle.rota_items.specs.rules.ConsecutiveAssignments.Cost.{consecutive_assignment_cost, history_on, shift_run_cost, shift_run_weight, work_run_weight}
 use Rattle.rota_items.specs.rules.ConsecutiveAssignments.Items.{shift_runs, work_runs}
@@ -21,26 +21,8 @@ module _ (week : Week) where
     items = λ n n_in.
         AllByRecursion-append (IsItemSound week S2) (shift_items n) (run_items (work_runs week n))
         (AllByRecursion-each_below (IsItemSound week S2) week.shifts (λ s. run_items (shift_runs week n s)) (λ s s_in.
-        sound-run_items week n (shift_runs week n s) (of_nurse-on week n n_in s s_in) (omega arith) (omega arith) (omega arith)
-        (λ limits. limits.limits s)))
-        (sound-run_items week n (work_runs week n) (of_nurse-work week n n_in) (omega arith) (omega arith) (omega arith)
-        (λ limits. limits.work_limits n));
-    few = λ limits n.
-        omega (
-          arith,
-          limits.shifts,
-          length-append (shift_items n) (run_items (work_runs week n)),
-          length-each_below week.shifts 56 (λ s. run_items (shift_runs week n s)) (λ s _. few-run_items (shift_runs week n s)),
-          few-run_items (work_runs week n),
-        );
-    constant_most = λ _ _. omega arith;
-    cost_most = λ limits roster n.
-        omega (
-          arith,
-          sum_below-at_most week.shifts 16 70000 (shift_run_cost week roster n) limits.shifts (λ s.
-              run_cost-le (is_on week roster n s) (history_on week n s) (week.limits s) (limits.limits s)),
-          run_cost-le (works week roster n) (week.past n).work_run (week.contract n).work (limits.work_limits n),
-        );
+        sound-run_items week n (shift_runs week n s) (of_nurse-on week n n_in s s_in) (omega arith)))
+        (sound-run_items week n (work_runs week n) (of_nurse-work week n n_in) (omega arith));
     charges = λ roster one n n_in.
         omega (
           arith,

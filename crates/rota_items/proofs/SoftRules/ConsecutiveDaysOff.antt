@@ -3,24 +3,15 @@ use Rattle.rota_items.proofs.LogicWords.{◌≡◌, ◌*◌, arith, ap, not, pos
 use Rattle.rota_items.proofs.ModelWords.{KeepsOneCell, is_off, Roster, Week, charged}
 use Rattle.rota_core.specs.declared.rule.Rule.TheVariants.{S3}
 use Rattle.rota_items.proofs.AlikeRosters.{run_cost-alike, works-alike}
-use Rattle.rota_items.proofs.NurseRuns.{run_cost-le, weighted-off_runs}
-use Rattle.rota_items.proofs.SoftRules.NurseProperties.{few-run_items, of_nurse-work, sound-run_items}
+use Rattle.rota_items.proofs.NurseRuns.{weighted-off_runs}
+use Rattle.rota_items.proofs.SoftRules.NurseProperties.{of_nurse-work, sound-run_items}
 use Rattle.rota_items.proofs.SoftRules.Sound.{IsNurseRuleSound, charges-nurses}
 use Rattle.rota_items.specs.rules.ConsecutiveDaysOff.Cost.{consecutive_day_off_cost, off_run_weight}
 use Rattle.rota_items.specs.rules.ConsecutiveDaysOff.Items.{off_runs}
 
 pub sound-consecutive_days_off : (week : Week) → IsNurseRuleSound week S3
 sound-consecutive_days_off week = record {
-  items = λ n n_in.
-      sound-run_items week n (off_runs week n) (of_nurse-work week n n_in) (omega arith) (omega arith) (omega arith)
-      (λ limits. limits.off_limits n);
-  few = λ _ n. few-run_items (off_runs week n);
-  constant_most = λ _ _. omega arith;
-  cost_most = λ limits roster n.
-      omega (
-        arith,
-        run_cost-le (is_off week roster n) (week.past n).off_run (week.contract n).off (limits.off_limits n),
-      );
+  items = λ n n_in. sound-run_items week n (off_runs week n) (of_nurse-work week n n_in) (omega arith);
   charges = λ roster one n n_in.
       omega (
         arith,

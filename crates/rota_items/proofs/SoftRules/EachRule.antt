@@ -1,5 +1,5 @@
 -- What is shown of each soft rule holds of all items.
-use Rattle.rota_items.proofs.LogicWords.{◌≡◌, ℕ, ◌+◌, true, List, [], ◌∷◌, refl, arith, pos, ◌+ℤ◌, AllByRecursion, flat_map, sum_by, ints, sum_by-append, sum_by-cons, AllByRecursion-append, AllByRecursion-each_below, length-each_below}
+use Rattle.rota_items.proofs.LogicWords.{◌≡◌, ◌+◌, true, List, [], ◌∷◌, refl, arith, pos, ◌+ℤ◌, AllByRecursion, flat_map, sum_by, ints, sum_by-append, sum_by-cons, AllByRecursion-append, AllByRecursion-each_below}
 use Rattle.rota_items.proofs.ModelWords.{KeepsCompetitionRules, Roster, Week, Rule, Cell, Item, weighted_shortages, value_of, soft_rules, cell_terms, cell_terms_of_rule, constant, constant_of_rule, is_soft, items_of_rule, penalty, rule_cost, soft_items}
 use Rattle.std.specs.List.{list_all}
 use Rattle.std.proofs.lemmas.Bool.{and_parts}
@@ -14,12 +14,11 @@ use Rattle.rota_items.proofs.SoftRules.ConsecutiveAssignments.{sound-consecutive
 use Rattle.rota_items.proofs.SoftRules.ConsecutiveDaysOff.{sound-consecutive_days_off}
 use Rattle.rota_items.proofs.SoftRules.OptimalCoverage.{sound-optimal_coverage}
 use Rattle.rota_items.proofs.SoftRules.ShiftOffRequests.{sound-shift_off_requests}
-use Rattle.rota_items.proofs.SoftRules.Sound.{IsItemSound, IsNurseRuleSound, IsSoftRuleSound, charges-nurses, most_constant_of_nurse, most_of_nurse, weighted}
+use Rattle.rota_items.proofs.SoftRules.Sound.{IsItemSound, IsNurseRuleSound, IsSoftRuleSound, charges-nurses, weighted}
 use Rattle.rota_items.proofs.SoftRules.TotalAssignments.{sound-total_assignments}
 use Rattle.rota_items.proofs.SoftRules.WorkedWeekends.{sound-worked_weekends}
-use Rattle.rota_items.proofs.SumsBelow.{sum_below-at_most, sum_below-same}
-use Rattle.rota_items.specs.Charges.{nurse_constant, nurse_items}
-use Rattle.rota_items.specs.Penalty.{nurse_cost}
+use Rattle.rota_items.proofs.SumsBelow.{sum_below-same}
+use Rattle.rota_items.specs.Charges.{nurse_items}
 use Rattle.rota_items.specs.rules.ShiftOffRequests.Terms.{request_terms}
 
 module _ (week : Week) where
@@ -33,9 +32,6 @@ module _ (week : Week) where
   sound-nurse_rule S7 = sound-worked_weekends week
   sound-nurse_rule rule = record {
     items = λ _ _. tt;
-    few = λ _ _. omega arith;
-    constant_most = λ _ _. omega arith;
-    cost_most = λ _ _ _. omega arith;
     charges = λ _ _ _ _. refl;
     alike = λ _ _ _ _ _. refl;
   }
@@ -45,20 +41,6 @@ module _ (week : Week) where
   sound-rule S4 = sound-shift_off_requests week
   sound-rule rule = let sound = sound-nurse_rule rule in record {
     items = AllByRecursion-each_below (IsItemSound week rule) week.nurses (nurse_items week rule) sound.items;
-    few = λ limits.
-        omega (
-          arith,
-          limits.nurses,
-          length-each_below week.nurses (most_of_nurse rule) (nurse_items week rule) (λ n _. sound.few limits n),
-        );
-    constant_most = λ limits.
-        sum_below-at_most week.nurses 1000 (most_constant_of_nurse rule) (nurse_constant week rule) limits.nurses
-        (sound.constant_most limits);
-    cost_most = λ limits roster.
-        omega (
-          arith,
-          sum_below-at_most week.nurses 1000 200000000 (nurse_cost week roster rule) limits.nurses (sound.cost_most limits roster),
-        );
     charges = λ roster keeps. omega (arith, ints, charges-nurses week rule sound roster keeps.one_cell);
     alike = λ one other same. sum_below-same week.nurses _ _ (sound.alike one other same);
   }
@@ -86,17 +68,6 @@ module _ (week : Week) where
         soft_rules refl
 
   -- ---- sums
-
-  pub sum_by-soft_items : (f : Item Cell → ℕ) (rules : List Rule) →
-      sum_by f (flat_map (items_of_rule week) rules) ≡ sum_by (λ rule. sum_by f (items_of_rule week rule)) rules
-  sum_by-soft_items f [] = refl
-  sum_by-soft_items f (rule ∷ rules) =
-      omega (
-        arith,
-        sum_by-append f (items_of_rule week rule) (flat_map (items_of_rule week) rules),
-        sum_by-cons (λ rule. sum_by f (items_of_rule week rule)) rule rules,
-        sum_by-soft_items f rules,
-      )
 
   -- what the items of these rules, their parts of the constant and their terms on cells charge is what the rules cost
   charges-of : (roster : Roster) → KeepsCompetitionRules week roster → (rules : List Rule) →

@@ -1,18 +1,19 @@
 -- The items of patterns of a nurse's days are sound.
-use Rattle.rota_items.proofs.LogicWords.{ℕ, ◌+◌, ◌*◌, ◌<◌, ◌≤◌, List, [], ◌∷◌, ◌++◌, length, refl, arith, pos, ◌-ℤ◌, count_by, AllByRecursion, ints, length-append, length-map}
-use Rattle.rota_items.proofs.ModelWords.{KeepsOneCell, Roster, InWeek, Week, Rule, Cell, cell_number, on_cells, work_cells, IsWithinLimits}
+use Rattle.rota_items.proofs.LogicWords.{ℕ, ◌+◌, ◌*◌, ◌<◌, ◌≤◌, List, ◌++◌, refl, arith, count_by, AllByRecursion}
+use Rattle.rota_items.proofs.ModelWords.{KeepsOneCell, Roster, InWeek, Week, Rule, Cell, cell_number, on_cells, work_cells, Item}
 use Rattle.std.proofs.lemmas.Nat.{mul-le}
 use Rattle.rota_core.proofs.RisesWithin.{RisesWithin}
 use Rattle.rota_items.proofs.CellCounts.{cond-le, count-on_cells, count-work_cells, on_count-le, work_count-le}
 use Rattle.rota_items.proofs.CellsIn.{in-on_cells, in-work_cells}
 use Rattle.rota_items.proofs.DayLaw.{matches}
-use Rattle.rota_items.proofs.EachPattern.{IsRunPattern, each-pattern, few-run_patterns, on-pattern}
-use Rattle.rota_items.proofs.PatternItems.{positive_part_is, shortage-pattern_item}
+use Rattle.rota_items.proofs.EachPattern.{IsRunPattern, each-pattern, on-pattern}
+use Rattle.rota_items.proofs.ListAll.{all-map, all-weaker}
+use Rattle.rota_items.proofs.PatternItems.{shortage-pattern_item}
 use Rattle.rota_items.proofs.RisingCells.{day_start, on-keeps, rises-pattern, rises-work_cells}
-use Rattle.rota_items.proofs.SoftRules.Sound.{IsItemSound, most_slacks}
+use Rattle.rota_items.proofs.SoftRules.Sound.{IsItemSound}
 use Rattle.rota_items.proofs.TermsHold.{OnVariables, on-days}
 use Rattle.rota_items.proofs.UnitTerms.{units-days}
-use Rattle.rota_items.specs.RunItems.{AtMostOneADay, Property, Present, Runs, has_property, is_plain, pattern_item, pattern_items, run_items, variables_on}
+use Rattle.rota_items.specs.RunItems.{AtMostOneADay, Property, Present, Runs, has_property, pattern_item, run_items, variables_on}
 use Rattle.rota_items.specs.RunPatterns.{DaysFollow, Pattern, windows, patterns}
 
 -- the cells are those of a nurse's days, at most one a day true on a roster
@@ -44,10 +45,9 @@ module _ (week : Week) (n : ℕ) (n_in : n < week.nurses) where
   }
 
 module _ (week : Week) (rule : Rule) (weight n : ℕ) (property : Property Cell) (is : IsOfNurse week n (variables_on property)) where
-  pub sound-pattern : (pattern : Pattern) → DaysFollow pattern → 1 ≤ weight → weight ≤ 30 → 1 ≤ pattern.units →
-      (IsWithinLimits week → pattern.units ≤ 9999) → 1 ≤ most_slacks rule →
+  pub sound-pattern : (pattern : Pattern) → DaysFollow pattern → 1 ≤ weight → 1 ≤ pattern.units →
       IsItemSound week rule (pattern_item rule weight property pattern)
-  sound-pattern pattern follows weighs light some few slacks = record {
+  sound-pattern pattern follows weighs some = record {
     rule_is = refl;
     terms = record {
       in_week = on-days (InWeek week) property pattern.days
@@ -57,16 +57,6 @@ module _ (week : Week) (rule : Rule) (weight n : ℕ) (property : Property Cell)
     };
     weighs = omega (arith, mul-le 1 1 weight pattern.units weighs some);
     has_slack = omega arith;
-    small = λ limits.
-        let most : weight * pattern.units ≤ 30 * 9999 = mul-le weight pattern.units 30 9999 light (few limits) in record {
-          weight = omega (arith, most);
-          slacks = omega arith;
-          slacks_of_rule = slacks;
-          all_slacks = omega (arith, most);
-          degree =
-              (let plain = count_by (is_plain property) pattern.days in
-              omega (arith, positive_part_is (pos 1 -ℤ pos plain) 1 plain (omega (arith, ints))));
-        };
     enough = λ roster keeps.
         omega (
           arith,
@@ -77,26 +67,13 @@ module _ (week : Week) (rule : Rule) (weight n : ℕ) (property : Property Cell)
   }
 
 module _ (week : Week) (n : ℕ) (runs : Runs Cell) where
-  pub sound-run_items : IsOfNurse week n (variables_on runs.property) → 1 ≤ runs.weight → runs.weight ≤ 30 → 1 ≤ most_slacks runs.rule →
-      (IsWithinLimits week → runs.limits.min ≤ 9999) → AllByRecursion (IsItemSound week runs.rule) (run_items runs)
-  sound-run_items is weighs light slacks small =
-      each (windows runs.history runs.limits ++ patterns runs.history runs.limits) (each-pattern runs.history runs.limits)
-    where
-      each : (all : List Pattern) → AllByRecursion (IsRunPattern runs.limits) all →
-          AllByRecursion (IsItemSound week runs.rule) (pattern_items runs all)
-      each [] all = tt
-      each (p ∷ ps) all = (
-        sound-pattern week runs.rule runs.weight n runs.property is p all.0.follows weighs light all.0.some
-            (λ limits. omega (arith, all.0.few, small limits)) slacks,
-        each ps all.1,
-      )
-
-pub few-run_items : (runs : Runs Cell) → length (run_items runs) ≤ 56
-few-run_items runs =
-    omega (
-      arith,
-      length-map (windows runs.history runs.limits ++ patterns runs.history runs.limits)
-          (pattern_item runs.rule runs.weight runs.property),
-      length-append (windows runs.history runs.limits) (patterns runs.history runs.limits),
-      few-run_patterns runs.history runs.limits,
-    )
+  pub sound-run_items : IsOfNurse week n (variables_on runs.property) → 1 ≤ runs.weight →
+      AllByRecursion (IsItemSound week runs.rule) (run_items runs)
+  sound-run_items is weighs =
+      let item : Pattern → Item Cell = pattern_item runs.rule runs.weight runs.property in
+      let all : List Pattern = windows runs.history runs.limits ++ patterns runs.history runs.limits in
+      all-map (IsItemSound week runs.rule) item all
+      (all-weaker (IsRunPattern runs.limits) (λ pattern. IsItemSound week runs.rule (item pattern))
+      (λ pattern found.
+      sound-pattern week runs.rule runs.weight n runs.property is pattern found.follows weighs found.some)
+      all (each-pattern runs.history runs.limits))

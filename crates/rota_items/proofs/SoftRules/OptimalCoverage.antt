@@ -1,15 +1,15 @@
 -- The items of the optimal numbers charge the nurses who are missing.
-use Rattle.rota_items.proofs.LogicWords.{◌≡◌, ℕ, ◌-◌, ◌*◌, ◌<◌, ◌≤◌, Bool, true, length, refl, ap, ◌∙◌, arith, nat_lt, AllByRecursion, ltb-true, ints, AllByRecursion-each_below, AllByRecursion-only_if, length-each_below, length-only_if}
-use Rattle.rota_items.proofs.ModelWords.{nurses_at, KeepsMinimum, Roster, cell, Week, demand_cells, shortage, weighted_shortages, IsWithinLimits}
+use Rattle.rota_items.proofs.LogicWords.{◌≡◌, ℕ, ◌-◌, ◌*◌, ◌<◌, Bool, true, refl, ap, ◌∙◌, arith, nat_lt, AllByRecursion, ltb-true, ints, AllByRecursion-each_below, AllByRecursion-only_if}
+use Rattle.rota_items.proofs.ModelWords.{nurses_at, KeepsMinimum, Roster, cell, Week, demand_cells, shortage, weighted_shortages}
 use Rattle.rota_core.specs.declared.rule.Rule.TheVariants.{S1}
 use Rattle.rota_items.proofs.AlikeRosters.{nurses-alike}
 use Rattle.rota_items.proofs.ListSums.{sum_by-only_if}
 use Rattle.rota_items.proofs.SoftRules.Sound.{IsItemSound, IsSoftRuleSound, no_constant, weighted}
 use Rattle.rota_items.proofs.SoundTerms.{sound-demand}
-use Rattle.rota_items.proofs.SumsBelow.{sum_by-each-times, count_by-each, sum_below-at_most, sum_below-same}
+use Rattle.rota_items.proofs.SumsBelow.{sum_by-each-times, count_by-each, sum_below-same}
 use Rattle.rota_items.proofs.Values.{lacking}
 use Rattle.rota_items.specs.rules.OptimalCoverage.Cost.{optimum_cost, optimum_weight}
-use Rattle.rota_items.specs.rules.OptimalCoverage.Items.{optimum_item, optimum_items, optimum_items_at, optimum_items_of, optimum_items_on}
+use Rattle.rota_items.specs.rules.OptimalCoverage.Items.{optimum_item, optimum_items, optimum_items_at}
 
 module _ (week : Week) where
   abbrev is_wanted : ℕ → ℕ → ℕ → Bool
@@ -45,13 +45,6 @@ module _ (week : Week) where
     terms = sound-demand week d s k d_in s_in k_in;
     weighs = omega arith;
     has_slack = omega (arith, ltb-true (week.demand d s k).minimum (week.demand d s k).optimal wanted);
-    small = λ limits. record {
-      weight = omega arith;
-      slacks = omega (arith, limits.optimal d s k);
-      slacks_of_rule = omega (arith, limits.optimal d s k);
-      all_slacks = omega (arith, limits.optimal d s k);
-      degree = limits.optimal d s k;
-    };
     enough = λ roster keeps. omega (arith, shortage-optimum_item roster d s k, keeps.minimum d s k d_in s_in k_in);
   }
 
@@ -63,33 +56,9 @@ module _ (week : Week) where
       AllByRecursion-only_if (IsItemSound week S1) (is_wanted d s k) (optimum_item week d s k)
       (sound-item d s k d_in s_in k_in))))
 
-  few-items : IsWithinLimits week → length (optimum_items week) ≤ 7 * 256
-  few-items limits =
-      length-each_below 7 256 (optimum_items_of week) (λ d _.
-      omega (
-        arith,
-        limits.shifts,
-        length-each_below week.shifts 16 (optimum_items_on week d) (λ s _.
-            omega (
-              arith,
-              limits.skills,
-              length-each_below week.skills 1 (optimum_items_at week d s) (λ k _. length-only_if _ _),
-            )),
-      ))
-
   pub sound-optimal_coverage : IsSoftRuleSound week S1
   sound-optimal_coverage = record {
     items = sound-items;
-    few = λ limits. omega (arith, few-items limits);
-    constant_most = λ _. omega (arith, no_constant week S1 (λ _. refl));
-    cost_most = λ limits roster.
-        omega (
-          arith,
-          sum_below-at_most 7 7 2559744 _ (omega arith) (λ d.
-              sum_below-at_most week.shifts 16 159984 _ limits.shifts (λ s.
-              sum_below-at_most week.skills 16 9999 (λ k. (week.demand d s k).optimal - nurses_at week roster d s k) limits.skills
-              (λ k. omega (arith, limits.optimal d s k)))),
-        );
     charges = λ roster keeps.
         omega (arith, ints, weighted-optimum_items roster keeps.minimum, no_constant week S1 (λ _. refl));
     alike = λ one other same.

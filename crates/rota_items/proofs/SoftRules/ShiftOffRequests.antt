@@ -1,5 +1,5 @@
 -- The terms on cells charge the request rows that are not granted.
-use Rattle.rota_items.proofs.LogicWords.{◌≡◌, ℕ, zero, suc, ◌+◌, ◌*◌, ◌^◌, ◌<◌, ◌≤◌, Bool, true, false, cond, List, [], refl, ap, ◌∙◌, arith, pos, ◌+ℤ◌, ◌<ℤ◌, nat_lt, AllByRecursion, ltb-false, ltb-true, ints, AllByRecursion-each_below, AllByRecursion-only_if}
+use Rattle.rota_items.proofs.LogicWords.{◌≡◌, ℕ, zero, suc, ◌+◌, ◌*◌, ◌<◌, ◌≤◌, Bool, true, false, cond, List, [], refl, ap, ◌∙◌, arith, pos, ◌+ℤ◌, ◌<ℤ◌, ◌≤ℤ◌, nat_lt, AllByRecursion, ltb-false, ltb-true, ints, AllByRecursion-each_below, AllByRecursion-only_if}
 use Rattle.rota_items.proofs.ModelWords.{Roster, InWeek, cell, Week, Cell, IsWithinLimits, Term, value_of, items_of_rule}
 use Rattle.rota_core.proofs.RisesWithin.{RisesWithin, weaken, widen, rises-each, rises-only_if}
 use Rattle.rota_core.specs.Below.{sum_below}
@@ -11,7 +11,8 @@ use Rattle.rota_items.proofs.NurseItemLists.{none-each_below}
 use Rattle.rota_items.proofs.PatternItems.{value_of-append}
 use Rattle.rota_items.proofs.RisingCells.{at, day_start, shift_start, within, within-block}
 use Rattle.rota_items.proofs.SoftRules.Sound.{IsSoftRuleSound, no_constant}
-use Rattle.rota_items.proofs.SumsBelow.{sum_below-at_most, where_in, sum_below-same}
+use Rattle.rota_items.proofs.SumsBelow.{sum_below-same}
+use Rattle.rota_items.specs.Bounds.{most_weight}
 use Rattle.rota_items.specs.rules.ShiftOffRequests.Cost.{request_cost, request_weight}
 use Rattle.rota_items.specs.rules.ShiftOffRequests.Terms.{request_terms, request_terms_on}
 
@@ -61,24 +62,13 @@ module _ (week : Week) where
       value_of-each-times roster week.skills request_weight _ _ (λ k _.
       value_of-where_positive roster request_weight (week.requests n d s) (cell n d s k)))))
 
-  pub request_cost-le : (roster : Roster) → IsWithinLimits week → request_cost week roster ≤ 200000000000
-  request_cost-le roster limits =
-      omega (
-        arith,
-        sum_below-at_most week.nurses 1000 17918208 _ limits.nurses (λ n.
-            sum_below-at_most 7 7 2559744 _ (omega arith) (λ d.
-            sum_below-at_most week.shifts 16 159984 _ limits.shifts (λ s.
-            sum_below-at_most week.skills 16 9999 (λ k. cond (roster (cell n d s k)) (week.requests n d s) 0) limits.skills
-            (λ k. omega (arith, limits.requests n d s, where_in (roster (cell n d s k)) (week.requests n d s)))))),
-      )
-
   -- ---- the terms
 
   -- the term is at a cell of the week, with a coefficient that is positive and small
   pub record IsTermSound (term : Term Cell) : Type 0 where
     pub cell_in : InWeek week term.1
     pub positive : pos 0 <ℤ term.0
-    pub small : IsWithinLimits week → term.0 <ℤ pos (2 ^ 30)
+    pub small : IsWithinLimits week → term.0 ≤ℤ pos most_weight
 
   pub sound-request_terms : AllByRecursion IsTermSound (request_terms week)
   sound-request_terms =
@@ -134,9 +124,6 @@ module _ (week : Week) where
   pub sound-shift_off_requests : IsSoftRuleSound week S4
   sound-shift_off_requests = record {
     items = rw (← no_items) tt;
-    few = λ _. rw (← no_items) (omega arith);
-    constant_most = λ _. omega (arith, no_constant week S4 (λ _. refl));
-    cost_most = λ limits roster. request_cost-le roster limits;
     charges = λ roster keeps.
         rw (← no_items) (omega (arith, ints, value_of-request_terms roster, no_constant week S4 (λ _. refl)));
     alike = λ one other same.

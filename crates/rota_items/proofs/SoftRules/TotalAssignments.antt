@@ -1,17 +1,15 @@
 -- The items of the totals and their part of the constant charge the assignments outside the limits.
-use Rattle.rota_items.proofs.LogicWords.{◌≡◌, ℕ, ◌+◌, ◌-◌, ◌*◌, ◌<◌, ◌≤◌, Bool, ◌&&◌, true, cond, refl, ap, ◌∙◌, arith, min, ℤ, pos, negsuc, ◌-ℤ◌, nat_lt, count_by, ltb-true, ints, length-append, sum_by-append, AllByRecursion-append, AllByRecursion-only_if, length-only_if}
+use Rattle.rota_items.proofs.LogicWords.{◌≡◌, ℕ, ◌+◌, ◌-◌, ◌*◌, ◌<◌, ◌≤◌, Bool, ◌&&◌, true, cond, refl, ap, ◌∙◌, arith, min, ℤ, pos, negsuc, ◌-ℤ◌, nat_lt, count_by, ltb-true, sum_by-append, AllByRecursion-append, AllByRecursion-only_if}
 use Rattle.rota_items.proofs.ModelWords.{KeepsCompetitionRules, KeepsOneCell, Roster, InWeek, cell, Week, nurse_cells, work_cells, positive_part, shortage, times, value_of}
 use Rattle.std.proofs.lemmas.Bool.{and_parts}
 use Rattle.rota_core.specs.declared.rule.Rule.TheVariants.{S6}
 use Rattle.rota_items.proofs.AlikeRosters.{count_below-alike, same_cell}
-use Rattle.rota_items.proofs.CellCounts.{cond-le, work_count, work_count-le, count-work_cells}
+use Rattle.rota_items.proofs.CellCounts.{work_count, work_count-le, count-work_cells}
 use Rattle.rota_items.proofs.CellsIn.{in-nurse_cells}
 use Rattle.rota_items.proofs.ListSums.{sum_by-only_if}
-use Rattle.rota_items.proofs.PatternItems.{positive_part_is}
 use Rattle.rota_items.proofs.RisingCells.{day_start, first_day-from, last_day-le, rises-nurse_cells, rises-times, within-block}
-use Rattle.rota_items.proofs.SoftRules.GreatestTotals.{charged_excess-le}
 use Rattle.rota_items.proofs.SoftRules.Sound.{IsItemSound, IsNurseRuleSound, weighted}
-use Rattle.rota_items.proofs.SumsBelow.{sum_by-each-is, sum_below-at_most, sum_below-within, where_in, sum_below-same}
+use Rattle.rota_items.proofs.SumsBelow.{sum_by-each-is, sum_below-within, sum_below-same}
 use Rattle.rota_items.proofs.TermsHold.{on-times}
 use Rattle.rota_items.proofs.UnitTerms.{AreUnits, units-times, units-minus}
 use Rattle.rota_items.proofs.Values.{lacking, exceeding}
@@ -62,18 +60,11 @@ module _ (week : Week) where
           sum_below-within 7 1 (work_count week roster n) (λ d d_in. work_count-le week roster one n d n_in d_in),
         )
 
-    -- also of more cells than one a day
-    assignments-few : week.shifts ≤ 16 → week.skills ≤ 16 → assignments_of week roster n ≤ 1792
-    assignments-few shifts skills =
-        sum_below-at_most 7 7 256 _ (omega arith) (λ d.
-        sum_below-at_most week.shifts 16 16 _ shifts (λ s.
-        sum_below-at_most week.skills 16 1 (λ k. cond (roster (cell n d s k)) 1 0) skills (λ k. cond-le _)))
-
   -- ---- the items
 
   module _ (n : ℕ) (n_in : n < week.nurses) where
     sound-total : (coefficient degree : ℤ) (slacks : ℕ) → AreUnits (times coefficient (nurse_cells week n)) →
-        1 ≤ slacks → slacks ≤ 7 → positive_part degree ≤ 9999 →
+        1 ≤ slacks →
         ((roster : Roster) → KeepsCompetitionRules week roster →
         positive_part (degree -ℤ value_of roster (times coefficient (nurse_cells week n))) ≤ slacks) →
         IsItemSound week S6 (record {
@@ -83,7 +74,7 @@ module _ (week : Week) where
           terms = times coefficient (nurse_cells week n);
           degree = degree;
         })
-    sound-total coefficient degree slacks units some few small enough = record {
+    sound-total coefficient degree slacks units some enough = record {
       rule_is = refl;
       terms = record {
         in_week = on-times (InWeek week) coefficient (nurse_cells week n) (in-nurse_cells week n n_in);
@@ -94,13 +85,6 @@ module _ (week : Week) where
       };
       weighs = omega arith;
       has_slack = some;
-      small = λ _. record {
-        weight = omega arith;
-        slacks = omega (arith, few);
-        slacks_of_rule = few;
-        all_slacks = omega (arith, few);
-        degree = small;
-      };
       enough = enough;
     }
 
@@ -108,14 +92,13 @@ module _ (week : Week) where
     sound-least test =
         sound-total (pos 1) (pos (min (still_wanted week n) 7)) (min (still_wanted week n) 7) (units-times (nurse_cells week n))
         (omega (arith, ltb-true 0 (still_wanted week n) (and_parts (least_totals_count week) _ test).1))
-        (omega arith) (omega arith) (λ roster _. omega (arith, shortage-least roster n))
+        (λ roster _. omega (arith, shortage-least roster n))
 
     sound-greatest : is_limited n ≡ true → IsItemSound week S6 (greatest_total_item week n)
     sound-greatest test =
         let room = still_allowed week n in
         sound-total (negsuc 0) (pos 0 -ℤ pos room) (7 - room) (units-minus (nurse_cells week n))
-        (omega (arith, ltb-true room 7 (and_parts (greatest_totals_count week) _ test).1)) (omega arith)
-        (omega (arith, positive_part_is (pos 0 -ℤ pos room) 0 room (omega (arith, ints))))
+        (omega (arith, ltb-true room 7 (and_parts (greatest_totals_count week) _ test).1))
         (λ roster keeps. omega (arith, shortage-greatest roster n, assignments-le roster n keeps.one_cell n_in))
 
   pub sound-total_assignments : IsNurseRuleSound week S6
@@ -124,31 +107,6 @@ module _ (week : Week) where
         AllByRecursion-append (IsItemSound week S6) (least_totals_of week n) (greatest_totals_of week n)
         (AllByRecursion-only_if (IsItemSound week S6) (is_wanted n) (least_total_item week n) (sound-least n n_in))
         (AllByRecursion-only_if (IsItemSound week S6) (is_limited n) (greatest_total_item week n) (sound-greatest n n_in));
-    few = λ _ n.
-        omega (
-          arith,
-          length-append (least_totals_of week n) (greatest_totals_of week n),
-          length-only_if (is_wanted n) (least_total_item week n),
-          length-only_if (is_limited n) (greatest_total_item week n),
-        );
-    constant_most = λ limits n.
-        omega (
-          arith,
-          limits.totals n,
-          limits.assignments n,
-          where_in (least_totals_count week) (still_wanted week n - 7),
-          where_in (excess_before_counts week) ((week.past n).assignments - (week.contract n).total.max),
-        );
-    cost_most = λ limits roster n.
-        omega (
-          arith,
-          limits.totals n,
-          limits.assignments n,
-          assignments-few roster n limits.shifts limits.skills,
-          where_in (least_totals_count week)
-              ((week.contract n).total.min - ((week.past n).assignments + assignments_of week roster n)),
-          charged_excess-le week (week.contract n).total.max (week.past n).assignments (assignments_of week roster n),
-        );
     charges = λ roster one n n_in.
         omega (
           arith,

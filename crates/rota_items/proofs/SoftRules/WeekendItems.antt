@@ -6,7 +6,7 @@ use Rattle.rota_items.proofs.DayLaw.{matches}
 use Rattle.rota_items.proofs.EachPattern.{on-pattern}
 use Rattle.rota_items.proofs.PatternItems.{weighted-pattern_item}
 use Rattle.rota_items.proofs.SoftRules.NurseProperties.{of_nurse-work, one-at_work, sound-pattern}
-use Rattle.rota_items.proofs.SoftRules.Sound.{IsItemSound, most_slacks, weighted}
+use Rattle.rota_items.proofs.SoftRules.Sound.{IsItemSound, weighted}
 use Rattle.rota_items.specs.RunItems.{Present, variables_on}
 use Rattle.rota_items.specs.RunPatterns.{DaysFollow, Pattern, PatternDay, with_property, without_property}
 use Rattle.rota_items.specs.WeekendItems.{weekend_item, weekend_items}
@@ -30,20 +30,15 @@ module _ (week : Week) (rule : Rule) (weight n : ℕ) (on_saturday : List Patter
   abbrev items_where : Bool → List (Item Cell)
   items_where test = if test then weekend_items rule weight week n on_saturday else []
 
-  pub length-items_where : (test : Bool) → length (items_where test) ≤ 2
-  length-items_where true = omega arith
-  length-items_where false = omega arith
-
   module _ (n_in : n < week.nurses) where
-    pub sound-items_where : 1 ≤ weight → weight ≤ 30 → 1 ≤ most_slacks rule → (test : Bool) →
-        AllByRecursion (IsItemSound week rule) (items_where test)
-    sound-items_where weighs light slacks false = tt
-    sound-items_where weighs light slacks true = (sound on_saturday are, (sound only_sunday (refl, omega arith), tt))
+    pub sound-items_where : 1 ≤ weight → (test : Bool) → AllByRecursion (IsItemSound week rule) (items_where test)
+    sound-items_where weighs false = tt
+    sound-items_where weighs true = (sound on_saturday are, (sound only_sunday (refl, omega arith), tt))
       where
         sound : (days : List PatternDay) → AreOfWeekend days → IsItemSound week rule (weekend_item rule weight week n days)
         sound days are =
             sound-pattern week rule weight n (Present (work_cells week n)) (of_nurse-work week n n_in) (weekend_pattern days)
-            (weekend-follows days are) weighs light (omega arith) (λ _. omega arith) slacks
+            (weekend-follows days are) weighs (omega arith)
 
     module _ (roster : Roster) (one : KeepsOneCell week roster) where
       weighted-item : (days : List PatternDay) → AreOfWeekend days →

@@ -3,14 +3,11 @@ use Rattle.rota_items.proofs.LogicWords.{ℕ, Bool, [], ◌∷◌, refl, arith, 
 use Rattle.rota_items.proofs.ModelWords.{works, Week}
 use Rattle.rota_core.specs.declared.rule.Rule.TheVariants.{S7}
 use Rattle.rota_items.proofs.AlikeRosters.{works-alike}
-use Rattle.rota_items.proofs.CellCounts.{cond-le}
-use Rattle.rota_items.proofs.SoftRules.GreatestTotals.{charged_excess-le}
 use Rattle.rota_items.proofs.SoftRules.Sound.{IsNurseRuleSound}
-use Rattle.rota_items.proofs.SoftRules.WeekendItems.{length-items_where, sound-items_where, weighted-items_where}
-use Rattle.rota_items.proofs.SumsBelow.{where_in}
-use Rattle.rota_items.specs.CountedTotals.{excess_before_counts, greatest_totals_count}
+use Rattle.rota_items.proofs.SoftRules.WeekendItems.{sound-items_where, weighted-items_where}
+use Rattle.rota_items.specs.CountedTotals.{greatest_totals_count}
 use Rattle.rota_items.specs.RunPatterns.{with_property}
-use Rattle.rota_items.specs.rules.WorkedWeekends.Cost.{worked_weekend, worked_weekend_weight}
+use Rattle.rota_items.specs.rules.WorkedWeekends.Cost.{worked_weekend_weight}
 
 pub sound-worked_weekends : (week : Week) → IsNurseRuleSound week S7
 sound-worked_weekends week =
@@ -18,23 +15,7 @@ sound-worked_weekends week =
     let is_charged : ℕ → Bool = λ n. greatest_totals_count week && nat_le (week.contract n).weekends (week.past n).weekends in
     record {
       items = λ n n_in.
-          sound-items_where week S7 worked_weekend_weight n on_saturday (refl, omega arith) n_in (omega arith) (omega arith)
-          (omega arith) (is_charged n);
-      few = λ _ n.
-          omega (arith, length-items_where week S7 worked_weekend_weight n on_saturday (refl, omega arith) (is_charged n));
-      constant_most = λ limits n.
-          omega (
-            arith,
-            limits.weekends n,
-            where_in (excess_before_counts week) ((week.past n).weekends - (week.contract n).weekends),
-          );
-      cost_most = λ limits roster n.
-          omega (
-            arith,
-            limits.weekends n,
-            cond-le (works week roster n 5 || works week roster n 6),
-            charged_excess-le week (week.contract n).weekends (week.past n).weekends (worked_weekend week roster n),
-          );
+          sound-items_where week S7 worked_weekend_weight n on_saturday (refl, omega arith) n_in (omega arith) (is_charged n);
       charges = λ roster one n n_in.
           grind (
             arith,

@@ -6,13 +6,14 @@ use Rattle.rota_core.specs.Rules.{soft_rules}
 use Rattle.rota_core.specs.declared.rule.Rule.{Rule}
 use Rattle.rota_items.proofs.InstanceLimits.{instance-within_limits}
 use Rattle.rota_items.proofs.ListTotals.{sum-all, sum-more}
-use Rattle.rota_items.proofs.SoftRules.EachRule.{sound-rule}
+use Rattle.rota_items.proofs.PenaltyBound.{cost-few}
+use Rattle.rota_items.specs.Bounds.{most_cost}
 use Rattle.rota_items.specs.Penalty.{rule_cost}
 use Rattle.plain_costs.proofs.rules.penalty.Goals as goal
 
 small : (t : InstanceTables) (roster : Roster) (rule : Rule) (cost : ℕ) → IsInstance t →
-    cost ≡ rule_cost (week_of t) roster rule → cost ≤ 200000000000
-small t roster rule cost limits is = omega (arith, is, (sound-rule (week_of t) rule).cost_most (instance-within_limits t limits) roster)
+    cost ≡ rule_cost (week_of t) roster rule → cost ≤ most_cost
+small t roster rule cost limits is = omega (arith, is, cost-few (week_of t) (instance-within_limits t limits) roster rule)
 
 pub loop-rule-preserved : goal.loop-rule-preserved
 loop-rule-preserved c =

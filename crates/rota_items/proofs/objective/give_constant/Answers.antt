@@ -1,6 +1,6 @@
 use Rattle.std.proofs.lemmas.Int.{to_z_pos}
 use Rattle.rota_core.proofs.Loops.{only_if-fails, only_if-holds}
-use Rattle.rota_items.proofs.Common.{◌≡◌, ℕ, ◌^◌, ◌<◌, ◌≤◌, pos, nat_lt, true, false, ap, ◌∙◌, w64, arith, week_of}
+use Rattle.rota_items.proofs.Common.{◌≡◌, ℕ, ◌^◌, ◌<◌, pos, nat_lt, true, false, ap, ◌∙◌, w64, arith, week_of}
 use Rattle.rota_items.proofs.InstanceLimits.{instance-within_limits}
 use Rattle.rota_items.proofs.PenaltyBound.{constant-few}
 use Rattle.rota_items.proofs.Taking.{nothing, numbers_join, term_takes}
@@ -12,9 +12,6 @@ returns-then-constant-eq0 g c =
     let none : nat_lt 0 (constant (week_of c.args.instance.now)) ≡ false = grind (arith, c.constant-constant.ensures) in
     rw (only_if-fails _ _ none) (nothing g.T.Taker numbers_join _)
 
-small : (constant : ℕ) → constant ≤ 700000000 → constant < 2 ^ 63
-small constant few = omega arith
-
 pub overflow_cast-constant : goal.overflow_cast-constant
 overflow_cast-constant g c =
     let week = week_of c.args.instance.now in
@@ -23,8 +20,8 @@ overflow_cast-constant g c =
 pub returns : goal.returns
 returns g c =
     let week = week_of c.args.instance.now in
-    let few : c.constant-constant.result ≤ 700000000 =
+    let fits : c.constant-constant.result < 2 ^ 63 =
     omega (arith, c.constant-constant.ensures, constant-few week (instance-within_limits c.args.instance.now c.within_limits.ensures)) in
-    let exact = to_z_pos w64 c.constant-constant.result (small c.constant-constant.result few) ∙ ap pos c.constant-constant.ensures in
+    let exact = to_z_pos w64 c.constant-constant.result fits ∙ ap pos c.constant-constant.ensures in
     let some : nat_lt 0 (constant week) ≡ true = grind (arith, c.constant-constant.ensures) in
     rw (only_if-holds _ _ some) (term_takes g.T.Taker _ _ _ _ _ (rw (exact, c.unit_var.ensures) at c.term.ensures))

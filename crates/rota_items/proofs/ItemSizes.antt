@@ -1,0 +1,131 @@
+-- How large items are: their weights, slacks, terms and degrees.
+use Rattle.rota_items.proofs.LogicWords.{ℕ, ◌*◌, ◌≤◌, Bool, true, false, List, [], ◌∷◌, ◌++◌, length, arith, ℤ, pos, negsuc, nat_abs, if◌then◌else◌, ints, length-append, length-map, sum_by-append, sum_by-cons, AllByRecursion, flat_map, length-each_below}
+use Rattle.rota_items.proofs.ModelWords.{Week, Rule, Cell, cell, Item, positive_part, Term, times, IsWithinLimits, on_cells, work_cells, nurse_cells, demand_cells}
+use Rattle.std.proofs.lemmas.Nat.{mul-le}
+use Rattle.rota_core.specs.declared.rule.Rule.TheVariants.{S1}
+use Rattle.rota_items.proofs.EachPattern.{IsRunPattern, each-pattern, few-run_patterns}
+use Rattle.rota_items.proofs.ListAll.{all-map, all-weaker}
+use Rattle.rota_items.proofs.SmallSums.{positive_part-parts, spread}
+use Rattle.rota_items.specs.Bounds.{heaviest, most_cells_of_day, most_run_items, most_slacks, most_terms, most_weight}
+use Rattle.rota_items.specs.Limits.{most_number, most_skills}
+use Rattle.rota_items.specs.RunItems.{Present, Property, Runs, day_terms, is_plain, pattern_item, run_items, variables_on}
+use Rattle.rota_items.specs.RunPatterns.{Pattern, PatternDay, patterns, windows}
+use Rattle.rota_items.specs.WeekendItems.{only_sunday, weekend_item, weekend_items}
+
+-- an item of this rule has small numbers
+pub record IsItemSmall (rule : Rule) (item : Item Cell) : Type 0 where
+  pub weight : item.weight ≤ most_weight
+  pub slacks : item.slacks ≤ most_slacks rule
+  pub all_slacks : item.weight * item.slacks ≤ most_weight
+  pub terms : spread item.terms ≤ most_terms
+  pub degree : positive_part item.degree ≤ most_number
+
+pub slacks-some : (rule : Rule) → 1 ≤ most_slacks rule
+slacks-some S1 = omega arith
+slacks-some _ = omega arith
+
+pub slacks-few : (rule : Rule) → most_slacks rule ≤ most_number
+slacks-few S1 = omega arith
+slacks-few _ = omega arith
+
+-- ---- sums
+
+pub spread-times : {X : Type 0} (coefficient : ℤ) (variables : List X) → nat_abs coefficient ≤ 1 →
+    spread (times coefficient variables) ≤ length variables
+spread-times coefficient [] unit = omega arith
+spread-times {X} coefficient (v ∷ vs) unit =
+    omega (
+      arith,
+      sum_by-cons (λ (term : Term X). nat_abs term.0) (coefficient, v) (times coefficient vs),
+      spread-times coefficient vs unit,
+    )
+
+sign : (plain : Bool) → nat_abs (if plain then negsuc 0 else pos 1) ≤ 1
+sign true = omega arith
+sign false = omega arith
+
+spread-days : (property : Property Cell) (most : ℕ) → ((d : ℕ) → length (variables_on property d) ≤ most) →
+    (days : List PatternDay) → spread (flat_map (day_terms property) days) ≤ length days * most
+spread-days property most few [] = omega arith
+spread-days property most few (day ∷ days) =
+    omega (
+      arith,
+      sum_by-append (λ (term : Term Cell). nat_abs term.0) (day_terms property day) (flat_map (day_terms property) days),
+      spread-times (if is_plain property day then negsuc 0 else pos 1) (variables_on property day.day) (sign (is_plain property day)),
+      few day.day,
+      spread-days property most few days,
+    )
+
+module _ (week : Week) (limits : IsWithinLimits week) where
+  length-skills : (n s d : ℕ) → length (on_cells week n s d) ≤ most_skills
+  length-skills n s d = omega (arith, limits.skills, length-each_below week.skills 1 (λ k. cell n d s k ∷ []) (λ k _. omega arith))
+
+  pub length-on : (n s d : ℕ) → length (on_cells week n s d) ≤ most_cells_of_day
+  length-on n s d = omega (arith, length-skills n s d)
+
+  pub length-work : (n d : ℕ) → length (work_cells week n d) ≤ most_cells_of_day
+  length-work n d =
+      omega (
+        arith,
+        limits.shifts,
+        length-each_below week.shifts most_skills (λ s. on_cells week n s d) (λ s _. length-skills n s d),
+      )
+
+  pub length-nurse : (n : ℕ) → length (nurse_cells week n) ≤ most_terms
+  length-nurse n = omega (arith, length-each_below 7 most_cells_of_day (λ d. work_cells week n d) (λ d _. length-work n d))
+
+  pub length-demand : (d s k : ℕ) → length (demand_cells week d s k) ≤ most_terms
+  length-demand d s k = omega (arith, limits.nurses, length-each_below week.nurses 1 (λ n. cell n d s k ∷ []) (λ n _. omega arith))
+
+-- ---- patterns
+
+module _ (property : Property Cell) (few : (d : ℕ) → length (variables_on property d) ≤ most_cells_of_day) where
+  pub small-pattern : (rule : Rule) (weight : ℕ) (pattern : Pattern) → weight ≤ heaviest → length pattern.days ≤ 7 →
+      pattern.units ≤ most_number → IsItemSmall rule (pattern_item rule weight property pattern)
+  small-pattern rule weight pattern light short units =
+      let most : weight * pattern.units ≤ most_weight = mul-le weight pattern.units heaviest most_number light units in record {
+        weight = most;
+        slacks = slacks-some rule;
+        all_slacks = omega (arith, most);
+        terms = omega (arith, spread-days property most_cells_of_day few pattern.days);
+        degree = omega (arith, ints, positive_part-parts (pattern_item rule weight property pattern).degree);
+      }
+
+pub small-runs : (runs : Runs Cell) → ((d : ℕ) → length (variables_on runs.property d) ≤ most_cells_of_day) → runs.weight ≤ heaviest →
+    runs.limits.min ≤ most_number → AllByRecursion (IsItemSmall runs.rule) (run_items runs)
+small-runs runs few light small =
+    let item : Pattern → Item Cell = pattern_item runs.rule runs.weight runs.property in
+    let all : List Pattern = windows runs.history runs.limits ++ patterns runs.history runs.limits in
+    all-map (IsItemSmall runs.rule) item all
+    (all-weaker (IsRunPattern runs.limits) (λ pattern. IsItemSmall runs.rule (item pattern))
+    (λ pattern is.
+    small-pattern runs.property few runs.rule runs.weight pattern light (omega (arith, is.follows.in_week))
+    (omega (arith, is.few, small)))
+    all (each-pattern runs.history runs.limits))
+
+pub few-run_items : (runs : Runs Cell) → length (run_items runs) ≤ most_run_items
+few-run_items runs =
+    omega (
+      arith,
+      length-map (windows runs.history runs.limits ++ patterns runs.history runs.limits)
+          (pattern_item runs.rule runs.weight runs.property),
+      length-append (windows runs.history runs.limits) (patterns runs.history runs.limits),
+      few-run_patterns runs.history runs.limits,
+    )
+
+-- ---- weekends
+
+module _ (week : Week) (limits : IsWithinLimits week) (rule : Rule) (weight n : ℕ) (on_saturday : List PatternDay) where
+  pub small-weekend : weight ≤ heaviest → length on_saturday ≤ 7 → (test : Bool) →
+      AllByRecursion (IsItemSmall rule) (if test then weekend_items rule weight week n on_saturday else [])
+  small-weekend light short false = tt
+  small-weekend light short true = (small on_saturday short, (small only_sunday.days (omega arith), tt))
+    where
+      small : (days : List PatternDay) → length days ≤ 7 → IsItemSmall rule (weekend_item rule weight week n days)
+      small days few =
+          small-pattern (Present (work_cells week n)) (length-work week limits n) rule weight (record { days = days; units = 1 }) light
+          few (omega arith)
+
+  pub few-weekend : (test : Bool) → length (if test then weekend_items rule weight week n on_saturday else []) ≤ most_run_items
+  few-weekend true = omega arith
+  few-weekend false = omega arith
