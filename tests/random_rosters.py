@@ -81,35 +81,41 @@ def hard_class(week, roster, held):
     return broken or "kept"
 
 
-def soft_classes(week, roster, early):
-    """What was counted and what was not, and where two things that exclude each other in most weeks met."""
+def counted_classes(week, roster, early):
+    """What the soft rules counted, and what they did not."""
     found = collections.Counter()
     for rule, what, count, _ in counts(week, roster, early):
         found[rule, what] += count
-    is_last = week.number + 1 == week.weeks
-    when = {"S6": ", last week" if is_last else ", before", "S7": ", last week" if is_last else ", before"}
+    when = ", last week" if week.number + 1 == week.weeks else ", before"
     for (rule, what), count in found.items():
-        yield f"{rule} {what}{when.get(rule, '')}", count > 0
-    for nurse, of in week.nurses.items():
-        (least, most), before = week.contracts[of.contract].total, week.history[nurse].assignments
-        works = sum(cell[0] == nurse for cell in roster)
-        if is_last and most < before + works < least:
-            yield "S6 above and below at once", True
-        if before > most and works:
-            yield "S6 above already in the history", True
-    if any(least > optimal for least, optimal in week.required.values()):
-        yield "S1 a minimum above its optimal number", True
-    if len(set(week.requests)) < len(week.requests) and found["S4", "shift"] + found["S4", "Any"]:
-        yield "S4 with a row that stands twice", True
+        yield f"{rule} {what}{when if rule in ('S6', 'S7') else ''}: {'some' if count else 'none'}"
 
 
-WITHOUT_ZERO = ["S6 above and below at once", "S6 above already in the history", "S1 a minimum above its optimal number",
-                "S4 with a row that stands twice"]
+def met_classes(week, roster):
+    """What is met in some weeks only."""
+    contracts = [week.contracts[of.contract] for of in week.nurses.values()]
+    limits = {
+        "S1 numbers": week.required.values(), "S2 shift limits": week.shifts.values(),
+        "S2 work limits": [of.work for of in contracts], "S3 limits": [of.off for of in contracts],
+        "S6 limits": [of.total for of in contracts]}
+    for what, pairs in limits.items():
+        if any(least > most for least, most in pairs):
+            yield f"{what} with the minimum above"
+    if any(week.requests.count(row) > 1 for row in week.requests for n, d, s, _ in roster if row in ((n, s, d), (n, "Any", d))):
+        yield "S4 a row that stands twice"
+    before = {nurse: week.history[nurse].assignments - week.contracts[of.contract].total[1] for nurse, of in week.nurses.items()}
+    if any(before[nurse] > 0 for nurse, _, _, _ in roster):
+        yield "S6 above already in the history"
+
+
 COUNTED = ["S1 missing", "S2 shift above", "S2 shift below", "S2 work above", "S2 work below", "S3 off above",
            "S3 off below", "S4 shift", "S4 Any", "S5 half", "S6 below, last week", "S6 above, last week",
            "S6 above, before", "S7 above, last week", "S7 above, before"]
 BROKEN = ["kept", "H1 two shift types", "H1 two skills", "H2", "H3 after the history", "H3 within the week", "H4",
           "H5 the first row", "H5 a later row", "H5 another skill"]
+MET = ["S1 numbers with the minimum above", "S2 shift limits with the minimum above", "S2 work limits with the minimum above",
+       "S3 limits with the minimum above", "S6 limits with the minimum above", "S4 a row that stands twice",
+       "S6 above already in the history"]
 
 
 def classes():
@@ -120,7 +126,7 @@ def classes():
         columns = [column for column in COLUMNS if "early" in column or not name.endswith("before")]
         yield f"{name}: some", columns
         yield f"{name}: none", columns
-    for name in WITHOUT_ZERO:
+    for name in MET:
         yield name, COLUMNS
 
 
@@ -129,8 +135,8 @@ def classes_of(case):
     hard = hard_class(week, roster, held)
     yield hard
     if hard == "kept":
-        for name, some in soft_classes(week, roster, "early" in case):
-            yield name if name in WITHOUT_ZERO else f"{name}: {'some' if some else 'none'}"
+        yield from counted_classes(week, roster, "early" in case)
+        yield from met_classes(week, roster)
 
 
 # ---- all of them
