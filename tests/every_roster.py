@@ -5,8 +5,8 @@ usage: every_roster.py PROGRAM [--weeks N] [--seed N]
 
 For each set of cells: the constraints can be satisfied where the roster keeps the hard rules and nowhere else, and the
 least objective is then its penalty. So the least penalty of all is the optimum, or there is none; where clasp is
-installed it has to prove the same. Each slack must be of one constraint alone, with the coefficient 1, so that the
-least objective for some cells is a sum over constraints of their cheapest slacks.
+installed it has to prove the same. Each slack has to be of one constraint alone, with the coefficient 1 and no price
+below 0, so that the least objective for some cells is a sum over the constraints of their cheapest slacks.
 """
 
 import argparse
@@ -31,25 +31,28 @@ SIZES = [(1, 1, 1)] * 12 + [(1, 2, 1)] * 2 + [(2, 1, 1), (1, 1, 2)]
 
 
 class Model:
-    """An OPB text by masks over the cells' variables."""
+    """An OPB text: the prices of the cells and, of each constraint, masks over the cells, the degree and slacks' prices."""
 
     def __init__(self, text, cells):
         lines = text.split("\n")[1:-1]
-        objective = lines.pop(0)[4:] if lines[0].startswith("min:") else ""
+        objective = lines.pop(0) if lines[0].startswith("min:") else ""
         self.price = {int(variable): int(price) for price, variable in re.findall(r"([+-]\d+) x(\d+)", objective)}
         self.cell_prices = [self.price.get(cell + 1, 0) for cell in range(cells)]
-        self.rows, self.constant, used = [], 0, set()
-        for line in lines:
-            terms = [(sign, int(variable)) for sign, variable in re.findall(r"([+-])1 x(\d+)", line)]
-            degree = int(re.search(r">= (-?\d+) ;$", line).group(1))
-            if line != " ".join([*(f"{sign}1 x{variable}" for sign, variable in terms), f">= {degree} ;"]):
-                raise Wrong("a constraint", line)
-            plus, minus = (sum(1 << v - 1 for sign, v in terms if sign == of and v <= cells) for of in "+-")
-            slacks = [variable for sign, variable in terms if variable > cells]
-            if any(sign == "-" and variable > cells for sign, variable in terms) or used & set(slacks):
-                raise Wrong("a slack", f"below zero or of two constraints: {line}")
-            used |= set(slacks)
-            self.rows.append((plus, minus, degree, sorted(self.price.get(variable, 0) for variable in slacks)))
+        self.slacks = set()
+        self.rows = [self.row(line, cells) for line in lines]
+
+    def row(self, line, cells):
+        terms = [(sign, int(variable)) for sign, variable in re.findall(r"([+-])1 x(\d+) ", line)]
+        degree = int(line.split()[-2])
+        if line != " ".join([*(f"{sign}1 x{variable}" for sign, variable in terms), f">= {degree} ;"]):
+            raise Wrong("constraint", line)
+        plus, minus = (sum(1 << variable - 1 for sign, variable in terms if sign == of and variable <= cells) for of in "+-")
+        slacks = {variable: sign for sign, variable in terms if variable > cells}
+        prices = sorted(self.price.get(variable, 0) for variable in slacks)
+        if "-" in slacks.values() or self.slacks & set(slacks) or prices and prices[0] < 0:
+            raise Wrong("slacks", line)
+        self.slacks |= set(slacks)
+        return plus, minus, degree, prices
 
     def least(self, bits):
         """The least objective for these cells, or None where a constraint cannot be satisfied."""
