@@ -58,7 +58,7 @@ def check_roster(runs, case):
     same("roster of decode", solution, solution_text(week, rows))
     return same("report", report.split("\n"), [
         "status SATISFIABLE", f"objective {penalty}", f"penalty {penalty}",
-        *(f"{rule} {units}" for rule, units in zip(SOFT_RULES, cost)), f"last o {penalty}", ""])
+        *(f"{rule} {of}" for rule, of in zip(SOFT_RULES, cost)), f"last o {penalty}", ""])
 
 
 # ---- what was hit

@@ -151,8 +151,8 @@ def first_broken(week, roster, held=()):
 # ---- soft rules
 
 
-def run_units(has, before, limits):
-    """Units above the maximum and below the minimum, for the days that have a property after a history of so many."""
+def run_counts(has, before, limits):
+    """What is above the maximum and below the minimum, for the days that have a property after a history of so many."""
     least, most = limits
     above = below = 0
     length = before
@@ -176,13 +176,13 @@ def counts(week, roster, early=False):
         shift_on = [shifts[nurse, day] for day in range(7)]
         for shift, limits in week.shifts.items():
             before = history.same if history.last == shift else 0
-            above, below = run_units([shift in now for now in shift_on], before, limits)
+            above, below = run_counts([shift in now for now in shift_on], before, limits)
             yield "S2", "shift above", above, 15
             yield "S2", "shift below", below, 15
-        above, below = run_units([bool(now) for now in shift_on], history.work, contract.work)
+        above, below = run_counts([bool(now) for now in shift_on], history.work, contract.work)
         yield "S2", "work above", above, 30
         yield "S2", "work below", below, 30
-        above, below = run_units([not now for now in shift_on], history.off, contract.off)
+        above, below = run_counts([not now for now in shift_on], history.off, contract.off)
         yield "S3", "off above", above, 30
         yield "S3", "off below", below, 30
         for who, shift, day in week.requests:
