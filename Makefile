@@ -3,13 +3,21 @@
 PREFIX ?= /usr/local
 SHARE = $(DESTDIR)$(PREFIX)/share
 
-.PHONY: build try example tour solvers test programs bench fuzz install uninstall clean
+.PHONY: all build who_fits try example tour solvers test programs bench fuzz install uninstall clean
 
-# `rt run` proves the program and all it stands on, and leaves it in its crate.
+all: build who_fits
+
+# `rt run` proves a program and all it stands on, and leaves it in its crate.
 build:
 	cd crates/inrc2pb && rt run -- --version
 	mkdir -p out
-	cp crates/inrc2pb/out/inrc2pb out/inrc2pb
+	cp crates/inrc2pb/out/inrc2pb out
+
+# Which nurses could fill each place of a week: docs/your_ward.md shows what it is for.
+who_fits:
+	cd crates/who_fits && rt run -- data/scenario.txt data/history.txt data/week.txt > /dev/null
+	mkdir -p out
+	cp crates/who_fits/out/who_fits out
 
 # Compiles without a proof and runs the example, in about a minute.
 try:

@@ -21,6 +21,7 @@ tar -cf - --exclude=./out --exclude='./crates/*/out' --exclude=./.git . | tar -x
 mkdir -p "$room/copy/out" "$room/copy/crates/inrc2pb/out"
 cp "$program" "$room/copy/out/inrc2pb"
 cp "$program" "$room/copy/crates/inrc2pb/out/inrc2pb"
+cp crates/who_fits/out/who_fits "$room/copy/out/who_fits" || exit 2
 cp "$program" "$room/bin/inrc2pb"
 cp examples/*/answers/clasp*.txt "$room/answers"
 
@@ -45,10 +46,13 @@ if ! command -v clasp > /dev/null; then
     # The stored answer is known by the model's first line.
     stand_in clasp << END
 #!/usr/bin/env bash
-line=\$(head -n 1 "\${!#}" 2> /dev/null) || line=\$(head -n 1)
+line=\$([ \$# -gt 0 ] && head -n 1 "\${!#}" 2> /dev/null) || line=\$(head -n 1; cat > /dev/null)
 case \$line in
     '* #variable= 549 #constraint= 480') cat "$room/answers/clasp-optimum.txt" ;;
     '* #variable= 549 #constraint= 481') cat "$room/answers/clasp-held.txt" ;;
+    '* #variable= 656 #constraint= 570') cat "$room/answers/clasp-ward-0.txt" ;;
+    '* #variable= 656 #constraint= 571') cat "$room/answers/clasp-ward-held.txt" ;;
+    '* #variable= 665 #constraint= 579') cat "$room/answers/clasp-ward-1.txt" ;;
     *) echo 's UNSATISFIABLE' ;;
 esac
 END
