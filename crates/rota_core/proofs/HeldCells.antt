@@ -1,11 +1,16 @@
 -- The cells that an instance holds.
-use Rattle.std.proofs.Common.{◌≡◌, Some, None, length, sym, ap, ◌∙◌}
+use Rattle.std.proofs.Common.{◌≡◌, Some, None, [], length, sym, ap, ◌∙◌}
+use Rattle.std.specs.List.{All}
+use Rattle.std.proofs.lemmas.List.{nil_from_length}
+use Rattle.std.proofs.lemmas.List.Elements.{All-from_recursion}
 use Rattle.std.specs.Prelude.{Option}
 use Rattle.rota_core.specs.declared.values.Cell.{Cell}
 use Rattle.rota_core.specs.InstanceTables.{InstanceTables, IsInstance, set_of_held, week_of}
 use Rattle.rota_core.specs.Roster.{InWeek}
-use Rattle.rota_core.specs.RosterCells.{cells_of}
+use Rattle.rota_core.specs.RosterCells.{cells_in, cells_of}
 use Rattle.rota_core.specs.RosterTables.{RosterTables, HasShapeOf, InShape, count_of}
+use Rattle.rota_core.proofs.CellLists.{all-cells_of}
+use Rattle.rota_core.proofs.CellsByPlace.{cells_in-is}
 use Rattle.rota_core.proofs.RosterCount.{count-cells_of, cells_of-none}
 
 module _ (t : InstanceTables) (valid : IsInstance t) where
@@ -30,8 +35,23 @@ module _ (t : InstanceTables) (valid : IsInstance t) where
         count-cells_of (week_of t) roster shape (valid.held roster is).0 ∙
         ap (λ (held : Option RosterTables). length (cells_of (week_of t) (set_of_held held))) (sym is)
 
+    -- they are the cells of the roster
+    pub cells-held : cells_in roster ≡ cells_of (week_of t) (week_of t).is_held
+    cells-held =
+        cells_in-is (week_of t) roster shape ∙
+        ap (λ (held : Option RosterTables). cells_of (week_of t) (set_of_held held)) (sym is)
+
+  -- each of them is a cell of the week
+  pub held-inside : All (InWeek (week_of t)) (cells_of (week_of t) (week_of t).is_held)
+  held-inside =
+      let week = week_of t in
+      All-from_recursion _ _ (all-cells_of week week.is_held (InWeek week) (λ one has. has.in_week))
+
   -- none, where there is no roster
   pub count-none_held : t.held ≡ None → 0 ≡ length (cells_of (week_of t) (week_of t).is_held)
   count-none_held is =
       sym (cells_of-none (week_of t)) ∙
       ap (λ (held : Option RosterTables). length (cells_of (week_of t) (set_of_held held))) (sym is)
+
+  pub cells-none_held : t.held ≡ None → [] ≡ cells_of (week_of t) (week_of t).is_held
+  cells-none_held is = sym (nil_from_length _ (sym (count-none_held is)))

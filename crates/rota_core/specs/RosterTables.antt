@@ -1,5 +1,5 @@
 -- What a roster holds: a set of cells, within the numbers of an instance.
-use Rattle.std.specs.Prelude.{◌≡◌, ◌≢◌, ℕ, ◌+◌, ◌*◌, ◌/◌, ◌%◌, ◌≤◌, ◌<◌, Bool, true, false, List, length, take, slice_index_or}
+use Rattle.std.specs.Prelude.{◌≡◌, ◌≢◌, ℕ, ◌+◌, ◌*◌, ◌/◌, ◌%◌, ◌≤◌, ◌<◌, Bool, true, false, Option, Some, None, List, [], length, take, slice_index_or}
 use Rattle.std.specs.List.{AllByRecursion, count_by}
 use Rattle.rota_core.specs.declared.values.Cell.{Cell}
 use Rattle.rota_core.specs.Roster.{Roster, cell}
@@ -77,6 +77,11 @@ pub record HoldsRoster (nurses shifts skills : ℕ) (bits : List Bool) : Type 0 
   pub shifts_in : Within 16 shifts
   pub skills_in : Within 16 skills
   pub enough : place_count nurses shifts skills ≤ length bits
+
+-- the places, where there are some
+abbrev pub places_given : Option (List ℕ) → List ℕ
+places_given None = []
+places_given (Some places) = places
 
 -- the numbers are within the limits, and the places are those of cells
 pub record ArePlaces (shifts skills : ℕ) (places : List ℕ) : Type 0 where

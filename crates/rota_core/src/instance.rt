@@ -1,12 +1,13 @@
 //! An instance: one week of a rostering problem, with what the weeks before left.
 
-ghost use Rattle.std.specs.Prelude.{◌≡◌, ◌<◌, ◌≤◌, ◌↔◌, None, IfOk, IfErr, IsErr, length, slice_get};
+ghost use Rattle.std.specs.Prelude.{◌≡◌, ◌<◌, ◌≤◌, ◌↔◌, None, IfOk, IfErr, IsErr, All, length, slice_get};
 ghost use Rattle.rota_core.specs.Names.{place_of};
 ghost use Rattle.rota_core.specs.ScenarioTables.{Within};
 
 use crate::fault::{FileFault, FileName, Kind};
 use crate::history::{History, HistoryParts};
 use crate::roster::Roster;
+use crate::roster_cells::Cells;
 use crate::scenario::Scenario;
 use crate::values::{Cell, Contract, Demand, Past, Span};
 use crate::week::{Week, WeekParts};
@@ -158,6 +159,17 @@ impl Instance {
         match &self.held {
             Some(roster) => roster.has(cell),
             None => false,
+        }
+    }
+
+    /// The cells that are held, by nurse, day, shift type and skill.
+    pub fn held_cells(&self) -> Cells<'_>
+        ensures cells { let week = week_of self.now in result ≡ cells_of week week.is_held }
+        ensures inside { All (InWeek (week_of self.now)) result }
+    {
+        match &self.held {
+            Some(roster) => roster.cells(),
+            None => Cells::none(),
         }
     }
 

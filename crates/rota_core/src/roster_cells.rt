@@ -1,5 +1,5 @@
 //! The cells of a roster, one after another.
-ghost use Rattle.std.specs.Prelude.{◌≡◌, map};
+ghost use Rattle.std.specs.Prelude.{◌≡◌, [], map};
 ghost use Rattle.std.specs.Iterator.{YieldsFirst, item_count};
 ghost use Rattle.rota_core.specs.RosterTables.{ArePlaces, cell_at};
 
@@ -11,31 +11,43 @@ use std::marker::Model;
 /// The cells of a roster, by nurse, day, shift type and skill, seen as the list of those that are left.
 #[derive(Drop)]
 pub struct Cells<'a> {
-    places: TruePlaces<'a>,
+    // None where there is no roster.
+    places: Option<TruePlaces<'a>>,
     shifts: u8,
     skills: u8,
 }
 
 impl<'a> Model for Cells<'a> {
     ghost use Rattle.std.specs.Prelude.{List, map};
-    ghost use Rattle.rota_core.specs.RosterTables.{ArePlaces, cell_at};
+    ghost use Rattle.rota_core.specs.RosterTables.{ArePlaces, cell_at, places_given};
     ghost use Rattle.rota_core.specs.declared.values.Cell.{Cell};
 
     ghost Value = { List Cell };
 
-    ghost view = { λ it. map (cell_at it.shifts it.skills) it.places };
+    ghost view = { λ it. map (cell_at it.shifts it.skills) (places_given it.places) };
 
-    ghost invariant = { λ it. ArePlaces it.shifts it.skills it.places };
+    ghost invariant = { λ it. ArePlaces it.shifts it.skills (places_given it.places) };
 }
 
 impl<'a> Cells<'a> {
+    /// No cells.
+    pub(crate) fn none() -> Cells<'a>
+        ensures { result ≡ [] }
+    {
+        Cells {
+            places: None,
+            shifts: 1,
+            skills: 1,
+        }
+    }
+
     /// Those at the places, where there are these numbers of shift types and skills.
     pub(crate) fn at(places: TruePlaces<'a>, shifts: u8, skills: u8) -> Cells<'a>
         requires { ArePlaces shifts skills places }
         ensures { result ≡ map (cell_at shifts skills) places.entry }
     {
         Cells {
-            places,
+            places: Some(places),
             shifts,
             skills,
         }
@@ -50,7 +62,7 @@ impl<'a> Iterator for Cells<'a> {
     ghost remaining = { item_count (λ left. left) };
 
     fn next(&mut self) -> Option<Cell> {
-        let place = self.places.next()?;
+        let place = self.places.as_mut()?.next()?;
         Some(cell_of_place(self.shifts, self.skills, place))
     }
 }

@@ -1,20 +1,30 @@
-use Rattle.rota_items.proofs.Common.{◌≡◌, [], arith, week_of}
-use Rattle.rota_core.specs.RosterCells.{cells_of}
-use Rattle.std.proofs.lemmas.List.{nil_from_length}
-use Rattle.rota_items.proofs.Taking.{exits, loop_refused, nothing, rows_join}
+use Rattle.rota_items.proofs.Common.{◌∙◌, ◌∷◌, [], map, subst, week_of}
+use Rattle.std.proofs.Common.{append_assoc}
+use Rattle.rota_items.specs.CellEvents.{cell_row_events}
+use Rattle.rota_items.specs.Takes.{Refused}
+use Rattle.rota_items.specs.hard.Held.{h5_row}
+use Rattle.rota_items.proofs.Taking.{both, exits, go_on, nothing, rows_join, stop}
 use Rattle.rota_items.proofs.TakingLists.{held_join}
 use Rattle.rota_items.proofs.hard.held.give_h5.Goals as goal
 
-pub returns-in_err-give_h5_of_day : goal.returns-in_err-give_h5_of_day
-unfolding cells_of
-returns-in_err-give_h5_of_day g c =
-    let join = held_join (week_of c.args.instance.now) in
-    exits g.T.Taker _ _ _ _ c.from_residual.ensures.0
-    (loop_refused g.T.Taker join _ _ _ _ _ _ (omega arith) c.loop-nurse.invariant
-    (loop_refused g.T.Taker join _ _ _ _ _ _ (omega arith) c.loop-day.invariant c.in_err-give_h5_of_day.ensures))
+pub loop-cell-init : goal.loop-cell-init
+loop-cell-init g c = record {
+  taken = nothing g.T.Taker (rows_join _) _;
+  left = c.into_iter-cell-iterator.ensures.into_iter_gives ∙ c.held_cells-cell-items.ensures.cells;
+}
 
-pub returns-then-held_count-eq0 : goal.returns-then-held_count-eq0
-returns-then-held_count-eq0 g c =
+pub returns-in_err-give_h5_row : goal.returns-in_err-give_h5_row
+returns-in_err-give_h5_row g c =
     let week = week_of c.args.instance.now in
-    let none : cells_of week week.is_held ≡ [] = nil_from_length (cells_of week week.is_held) (omega (arith, c.held_count.ensures)) in
-    rw none (nothing g.T.Taker (rows_join _) _)
+    let left = rw c.in-Some.ensures.steps at c.loop-cell.invariant.left in
+    exits g.T.Taker _ _ _ _ c.from_residual.ensures.0
+    (subst (λ cells. Refused g.T.Taker (cell_row_events week (map h5_row cells)) c.args.taker.now c.give_h5_row.new.taker) left
+    (go_on g.T.Taker (held_join week) c.loop-cell.yielded (c.in-Some.cell ∷ c.next.new.self) _ _ _ c.loop-cell.invariant.taken
+    (stop g.T.Taker (held_join week) (c.in-Some.cell ∷ []) c.next.new.self _ _ c.in_err-give_h5_row.ensures)))
+
+pub loop-cell-preserved : goal.loop-cell-preserved
+loop-cell-preserved g c = record {
+  taken = both g.T.Taker (held_join (week_of c.args.instance.now)) c.loop-cell.yielded (c.in-Some.cell ∷ []) _ _ _ c.loop-cell.invariant.taken c.in_ok-give_h5_row.ensures;
+  left = append_assoc c.loop-cell.yielded (c.in-Some.cell ∷ []) c.next.new.self ∙
+      (rw c.in-Some.ensures.steps at c.loop-cell.invariant.left);
+}
