@@ -1,5 +1,5 @@
 #!/usr/bin/env python3
-"""Weeks so small that every roster can be tried: the model that `encode` writes beside tests/rules.py.
+"""Weeks so small that every roster can be tried: the models of `encode`, and answers to them, beside tests/rules.py.
 
 usage: every_roster.py PROGRAM [--weeks N] [--seed N]
 
@@ -7,6 +7,9 @@ For each set of cells: the constraints can be satisfied where the roster keeps t
 least objective is then its penalty. So the least penalty of all is the optimum, or there is none; where clasp is
 installed it has to prove the same. Each slack has to be of one constraint alone, with the coefficient 1 and no price
 below 0, so that the least objective for some cells is a sum over the constraints of their cheapest slacks.
+
+Of answers with any slacks `decode` has to name the first constraint that is not satisfied, or to report the objective
+that was paid beside the roster's costs.
 """
 
 import argparse
@@ -21,38 +24,53 @@ import tempfile
 
 from random_weeks import any_cell, cells_of, files_of, legal_roster, random_week, solution_text
 from rules import costs, first_broken
-from runs import Runs, Wrong
+from runs import Runs, Wrong, report_text
 
 # Nurses, shift types and skills of the weeks, in turn: 7 cells, and now and then 14.
 SIZES = [(1, 1, 1)] * 12 + [(1, 2, 1)] * 2 + [(2, 1, 1), (1, 1, 2)]
+ANSWERS_OF_A_WEEK = 8
 
 
 # ---- the model
 
 
 class Model:
-    """An OPB text: the prices of the cells and, of each constraint, masks over the cells, the degree and slacks' prices."""
+    """An OPB text: the price of each variable, and the constraints as their terms and degrees. For the search each of these
+    is also kept as masks over the cells, the degree, and the prices of its slacks."""
 
     def __init__(self, text, cells):
-        lines = text.split("\n")[1:-1]
+        first, *lines = text.split("\n")[:-1]
+        self.variables = int(first.split()[2])
         objective = lines.pop(0) if lines[0].startswith("min:") else ""
         self.price = {int(variable): int(price) for price, variable in re.findall(r"([+-]\d+) x(\d+)", objective)}
         self.cell_prices = [self.price.get(cell + 1, 0) for cell in range(cells)]
+        self.constraints = [self.constraint(line) for line in lines]
         self.slacks = set()
-        self.rows = [self.row(line, cells) for line in lines]
+        self.rows = [self.row(terms, degree, cells) for terms, degree in self.constraints]
 
-    def row(self, line, cells):
-        terms = [(sign, int(variable)) for sign, variable in re.findall(r"([+-])1 x(\d+) ", line)]
+    @staticmethod
+    def constraint(line):
+        terms = [(1 if sign == "+" else -1, int(variable)) for sign, variable in re.findall(r"([+-])1 x(\d+) ", line)]
         degree = int(line.split()[-2])
-        if line != " ".join([*(f"{sign}1 x{variable}" for sign, variable in terms), f">= {degree} ;"]):
+        if line != " ".join([*(f"{sign:+} x{variable}" for sign, variable in terms), f">= {degree} ;"]):
             raise Wrong("constraint", line)
-        plus, minus = (sum(1 << variable - 1 for sign, variable in terms if sign == of and variable <= cells) for of in "+-")
+        return terms, degree
+
+    def row(self, terms, degree, cells):
+        plus, minus = (sum(1 << variable - 1 for sign, variable in terms if sign == of and variable <= cells) for of in (1, -1))
         slacks = {variable: sign for sign, variable in terms if variable > cells}
         prices = sorted(self.price.get(variable, 0) for variable in slacks)
-        if "-" in slacks.values() or self.slacks & set(slacks) or prices and prices[0] < 0:
-            raise Wrong("slacks", line)
+        if -1 in slacks.values() or self.slacks & set(slacks) or prices and prices[0] < 0:
+            raise Wrong("slacks", f"{terms}")
         self.slacks |= set(slacks)
         return plus, minus, degree, prices
+
+    def first_unmet(self, true):
+        """The number of the first constraint that these variables do not satisfy, or None."""
+        for number, (terms, degree) in enumerate(self.constraints, 1):
+            if sum(sign for sign, variable in terms if variable in true) < degree:
+                return number
+        return None
 
     def least(self, bits):
         """The least objective for these cells, or None where a constraint cannot be satisfied."""
@@ -79,9 +97,8 @@ def clasp_optimum(text):
 # ---- one week
 
 
-def small_case(seed, number):
+def small_case(chance, number):
     """A week of one of the sizes with exactly so many names, its held cells, and its files."""
-    chance = random.Random(f"small {seed} {number}")
     size = SIZES[number % len(SIZES)]
     week = None
     while week is None or (len(week.nurses), len(week.shifts), len(week.skills)) != size:
@@ -94,32 +111,67 @@ def small_case(seed, number):
     return week, held, case
 
 
-def try_week(runs, week, held, case, with_clasp):
-    """Compares every roster of the week; how many there are, how many keep the hard rules, and the least penalty."""
+def check_answer(runs, model, week, case, true):
+    """Compares what `decode` makes of the answer in which these variables are true."""
+    literals = [f"x{variable}" if variable in true else f"-x{variable}" for variable in range(1, model.variables + 1)]
+    runs.put(dict(case, answer=f"s SATISFIABLE\nv {' '.join(literals)}\n"))
+    ended, unmet = runs.decode(), model.first_unmet(true)
+    if unmet:
+        wanted = (6, "", f"inrc2pb: constraint {unmet} is not satisfied\n", None)
+    else:
+        roster = [cell for at, cell in enumerate(cells_of(week)) if at + 1 in true]
+        objective = sum(model.price.get(variable, 0) for variable in true)
+        wanted = (0, report_text(objective, costs(week, roster, "early" in case)), "", solution_text(week, roster))
+    if ended != wanted:
+        raise Wrong("decode", f"{ended} is not {wanted}")
+    return unmet is None
+
+
+def random_answer(chance, model, cells, kept):
+    """Variables that are true: mostly of a roster that keeps the hard rules, and many slacks."""
+    bits = chance.choice(kept) if kept and chance.random() < 0.8 else chance.randrange(1 << len(cells))
+    likely = chance.choice([1, 1, 0.9, 0.5])
+    slacks = {slack for slack in sorted(model.slacks) if chance.random() < likely}
+    return slacks | {at + 1 for at in range(len(cells)) if bits >> at & 1}
+
+
+def penalties(model, week, held, early):
+    """The penalty of each set of cells that keeps the hard rules, as it is compared with the least objective of all sets."""
+    cells, found = cells_of(week), {}
+    for bits in range(1 << len(cells)):
+        roster = [cell for at, cell in enumerate(cells) if bits >> at & 1]
+        penalty = None if first_broken(week, roster, held) else sum(costs(week, roster, early))
+        if model.least(bits) != penalty:
+            raise Wrong("least objective", f"{model.least(bits)} is not {penalty} for {roster}")
+        if penalty is not None:
+            found[bits] = penalty
+    return found
+
+
+def try_week(runs, chance, week, held, case, with_clasp):
+    """What was tried: sets of cells, those of them that keep the hard rules, whether there is none, and answers that satisfy
+    the model and that do not."""
     runs.put(case)
     status, text, err = runs.run("encode")
     if status or err:
         raise Wrong("encode", f"status {status}, {err!r}")
-    cells, kept = cells_of(week), []
+    cells = cells_of(week)
     model = Model(text, len(cells))
-    for bits in range(1 << len(cells)):
-        roster = [cell for at, cell in enumerate(cells) if bits >> at & 1]
-        penalty = None if first_broken(week, roster, held) else sum(costs(week, roster, "early" in case))
-        if model.least(bits) != penalty:
-            raise Wrong("least objective", f"{model.least(bits)} is not {penalty} for {roster}")
-        if penalty is not None:
-            kept.append(penalty)
-    least = min(kept, default=None)
+    penalty = penalties(model, week, held, "early" in case)
+    least = min(penalty.values(), default=None)
     if with_clasp and clasp_optimum(text) != least:
         raise Wrong("clasp's optimum", f"{clasp_optimum(text)} is not {least}")
-    return 1 << len(cells), len(kept), least
+    answers = [random_answer(chance, model, cells, list(penalty)) for _ in range(ANSWERS_OF_A_WEEK)]
+    satisfying = sum(check_answer(runs, model, week, case, true) for true in answers)
+    return 1 << len(cells), len(penalty), not penalty, satisfying, ANSWERS_OF_A_WEEK - satisfying
 
 
 def try_number(program, seed, with_clasp, number):
     """As `try_week`, or what is wrong."""
+    chance = random.Random(f"small {seed} {number}")
     with tempfile.TemporaryDirectory(prefix="inrc2pb-") as folder:
         try:
-            return try_week(Runs(program, folder), *small_case(seed, number), with_clasp)
+            return try_week(Runs(program, folder), chance, *small_case(chance, number), with_clasp)
         except Wrong as wrong:
             return f"week {number}: {wrong}"
 
@@ -135,13 +187,13 @@ def main():
         found = list(pool.map(functools.partial(try_number, given.program, given.seed, with_clasp), range(given.weeks)))
     failed = [wrong for wrong in found if isinstance(wrong, str)]
     tried = [week for week in found if not isinstance(week, str)]
-    without = sum(least is None for _, _, least in tried)
-    if not 0 < without < len(tried):
-        failed.append(f"{without} of {len(tried)} weeks without a roster")
+    sets, kept, without, satisfying, others = (sum(week[at] for week in tried) for at in range(5))
+    if not (without and kept and satisfying and others):
+        failed.append("nothing of one kind was tried")
     print("".join(f"FAILED: {line}\n" for line in failed), end="")
-    print(f"every_roster.py: seed {given.seed}, {given.weeks} weeks, {sum(week[0] for week in tried)} sets of cells, "
-          f"{sum(week[1] for week in tried)} keep the hard rules, {without} weeks have no roster, "
-          f"{'clasp proves the same' if with_clasp else 'no clasp here'}, {len(failed)} failed")
+    print(f"every_roster.py: seed {given.seed}, {given.weeks} weeks, {without} of them without a roster"
+          f"{', as clasp proves,' if with_clasp else ''} {sets} sets of cells, {kept} of them rosters that keep the hard rules, "
+          f"{satisfying} answers that satisfy the model and {others} that do not, {len(failed)} failed")
     sys.exit(1 if failed else 0)
 
 

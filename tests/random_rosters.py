@@ -17,8 +17,8 @@ import sys
 import tempfile
 
 from random_weeks import random_cases, solution_text
-from rules import SOFT_RULES, costs, counts, first_broken, read_roster, read_week, shifts_by_day
-from runs import Runs, Wrong
+from rules import costs, counts, first_broken, read_roster, read_week, shifts_by_day
+from runs import Runs, Wrong, report_text
 
 COLUMNS = ["", "early", "fix", "fix early"]
 
@@ -56,9 +56,7 @@ def check_roster(runs, case):
     nurses = list(week.nurses)
     rows = sorted(roster, key=lambda cell: (nurses.index(cell[0]), cell[1]))
     same("roster of decode", solution, solution_text(week, rows))
-    return same("report", report.split("\n"), [
-        "status SATISFIABLE", f"objective {penalty}", f"penalty {penalty}",
-        *(f"{rule} {of}" for rule, of in zip(SOFT_RULES, cost)), f"last o {penalty}", ""])
+    return same("report", report, report_text(penalty, cost, last=penalty))
 
 
 # ---- what was hit

@@ -3,6 +3,8 @@
 import os
 import subprocess
 
+from rules import SOFT_RULES
+
 FILES = {
     "sce": "scenario.txt", "his": "history.txt", "week": "week.txt", "fix": "fix.txt",
     "roster": "roster.txt", "answer": "answer.txt"}
@@ -14,6 +16,13 @@ class Wrong(Exception):
     def __init__(self, kind, how):
         super().__init__(f"{kind}: {how}")
         self.kind = kind
+
+
+def report_text(objective, cost, last=None):
+    """The report of `decode`: the costs of the soft rules in their order, and the answer's last `o` value."""
+    lines = ["status SATISFIABLE", f"objective {objective}", f"penalty {sum(cost)}"]
+    lines += [f"{rule} {of}" for rule, of in zip(SOFT_RULES, cost)] + ([] if last is None else [f"last o {last}"])
+    return "".join(f"{line}\n" for line in lines)
 
 
 class Runs:
