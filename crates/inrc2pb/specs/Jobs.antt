@@ -1,18 +1,17 @@
 -- The job that the matches of a subcommand spell.
-use Rattle.std.specs.Prelude.{◌≡◌, ◌⊎◌, Bool, List, Some, None, true, false, codes, is_some, ⊤}
+use Rattle.std.specs.Prelude.{◌≡◌, ◌⊎◌, Bool, List, Some, None, true, false, codes, ⊤}
 use Rattle.std.specs.Prelude.{IsSomeAnd, map, option_map, string_bytes}
 use Rattle.std.specs.Borrow.{Bor}
 use Rattle.clap.specs.Words.{Row, Text, first_of, found_of, kind_of, one_of, rows_of}
 use Rattle.clap.specs.Words.{subcommand_of, takes}
 use Rattle.clap.specs.declared.error.kind.ErrorKind.TheVariants.{OutOfMemory}
 use Rattle.clap.specs.declared.parser.matches.ArgMatches.{ArgMatches}
-use Rattle.rota_pb.specs.declared.week_files.Choice.{Choice}
 use Rattle.inrc2pb.specs.CommandLine.{inrc2pb_app}
-use Rattle.inrc2pb.specs.declared.jobs.Inputs.{Inputs}
-use Rattle.inrc2pb.specs.declared.jobs.Job.{Job}
-use Rattle.inrc2pb.specs.declared.jobs.Job.TheVariants.{Encode, Decode, Extend}
-use Rattle.inrc2pb.specs.declared.jobs.JobFault.{JobFault}
-use Rattle.inrc2pb.specs.declared.jobs.JobFault.TheVariants.{Words, Missing, Memory}
+use Rattle.inrc2pb_job.specs.declared.job.Inputs.{Inputs}
+use Rattle.inrc2pb_job.specs.declared.job.Job.{Job}
+use Rattle.inrc2pb_job.specs.declared.job.Job.TheVariants.{Encode, Decode, Extend}
+use Rattle.inrc2pb.specs.declared.job_fault.JobFault.{JobFault}
+use Rattle.inrc2pb.specs.declared.job_fault.JobFault.TheVariants.{Words, Missing, Memory}
 
 -- the words behind references
 abbrev pub texts : List (Bor Text) → List Text
@@ -35,11 +34,6 @@ pub record HasFlag (id : Text) (options : List Row) (flag : Bool) : Type 0 where
   pub set : one_of id options ≡ Some (codes "true") → flag ≡ true
   pub unset : one_of id options ≡ Some (codes "false") → flag ≡ false
   pub absent : one_of id options ≡ None → flag ≡ false
-
--- what is asked of a run: early charges by the flag, and held cells where a file is named for them
-pub record IsChoiceOf (inputs : Inputs) (choice : Choice) : Type 0 where
-  pub early : choice.early ≡ inputs.early
-  pub fixed : choice.fixed ≡ is_some inputs.fix
 
 -- the paths are those of the options, unchanged, and the flag is theirs
 pub record HasInputs (options : List Row) (inputs : Inputs) : Type 0 where

@@ -3,8 +3,8 @@ use Rattle.std.specs.Prelude.{◌≡◌, ◌⊎◌, ℕ, ⊤}
 use Rattle.clap.specs.Words.{kind_of}
 use Rattle.clap.specs.declared.error.kind.ErrorKind.{ErrorKind}
 use Rattle.clap.specs.declared.error.kind.ErrorKind.TheVariants.{DisplayHelp, DisplayVersion, OutOfMemory}
-use Rattle.inrc2pb.specs.declared.jobs.JobFault.{JobFault}
-use Rattle.inrc2pb.specs.declared.jobs.JobFault.TheVariants.{Words, Missing, Memory}
+use Rattle.inrc2pb.specs.declared.job_fault.JobFault.{JobFault}
+use Rattle.inrc2pb.specs.declared.job_fault.JobFault.TheVariants.{Words, Missing, Memory}
 use Rattle.inrc2pb.specs.declared.stop.Stop.{Stop}
 use Rattle.inrc2pb.specs.declared.stop.Stop.TheVariants as stopped
 use Rattle.rota_pb.specs.declared.fault.Fault.TheVariants as failed

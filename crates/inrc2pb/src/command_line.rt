@@ -6,8 +6,9 @@ ghost use Rattle.inrc2pb.specs.Jobs.{HasFlag, HasInputs, IsFaultOf, IsForMemoryO
 ghost use Rattle.inrc2pb.specs.Jobs.{LacksInput, LacksOption, LacksPath, options_of, texts};
 
 use crate::command;
-use crate::jobs::{Inputs, Job, JobFault};
+use crate::job_fault::JobFault;
 use clap::ArgMatches;
+use inrc2pb_job::{Inputs, Job};
 use std::alloc::{AllocError, Global};
 
 /// The job that the words spell, the first of which is the program's name.

@@ -1,125 +1,181 @@
-//! The files of a job: those that it reads are opened before it runs, the one that it writes is made at
-//! its first write.
-ghost use Rattle.std.specs.Prelude.{◌≡◌, None, IfErr, IfOk};
-ghost use Rattle.inrc2pb.specs.Jobs.{IsChoiceOf};
-ghost use Rattle.rota_pb.specs.declared.fault.Fault.TheVariants.{Read as ReadFailed};
+//! The ports of the program: files that the runtime opens, standard input, and the file that a job writes.
+ghost use Rattle.std.specs.Prelude.{◌≡◌, ◌<◌, ◌≤◌, None, false, length, IfOk, option_map};
+ghost use Rattle.inrc2pb_job.specs.Places.{untold};
 
-use crate::jobs::Inputs;
-use rota_core::FromRead;
-use rota_pb::{Choice, Fault};
-use std::io::{Read, Write};
+use inrc2pb_job::{Opens, Placed};
+use rota_core::{FromRead, PortFault, Target, ToWrite};
+use std::io::{Printer, Read};
 use std::rt::Files;
 use std::{fs, io};
 
-/// The inputs that every job has, open, and what is asked of its run beside them.
+/// The files that the runtime opens. What they hold is not told, and each may be refused.
 #[derive(Drop)]
-pub struct OpenInputs<F: Drop> {
-    pub choice: Choice,
-    pub sce: FromRead<F>,
-    pub his: FromRead<F>,
-    pub week: FromRead<F>,
-    pub fix: FromRead<FixFile<F>>,
+pub struct HostFiles<'a, R> {
+    rt: &'a R,
 }
 
-/// The file of the cells that are held, where there is one.
-#[derive(Drop)]
-pub struct FixFile<F: Drop> {
-    file: Option<F>,
+impl<'a, R: Files> HostFiles<'a, R> {
+    pub fn new(rt: &'a R) -> HostFiles<'a, R> {
+        HostFiles { rt }
+    }
 }
 
-impl<F: Read + Drop> Read for FixFile<F> {
-    fn read(&mut self, bytes: &mut [u8]) -> io::Result<usize> {
-        match &mut self.file {
-            Some(file) => file.read(bytes),
-            None => Ok(0),
+impl<R: Files> Opens for HostFiles<'_, R> {
+    type File = FromRead<R::File>;
+
+    ghost at = { λ _ _. untold };
+
+    ghost asked = { λ _. None };
+
+    fn open(&mut self, path: &str) -> Result<FromRead<R::File>, PortFault> {
+        match fs::open(self.rt, path) {
+            Ok(file) => Ok(FromRead::new(file)),
+            Err(_) => Err(PortFault),
         }
     }
 }
 
-/// Opens the inputs, in the order in which they are checked.
-///
-/// # Errors
-/// An input that does not open: the read failed.
-pub fn open_inputs<R: Files>(rt: &R, inputs: &Inputs) -> Result<OpenInputs<R::File>, Fault>
-    ensures choice { IfOk result (λ files. IsChoiceOf inputs.now files.choice) }
-    ensures fault { IfErr result (λ fault. fault ≡ ReadFailed) }
-{
-    Ok(OpenInputs {
-        choice: inputs.choice(),
-        sce: open(rt, inputs.sce.as_str())?,
-        his: open(rt, inputs.his.as_str())?,
-        week: open(rt, inputs.week.as_str())?,
-        fix: open_fix(rt, &inputs.fix)?,
-    })
+/// Standard input, which is taken at the first read.
+#[derive(Drop)]
+pub struct StandardInput<'a, R: Input> {
+    rt: &'a R,
+    reader: Option<R::Reader>,
 }
 
-/// Opens an input.
-///
-/// # Errors
-/// One that does not open: the read failed.
-pub fn open<R: Files>(rt: &R, path: &str) -> Result<FromRead<R::File>, Fault>
-    ensures { IfErr result (λ fault. fault ≡ ReadFailed) }
-{
-    Ok(FromRead::new(file_at(rt, path)?))
-}
-
-fn open_fix<R: Files>(rt: &R, path: &Option<String>) -> Result<FromRead<FixFile<R::File>>, Fault>
-    ensures { IfErr result (λ fault. fault ≡ ReadFailed) }
-{
-    let file = match path {
-        Some(path) => Some(file_at(rt, path.as_str())?),
-        None => None,
-    };
-    Ok(FromRead::new(FixFile { file }))
-}
-
-fn file_at<R: Files>(rt: &R, path: &str) -> Result<R::File, Fault>
-    ensures { IfErr result (λ fault. fault ≡ ReadFailed) }
-{
-    match fs::open(rt, path) {
-        Ok(file) => Ok(file),
-        Err(_) => Err(Fault::Read),
+impl<'a, R: Input> StandardInput<'a, R> {
+    pub fn new(rt: &'a R) -> StandardInput<'a, R> {
+        StandardInput { rt, reader: None }
     }
 }
 
-/// A file that is made at the first write to it. One that stands at the path loses its text then, and
-/// keeps it where nothing is written.
+impl<R: Input> Read for StandardInput<'_, R> {
+    fn read(&mut self, bytes: &mut [u8]) -> io::Result<usize> {
+        let rt = self.rt;
+        self.reader.get_or_insert_with(|| rt.reader()).read(bytes)
+    }
+}
+
+/// A file that is made at the first write to it. One that is at the path loses its text then, and
+/// keeps it where nothing is written. Without a path each write fails.
 #[derive(Drop)]
 pub struct FileOnFirstWrite<'a, R: Files> {
     rt: &'a R,
-    path: &'a str,
-    file: Option<R::File>,
+    path: Option<&'a str>,
+    file: Option<ToWrite<R::File>>,
+    failed: bool,
 }
 
 impl<'a, R: Files> FileOnFirstWrite<'a, R> {
     /// The file at the path, which is not made yet.
-    pub fn new(rt: &'a R, path: &'a str) -> FileOnFirstWrite<'a, R>
+    pub fn new(rt: &'a R, path: Option<&'a str>) -> FileOnFirstWrite<'a, R>
         ensures unmade { result.file ≡ None }
-        ensures path { result.path.now ≡ path.now }
+        ensures sound { result.failed ≡ false }
+        ensures path { result.path ≡ path.entry }
     {
         FileOnFirstWrite {
             rt,
             path,
             file: None,
+            failed: false,
+        }
+    }
+
+    // Makes the file.
+    fn make(&self) -> Result<ToWrite<R::File>, PortFault> {
+        let Some(path) = self.path else {
+            return Err(PortFault);
+        };
+        match fs::create(self.rt, path) {
+            Ok(file) => Ok(ToWrite::new(file)),
+            Err(_) => Err(PortFault),
         }
     }
 }
 
-impl<'a, R: Files> Write for FileOnFirstWrite<'a, R> {
-    fn write(&mut self, bytes: &[u8]) -> io::Result<usize> {
+impl<'a, R: Files> FileOnFirstWrite<'a, R> {
+    // Writes to the file, which is made where it is not.
+    fn write_made(&mut self, piece: &[u8]) -> Result<usize, PortFault>
+        ensures bound { IfOk result (λ n. n ≤ length piece.now) }
+        ensures progress { IfOk result (λ n. 0 < length piece.now → 0 < n) }
+    {
         if self.file.is_none() {
-            self.file = Some(fs::create(self.rt, self.path)?);
+            self.file = Some(self.make()?);
         }
         match &mut self.file {
-            Some(file) => file.write(bytes),
+            Some(file) => file.write(piece),
             None => unreachable!(),
         }
     }
+}
 
-    fn flush(&mut self) -> io::Result<()> {
-        match &mut self.file {
+impl<R: Files> Target for FileOnFirstWrite<'_, R> {
+    ghost sent = { λ _. None };
+
+    ghost flushed = { λ _. None };
+
+    ghost has_failed = { λ file. file.failed };
+
+    fn write(&mut self, piece: &[u8]) -> Result<usize, PortFault> {
+        if self.failed {
+            return Err(PortFault);
+        }
+        if piece.is_empty() {
+            return Ok(0);
+        }
+        let written = self.write_made(piece);
+        self.failed = written.is_err();
+        written
+    }
+
+    fn flush(&mut self) -> Result<(), PortFault> {
+        if self.failed {
+            return Err(PortFault);
+        }
+        let flushed = match &mut self.file {
             Some(file) => file.flush(),
             None => Ok(()),
+        };
+        self.failed = flushed.is_err();
+        flushed
+    }
+}
+
+impl<R: Files> Placed for FileOnFirstWrite<'_, R> {
+    ghost place = { λ file. option_map (λ path. path.now) file.path };
+}
+
+/// Standard output.
+#[derive(Drop)]
+pub struct StandardOutput<'a, R> {
+    target: ToWrite<Printer<'a, R>>,
+}
+
+impl<'a, R: Print> StandardOutput<'a, R> {
+    pub fn new(rt: &'a R) -> StandardOutput<'a, R>
+        ensures { ⟦<StandardOutput<'a, R> as Target>⟧.has_failed result ≡ false }
+    {
+        StandardOutput {
+            target: ToWrite::new(io::writer(rt)),
         }
     }
+}
+
+impl<R: Print> Target for StandardOutput<'_, R> {
+    ghost sent = { λ output. ⟦<ToWrite<Printer<'static, R>> as Target>⟧.sent output.target };
+
+    ghost flushed = { λ output. ⟦<ToWrite<Printer<'static, R>> as Target>⟧.flushed output.target };
+
+    ghost has_failed = { λ output. ⟦<ToWrite<Printer<'static, R>> as Target>⟧.has_failed output.target };
+
+    fn write(&mut self, piece: &[u8]) -> Result<usize, PortFault> {
+        self.target.write(piece)
+    }
+
+    fn flush(&mut self) -> Result<(), PortFault> {
+        self.target.flush()
+    }
+}
+
+impl<R: Print> Placed for StandardOutput<'_, R> {
+    ghost place = { λ _. None };
 }

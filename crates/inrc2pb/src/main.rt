@@ -8,14 +8,14 @@ mod command;
 mod command_line;
 mod fault_line;
 mod files;
-mod jobs;
+mod job_fault;
 mod stop;
 
-use crate::files::{FileOnFirstWrite, OpenInputs, open, open_inputs};
-use crate::jobs::{Inputs, Job};
+use crate::files::{FileOnFirstWrite, HostFiles, StandardInput, StandardOutput};
 use crate::stop::Stop;
-use rota_core::{FromRead, Source, Target, ToWrite};
-use rota_pb::{Fault, run_decode, run_encode, run_extend};
+use inrc2pb_job::{Job, perform};
+use rota_core::FromRead;
+use rota_pb::Fault;
 use std::process::ExitCode;
 use std::rt::{Env, Files};
 use std::{env, io};
@@ -29,7 +29,19 @@ fn main(rt: HostRuntime) -> ExitCode {
 
 fn run<R: Env + Files + Input + Print + AllocGlobal>(rt: &R) -> Result<(), Stop> {
     let job = asked_job(rt)?;
-    perform(rt, &job).map_err(Stop::Job)
+    let mut files = HostFiles::new(rt);
+    let mut input = FromRead::new(StandardInput::new(rt));
+    let mut file = FileOnFirstWrite::new(rt, job.output_path());
+    let mut output = StandardOutput::new(rt);
+    perform(
+        rt.alloc(),
+        &job,
+        &mut files,
+        &mut input,
+        &mut file,
+        &mut output,
+    )
+    .map_err(Stop::Job)
 }
 
 // The job that the words of the command line ask for.
@@ -45,100 +57,4 @@ fn arguments<R: Env + AllocGlobal>(rt: &R) -> Result<Vec<String>, Stop> {
         Err(error) if error.kind() == io::ErrorKind::OutOfMemory => Err(Fault::Memory.into()),
         Err(_) => Err(Stop::Usage("an argument is not text")),
     }
-}
-
-fn perform<R: Files + Input + Print + AllocGlobal>(rt: &R, job: &Job) -> Result<(), Fault> {
-    match job {
-        Job::Encode {
-            inputs,
-            opb: Some(path),
-        } => {
-            let out = FileOnFirstWrite::new(rt, path.as_str());
-            encode(rt, inputs, &mut ToWrite::new(out))
-        }
-        Job::Encode { inputs, opb: None } => encode(rt, inputs, &mut ToWrite::new(io::writer(rt))),
-        Job::Decode {
-            inputs,
-            sol,
-            answer,
-        } => decode(rt, inputs, sol.as_str(), answer),
-        Job::Extend { inputs, from } => extend(rt, inputs, from.as_str()),
-    }
-}
-
-fn encode<R: Files + AllocGlobal, W: Target>(
-    rt: &R,
-    inputs: &Inputs,
-    out: &mut W,
-) -> Result<(), Fault> {
-    let mut files = open_inputs(rt, inputs)?;
-    run_encode(
-        rt.alloc(),
-        files.choice,
-        &mut files.sce,
-        &mut files.his,
-        &mut files.week,
-        &mut files.fix,
-        out,
-    )
-}
-
-fn decode<R: Files + Input + Print + AllocGlobal>(
-    rt: &R,
-    inputs: &Inputs,
-    sol: &str,
-    answer: &Option<String>,
-) -> Result<(), Fault> {
-    let mut files = open_inputs(rt, inputs)?;
-    decode_opened(rt, &mut files, sol, answer)
-}
-
-fn decode_opened<R: Files + Input + Print + AllocGlobal>(
-    rt: &R,
-    files: &mut OpenInputs<R::File>,
-    sol: &str,
-    answer: &Option<String>,
-) -> Result<(), Fault> {
-    match answer {
-        Some(path) => decode_answer(rt, files, &mut open(rt, path.as_str())?, sol),
-        None => decode_answer(rt, files, &mut FromRead::new(rt.reader()), sol),
-    }
-}
-
-fn decode_answer<R: Files + Print + AllocGlobal, A: Source>(
-    rt: &R,
-    files: &mut OpenInputs<R::File>,
-    answer: &mut A,
-    sol: &str,
-) -> Result<(), Fault> {
-    run_decode(
-        rt.alloc(),
-        files.choice,
-        &mut files.sce,
-        &mut files.his,
-        &mut files.week,
-        &mut files.fix,
-        answer,
-        &mut ToWrite::new(FileOnFirstWrite::new(rt, sol)),
-        &mut ToWrite::new(io::writer(rt)),
-    )
-}
-
-fn extend<R: Files + Print + AllocGlobal>(
-    rt: &R,
-    inputs: &Inputs,
-    from: &str,
-) -> Result<(), Fault> {
-    let mut files = open_inputs(rt, inputs)?;
-    let mut given = open(rt, from)?;
-    run_extend(
-        rt.alloc(),
-        files.choice,
-        &mut files.sce,
-        &mut files.his,
-        &mut files.week,
-        &mut files.fix,
-        &mut given,
-        &mut ToWrite::new(io::writer(rt)),
-    )
 }

@@ -6,7 +6,7 @@ ghost use Rattle.rota_pb.specs.Statuses.{exit_status};
 ghost use Rattle.rota_pb.specs.declared.fault.Fault.TheVariants.{Memory, Write};
 
 use crate::fault_line::FaultLine;
-use crate::jobs::JobFault;
+use crate::job_fault::JobFault;
 use clap::error::ErrorKind;
 use rota_pb::{Fault, status_of};
 use std::alloc::AllocError;

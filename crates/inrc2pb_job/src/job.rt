@@ -1,10 +1,8 @@
 //! What the program is asked to do.
-ghost use Rattle.std.specs.Prelude.{◌≡◌};
-ghost use Rattle.inrc2pb.specs.Jobs.{IsChoiceOf};
-ghost use Rattle.inrc2pb.specs.declared.jobs.JobFault.TheVariants.{Memory, Words};
+ghost use Rattle.std.specs.Prelude.{◌≡◌, option_map};
+ghost use Rattle.inrc2pb_job.specs.Jobs.{IsChoiceOf, output_path_of};
 
 use rota_pb::Choice;
-use std::alloc::AllocError;
 
 /// What every job is given: a scenario, the history before the week, the week's data and, where one is
 /// named, the file of the cells that are held; and whether excess is charged early.
@@ -51,29 +49,15 @@ pub enum Job {
     },
 }
 
-/// Why the words give no job.
-#[derive(Drop)]
-pub enum JobFault {
-    /// The words are refused, or ask for help or the version.
-    Words(clap::Error),
-    /// The matches lack a required path.
-    Missing,
-    /// Memory ran out, for the command or for the copy of a path.
-    Memory,
-}
-
-impl From<clap::Error> for JobFault {
-    ghost from_gives = { λ e fault. fault ≡ Words e };
-
-    fn from(error: clap::Error) -> JobFault {
-        JobFault::Words(error)
-    }
-}
-
-impl From<AllocError> for JobFault {
-    ghost from_gives = { λ _ fault. fault ≡ Memory };
-
-    fn from(_error: AllocError) -> JobFault {
-        JobFault::Memory
+impl Job {
+    /// The path of the file that the job writes, where it writes one.
+    pub fn output_path(&self) -> Option<&str>
+        ensures { option_map (λ path. path.now) result ≡ output_path_of self.now }
+    {
+        match self {
+            Job::Encode { opb, .. } => opb.as_ref().map(|path| path.as_str()),
+            Job::Decode { sol, .. } => Some(sol.as_str()),
+            Job::Extend { .. } => None,
+        }
     }
 }

@@ -1,0 +1,96 @@
+-- What a job did with the files that it opened, with its input and with its outputs.
+use Rattle.std.specs.Prelude.{◌≡◌, List, [], ◌∷◌, ◌++◌, Result, Err, Option, Some, None}
+use Rattle.std.specs.Prelude.{MatchOption, option_map, string_bytes}
+use Rattle.rota_core.specs.declared.ports.Source.{Ghosts}
+use Rattle.rota_pb.specs.declared.fault.Fault.{Fault}
+use Rattle.rota_pb.specs.declared.fault.Fault.TheVariants.{Read}
+use Rattle.rota_pb.specs.Decoding.{DecodeOutcome}
+use Rattle.rota_pb.specs.Encoding.{EncodeOutcome}
+use Rattle.rota_pb.specs.Extending.{ExtendOutcome}
+use Rattle.rota_pb.specs.Readers.{Reader, reader_of}
+use Rattle.rota_pb.specs.Writers.{Writer}
+use Rattle.inrc2pb_job.specs.Jobs.{paths_of, week_paths}
+use Rattle.inrc2pb_job.specs.Opened.{AreOpen, readers_of}
+use Rattle.inrc2pb_job.specs.Opening.{OpensAll, StopsOpening}
+use Rattle.inrc2pb_job.specs.Places.{Asked, IsNew, Path, Place}
+use Rattle.inrc2pb_job.specs.declared.job.Inputs.{Inputs}
+use Rattle.inrc2pb_job.specs.declared.job.Job.{Job}
+use Rattle.inrc2pb_job.specs.declared.job.Job.TheVariants.{Encode, Decode, Extend}
+use Rattle.inrc2pb_job.specs.declared.opened.OpenInputs.{OpenInputs}
+
+-- What opened files in a job: what an open one tells, what is at each path, and the paths that had been asked for and those that were in
+-- the end.
+pub record Opener (F : Type 0) : Type 1 where
+  pub port : Ghosts F
+  pub at : Path → Place
+  pub asked_before : Asked
+  pub asked : Asked
+
+abbrev pub opener_of : {F : Type 0} → Ghosts F → (Path → Place) → Asked → Asked → Opener F
+opener_of port at before after = record { port = port; at = at; asked_before = before; asked = after }
+
+-- files were opened at all of these paths, or up to one of them
+abbrev pub OpensEach : {F : Type 0} → Opener F → List Path → Type 0
+OpensEach opener paths = OpensAll opener.at paths opener.asked_before opener.asked
+
+abbrev pub FailsToOpen : {F : Type 0} → Opener F → List Path → Type 0
+FailsToOpen opener paths = StopsOpening opener.at paths opener.asked_before opener.asked
+
+-- What a run over open inputs did: the inputs are left in some state, and it encoded, decoded or extended what they gave.
+abbrev pub EncodesOpened : {F : Type 0} → Ghosts F → OpenInputs F → Writer → Result (Unit {0}) Fault → Type 0
+EncodesOpened port opened out result = (left : OpenInputs _) × EncodeOutcome opened.choice (readers_of port opened left) out result
+
+abbrev pub DecodesOpened : {F : Type 0} → Ghosts F → OpenInputs F → Reader → Writer → Writer → Result (Unit {0}) Fault → Type 0
+DecodesOpened port opened answer sol report result =
+    (left : OpenInputs _) × DecodeOutcome opened.choice (readers_of port opened left) answer sol report result
+
+abbrev pub ExtendsOpened : {F : Type 0} → Ghosts F → OpenInputs F → Reader → Writer → Result (Unit {0}) Fault → Type 0
+ExtendsOpened port opened given out result =
+    (left : OpenInputs _) × ExtendOutcome opened.choice (readers_of port opened left) given out result
+
+-- A file did not open, and nothing was written; or the inputs were open at their paths, and the run encoded what they gave.
+pub data Encodes {F : Type 0} (opener : Opener F) (inputs : Inputs) (out : Writer) (result : Result (Unit {0}) Fault) : Type 0 where
+  refused : result ≡ Err Read → FailsToOpen opener (week_paths inputs) → out.untouched → Encodes opener inputs out result
+  ran : OpensEach opener (week_paths inputs) → (opened : OpenInputs F) → AreOpen opener.port opener.at inputs opened →
+      EncodesOpened opener.port opened out result → Encodes opener inputs out result
+
+-- A file did not open, and nothing was touched; or the inputs were open at their paths, and the run decoded the answer: that in the file
+-- at its path, where one is named for it, and else the input.
+pub data Decodes {F : Type 0} (opener : Opener F) (inputs : Inputs) (answer : Option Path) (input : Reader) (sol report : Writer)
+    (result : Result (Unit {0}) Fault) : Type 0 where
+  refused : result ≡ Err Read → FailsToOpen opener (week_paths inputs ++ paths_of answer) →
+      input.untouched → sol.untouched → report.untouched → Decodes opener inputs answer input sol report result
+  ran_on_file : (path : Path) → answer ≡ Some path → OpensEach opener (week_paths inputs ++ path ∷ []) →
+      (opened : OpenInputs F) → AreOpen opener.port opener.at inputs opened →
+      (old new : F) → IsNew opener.port (opener.at path) old → input.untouched →
+      DecodesOpened opener.port opened (reader_of opener.port old new) sol report result →
+      Decodes opener inputs answer input sol report result
+  ran_on_input : answer ≡ None → OpensEach opener (week_paths inputs) →
+      (opened : OpenInputs F) → AreOpen opener.port opener.at inputs opened →
+      DecodesOpened opener.port opened input sol report result → Decodes opener inputs answer input sol report result
+
+-- A file did not open, and nothing was touched; or the inputs were open at their paths and the roster at its own, and the run extended it.
+pub data Extends {F : Type 0} (opener : Opener F) (inputs : Inputs) (from : Path) (out : Writer) (result : Result (Unit {0}) Fault) :
+    Type 0 where
+  refused : result ≡ Err Read → FailsToOpen opener (week_paths inputs ++ from ∷ []) → out.untouched →
+      Extends opener inputs from out result
+  ran : OpensEach opener (week_paths inputs ++ from ∷ []) →
+      (opened : OpenInputs F) → AreOpen opener.port opener.at inputs opened →
+      (old new : F) → IsNew opener.port (opener.at from) old →
+      ExtendsOpened opener.port opened (reader_of opener.port old new) out result → Extends opener inputs from out result
+
+-- The model went to the file where one is named for it, else to the output; the other was not touched.
+abbrev pub EncodesTo : {F : Type 0} → Opener F → Inputs → Option Path → Writer → Writer → Result (Unit {0}) Fault → Type 0
+EncodesTo opener inputs opb file output result = MatchOption opb (Encodes opener inputs output result × file.untouched)
+    (λ _. Encodes opener inputs file result × output.untouched)
+
+-- What a job did with what opens files, the input, the file that it writes and the output. The model goes to the file that is named for
+-- it, or to the output; the solution to its file, and the report to the output; the answer of an extension to the output. What the job
+-- does not use was not touched.
+abbrev pub JobOutcome : {F : Type 0} → Opener F → Job → Reader → Writer → Writer → Result (Unit {0}) Fault → Type 0
+JobOutcome opener (Encode inputs opb) input file output result =
+    EncodesTo opener inputs (option_map string_bytes opb) file output result × input.untouched
+JobOutcome opener (Decode inputs sol answer) input file output result =
+    Decodes opener inputs (option_map string_bytes answer) input file output result
+JobOutcome opener (Extend inputs from) input file output result =
+    Extends opener inputs (string_bytes from) output result × file.untouched × input.untouched

@@ -1,0 +1,31 @@
+//! The file of the cells that are held.
+ghost use Rattle.std.specs.Prelude.{Some, [], false};
+ghost use Rattle.inrc2pb_job.specs.declared.fix_file.FixFile.TheVariants.{Absent, Named};
+
+use rota_core::{PortFault, Source};
+
+/// The file of the cells that are held, where one is named; else a file of no bytes.
+#[derive(Drop)]
+pub enum FixFile<F> {
+    Named(F),
+    /// No file, and whether a read said its end.
+    Absent(bool),
+}
+
+impl<F: Source> Source for FixFile<F> {
+    ghost left = { elim [ Named file ↦ F.left file | Absent ended ↦ Some [] ] };
+
+    ghost has_failed = { elim [ Named file ↦ F.has_failed file | Absent ended ↦ false ] };
+
+    ghost has_ended = { elim [ Named file ↦ F.has_ended file | Absent ended ↦ ended ] };
+
+    fn read(&mut self, buffer: &mut [u8]) -> Result<usize, PortFault> {
+        match self {
+            FixFile::Named(file) => file.read(buffer),
+            FixFile::Absent(ended) => {
+                *ended = *ended || !buffer.is_empty();
+                Ok(0)
+            }
+        }
+    }
+}

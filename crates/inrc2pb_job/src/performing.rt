@@ -1,0 +1,110 @@
+//! A job, performed over any files, input and outputs.
+ghost use Rattle.std.specs.Prelude.{◌≡◌, None, option_map, string_bytes};
+ghost use Rattle.inrc2pb_job.specs.JobOutcomes.{Decodes, Encodes, EncodesTo, Extends, JobOutcome, opener_of};
+ghost use Rattle.inrc2pb_job.specs.Jobs.{output_path_of};
+ghost use Rattle.rota_pb.specs.Readers.{reader_of};
+ghost use Rattle.rota_pb.specs.Writers.{writer_of};
+
+use crate::job::{Inputs, Job};
+use crate::opened::{open, open_inputs};
+use crate::places::{Opens, Placed};
+use crate::runs::{decode_opened, encode_opened, extend_opened};
+use rota_core::{Source, Target};
+use rota_pb::Fault;
+use std::alloc::Global;
+
+/// Performs the job: its files are opened among `files`, `file` is the one that it writes, and `input` and `output` are the program's own.
+///
+/// # Errors
+/// `Read` where a file does not open: neither the input nor an output is touched then. Else those of the run.
+pub fn perform<O: Opens, A: Source, F: Target + Placed, W: Target + Placed>(
+    alloc: Global,
+    job: &Job,
+    files: &mut O,
+    input: &mut A,
+    file: &mut F,
+    output: &mut W,
+) -> Result<(), Fault>
+    requires file { F.place file.old ≡ output_path_of job.now }
+    requires output { W.place output.old ≡ None }
+    ensures { JobOutcome (opener_of O.File.Source (O.at files.old) (O.asked files.old) (O.asked files.new))
+        job.now (reader_of A.Source input.old input.new)
+        (writer_of F.Target file.old file.new) (writer_of W.Target output.old output.new) result }
+{
+    match job {
+        Job::Encode { inputs, opb } => encode(alloc, files, inputs, opb, file, output),
+        Job::Decode { inputs, answer, .. } => {
+            decode(alloc, files, inputs, answer, input, file, output)
+        }
+        Job::Extend { inputs, from } => extend(alloc, files, inputs, from.as_str(), output),
+    }
+}
+
+fn encode<O: Opens, F: Target, W: Target>(
+    alloc: Global,
+    files: &mut O,
+    inputs: &Inputs,
+    opb: &Option<String>,
+    file: &mut F,
+    output: &mut W,
+) -> Result<(), Fault>
+    ensures { EncodesTo (opener_of O.File.Source (O.at files.old) (O.asked files.old) (O.asked files.new))
+        inputs.now (option_map string_bytes opb.now)
+        (writer_of F.Target file.old file.new) (writer_of W.Target output.old output.new) result }
+{
+    match opb {
+        Some(_) => encode_to(alloc, files, inputs, file),
+        None => encode_to(alloc, files, inputs, output),
+    }
+}
+
+fn encode_to<O: Opens, W: Target>(
+    alloc: Global,
+    files: &mut O,
+    inputs: &Inputs,
+    out: &mut W,
+) -> Result<(), Fault>
+    ensures { Encodes (opener_of O.File.Source (O.at files.old) (O.asked files.old) (O.asked files.new))
+        inputs.now (writer_of W.Target out.old out.new) result }
+{
+    let opened = open_inputs(files, inputs)?;
+    encode_opened(alloc, opened, out)
+}
+
+fn decode<O: Opens, A: Source, F: Target, W: Target>(
+    alloc: Global,
+    files: &mut O,
+    inputs: &Inputs,
+    answer: &Option<String>,
+    input: &mut A,
+    sol: &mut F,
+    report: &mut W,
+) -> Result<(), Fault>
+    ensures { Decodes (opener_of O.File.Source (O.at files.old) (O.asked files.old) (O.asked files.new))
+        inputs.now (option_map string_bytes answer.now) (reader_of A.Source input.old input.new)
+        (writer_of F.Target sol.old sol.new) (writer_of W.Target report.old report.new) result }
+{
+    let opened = open_inputs(files, inputs)?;
+    match answer {
+        Some(path) => {
+            let mut given = open(files, path.as_str())?;
+            decode_opened(alloc, opened, &mut given, sol, report)
+        }
+        None => decode_opened(alloc, opened, input, sol, report),
+    }
+}
+
+fn extend<O: Opens, W: Target>(
+    alloc: Global,
+    files: &mut O,
+    inputs: &Inputs,
+    from: &str,
+    out: &mut W,
+) -> Result<(), Fault>
+    ensures { Extends (opener_of O.File.Source (O.at files.old) (O.asked files.old) (O.asked files.new))
+        inputs.now from.now (writer_of W.Target out.old out.new) result }
+{
+    let opened = open_inputs(files, inputs)?;
+    let mut given = open(files, from)?;
+    extend_opened(alloc, opened, &mut given, out)
+}
