@@ -51,10 +51,10 @@ greatest_week() {
     reports 'the numbers of the greatest week' text greatest.txt greatest_history.txt week.txt
     tail -n 4 "$room/out" > "$room/numbers"
     cat > "$room/wanted" <<'END_OF_NUMBERS'
-last cell 1792000 Some(Cell { nurse: 999, day: 6, shift: 15, skill: 15 })
-unit 1792001 None
-by arithmetic Counts { variables: 1792001, constraints: 7001 }
-by counting Counts { variables: 1792001, constraints: 7001 }
+last cell 1792000: 999 6 15 15
+unit 1792001: no cell
+by arithmetic 1792001 7001
+by counting 1792001 7001
 END_OF_NUMBERS
     holds numbers wanted
 }

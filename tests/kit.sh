@@ -219,15 +219,12 @@ encodes() {
     read -r _ _ variables _ constraints < "$room/$2"
     reports "$1, its numbers" text "${@:3}"
     grep '^by ' "$room/out" > "$room/counts"
-    printf "by %s Counts { variables: $variables, constraints: $constraints }\n" arithmetic counting > "$room/wanted"
+    printf "by %s $variables $constraints\n" arithmetic counting > "$room/wanted"
     holds counts wanted
 }
 
-# listed [RULE=COST]..: the costs of the soft rules, as `week_report` writes them.
-listed() { costs_of "$@" | cut -d ' ' -f 2 | paste -s -d , | sed 's/,/, /g;s/.*/[&]/'; }
-
 # costs WHAT [--early] [--fix FILE] SCENARIO HISTORY WEEK ROSTER [RULE=COST]..: the roster keeps the hard rules, and costs
-# this by the judge, by the plain programs, and by `extend` and `decode`.
+# this by the judge, and by `extend` and `decode`.
 costs() {
     local what=$1 flags files words=() penalty
     shift
@@ -236,8 +233,8 @@ costs() {
     penalty=$(penalty_of "$@")
     flags_and_files "${words[@]}"
     {
-        printf 'cells %s\nunmet None\nobjective %s\n' "$(tail -n +5 "$room/$roster" | wc -l)" "$penalty"
-        printf 'judge %s\nplain %s\npenalty %s\n' "$(listed "$@")" "$(listed "$@")" "$penalty"
+        printf 'cells %s\nunmet none\nobjective %s\n' "$(tail -n +5 "$room/$roster" | wc -l)" "$penalty"
+        costs_of "$@"
     } > "$room/wanted"
     reports "$what" wanted "${words[@]}"
     run "$what, extended" 0 text nothing extend "${flags[@]}" "${files[@]}" --from "$roster"

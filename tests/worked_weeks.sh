@@ -173,7 +173,7 @@ totals_and_requests() {
         '+1 x1 >= 1 ;' \
         '+1 x1 +1 x9 +1 x10 >= 3 ;'
     charges monday S1=60
-    breaks 'Some((9, H2))' nobody
+    breaks '9 H2' nobody
     week 'optimum equal to the minimum' week 4 'Day Nurse (1,1) (0,0) (0,0) (0,0) (0,0) (0,0) (0,0)\nSHIFT_OFF_REQUESTS = 0'
     has_model one_cell \
         '+1 x1 >= 1 ;'

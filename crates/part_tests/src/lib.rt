@@ -19,9 +19,6 @@ mod memory_ports;
 // Rows of tiny models, put event by event, and targets that fail.
 #[cfg(test)]
 mod model_texts;
-// The judge beside the plain programs, on rosters made at random.
-#[cfg(test)]
-mod random_rosters;
 // Want of memory while tables, rosters and answers are made.
 #[cfg(test)]
 mod refused_tables;

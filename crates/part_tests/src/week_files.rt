@@ -106,26 +106,16 @@ fn after(
     scenario: Scenario,
     history: &[u8],
     week: Week,
-    early: bool,
 ) -> Result<Instance, FileFault>
     requires { HasNumbersOf scenario week.nurses week.shifts week.skills }
 {
     let history = read_history(alloc, &scenario, history)?;
-    Instance::join(scenario, history, week, early)
-}
-
-/// The instance that the files spell, with `early`.
-pub fn early_instance_of(
-    alloc: Global,
-    files: &WeekFiles,
-    early: bool,
-) -> Result<Instance, FileFault> {
-    let scenario = read_scenario(alloc, files.scenario)?;
-    let week = read_week(alloc, &scenario, files.week)?;
-    after(alloc, scenario, files.history, week, early)
+    Instance::join(scenario, history, week, false)
 }
 
 /// The instance that the files spell.
 pub fn instance_of(alloc: Global, files: &WeekFiles) -> Result<Instance, FileFault> {
-    early_instance_of(alloc, files, false)
+    let scenario = read_scenario(alloc, files.scenario)?;
+    let week = read_week(alloc, &scenario, files.week)?;
+    after(alloc, scenario, files.history, week)
 }

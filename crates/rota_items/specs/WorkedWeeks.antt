@@ -8,7 +8,7 @@ use Rattle.rota_core.specs.declared.values.Past.{Past}
 use Rattle.rota_core.specs.Week.{Week, no_demand, no_past}
 use Rattle.rota_core.specs.Roster.{Roster}
 use Rattle.rota_items.specs.Linear.{Term, Constraint}
-use Rattle.rota_items.specs.WeekModel.{model_of, extension_of}
+use Rattle.rota_items.specs.WeekModel.{model_of}
 
 -- ---- words for weeks
 
@@ -86,9 +86,6 @@ last_week assignments weekends = record (with_contract totals) {
   past = λ n. record no_past { assignments = assignments; weekends = weekends };
 }
 
-abbrev pub closed_shift_week : Week
-closed_shift_week = record plain_week { limits = λ s. limits_of 1 0 }
-
 -- Wednesday is held, and in the other week both shift types on Monday
 abbrev pub held_wednesday_week : Week
 held_wednesday_week = record plain_week { is_held = λ one. one.day == 2 }
@@ -102,12 +99,9 @@ weekends_week = with_contract (record wide { complete = true })
 abbrev pub days_off_week : Week
 days_off_week = with_contract (record wide { off = limits_of 2 9 })
 
--- the nurse has all cells of these days, and those of these days on a shift type
+-- the nurse has all cells of these days
 abbrev pub on_days : (ℕ → Bool) → Roster
 on_days has cell = has cell.day
-
-abbrev pub on_monday_shift : ℕ → Roster
-on_monday_shift s cell = cell.day == 0 && cell.shift == s
 
 -- ---- words for rows
 
@@ -128,11 +122,6 @@ abbrev after_days : Week → List Constraint
 after_days week = drop 8 (model_of week).constraints
 
 -- ---- constraints
-
-abbrev pub OneNurseOneShift : Type 0
-OneNurseOneShift =
-    (model_of plain_week).constraints ≡
-    row (plus 8 ∷ []) (pos 1) ∷ map (λ v. row (minus v ∷ []) (negsuc 0)) (range_with_len 1 7)
 
 abbrev pub DemandNobodyCanMeet : Type 0
 DemandNobodyCanMeet =
@@ -167,13 +156,6 @@ CompleteWeekends =
     after_days weekends_week ≡
     row (minus 6 ∷ plus 7 ∷ plus 9 ∷ []) (pos 0) ∷ row (plus 6 ∷ minus 7 ∷ plus 10 ∷ []) (pos 0) ∷ []
 
-abbrev pub TotalsAbove : Type 0
-TotalsAbove =
-    after_days (last_week 20 3) ≡
-    row (each (negsuc 0) (range_with_len 1 7) ++ each (pos 1) (range_with_len 9 7)) (pos 0) ∷
-    row (minus 6 ∷ plus 16 ∷ []) (pos 0) ∷
-    row (plus 6 ∷ minus 7 ∷ plus 17 ∷ []) (pos 0) ∷ []
-
 -- the held cells come last, by rising variable, and may break H1
 abbrev pub HeldCells : Type 0
 HeldCells =
@@ -182,23 +164,13 @@ HeldCells =
 
 -- ---- objectives
 
-abbrev pub NothingToCharge : Type 0
-NothingToCharge = (model_of plain_week).objective ≡ []
-
 abbrev pub RequestsOnOneCell : Type 0
 RequestsOnOneCell = (model_of requests_week).objective ≡ (pos 30, 1) ∷ (pos 10, 2) ∷ []
-
-abbrev pub HeldCellsCostNothing : Type 0
-HeldCellsCostNothing = (model_of held_monday_week).objective ≡ (pos 30, 1) ∷ (pos 10, 2) ∷ []
 
 abbrev pub TotalsAboveInTheLastWeek : Type 0
 TotalsAboveInTheLastWeek =
     (model_of (last_week 20 3)).objective ≡
     (pos 130, 8) ∷ each (pos 20) (range_with_len 9 7) ++ each (pos 30) (range_with_len 16 2)
-
-abbrev pub TotalBelowInTheLastWeek : Type 0
-TotalBelowInTheLastWeek =
-    (model_of (last_week 0 0)).objective ≡ (pos 60, 8) ∷ each (pos 20) (range_with_len 9 7)
 
 -- ---- the same where each week pays for what it adds
 
@@ -208,36 +180,9 @@ charged_early week = record week { is_early = true }
 abbrev pub before_the_last : Week → Week
 before_the_last week = record week { is_last = false }
 
--- the totals above are paid for as they are added to, in the last week as before it
-abbrev pub TotalsAboveEarly : Type 0
-TotalsAboveEarly =
-    let week = charged_early (last_week 20 3) in
-    (after_days week ≡ after_days (last_week 20 3)) ×
-    ((model_of week).objective ≡ each (pos 20) (range_with_len 9 7) ++ each (pos 30) (range_with_len 16 2)) ×
-    (model_of (before_the_last week) ≡ model_of week)
-
--- the total below counts in the last week only
-abbrev pub TotalBelowEarly : Type 0
-TotalBelowEarly =
-    let week = charged_early (last_week 0 0) in
-    (model_of week ≡ model_of (last_week 0 0)) × (model_of (before_the_last week) ≡ model_of plain_week)
-
 -- three assignments are left before the last week
 abbrev pub TotalReachedEarly : Type 0
 TotalReachedEarly =
     let week = before_the_last (charged_early (last_week 12 0)) in
     (after_days week ≡ row (each (negsuc 0) (range_with_len 1 7) ++ each (pos 1) (range_with_len 9 4)) (negsuc 2) ∷ []) ×
     ((model_of week).objective ≡ each (pos 20) (range_with_len 9 4))
-
--- ---- variables: the cells, the unit variable, and the slacks
-
-abbrev pub VariablesOfTheLastWeek : Type 0
-VariablesOfTheLastWeek = (model_of (last_week 20 3)).variables ≡ 17
-
--- ---- Monday worked where no day is to be on the shift type: its slack is set, and none of the other days'
-
-abbrev pub ShiftNobodyShouldWork : Type 0
-ShiftNobodyShouldWork =
-    map (extension_of closed_shift_week (on_days (λ d. d == 0))) (range_with_len 1 15) ≡
-    true ∷ false ∷ false ∷ false ∷ false ∷ false ∷ false ∷ true ∷
-    true ∷ false ∷ false ∷ false ∷ false ∷ false ∷ false ∷ []

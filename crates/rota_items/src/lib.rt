@@ -123,8 +123,4 @@ pub use size_laws::{
 pub use takers::Taker;
 pub use variables::{cell_var, unit_var, var_cell};
 pub use verdicts::Verdict;
-pub use worked_weeks::{
-    worked_roster_has_its_extension, worked_rosters_have_their_penalties,
-    worked_weeks_have_their_constraints, worked_weeks_have_their_models_early,
-    worked_weeks_have_their_objectives,
-};
+pub use worked_weeks::{worked_rosters_have_their_penalties, worked_weeks_have_their_models};

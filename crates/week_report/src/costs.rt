@@ -1,13 +1,14 @@
-//! What a roster costs, by the judge and by the plain programs.
+//! What a roster costs.
 use crate::files::Stop;
-use plain_costs::{penalty, rule_costs, verdict_of};
-use rota_core::Instance;
+use crate::judged::verdict_of;
+use rota_core::{Instance, Rule};
 use rota_items::Verdict;
 use rota_read::read_solution;
 use std::fs;
 use std::rt::Files;
 
-/// What the roster of the solution costs in the week.
+/// How many cells the roster of the solution has, the first row that it leaves unmet with that row's rule, and
+/// what it costs, in all and by each soft rule.
 pub fn print_costs<R: Files + Print + AllocGlobal>(
     rt: &R,
     instance: &Instance,
@@ -15,15 +16,17 @@ pub fn print_costs<R: Files + Print + AllocGlobal>(
 ) -> Result<(), Stop> {
     let roster = read_solution(rt.alloc(), instance, &fs::read(rt, solution)?)?;
     println!(rt; "cells {}", roster.count())?;
-    print_verdict(rt, &verdict_of(instance, &roster))?;
-    println!(rt; "plain {:?}", rule_costs(instance, &roster))?;
-    println!(rt; "penalty {}", penalty(instance, &roster))?;
-    Ok(())
+    print_verdict(rt, &verdict_of(instance, &roster))
 }
 
 fn print_verdict<R: Print>(rt: &R, verdict: &Verdict) -> Result<(), Stop> {
-    println!(rt; "unmet {:?}", verdict.unmet)?;
+    match verdict.unmet {
+        Some((row, rule)) => println!(rt; "unmet {row} {rule}")?,
+        None => println!(rt; "unmet none")?,
+    }
     println!(rt; "objective {}", verdict.objective)?;
-    println!(rt; "judge {:?}", verdict.costs)?;
+    for (rule, cost) in Rule::SOFT.into_iter().zip(verdict.costs) {
+        println!(rt; "{rule} {cost}")?;
+    }
     Ok(())
 }

@@ -3,17 +3,21 @@
 //!     week_report [--early] [--fix FILE] SCENARIO HISTORY WEEK [SOLUTION]
 //!
 //! It prints the week's tables, how its cells are numbered, and how large its model is, by arithmetic and
-//! by counting. With a solution it prints what the roster costs, by the judge and by the plain programs.
+//! by counting. With a solution it prints what the judge says of the roster.
 #![tactic(auto)]
 
 // What a roster costs.
 mod costs;
 // The files, read.
 mod files;
+// What the judge says of a roster.
+mod judged;
 // The numbers of cells and models.
 mod numbers;
 // The tables that have a row for each nurse, shift type and skill.
 mod tables;
+// Numbers and names as the report says them.
+mod words;
 
 use crate::costs::print_costs;
 use crate::files::{Stop, Words, command_line, instance_of};

@@ -5,7 +5,7 @@ ghost use Rattle.rota_core.specs.Roster.{InWeek};
 use crate::files::Stop;
 use rota_core::{Cell, Instance};
 use rota_items::{
-    Counter, cell_var, counts, drive_constraints, drive_objective, unit_var, var_cell,
+    Counter, Counts, cell_var, counts, drive_constraints, drive_objective, unit_var, var_cell,
 };
 
 // The last cell of the week.
@@ -23,10 +23,35 @@ fn last_cell(instance: &Instance) -> Cell
 // The number of the last cell and the cell of that number, the unit variable's number and that it has no
 // cell.
 fn print_variables<R: Print>(rt: &R, instance: &Instance) -> Result<(), Stop> {
-    let last = cell_var(instance, last_cell(instance));
-    println!(rt; "last cell {last} {:?}", var_cell(instance, last))?;
-    let unit = unit_var(instance);
-    println!(rt; "unit {unit} {:?}", var_cell(instance, unit))?;
+    print_variable(
+        rt,
+        instance,
+        "last cell",
+        cell_var(instance, last_cell(instance)),
+    )?;
+    print_variable(rt, instance, "unit", unit_var(instance))
+}
+
+// The number, and its cell: nurse, day, shift type and skill.
+fn print_variable<R: Print>(
+    rt: &R,
+    instance: &Instance,
+    name: &str,
+    number: u32,
+) -> Result<(), Stop> {
+    match var_cell(instance, number) {
+        Some(cell) => println!(rt;
+            "{name} {number}: {} {} {} {}",
+            cell.nurse, cell.day, cell.shift, cell.skill
+        )?,
+        None => println!(rt; "{name} {number}: no cell")?,
+    }
+    Ok(())
+}
+
+// The numbers of variables and constraints.
+fn print_counts<R: Print>(rt: &R, way: &str, counts: Counts) -> Result<(), Stop> {
+    println!(rt; "by {way} {} {}", counts.variables, counts.constraints)?;
     Ok(())
 }
 
@@ -34,10 +59,9 @@ fn print_variables<R: Print>(rt: &R, instance: &Instance) -> Result<(), Stop> {
 /// by a counter of the rows.
 pub fn print_numbers<R: Print>(rt: &R, instance: &Instance) -> Result<(), Stop> {
     print_variables(rt, instance)?;
-    println!(rt; "by arithmetic {:?}", counts(instance))?;
+    print_counts(rt, "arithmetic", counts(instance))?;
     let mut counter = Counter::new();
     let Ok(()) = drive_objective(instance, &mut counter);
     let Ok(()) = drive_constraints(instance, &mut counter);
-    println!(rt; "by counting {:?}", counter.counts)?;
-    Ok(())
+    print_counts(rt, "counting", counter.counts)
 }

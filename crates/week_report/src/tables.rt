@@ -4,8 +4,8 @@ ghost use Rattle.std.specs.Prelude.{◌<◌};
 ghost use Rattle.rota_core.specs.InstanceTables.{week_of};
 
 use crate::files::Stop;
-use rota_core::{Demand, Instance};
-use std::str::from_utf8;
+use crate::words::{Place, text_of};
+use rota_core::{Contract, Demand, Instance, Past};
 
 const NOBODY: Demand = Demand {
     minimum: 0,
@@ -14,7 +14,7 @@ const NOBODY: Demand = Demand {
 
 /// The numbers of the week, and its tables.
 pub fn print_tables<R: Print>(rt: &R, instance: &Instance) -> Result<(), Stop> {
-    println!(rt; "scenario {:?}", from_utf8(instance.scenario_name()))?;
+    println!(rt; "scenario {}", text_of(instance.scenario_name()))?;
     println!(rt; "week {} last {}", instance.week(), instance.last_week())?;
     println!(rt; "early {} held {}", instance.early(), instance.held_count())?;
     print_skills(rt, instance)?;
@@ -25,10 +25,10 @@ pub fn print_tables<R: Print>(rt: &R, instance: &Instance) -> Result<(), Stop> {
 
 // The name, and its number among the nurses, the shift types and the skills.
 fn print_name<R: Print>(rt: &R, instance: &Instance, name: &[u8]) -> Result<(), Stop> {
-    let nurse = instance.find_nurse(name);
-    let shift = instance.find_shift(name);
-    let skill = instance.find_skill(name);
-    println!(rt; "{:?} {nurse:?} {shift:?} {skill:?}", from_utf8(name))?;
+    let nurse = Place(instance.find_nurse(name));
+    let shift = Place(instance.find_shift(name));
+    let skill = Place(instance.find_skill(name));
+    println!(rt; "name {} {nurse} {shift} {skill}", text_of(name))?;
     Ok(())
 }
 
@@ -44,7 +44,8 @@ fn print_skills<R: Print>(rt: &R, instance: &Instance) -> Result<(), Stop> {
 // Each shift type: its number, limits and name, and what may not follow it.
 fn print_shifts<R: Print>(rt: &R, instance: &Instance) -> Result<(), Stop> {
     for shift in 0..instance.shifts() {
-        println!(rt; "shift {shift} {:?}", instance.limits(shift))?;
+        let limits = instance.limits(shift);
+        println!(rt; "shift {shift} {} {}", limits.min, limits.max)?;
         print_name(rt, instance, instance.shift_name(shift))?;
         print_successions(rt, instance, shift)?;
     }
@@ -68,11 +69,46 @@ fn print_nurses<R: Print>(rt: &R, instance: &Instance) -> Result<(), Stop> {
     for nurse in 0..instance.nurses() {
         println!(rt; "nurse {nurse}")?;
         print_name(rt, instance, instance.nurse_name(nurse))?;
-        println!(rt; "{:?}", instance.contract(nurse))?;
-        println!(rt; "{:?}", instance.past(nurse))?;
+        print_contract(rt, &instance.contract(nurse))?;
+        print_past(rt, &instance.past(nurse))?;
         print_skills_of(rt, instance, nurse)?;
         print_requests_of(rt, instance, nurse)?;
     }
+    Ok(())
+}
+
+// The limits of assignments, working days, days off and worked weekends, and whether weekends are complete.
+fn print_contract<R: Print>(rt: &R, contract: &Contract) -> Result<(), Stop> {
+    let Contract {
+        total,
+        work,
+        off,
+        ..
+    } = contract;
+    println!(rt; "total {} {}", total.min, total.max)?;
+    println!(rt;
+        "work {} {} off {} {}",
+        work.min, work.max, off.min, off.max
+    )?;
+    println!(rt;
+        "weekends {} complete {}",
+        contract.weekends, contract.complete
+    )?;
+    Ok(())
+}
+
+// What came before this week.
+fn print_past<R: Print>(rt: &R, past: &Past) -> Result<(), Stop> {
+    println!(rt;
+        "before {} {} {}",
+        past.assignments,
+        past.weekends,
+        Place(past.last)
+    )?;
+    println!(rt;
+        "runs {} {} {}",
+        past.shift_run, past.work_run, past.off_run
+    )?;
     Ok(())
 }
 
@@ -110,10 +146,23 @@ fn print_demands<R: Print>(rt: &R, instance: &Instance) -> Result<(), Stop> {
             for skill in 0..instance.skills() {
                 let demand = instance.demand(day, shift, skill);
                 if demand != NOBODY {
-                    println!(rt; "demand {day} {shift} {skill}: {demand:?}")?;
+                    print_demand(rt, day, shift, skill, demand)?;
                 }
             }
         }
     }
+    Ok(())
+}
+
+// The day, shift type and skill, and the least and the optimal number of nurses.
+fn print_demand<R: Print>(
+    rt: &R,
+    day: u8,
+    shift: u8,
+    skill: u8,
+    demand: Demand,
+) -> Result<(), Stop> {
+    let Demand { minimum, optimal } = demand;
+    println!(rt; "demand {day} {shift} {skill}: {minimum} {optimal}")?;
     Ok(())
 }

@@ -1,6 +1,6 @@
 use Rattle.rota_items.proofs.JudgedVerdict.{was-driven}
 use Rattle.rota_items.specs.Judging.{extended}
-use Rattle.plain_costs.proofs.judged.verdict_of.Goals as goal
+use Rattle.week_report.proofs.judged.verdict_of.Goals as goal
 
 pub verdict-requires : goal.verdict-requires
 verdict-requires c =

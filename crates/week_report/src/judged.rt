@@ -1,4 +1,4 @@
-//! What the judge says of a roster, to be compared with the plain programs.
+//! What the judge says of a roster.
 ghost use Rattle.std.specs.Prelude.{◌≡◌, ◌++◌};
 ghost use Rattle.std.specs.List.{fold};
 ghost use Rattle.rota_core.specs.InstanceTables.{week_of};

@@ -1,2 +1,0 @@
-pub mod LoopSums
-pub mod RunDays

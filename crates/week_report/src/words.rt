@@ -1,0 +1,24 @@
+//! Numbers and names as the report says them.
+use std::fmt;
+use std::str::from_utf8;
+
+/// A number that may be missing: `-` stands for none.
+#[derive(Clone, Copy)]
+pub struct Place<T>(pub Option<T>);
+
+impl<T: fmt::Display> fmt::Display for Place<T> {
+    fn fmt<W: fmt::Write>(&self, f: &mut fmt::Formatter<W>) -> fmt::Result {
+        match &self.0 {
+            Some(number) => number.fmt(f),
+            None => f.write_str("-"),
+        }
+    }
+}
+
+/// The name, or `?` where it is no text.
+pub fn text_of(name: &[u8]) -> &str {
+    match from_utf8(name) {
+        Ok(text) => text,
+        Err(_) => "?",
+    }
+}
