@@ -185,11 +185,12 @@ solutions() {
     has_line 'cells 2'
 }
 
-# cuts FILE NAME WORDS..: the program on these words, which name the file `cut`, with FILE cut after each byte.
-# Where more than its last end of line is cut away, the end or a word is missed, on one of lines 1 to 12.
+# cuts FILE NAME WANTED WORD..: the program on these words, which name the file `cut`, with FILE cut after each byte; it writes
+# WANTED where FILE is whole. Where more than its last end of line is cut away, the end or a word is missed, on one of lines
+# 1 to 12.
 cuts() {
-    local file=$1 named=$2 size length
-    shift 2
+    local file=$1 named=$2 wanted=$3 size length
+    shift 3
     size=$(wc -c < "$room/$file")
     for ((length = 0; length < size - 1; length++)); do
         head -c "$length" "$room/$file" > "$room/cut"
@@ -197,17 +198,17 @@ cuts() {
         grep -qxE "inrc2pb: $named line ([1-9]|1[0-2]): (end of file|another word expected|unknown name)" "$room/err" ||
             complain "$(cat "$room/err")"
     done
-    run "$file whole" 0 text nothing "${@/#cut/$file}"
-    cp "$room/out" "$room/whole_output"
+    run "$file whole" 0 "$wanted" nothing "${@/#cut/$file}"
     head -c "$length" "$room/$file" > "$room/cut"
-    run "$file without its last end of line" 0 whole_output nothing "$@"
+    run "$file without its last end of line" 0 "$wanted" nothing "$@"
 }
 
 cut_files() {
-    cuts scenario.txt scenario encode --sce cut --his history.txt --week week.txt
-    cuts history.txt history encode --sce scenario.txt --his cut --week week.txt
-    cuts week.txt week encode --sce scenario.txt --his history.txt --week cut
-    cuts monday solution extend --sce scenario.txt --his history.txt --week week.txt --from cut
+    printf '%s\n' 'o 0' 's SATISFIABLE' 'v x1 -x2 -x3 -x4 -x5 -x6 -x7 x8' > "$room/monday_answer"
+    cuts scenario.txt scenario model encode --sce cut --his history.txt --week week.txt
+    cuts history.txt history model encode --sce scenario.txt --his cut --week week.txt
+    cuts week.txt week model encode --sce scenario.txt --his history.txt --week cut
+    cuts monday solution monday_answer extend "${week[@]}" --from cut
 }
 
 scenarios
