@@ -41,7 +41,7 @@ test:
 
 # What the scripts of tests/ run, without the gate: the program by LLVM and by Rattle's own compiler, and what looks into the
 # libraries.
-programs: build
+programs: all
 	cd crates/inrc2pb && rt run --backend rattle -- --version && mv out/inrc2pb out/inrc2pb.by-rattle
 	cp out/inrc2pb crates/inrc2pb/out/inrc2pb
 	cd crates/week_report && rt run -- data/scenario.txt data/history.txt data/week.txt > /dev/null

@@ -10,6 +10,7 @@
 # Nothing is proved: a stand-in for `rt` gives the program. Where no clasp is installed a stand-in gives its stored
 # answers. Needs bash, the usual tools of a shell, make and Python 3.8.
 . "$(dirname "$0")/kit.sh"
+needs crates/who_fits/out/who_fits
 
 stand_in() {
     cat > "$room/bin/$1"
@@ -21,7 +22,7 @@ tar -cf - --exclude=./out --exclude='./crates/*/out' --exclude=./.git . | tar -x
 mkdir -p "$room/copy/out" "$room/copy/crates/inrc2pb/out"
 cp "$program" "$room/copy/out/inrc2pb"
 cp "$program" "$room/copy/crates/inrc2pb/out/inrc2pb"
-cp crates/who_fits/out/who_fits "$room/copy/out/who_fits" || exit 2
+cp crates/who_fits/out/who_fits "$room/copy/out/who_fits"
 cp "$program" "$room/bin/inrc2pb"
 cp examples/*/answers/clasp*.txt "$room/answers"
 
