@@ -51,8 +51,8 @@ FAULTS = {
 
 def example_weeks():
     """The files of each example week, and the answers that solvers gave."""
-    for folder in sorted(glob.glob(f"{ROOT}/examples/*/")):
-        yield example_files(os.path.basename(folder[:-1])), [read(path) for path in sorted(glob.glob(f"{folder}answers/*"))]
+    for folder in sorted(map(os.path.dirname, glob.glob(f"{ROOT}/examples/*/Sc-*.txt"))):
+        yield example_files(os.path.basename(folder)), [read(path) for path in sorted(glob.glob(f"{folder}/answers/*"))]
 
 
 # ---- changes
@@ -241,7 +241,7 @@ def main():
             runs = Runs(given.program, folder)
             for check, case in cases(given.seed, number, weeks):
                 tried += 1
-                wrong = failure(check, runs, case)
+                wrong = failure(check, runs, case) if failed < MOST_FAILURES else None
                 if wrong:
                     failed += 1
                     keep(check, runs, case, f"{given.seed}-{tried}", wrong)

@@ -1,6 +1,6 @@
 #!/usr/bin/env bash
 # The program beside tests/rules.py, which was written from docs/rules.md alone: on weeks, rosters and held cells made at
-# random, and on every roster of weeks so small that all can be tried.
+# random, and on every roster of weeks so small that all can be tried. Then the first cases of `make fuzz`.
 #
 #   tests/random_weeks.sh [llvm | rattle | PROGRAM]
 #
@@ -11,4 +11,6 @@ begins_case 'rosters made at random'
 tests/random_rosters.py "$program" || complain 'tests/random_rosters.py fails'
 begins_case 'every roster of small weeks'
 tests/every_roster.py "$program" || complain 'tests/every_roster.py fails'
+begins_case 'files changed at random, for three seconds'
+tests/fuzz.py "$program" --seconds 3 --seed 1 || complain 'tests/fuzz.py fails'
 finish

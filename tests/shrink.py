@@ -55,10 +55,10 @@ class Shrinking:
             name: text for name, text in self.case.items() if name in ("sce", "his", "week", *kept)})
 
     def drop_of_week(self):
-        """What is asked for, then cells, then names with all that speaks of them. Whether the files are laid out plainly."""
+        """What is asked for, then names with all that speaks of them, then cells. Whether the files are laid out plainly."""
         try:
             self.accepts(self.plain())
-            for name in ("required", "forbidden", "requests", "fix", "roster", "nurses", "shifts", "skills", "contracts"):
+            for name in ("required", "forbidden", "requests", "nurses", "shifts", "skills", "contracts", "fix", "roster"):
                 week, rosters = self.read()
                 items = rosters.get(name, []) if name in ("fix", "roster") else list(getattr(week, name))
                 self.drop(items, lambda kept, name=name: self.only(name, kept))
