@@ -52,45 +52,55 @@ class Slots:
         return [self.word() for _ in range(self.number())]
 
 
-def read_week(scenario, history, week):
-    """What the three files of a week say, by names."""
-    file = Slots(scenario)
+def read_scenario(file, week):
     file.words("SCENARIO", "=")
-    read = types.SimpleNamespace(name=file.word())
+    week.name = file.word()
     file.words("WEEKS", "=")
-    read.weeks = file.number()
-    read.skills = [file.word() for _ in file.counted("SKILLS", "=")]
-    read.shifts = {file.word(): file.pair() for _ in file.counted("SHIFT_TYPES", "=")}
+    week.weeks = file.number()
+    week.skills = [file.word() for _ in file.counted("SKILLS", "=")]
+    week.shifts = {file.word(): file.pair() for _ in file.counted("SHIFT_TYPES", "=")}
     file.words("FORBIDDEN_SHIFT_TYPES_SUCCESSIONS")
-    read.forbidden = {(before, after) for before in (file.word() for _ in read.shifts) for after in file.names()}
-    read.contracts = {
+    week.forbidden = {(before, after) for before in (file.word() for _ in week.shifts) for after in file.names()}
+    week.contracts = {
         file.word(): types.SimpleNamespace(
             total=file.pair(), work=file.pair(), off=file.pair(), weekends=file.number(), complete=file.number())
         for _ in file.counted("CONTRACTS", "=")}
-    read.nurses = {
+    week.nurses = {
         file.word(): types.SimpleNamespace(contract=file.word(), skills=file.names())
         for _ in file.counted("NURSES", "=")}
-    file = Slots(history)
+
+
+def read_history(file, week):
     file.words("HISTORY")
-    read.number = file.number()
+    week.number = file.number()
     file.word()
     file.words("NURSE_HISTORY")
-    read.history = {
+    week.history = {
         file.word(): types.SimpleNamespace(
             assignments=file.number(), weekends=file.number(), last=file.word(), same=file.number(),
             work=file.number(), off=file.number())
-        for _ in read.nurses}
-    file = Slots(week)
+        for _ in week.nurses}
+
+
+def read_requirements(file, week):
     file.words("WEEK_DATA")
     file.word()
     file.words("REQUIREMENTS")
-    read.required = {}
+    week.required = {}
     while (shift := file.word()) != "SHIFT_OFF_REQUESTS":
         skill = file.word()
         for day in range(7):
-            read.required[day, shift, skill] = file.pair()
-    read.requests = [(file.word(), file.word(), DAYS.index(file.word())) for _ in file.counted("=")]
-    return read
+            week.required[day, shift, skill] = file.pair()
+    week.requests = [(file.word(), file.word(), DAYS.index(file.word())) for _ in file.counted("=")]
+
+
+def read_week(scenario, history, requirements):
+    """What the three files of a week say, by names."""
+    week = types.SimpleNamespace()
+    read_scenario(Slots(scenario), week)
+    read_history(Slots(history), week)
+    read_requirements(Slots(requirements), week)
+    return week
 
 
 def read_roster(solution):
