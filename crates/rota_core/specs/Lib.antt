@@ -10,8 +10,10 @@ pub mod Numeral
 pub mod Parts
 pub mod Ports
 pub mod Roster
+pub mod RosterCalls
 pub mod RosterCells
 pub mod RosterTables
+pub mod RuleNames
 pub mod Rules
 pub mod ScenarioTables
 pub mod Week

@@ -22,7 +22,8 @@ pub struct Roster {
 }
 
 impl Model for Roster {
-    ghost use Rattle.rota_core.specs.RosterTables.{RosterTables, roster_tables, HoldsRoster};
+    ghost use Rattle.rota_core.specs.RosterTables.{RosterTables};
+    ghost use Rattle.rota_core.specs.RosterCalls.{roster_tables, HoldsRoster};
 
     ghost Value = { RosterTables };
 
@@ -32,7 +33,8 @@ impl Model for Roster {
 }
 
 impl Roster {
-    ghost use Rattle.rota_core.specs.RosterTables.{set_of, count_of, InShape, HasShapeOf, IsRoster, AddsCell};
+    ghost use Rattle.rota_core.specs.RosterTables.{set_of, HasShapeOf, IsRoster};
+    ghost use Rattle.rota_core.specs.RosterCalls.{count_of, InShape, AddsCell};
     ghost use Rattle.rota_core.specs.Roster.{InWeek};
     ghost use Rattle.rota_core.specs.RosterCells.{cells_in};
     ghost use Rattle.rota_core.specs.InstanceTables.{week_of};

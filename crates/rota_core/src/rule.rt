@@ -1,7 +1,8 @@
 //! The rules of a week, under the names that the competition gives them.
 
 ghost use Rattle.std.specs.Prelude.{◌≡◌, Some};
-ghost use Rattle.rota_core.specs.Rules.{hard_rules, rule_name, soft_rules};
+ghost use Rattle.rota_core.specs.Rules.{hard_rules, soft_rules};
+ghost use Rattle.rota_core.specs.RuleNames.{rule_name};
 
 use std::fmt;
 

@@ -1,9 +1,9 @@
 -- What weeks that follow one another are charged sums up to what is above in the end, less what was at the start.
-use Rattle.std.proofs.Common.{◌≡◌, ℕ, ◌+◌, ◌-◌, true, List, [], ◌∷◌, refl, arith}
+use Rattle.std.proofs.Common.{◌≡◌, ℕ, ◌+◌, true, List, [], ◌∷◌, refl, arith}
 use Rattle.std.specs.List.{sum, sum_by}
 use Rattle.std.proofs.lemmas.List.Sums.{sum_by-cons}
-use Rattle.rota_items.specs.CountedTotals.{CountedTotal, added_excess}
-use Rattle.rota_items.specs.EarlyWeeks.{FollowEarly, RosteredWeek, added_in, charged_in, early_charges, total_in_the_end}
+use Rattle.rota_items.specs.CountedTotals.{charged_excess}
+use Rattle.rota_items.specs.EarlyWeeks.{CountedTotal, FollowEarly, RosteredWeek, added_by_all, added_excess, added_in, early_charges}
 
 pub early_charges-are : (most before : ℕ) (steps : List ℕ) → early_charges most before steps ≡ added_excess most before (sum steps)
 early_charges-are most before [] = omega arith
@@ -11,19 +11,22 @@ early_charges-are most before (now ∷ later) =
     omega (arith, sum_by-cons (λ (n : ℕ). n) now later, early_charges-are most (before + now) later)
 
 module _ (total : CountedTotal) where
+  -- what a week is charged of the total
+  abbrev charged_in : RosteredWeek → ℕ
+  charged_in one = charged_excess one.week (total.most one.week) (total.before one.week) (added_in total one)
+
   pays_added : (one : RosteredWeek) → one.week.is_early ≡ true →
-      charged_in total one ≡ added_excess (total.most one.week) (total.before one.week) (added_in total one)
-  pays_added one early = rw early refl
+      charged_in one ≡ added_excess (total.most one.week) (total.before one.week) (added_in total one)
+  pays_added one early = grind (arith, early)
 
   pub charges-sum : (one : RosteredWeek) (later : List RosteredWeek) → FollowEarly total one later →
-      sum_by (charged_in total) (one ∷ later) ≡
-      (total_in_the_end total one later - total.most one.week) - (total.before one.week - total.most one.week)
+      sum_by charged_in (one ∷ later) ≡ added_by_all total one later
   charges-sum one [] early =
-      omega (arith, sum_by-cons (charged_in total) one [], sum_by-cons (added_in total) one [], pays_added one early)
+      omega (arith, sum_by-cons charged_in one [], sum_by-cons (added_in total) one [], pays_added one early)
   charges-sum one (next ∷ later) (early, continues, follow) =
       omega (
         arith,
-        sum_by-cons (charged_in total) one (next ∷ later),
+        sum_by-cons charged_in one (next ∷ later),
         sum_by-cons (added_in total) one (next ∷ later),
         pays_added one early,
         continues.before,

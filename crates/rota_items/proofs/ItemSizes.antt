@@ -10,7 +10,7 @@ use Rattle.rota_items.specs.Bounds.{heaviest, most_cells_of_day, most_run_items,
 use Rattle.rota_items.specs.Limits.{most_number, most_skills}
 use Rattle.rota_items.specs.RunItems.{Present, Property, Runs, day_terms, is_plain, pattern_item, run_items, variables_on}
 use Rattle.rota_items.specs.RunPatterns.{Pattern, PatternDay, patterns, windows}
-use Rattle.rota_items.specs.WeekendItems.{only_sunday, weekend_item, weekend_items}
+use Rattle.rota_items.specs.WeekendItems.{only_sunday, saturday, weekend_items}
 
 -- an item of this rule has small numbers
 pub record IsItemSmall (rule : Rule) (item : Item Cell) : Type 0 where
@@ -115,17 +115,24 @@ few-run_items runs =
 
 -- ---- weekends
 
-module _ (week : Week) (limits : IsWithinLimits week) (rule : Rule) (weight n : ℕ) (on_saturday : List PatternDay) where
-  pub small-weekend : weight ≤ heaviest → length on_saturday ≤ 7 → (test : Bool) →
-      AllByRecursion (IsItemSmall rule) (if test then weekend_items rule weight week n on_saturday else [])
-  small-weekend light short false = tt
-  small-weekend light short true = (small on_saturday short, (small only_sunday.days (omega arith), tt))
-    where
-      small : (days : List PatternDay) → length days ≤ 7 → IsItemSmall rule (weekend_item rule weight week n days)
-      small days few =
-          small-pattern (Present (work_cells week n)) (length-work week limits n) rule weight (record { days = days; units = 1 }) light
-          few (omega arith)
+abbrev weekend_pattern : List PatternDay → Pattern
+weekend_pattern days = record { days = days; units = 1 }
 
-  pub few-weekend : (test : Bool) → length (if test then weekend_items rule weight week n on_saturday else []) ≤ most_run_items
+saturday-short : (alone : Bool) → length (saturday alone).days ≤ 7
+saturday-short true = omega arith
+saturday-short false = omega arith
+
+module _ (week : Week) (limits : IsWithinLimits week) (rule : Rule) (weight n : ℕ) (alone : Bool) where
+  pub small-weekend : weight ≤ heaviest → (test : Bool) →
+      AllByRecursion (IsItemSmall rule) (if test then weekend_items rule weight week n alone else [])
+  small-weekend light false = tt
+  small-weekend light true = (small (saturday alone).days (saturday-short alone), (small only_sunday.days (omega arith), tt))
+    where
+      small : (days : List PatternDay) → length days ≤ 7 →
+          IsItemSmall rule (pattern_item rule weight (Present (work_cells week n)) (weekend_pattern days))
+      small days few =
+          small-pattern (Present (work_cells week n)) (length-work week limits n) rule weight (weekend_pattern days) light few (omega arith)
+
+  pub few-weekend : (test : Bool) → length (if test then weekend_items rule weight week n alone else []) ≤ most_run_items
   few-weekend true = omega arith
   few-weekend false = omega arith

@@ -4,7 +4,7 @@ use Rattle.rota_items.proofs.ModelWords.{set_of, Week, Rule, unit_number, Item, 
 use Rattle.std.specs.Int.{saturate_signed}
 use Rattle.std.proofs.lemmas.Bool.Decides.{nat_tests}
 use Rattle.rota_core.specs.RosterTables.{RosterTables}
-use Rattle.rota_items.specs.Judging.{Subject, assigned, extended, assignment_in, counts_for, lacking, tallied, true_slacks}
+use Rattle.rota_items.specs.Judging.{Subject, assigned, extended, assignment_in, counts_for, lacking_in, tallied, true_slacks}
 use Rattle.rota_items.specs.Variables.{truth_of}
 use Rattle.rota_items.proofs.Extension.{extension-below}
 use Rattle.rota_items.proofs.ItemLaw.{IsExtension, count-front, needed-first, needed-after, value_of-item_constraint, value_of-weight}
@@ -122,7 +122,7 @@ module _ (week : Week) (subject : Subject) where
 
     module _ (after : unit_number week < first) where
       -- what the row of an item lacks
-      pub item-lacks : lacking (sums_of week subject (item_row item first).terms) item.degree ≡ shortage A item
+      pub item-lacks : lacking_in (sums_of week subject (item_row item first).terms) item.degree ≡ shortage A item
       item-lacks =
           ap (λ z. positive_part (saturate_signed w64 (item.degree -ℤ z)))
           (others-of week subject item.terms slacks fit.before (at_slacks (pos 1) item first after)) ∙ not_cut

@@ -11,7 +11,7 @@ use Rattle.rota_items.specs.declared.tallies.RowSums.{RowSums}
 use Rattle.rota_items.specs.declared.tallies.Tally.{Tally}
 use Rattle.rota_items.specs.Counting.{greatest_count}
 use Rattle.rota_items.specs.Events.{row_events, events}
-use Rattle.rota_items.specs.Judging.{Subject, assigned, extended, assignment_in, capped, closed, constraint_closed, lacking, tallied, true_slacks, with_cost}
+use Rattle.rota_items.specs.Judging.{Subject, assigned, extended, assignment_in, capped, closed, constraint_closed, lacking_in, tallied, true_slacks, with_cost}
 use Rattle.rota_items.specs.Verdicts.{soft_place}
 use Rattle.rota_items.specs.FirstUnmet.{first_unmet, later, rule_of_part}
 use Rattle.rota_items.proofs.FirstUnmet.{Named, later-later}
@@ -78,7 +78,7 @@ module _ (week : Week) (subject : Subject) where
     pub closes : (tally : Tally) →
         closed subject tally row.part row.degree ≡ constraint_closed subject tally (rule_of_part row.part) weight row.degree
     pub small : spread row.terms < 2 ^ 63
-    pub lacks_is : lacking (sums_of week subject row.terms) row.degree ≡ lacks
+    pub lacks_is : lacking_in (sums_of week subject row.terms) row.degree ≡ lacks
     pub slacks_are : true_slacks subject (sums_of week subject row.terms) lacks ≡ slacks
     pub met : nat_le lacks slacks ≡ is_satisfied assignment row
 
@@ -95,7 +95,7 @@ module _ (week : Week) (subject : Subject) where
   no-slacks (extended roster) sums lacks none = omega (arith, ap positive_part none)
 
   hard-judged : (row : LinearRow ℕ) (hard : IsHardRow row) →
-      IsJudged row 0 (lacking (sums_of week subject row.terms) row.degree) 0
+      IsJudged row 0 (lacking_in (sums_of week subject row.terms) row.degree) 0
   hard-judged row hard =
       let value : ℤ = (sums_of week subject row.terms).others in record {
         closes = λ tally. rw hard.part_is refl;

@@ -36,6 +36,7 @@ pub mod ModelParts
 pub mod ModelRows
 pub mod ModelWords
 pub mod Numbers
+pub mod NurseCosts
 pub mod NurseItemLists
 pub mod NurseRuns
 pub mod ObjectiveBound

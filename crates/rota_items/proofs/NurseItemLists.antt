@@ -13,10 +13,11 @@ use Rattle.rota_items.specs.Charges.{nurse_items, items_of_rule}
 use Rattle.rota_items.specs.RunItems.{Runs, pattern_items, run_items}
 use Rattle.rota_items.specs.RunPatterns.{Pattern, patterns, windows}
 use Rattle.rota_items.specs.Slacks.{slack_count}
-use Rattle.rota_items.specs.rules.CompleteWeekends.Items.{complete_weekend_items_of}
+use Rattle.rota_items.specs.rules.CompleteWeekends.Cost.{complete_weekend_weight}
 use Rattle.rota_items.specs.rules.ConsecutiveAssignments.Items.{assignment_runs_of, shift_runs, work_runs}
 use Rattle.rota_items.specs.rules.ConsecutiveDaysOff.Items.{off_runs}
-use Rattle.rota_items.specs.rules.WorkedWeekends.Items.{worked_weekend_items_of}
+use Rattle.rota_items.specs.rules.WorkedWeekends.Cost.{worked_weekend_weight}
+use Rattle.rota_items.specs.WeekendItems.{weekend_items}
 
 pub none-each_below : {A : Type 0} (n : ℕ) → [] ≡ each_below n (λ _. let none : List A = [] in none)
 unfolding each_below
@@ -60,9 +61,9 @@ one_slack-of_nurse week S2 n other =
     (λ s _. have_one-runs (shift_runs week n s)))
     (have_one-runs (work_runs week n)))
 one_slack-of_nurse week S3 n other = one_slack-each (run_items (off_runs week n)) (have_one-runs (off_runs week n))
-one_slack-of_nurse week S5 n other = one_slack-where _ (complete_weekend_items_of week n) (refl, (refl, tt))
+one_slack-of_nurse week S5 n other = one_slack-where _ (weekend_items S5 complete_weekend_weight week n true) (refl, (refl, tt))
 one_slack-of_nurse week S6 n other = absurd (other refl)
-one_slack-of_nurse week S7 n other = one_slack-where _ (worked_weekend_items_of week n) (refl, (refl, tt))
+one_slack-of_nurse week S7 n other = one_slack-where _ (weekend_items S7 worked_weekend_weight week n false) (refl, (refl, tt))
 one_slack-of_nurse week _ n other = refl
 
 pub ruleset items_of_nurses = (rule_items-are, one_slack-of_nurse)

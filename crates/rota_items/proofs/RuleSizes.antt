@@ -1,5 +1,5 @@
 -- How large the numbers of the soft rules are in a week within the limits: their items, their constant and their cost.
-use Rattle.rota_items.proofs.LogicWords.{◌≡◌, ℕ, ◌+◌, ◌-◌, ◌*◌, ◌≤◌, Bool, ◌&&◌, ◌||◌, cond, [], ◌∷◌, length, refl, arith, pos, negsuc, ◌-ℤ◌, nat_lt, nat_le, AllByRecursion, count_by-le-length, length-append, ints, AllByRecursion-append, AllByRecursion-each_below, AllByRecursion-only_if, length-each_below, length-only_if}
+use Rattle.rota_items.proofs.LogicWords.{◌≡◌, ℕ, ◌+◌, ◌-◌, ◌*◌, ◌≤◌, Bool, ◌&&◌, ◌||◌, cond, [], ◌∷◌, length, refl, arith, pos, negsuc, ◌-ℤ◌, nat_lt, nat_le, AllByRecursion, count_by-le-length, length-append, ints, AllByRecursion-append, AllByRecursion-each_below, AllByRecursion-only_if, length-each_below, length-only_if, true, false}
 use Rattle.rota_items.proofs.ModelWords.{Roster, Week, Rule, Cell, Item, is_on, is_off, works, nurses_at, cell, nurse_cells, demand_cells, IsWithinLimits, positive_part, constant_of_rule, items_of_rule, rule_cost, soft_items, soft_rules}
 use Rattle.std.proofs.lemmas.List.Sums.{sum_by-le-sum_by}
 use Rattle.std.proofs.Math.Nat.{mul-le-mul_right}
@@ -15,9 +15,8 @@ use Rattle.rota_items.specs.Bounds.{most_cells, most_cells_of_day, most_constant
 use Rattle.rota_items.specs.CountedTotals.{charged_excess, excess_before_counts, greatest_totals_count, least_totals_count}
 use Rattle.rota_items.specs.Limits.{most_nurses, most_number, most_shifts, most_skills}
 use Rattle.rota_items.specs.Charges.{nurse_constant, nurse_items}
-use Rattle.rota_items.specs.Penalty.{nurse_cost}
+use Rattle.rota_items.proofs.NurseCosts.{nurse_cost}
 use Rattle.rota_items.specs.RunItems.{run_items}
-use Rattle.rota_items.specs.RunPatterns.{with_property, without_property}
 use Rattle.rota_items.specs.Runs.{ends_run, is_over, missing_on, run_cost, run_length_before, run_over, run_under, week_days}
 use Rattle.rota_items.specs.rules.CompleteWeekends.Cost.{complete_weekend_weight}
 use Rattle.rota_items.specs.rules.ConsecutiveAssignments.Cost.{history_on, shift_run_cost}
@@ -162,21 +161,18 @@ module _ (week : Week) (limits : IsWithinLimits week) where
   -- ---- S5 and S7
 
   complete_weekends : IsNurseRuleSmall week S5
-  complete_weekends =
-      let on_saturday = with_property 5 ∷ without_property 6 ∷ [] in record {
-        items = λ n.
-            small-weekend week limits S5 complete_weekend_weight n on_saturday (omega arith) (omega arith) (week.contract n).complete;
-        few = λ n. few-weekend week limits S5 complete_weekend_weight n on_saturday (week.contract n).complete;
-        constant = λ n. omega arith;
-        cost = λ roster n. grind arith;
-      }
+  complete_weekends = record {
+    items = λ n. small-weekend week limits S5 complete_weekend_weight n true (omega arith) (week.contract n).complete;
+    few = λ n. few-weekend week limits S5 complete_weekend_weight n true (week.contract n).complete;
+    constant = λ n. omega arith;
+    cost = λ roster n. grind arith;
+  }
 
   worked_weekends : IsNurseRuleSmall week S7
   worked_weekends =
-      let on_saturday = with_property 5 ∷ [] in
       let is_charged : ℕ → Bool = λ n. greatest_totals_count week && nat_le (week.contract n).weekends (week.past n).weekends in record {
-        items = λ n. small-weekend week limits S7 worked_weekend_weight n on_saturday (omega arith) (omega arith) (is_charged n);
-        few = λ n. few-weekend week limits S7 worked_weekend_weight n on_saturday (is_charged n);
+        items = λ n. small-weekend week limits S7 worked_weekend_weight n false (omega arith) (is_charged n);
+        few = λ n. few-weekend week limits S7 worked_weekend_weight n false (is_charged n);
         constant = λ n.
             omega (
               arith,
@@ -279,14 +275,20 @@ module _ (week : Week) (limits : IsWithinLimits week) where
     cost = cost;
   }
 
+  cost_of_nurses : (rule : Rule) (roster : Roster) → sum_below week.nurses (nurse_cost week roster rule) ≤ most_cost
+  cost_of_nurses rule roster =
+      sum_below-at_most week.nurses most_nurses most_cost_of_nurse (nurse_cost week roster rule) limits.nurses
+      ((small-nurse_rule rule).cost roster)
+
   pub small-rule : (rule : Rule) → IsRuleSmall week rule
   small-rule S1 = optimal_coverage
   small-rule S4 = of_nurses S4 (λ roster. omega (arith, request_cost-le roster)) refl refl
-  small-rule rule =
-      of_nurses rule
-      (λ roster. sum_below-at_most week.nurses most_nurses most_cost_of_nurse (nurse_cost week roster rule) limits.nurses
-      ((small-nurse_rule rule).cost roster))
-      refl refl
+  small-rule S2 = of_nurses S2 (cost_of_nurses S2) refl refl
+  small-rule S3 = of_nurses S3 (cost_of_nurses S3) refl refl
+  small-rule S5 = of_nurses S5 (cost_of_nurses S5) refl refl
+  small-rule S6 = of_nurses S6 (cost_of_nurses S6) refl refl
+  small-rule S7 = of_nurses S7 (cost_of_nurses S7) refl refl
+  small-rule rule = of_nurses rule (λ roster. omega arith) refl refl
 
   -- what small items have
   pub each-small : (P : Item Cell → Type 0) → ((rule : Rule) (item : Item Cell) → IsItemSmall rule item → P item) →

@@ -1,8 +1,5 @@
 -- The cells that the sums of the model stand for.
-use Rattle.std.specs.Prelude.{ℕ, List, [], ◌∷◌}
-use Rattle.rota_core.specs.declared.values.Cell.{Cell}
-use Rattle.rota_core.specs.Week.{Week}
-use Rattle.rota_core.specs.Roster.{cell}
+use Rattle.rota_items.specs.Words.{ℕ, List, [], ◌∷◌, Cell, Week, cell}
 use Rattle.rota_core.specs.Lists.{each_below}
 
 -- the cells of a nurse's day on a shift type

@@ -1,13 +1,8 @@
 -- The first row that an assignment does not satisfy, and the rule that it stands for.
-use Rattle.std.specs.Prelude.{ℕ, ◌+◌, Bool, if◌then◌else◌, Option, Some, None, List, [], ◌∷◌, MatchOption}
-use Rattle.rota_core.specs.declared.rule.Rule.{Rule}
+use Rattle.rota_items.specs.Words.{ℕ, ◌+◌, Bool, if◌then◌else◌, Option, Some, None, List, [], ◌∷◌, MatchOption, Rule, Week, Roster}
+use Rattle.rota_items.specs.Words.{KeepsHardRules, FirstBroken}
+use Rattle.rota_items.specs.ModelWords.{Part, Objective, Hard, Soft, LinearRow, is_satisfied}
 use Rattle.rota_core.specs.declared.rule.Rule.TheVariants.{Unit as UnitRule}
-use Rattle.rota_core.specs.Week.{Week}
-use Rattle.rota_core.specs.Roster.{Roster}
-use Rattle.rota_core.specs.HardRules.{KeepsHardRules, FirstBroken}
-use Rattle.rota_items.specs.declared.part.Part.{Part}
-use Rattle.rota_items.specs.declared.part.Part.TheVariants.{Objective, Hard, Soft}
-use Rattle.rota_items.specs.LinearRow.{LinearRow, is_satisfied}
 
 -- the rule that a constraint stands for
 abbrev pub rule_of_part : Part → Rule

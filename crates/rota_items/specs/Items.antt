@@ -1,6 +1,5 @@
 -- Items: weighted linear constraints over truth values, whose slacks make up for what is missing.
-use Rattle.std.specs.Prelude.{ℕ, ◌*◌, ℤ, pos, negsuc, ◌-ℤ◌, Bool, List, map, sum_by}
-use Rattle.rota_core.specs.declared.rule.Rule.{Rule}
+use Rattle.rota_items.specs.Words.{ℕ, ℤ, pos, negsuc, ◌-ℤ◌, Bool, List, map, Rule}
 use Rattle.rota_items.specs.Linear.{Term, value_of}
 
 pub record Item (X : Type 0) : Type 0 where
@@ -18,10 +17,6 @@ positive_part (negsuc n) = 0
 -- what the terms lack of the degree
 abbrev pub shortage : {X : Type 0} → (X → Bool) → Item X → ℕ
 shortage assignment item = positive_part (item.degree -ℤ value_of assignment item.terms)
-
-abbrev pub weighted_shortages : {X : Type 0} → (X → Bool) → List (Item X) → ℕ
-weighted_shortages assignment items =
-    sum_by (λ item. item.weight * shortage assignment item) items
 
 -- the item with a number for each of what its terms stand at
 abbrev pub numbered : {X : Type 0} → (X → ℕ) → Item X → Item ℕ

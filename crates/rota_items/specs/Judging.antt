@@ -1,5 +1,6 @@
 -- What a judge makes of the events of rows.
-use Rattle.std.specs.Prelude.{◌≡◌, ℕ, ◌+◌, ◌*◌, ℤ, pos, ◌+ℤ◌, ◌-ℤ◌, min, Bool, nat_lt, nat_le, if◌then◌else◌, Option, Some, None, List, ◌++◌, length, slice_index_or, slice_set, map}
+use Rattle.std.specs.Prelude.{◌≡◌, ℕ, ◌+◌, ◌*◌, ℤ, pos, ◌+ℤ◌, ◌-ℤ◌, min, Bool, nat_lt, nat_le, if◌then◌else◌, Option, Some, None, List}
+use Rattle.std.specs.Prelude.{◌++◌, length, slice_index_or, slice_set, map}
 use Rattle.std.specs.List.{fold}
 use Rattle.std.specs.Int.{saturate_signed, w64}
 use Rattle.std.specs.Option.{option_or}
@@ -88,8 +89,8 @@ added week sums coefficient v =
 -- ---- the close of a row
 
 -- what the terms other than those at slacks lack of the degree
-abbrev pub lacking : RowSums → ℤ → ℕ
-lacking sums degree = positive_part (minus degree sums.others)
+abbrev pub lacking_in : RowSums → ℤ → ℕ
+lacking_in sums degree = positive_part (minus degree sums.others)
 
 -- how many slacks are true: of a roster's extension no more than are lacking
 abbrev pub true_slacks : Subject → RowSums → ℕ → ℕ
@@ -118,7 +119,7 @@ objective_closed tally =
 -- true of its slacks to the objective.
 abbrev pub constraint_closed : Subject → Tally → Rule → ℕ → ℤ → Tally
 constraint_closed subject tally rule weight degree =
-    let lacks = lacking tally.sums degree in
+    let lacks = lacking_in tally.sums degree in
     let slacks = true_slacks subject tally.sums lacks in
     let number = min (tally.constraints + 1) greatest_count in
     record tally {
@@ -139,6 +140,14 @@ pub record Judging : Type 0 where
   pub instance : InstanceTables
   pub subject : Subject
   pub tally : Tally
+
+-- how many slacks of the open row count, each of which is there with 1: of a roster's extension all that were taken
+abbrev pub open_slacks : Judging → ℕ
+open_slacks judging = positive_part judging.tally.sums.slacks
+
+-- what the other terms of the open row lack of the degree
+abbrev pub lacking : Judging → ℤ → ℕ
+lacking judging degree = lacking_in judging.tally.sums degree
 
 abbrev pub no_tally : Tally
 no_tally = record {

@@ -9,6 +9,7 @@ pub mod EarlyWeeks
 pub mod Events
 pub mod FirstUnmet
 pub mod HardRows
+pub mod ItemConstraints
 pub mod ItemEvents
 pub mod ItemValues
 pub mod Items
@@ -17,9 +18,12 @@ pub mod Judging
 pub mod Limits
 pub mod Linear
 pub mod LinearRow
+pub mod ModelWords
 pub mod Objective
 pub mod Penalty
 pub mod RisingTerms
+pub mod RuleCharges
+pub mod RunItemParts
 pub mod RunItems
 pub mod RunPatterns
 pub mod Runs
@@ -30,6 +34,7 @@ pub mod Variables
 pub mod Verdicts
 pub mod WeekModel
 pub mod WeekendItems
+pub mod Words
 pub mod WorkedWeeks
 pub mod hard
 pub mod rules

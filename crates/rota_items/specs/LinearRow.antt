@@ -1,5 +1,5 @@
 -- Linear rows with what they stand for, as values.
-use Rattle.std.specs.Prelude.{ℕ, ℤ, Bool, int_le, List}
+use Rattle.rota_items.specs.Words.{ℕ, ℤ, Bool, int_le, List}
 use Rattle.rota_items.specs.declared.part.Part.{Part}
 use Rattle.rota_items.specs.Linear.{Term, Constraint, value_of}
 

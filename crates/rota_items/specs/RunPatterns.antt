@@ -1,8 +1,6 @@
 -- The windows and patterns that charge runs, as days that must have the property or must not.
-use Rattle.std.specs.Prelude.{◌≡◌, ◌≤◌, length, ℕ, ◌+◌, ◌-◌, Bool, true, false, ◌&&◌, nat_le, nat_lt, List, [], ◌∷◌, ◌++◌, map}
-use Rattle.std.specs.List.{range_with_len}
-use Rattle.rota_core.specs.Lists.{each_below, only_if}
-use Rattle.rota_core.specs.declared.values.Span.{Span}
+use Rattle.rota_items.specs.Words.{ℕ, ◌+◌, ◌-◌, Bool, true, false, ◌&&◌, nat_le, nat_lt, List, [], ◌∷◌, ◌++◌, map, range_with_len, Span}
+use Rattle.rota_items.specs.ModelWords.{each_below, only_if}
 
 -- a day, and whether it must have the property
 pub record PatternDay : Type 0 where
@@ -67,9 +65,3 @@ windows history limits = each_below 7 (windows_on history limits)
 
 abbrev pub patterns : ℕ → Span → List Pattern
 patterns history limits = each_below 7 (patterns_on history limits)
-
--- the pattern's days follow one another within the week
-pub record DaysFollow (pattern : Pattern) : Type 0 where
-  pub first : ℕ
-  pub days_are : map (λ day. day.day) pattern.days ≡ range_with_len first (length pattern.days)
-  pub in_week : first + length pattern.days ≤ 7

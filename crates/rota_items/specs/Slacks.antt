@@ -1,10 +1,6 @@
 -- The slacks of items: their numbers, the rows that they make up in, and those that are needed.
-use Rattle.std.specs.Prelude.{ℕ, ◌+◌, ◌-◌, ◌<◌, pos, Bool, false, if◌then◌else◌, nat_lt, List, [], ◌∷◌, ◌++◌, map, sum_by, All}
-use Rattle.std.specs.List.{range_with_len}
-use Rattle.rota_items.specs.declared.part.Part.TheVariants.{Soft}
-use Rattle.rota_items.specs.Linear.{Term, Constraint, times}
-use Rattle.rota_items.specs.LinearRow.{LinearRow, linear_constraint}
-use Rattle.rota_items.specs.Items.{Item, shortage}
+use Rattle.rota_items.specs.Words.{ℕ, ◌+◌, ◌-◌, pos, Bool, false, if◌then◌else◌, nat_lt, List, [], ◌∷◌, ◌++◌, sum_by, range_with_len}
+use Rattle.rota_items.specs.ModelWords.{Soft, Term, times, LinearRow, Item, shortage}
 
 -- an item's slacks, where the first has this number
 abbrev pub slack_variables : Item ℕ → ℕ → List ℕ
@@ -22,12 +18,6 @@ item_row item first = record {
 abbrev pub item_rows : ℕ → List (Item ℕ) → List (LinearRow ℕ)
 item_rows first [] = []
 item_rows first (item ∷ items) = item_row item first ∷ item_rows (first + item.slacks) items
-
-abbrev pub item_constraint : Item ℕ → ℕ → Constraint
-item_constraint item first = linear_constraint (item_row item first)
-
-abbrev pub item_constraints : ℕ → List (Item ℕ) → List Constraint
-item_constraints first items = map linear_constraint (item_rows first items)
 
 -- each slack with its item's weight
 abbrev pub slack_weights : ℕ → List (Item ℕ) → List (Term ℕ)
@@ -51,7 +41,3 @@ is_slack_needed assignment (item ∷ items) slack =
 abbrev pub extension : (ℕ → Bool) → ℕ → List (Item ℕ) → ℕ → Bool
 extension assignment first items v =
     (if nat_lt v first then assignment v else is_slack_needed assignment items (v - first))
-
--- each variable of the items' terms stands below this number
-abbrev pub StandBelow : ℕ → List (Item ℕ) → Type 0
-StandBelow first items = All (λ item. All (λ (term : Term ℕ). term.1 < first) item.terms) items

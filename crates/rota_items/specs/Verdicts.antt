@@ -5,11 +5,12 @@ use Rattle.rota_core.specs.declared.rule.Rule.{Rule}
 use Rattle.rota_core.specs.Week.{Week}
 use Rattle.rota_core.specs.Roster.{Roster}
 use Rattle.rota_core.specs.HardRules.{KeepsOneCell, KeepsCompetitionRules, KeepsHardRules, FirstBroken}
-use Rattle.rota_core.specs.Rules.{soft_rules, is_rule}
+use Rattle.rota_core.specs.Rules.{soft_rules}
+use Rattle.rota_core.specs.RuleNames.{is_rule}
 use Rattle.rota_items.specs.declared.verdicts.Verdict.{Verdict}
 use Rattle.rota_items.specs.Variables.{unit_number, roster_of}
 use Rattle.rota_items.specs.Linear.{SatisfiesModel, objective_value}
-use Rattle.rota_items.specs.Charges.{charged}
+use Rattle.rota_items.specs.RuleCharges.{charged}
 use Rattle.rota_items.specs.Penalty.{penalty, rule_cost}
 use Rattle.rota_items.specs.rules.ConsecutiveAssignments.Cost.{consecutive_assignment_cost}
 use Rattle.rota_items.specs.rules.ConsecutiveDaysOff.Cost.{consecutive_day_off_cost}

@@ -1,18 +1,15 @@
 -- The model of a week, over the numbers of its variables.
-use Rattle.std.specs.Prelude.{ℕ, ◌+◌, pos, Bool, true, ◌&&◌, ◌==◌, nat_lt, if◌then◌else◌, List, [], ◌∷◌, ◌++◌, map}
-use Rattle.rota_core.specs.declared.values.Cell.{Cell}
 use Rattle.rota_core.specs.declared.rule.Rule.TheVariants.{Unit as UnitRule}
-use Rattle.rota_core.specs.Week.{Week}
-use Rattle.rota_core.specs.Roster.{Roster}
-use Rattle.rota_items.specs.declared.part.Part.TheVariants.{Hard}
-use Rattle.rota_items.specs.Linear.{Term, Constraint, Model}
-use Rattle.rota_items.specs.LinearRow.{LinearRow, linear_constraint}
+use Rattle.rota_items.specs.Words.{ℕ, ◌+◌, pos, Bool, true, ◌&&◌, ◌==◌, nat_lt, if◌then◌else◌, List, [], ◌∷◌, ◌++◌, map, Cell, Week}
+use Rattle.rota_items.specs.Words.{Roster}
+use Rattle.rota_items.specs.ModelWords.{Hard, Term, Constraint, Model, LinearRow, linear_constraint, Item, numbered, only_if}
 use Rattle.rota_items.specs.Variables.{cell_number, cell_of_number, unit_number, first_slack}
 use Rattle.rota_items.specs.HardRows.{rule_rows}
-use Rattle.rota_items.specs.Items.{Item, numbered}
 use Rattle.rota_items.specs.Slacks.{item_rows, slack_weights, slack_count, extension}
-use Rattle.rota_items.specs.Charges.{soft_items, cell_terms}
-use Rattle.rota_items.specs.Objective.{constant_terms}
+use Rattle.rota_items.specs.Charges.{soft_items, cell_terms, constant}
+
+abbrev pub constant_terms : Week → List (Term ℕ)
+constant_terms week = only_if (nat_lt 0 (constant week)) (pos (constant week), unit_number week)
 
 abbrev pub numbered_terms : Week → List (Term Cell) → List (Term ℕ)
 numbered_terms week terms = map (λ (term : Term Cell). (term.0, cell_number week term.1)) terms

@@ -1,12 +1,8 @@
 -- The patterns of a weekend, and the items of a nurse's weekend.
-use Rattle.std.specs.Prelude.{ℕ, Bool, if◌then◌else◌, List, [], ◌∷◌}
-use Rattle.rota_core.specs.declared.rule.Rule.{Rule}
-use Rattle.rota_core.specs.declared.values.Cell.{Cell}
-use Rattle.rota_core.specs.Week.{Week}
-use Rattle.rota_items.specs.Cells.{work_cells}
-use Rattle.rota_items.specs.Items.{Item}
+use Rattle.rota_items.specs.Words.{ℕ, Bool, if◌then◌else◌, List, [], ◌∷◌, map, Rule, Cell, Week}
+use Rattle.rota_items.specs.ModelWords.{work_cells, Item}
 use Rattle.rota_items.specs.RunItems.{Present, pattern_item}
-use Rattle.rota_items.specs.RunPatterns.{Pattern, PatternDay, with_property, without_property}
+use Rattle.rota_items.specs.RunPatterns.{Pattern, with_property, without_property}
 
 -- work on Saturday, and none on Sunday where Saturday is to be alone
 abbrev pub saturday : Bool → Pattern
@@ -16,12 +12,7 @@ saturday alone = record { days = with_property 5 ∷ (if alone then without_prop
 abbrev pub only_sunday : Pattern
 only_sunday = record { days = without_property 5 ∷ with_property 6 ∷ []; units = 1 }
 
--- the nurse's Saturday and Sunday are not both as these days say
-abbrev pub weekend_item : Rule → ℕ → Week → ℕ → List PatternDay → Item Cell
-weekend_item rule weight week n days =
-    pattern_item rule weight (Present (work_cells week n)) (record { days = days; units = 1 })
-
--- her Saturday, where its days are these, and her Sunday without Saturday
-abbrev pub weekend_items : Rule → ℕ → Week → ℕ → List PatternDay → List (Item Cell)
-weekend_items rule weight week n on_saturday =
-    weekend_item rule weight week n on_saturday ∷ weekend_item rule weight week n only_sunday.days ∷ []
+-- the items of these two, of a nurse's weekend
+abbrev pub weekend_items : Rule → ℕ → Week → ℕ → Bool → List (Item Cell)
+weekend_items rule weight week n alone =
+    map (pattern_item rule weight (Present (work_cells week n))) (saturday alone ∷ only_sunday ∷ [])

@@ -1,8 +1,9 @@
 //! What weeks that follow one another pay with `--early` for what is above a greatest total.
-ghost use Rattle.std.specs.Prelude.{◌≡◌, ℕ, ◌-◌, ◌≤◌, List, ◌∷◌, All, length, sum};
+ghost use Rattle.std.specs.Prelude.{◌≡◌, ℕ, ◌≤◌, List, ◌∷◌, All, length, sum};
 ghost use Rattle.std.specs.List.{sum_by};
-ghost use Rattle.rota_items.specs.CountedTotals.{CountedTotal, added_excess};
-ghost use Rattle.rota_items.specs.EarlyWeeks.{FollowEarly, RosteredWeek, charged_in, early_charges, total_in_the_end};
+ghost use Rattle.rota_items.specs.EarlyWeeks.{FollowEarly, RosteredWeek, added_by_all, added_excess, assignment_total, early_charges, weekend_total};
+ghost use Rattle.rota_items.specs.rules.TotalAssignments.Cost.{above_greatest_total};
+ghost use Rattle.rota_items.specs.rules.WorkedWeekends.Cost.{above_greatest_weekends};
 
 /// How much of what is above `limit` the weeks pay for, with `--early`: the total was `start` before the
 /// first of them, and each adds its step.
@@ -28,12 +29,16 @@ pub fn early_excess(limit: u16, start: u16, steps: &[u8]) -> u64
     excess
 }
 
-/// Over weeks that follow one another, what is charged early for a greatest total, of a nurse's assignments
-/// or weekends, sums up to what is above it in the end, less what was above it before the first week.
+/// Over weeks that follow one another and are charged early, the assignments of a nurse that S6 charges as
+/// above her greatest total, and the weekends that S7 charges, sum up to what is above the greatest number
+/// in the end, less what was above it before the first week.
 pub fn early_weeks_charge_what_they_add()
-    ensures { (total : CountedTotal) (one : RosteredWeek) (later : List RosteredWeek) →
-        FollowEarly total one later →
-        sum_by (charged_in total) (one ∷ later) ≡
-        (total_in_the_end total one later - total.most one.week) -
-        (total.before one.week - total.most one.week) }
+    ensures assignments { (n : ℕ) (one : RosteredWeek) (later : List RosteredWeek) →
+        FollowEarly (assignment_total n) one later →
+        sum_by (λ each. above_greatest_total each.week each.roster n) (one ∷ later) ≡
+        added_by_all (assignment_total n) one later }
+    ensures weekends { (n : ℕ) (one : RosteredWeek) (later : List RosteredWeek) →
+        FollowEarly (weekend_total n) one later →
+        sum_by (λ each. above_greatest_weekends each.week each.roster n) (one ∷ later) ≡
+        added_by_all (weekend_total n) one later }
 {}

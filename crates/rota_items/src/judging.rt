@@ -4,8 +4,7 @@ ghost use Rattle.rota_core.specs.InstanceTables.{week_of};
 ghost use Rattle.rota_core.specs.RosterTables.{HasShapeOf};
 ghost use Rattle.rota_core.specs.Rules.{soft_rules};
 ghost use Rattle.rota_items.specs.Variables.{unit_number};
-ghost use Rattle.rota_items.specs.Items.{positive_part};
-ghost use Rattle.rota_items.specs.Judging.{SettlesModel, WasDriven, assigned, assignment_in, counts_for, extended, fresh, judged, lacking, roster_in, with_constants};
+ghost use Rattle.rota_items.specs.Judging.{SettlesModel, WasDriven, assigned, assignment_in, counts_for, extended, fresh, judged, lacking, open_slacks, roster_in, with_constants};
 ghost use Rattle.rota_items.specs.Charges.{constant};
 ghost use Rattle.rota_items.specs.Verdicts.{Judges, JudgesTheRules};
 ghost use Rattle.rota_items.specs.WeekModel.{model_of};
@@ -85,21 +84,23 @@ impl<'a> Judge<'a> {
     /// How many slacks of the open row count, each of which stands there with 1: of a roster's extension
     /// all that were taken.
     pub fn open_slacks(&self) -> u64
-        ensures { result ≡ positive_part self.now.tally.sums.slacks }
+        ensures { result ≡ open_slacks self.now }
     {
         positive_part(self.tally.sums.slacks)
     }
 
     /// What the terms of the open row other than those at slacks lack of the degree.
     pub fn lacking(&self, degree: i64) -> u64
-        ensures { result ≡ lacking self.now.tally.sums degree }
+        ensures { result ≡ lacking self.now degree }
     {
         self.tally.sums.lacking(degree)
     }
 
-    /// What the judge found, after `drive_objective` and then `drive_constraints` of its instance. Where
-    /// the unit variable is true and the roster breaks H1 to H5, it names the first of them that is broken.
-    /// Where the roster keeps them, the costs are those of the rules.
+    /// What the judge found, after `drive_objective` and then `drive_constraints` of its instance: the first
+    /// constraint that is not satisfied, the objective's value, and what each soft rule is charged. Where the
+    /// unit variable is true and the roster breaks one of H1 to H5, the constraint is of the first that it
+    /// breaks. Where the roster keeps H1 to H4, the costs are those of the rules and sum up to the penalty;
+    /// where it keeps H1, those of S2 and S3 are.
     pub fn verdict(&self) -> Verdict
         requires driven { WasDriven self.now }
         ensures judges { let week = week_of self.now.instance in let subject = self.now.subject in

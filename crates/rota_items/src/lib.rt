@@ -101,7 +101,7 @@ pub use model_laws::{
 pub use objective::drive_objective;
 pub use part::Part;
 pub use rule_laws::{
-    assignment_items_charge_totals, items_charge_each_rule_its_cost,
+    assignment_items_charge_totals, constant_is_sum_of_its_parts, items_charge_each_rule_its_cost,
     items_requests_and_constant_charge_penalty, no_item_lacks_more_than_its_slacks,
     one_cell_a_day_is_at_most_one, optimum_items_charge_missing_nurses, penalty_is_small,
     request_terms_charge_requests, run_items_charge_runs_of_days_off,

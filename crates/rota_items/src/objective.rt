@@ -3,9 +3,9 @@
 ghost use Rattle.std.specs.Prelude.{◌≡◌, nat_lt, true, false, Bool, length};
 ghost use Rattle.rota_core.specs.InstanceTables.{week_of};
 ghost use Rattle.rota_items.specs.Events.{events, term_events};
-ghost use Rattle.rota_items.specs.Objective.{constant_terms, objective_rows};
+ghost use Rattle.rota_items.specs.WeekModel.{constant_terms, objective_terms};
+ghost use Rattle.rota_items.specs.Objective.{objective_rows};
 ghost use Rattle.rota_items.specs.Takes.{Takes};
-ghost use Rattle.rota_items.specs.WeekModel.{objective_terms};
 
 use crate::limits::within_limits;
 use crate::part::Part;

@@ -6,24 +6,22 @@ ghost use Rattle.rota_core.specs.Week.{Week};
 ghost use Rattle.rota_core.specs.Roster.{Roster};
 ghost use Rattle.rota_core.specs.HardRules.{KeepsOneCell, KeepsCompetitionRules, KeepsMinimum};
 ghost use Rattle.rota_items.specs.Linear.{value_of};
-ghost use Rattle.rota_items.specs.Items.{shortage, weighted_shortages};
-ghost use Rattle.rota_items.specs.Charges.{charged, soft_items, constant};
+ghost use Rattle.rota_items.specs.Items.{shortage};
+ghost use Rattle.rota_items.specs.RuleCharges.{weighted_shortages, charged, complete_weekend_items, consecutive_assignment_items, consecutive_day_off_items, assignment_items, constant_of_assignments, worked_weekend_items, constant_of_weekends};
+ghost use Rattle.rota_items.specs.Charges.{soft_items, constant};
 ghost use Rattle.rota_items.specs.Penalty.{penalty, rule_cost};
 ghost use Rattle.rota_items.specs.rules.CompleteWeekends.Cost.{complete_weekend_cost};
-ghost use Rattle.rota_items.specs.rules.CompleteWeekends.Items.{complete_weekend_items};
 ghost use Rattle.rota_items.specs.rules.ConsecutiveAssignments.Cost.{consecutive_assignment_cost};
-ghost use Rattle.rota_items.specs.rules.ConsecutiveAssignments.Items.{shift_runs, work_runs, consecutive_assignment_items};
+ghost use Rattle.rota_items.specs.rules.ConsecutiveAssignments.Items.{shift_runs, work_runs};
 ghost use Rattle.rota_items.specs.rules.ConsecutiveDaysOff.Cost.{consecutive_day_off_cost};
-ghost use Rattle.rota_items.specs.rules.ConsecutiveDaysOff.Items.{off_runs, consecutive_day_off_items};
+ghost use Rattle.rota_items.specs.rules.ConsecutiveDaysOff.Items.{off_runs};
 ghost use Rattle.rota_items.specs.rules.OptimalCoverage.Cost.{optimum_cost};
 ghost use Rattle.rota_items.specs.rules.OptimalCoverage.Items.{optimum_items};
 ghost use Rattle.rota_items.specs.rules.ShiftOffRequests.Cost.{request_cost};
 ghost use Rattle.rota_items.specs.rules.ShiftOffRequests.Terms.{request_terms};
 ghost use Rattle.rota_items.specs.rules.TotalAssignments.Cost.{assignment_cost};
-ghost use Rattle.rota_items.specs.rules.TotalAssignments.Items.{assignment_items, constant_of_assignments};
 ghost use Rattle.rota_items.specs.rules.WorkedWeekends.Cost.{worked_weekend_cost};
-ghost use Rattle.rota_items.specs.rules.WorkedWeekends.Items.{worked_weekend_items, constant_of_weekends};
-ghost use Rattle.rota_items.specs.RunItems.{AtMostOneADay};
+ghost use Rattle.rota_items.specs.RunItemParts.{AtMostOneADay};
 ghost use Rattle.rota_items.specs.Limits.{IsWithinLimits};
 
 /// On a roster with one cell a day at most one cell of a nurse's day is on a shift type, and at most one
@@ -104,6 +102,11 @@ pub fn items_charge_each_rule_its_cost()
     ensures { (week : Week) (roster : Roster) (rule : Rule) →
         KeepsCompetitionRules week roster →
         charged week roster rule ≡ pos (rule_cost week roster rule) }
+{}
+
+/// The constant is the sum of the two parts that `constant_parts` gives: only S6 and S7 have one.
+pub fn constant_is_sum_of_its_parts()
+    ensures { (week : Week) → constant week ≡ constant_of_assignments week + constant_of_weekends week }
 {}
 
 /// The items, the terms on cells and the constant charge the penalty.

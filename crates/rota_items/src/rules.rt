@@ -11,8 +11,7 @@ ghost use Rattle.rota_items.specs.Charges.{nurse_constant, nurse_items, cell_ter
 ghost use Rattle.rota_items.specs.Slacks.{item_rows, slack_count, slack_weights};
 ghost use Rattle.rota_items.specs.Verdicts.{soft_place};
 ghost use Rattle.rota_items.specs.Takes.{Takes};
-ghost use Rattle.rota_items.specs.rules.TotalAssignments.Items.{constant_of_assignments};
-ghost use Rattle.rota_items.specs.rules.WorkedWeekends.Items.{constant_of_weekends};
+ghost use Rattle.rota_items.specs.RuleCharges.{constant_of_assignments, constant_of_weekends};
 ghost use Rattle.rota_items.specs.WeekModel.{numbered_items};
 
 mod complete_weekends;

@@ -4,7 +4,8 @@ ghost use Rattle.rota_core.specs.InstanceTables.{week_of};
 ghost use Rattle.rota_core.specs.Lists.{each_below};
 ghost use Rattle.rota_items.specs.ItemEvents.{SlacksFit, Walks};
 ghost use Rattle.rota_items.specs.ItemValues.{AreInWeek, IsChargeOf, charged_items, patterns_given, runs_of};
-ghost use Rattle.rota_items.specs.RunItems.{pattern_items_on, run_items, window_items_on};
+ghost use Rattle.rota_items.specs.RunItemParts.{pattern_items_on, window_items_on};
+ghost use Rattle.rota_items.specs.RunItems.{run_items};
 
 use crate::item_walk::walk_item;
 use crate::limits::DAYS;

@@ -2,7 +2,7 @@
 ghost use Rattle.std.specs.Prelude.{◌≡◌, ◌<◌, ◌^◌};
 ghost use Rattle.rota_items.specs.Items.{positive_part};
 ghost use Rattle.rota_items.specs.Judged.{subject_of};
-ghost use Rattle.rota_items.specs.Judging.{closed, constraint_closed, lacking, no_sums, no_tally, objective_closed, with_cost};
+ghost use Rattle.rota_items.specs.Judging.{closed, constraint_closed, lacking_in, no_sums, no_tally, objective_closed, with_cost};
 
 use crate::part::Part;
 use crate::rules::soft_place;
@@ -29,7 +29,7 @@ impl RowSums {
 
     /// What the terms other than those at slacks lack of the degree.
     pub fn lacking(self, degree: i64) -> u64
-        ensures { result ≡ lacking self degree }
+        ensures { result ≡ lacking_in self degree }
     {
         positive_part(degree.saturating_sub(self.others))
     }

@@ -10,7 +10,8 @@ use Rattle.rota_core.specs.Roster.{Roster}
 use Rattle.rota_items.specs.Variables.{first_slack, roster_of, unit_number}
 use Rattle.rota_items.specs.Linear.{Constraint, Satisfies}
 use Rattle.rota_items.specs.LinearRow.{linear_constraint}
-use Rattle.rota_items.specs.Slacks.{item_rows, item_constraints}
+use Rattle.rota_items.specs.Slacks.{item_rows}
+use Rattle.rota_items.specs.ItemConstraints.{item_constraints}
 use Rattle.rota_items.specs.WeekModel.{extension_of, model_of, hard_constraints, hard_rows, numbered_items}
 use Rattle.rota_items.proofs.Extension.{extension-satisfies, extension-objective, extension-roster, satisfying-keeps, satisfying-objective}
 use Rattle.rota_items.proofs.FirstBroken.{first_broken}

@@ -3,7 +3,7 @@ use Rattle.std.proofs.Common.{ℕ, ◌+◌, List}
 use Rattle.rota_core.specs.InstanceTables.{InstanceTables}
 use Rattle.rota_core.specs.RosterTables.{RosterTables}
 use Rattle.rota_core.specs.declared.fault.FileName.TheVariants as names
-use Rattle.rota_read.specs.Reading.{LONGEST}
+use Rattle.rota_read.specs.Files.{LONGEST}
 use Rattle.rota_read.specs.SolutionLayout.{solution}
 use Rattle.rota_read.specs.SolutionRows.{SpellsRoster}
 use Rattle.rota_pb.specs.WeekFiles.{IsRosterRead}

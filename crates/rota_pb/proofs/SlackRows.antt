@@ -9,7 +9,7 @@ use Rattle.rota_core.specs.RosterTables.{RosterTables, set_of}
 use Rattle.rota_items.specs.Variables.{unit_number}
 use Rattle.rota_items.specs.Events.{Event, term, close_row, term_events, row_events, events}
 use Rattle.rota_items.specs.Items.{Item, positive_part, shortage}
-use Rattle.rota_items.specs.Judging.{Subject, extended, no_sums, tallied}
+use Rattle.rota_items.specs.Judging.{Subject, extended, lacking_in, no_sums, tallied}
 use Rattle.rota_items.specs.Linear.{Term, times}
 use Rattle.rota_items.specs.LinearRow.{LinearRow}
 use Rattle.rota_items.specs.Slacks.{item_row, item_rows, slack_count, slack_variables, is_slack_needed}
@@ -23,7 +23,7 @@ use Rattle.rota_items.proofs.JudgedTerms.{opened, row-opened, slacks-before, sla
 use Rattle.rota_items.proofs.SmallSums.{spread}
 use Rattle.opb_text.specs.SinkTaker.{joined_texts}
 use Rattle.opb_text.proofs.TakenEvents.{joined_texts-append}
-use Rattle.rota_pb.specs.SlackTaker.{Progress, literals_after, values_text, is_lacking, progress_after, slack_texts, slacks_in}
+use Rattle.rota_pb.specs.SlackTaker.{Progress, literals_after, values_text, progress_after, slack_texts}
 use Rattle.rota_pb.proofs.ValuesText.{literals_after-sum, values_text-same, values_text-sum, values_text-none}
 
 module _ (tables : InstanceTables) (roster : RosterTables) where
@@ -35,6 +35,13 @@ module _ (tables : InstanceTables) (roster : RosterTables) where
 
   abbrev assigned : ℕ → Bool
   assigned = assignment_of week (set_of roster)
+
+  -- the slacks of a row with these sums, and whether it lacks more than this many of the degree
+  abbrev slacks_in : RowSums → ℕ
+  slacks_in sums = positive_part sums.slacks
+
+  abbrev lacks_in : RowSums → ℤ → ℕ → Bool
+  lacks_in sums degree place = nat_lt place (lacking_in sums degree)
 
   -- with this tally, after n literals
   abbrev pub at : Tally → ℕ → Progress
@@ -81,7 +88,7 @@ module _ (tables : InstanceTables) (roster : RosterTables) where
   -- a row puts its slacks
   row_puts : (tally : Tally) (n : ℕ) (row : LinearRow ℕ) (count : ℕ) (truth : ℕ → Bool) → spread row.terms < 2 ^ 63 →
       slacks_in (sums_of week subject row.terms) ≡ count →
-      ((i : ℕ) → is_lacking (sums_of week subject row.terms) row.degree i ≡ truth i) → PutsSlacks tally n (row_events row) count truth
+      ((i : ℕ) → lacks_in (sums_of week subject row.terms) row.degree i ≡ truth i) → PutsSlacks tally n (row_events row) count truth
   row_puts tally n row count truth small slacks_are lacks =
       let begun : Tally = record tally { part = row.part; sums = no_sums } in
       let closing : List Event = close_row row.degree ∷ [] in
@@ -89,8 +96,8 @@ module _ (tables : InstanceTables) (roster : RosterTables) where
         left = opened week subject tally row;
         text =
             terms_put (joined_texts slack_texts) (λ p c v behind. refl) begun n row.terms closing ∙ append-nil _ ∙
-            ap (λ (t : Tally). values_text n (slacks_in t.sums) (is_lacking t.sums row.degree)) (row-opened week subject tally row small) ∙
-            values_text-same n (slacks_in sums) (is_lacking sums row.degree) truth (λ i below. lacks i) ∙
+            ap (λ (t : Tally). values_text n (slacks_in t.sums) (lacks_in t.sums row.degree)) (row-opened week subject tally row small) ∙
+            values_text-same n (slacks_in sums) (lacks_in sums row.degree) truth (λ i below. lacks i) ∙
             ap (λ (m : ℕ). values_text n m truth) slacks_are;
         after =
             terms_put (fold progress_after) (λ p c v behind. refl) begun n row.terms closing ∙
@@ -105,7 +112,7 @@ module _ (tables : InstanceTables) (roster : RosterTables) where
   unfolding events
   rows-put tally n b [] soft truth all behind = behind tally
   rows-put tally n b (row ∷ hard) soft truth all behind =
-      let here : PutsSlacks tally n (row_events row) 0 (is_lacking (sums_of week subject row.terms) row.degree) =
+      let here : PutsSlacks tally n (row_events row) 0 (lacks_in (sums_of week subject row.terms) row.degree) =
       row_puts tally n row 0 _ all.0.small (ap positive_part (slacks-before week subject row.terms all.0.before)) (λ i. refl) in
       slacks_then tally n 0 b b (row_events row) (events (hard ++ soft)) _ truth truth (omega arith) here
       (rows-put here.left n b hard soft truth all.1 behind) (λ i below. absurd (omega (arith, below)))

@@ -8,8 +8,8 @@ use Rattle.rota_core.specs.declared.fault.FileFault.{FileFault}
 use Rattle.rota_core.specs.declared.fault.FileFault.TheVariants as refusals
 use Rattle.rota_read.specs.declared.fault.Fault.{Fault as TextFault}
 use Rattle.rota_read.specs.Layout.{Layout}
-use Rattle.rota_read.specs.Reading.{LONGEST}
-use Rattle.rota_read.specs.Files.{HasFault, too_long, misses_slot, goes_on, Spells, IsFaultOf}
+use Rattle.rota_read.specs.Files.{LONGEST, HasFault, too_long, misses_slot, goes_on, Spells}
+use Rattle.rota_read.specs.FileAnswers.{IsFaultOf}
 use Rattle.rota_pb.specs.declared.fault.Fault.{Fault}
 use Rattle.rota_pb.specs.declared.fault.Fault.TheVariants.{File, Memory, Write, Read, Answer, NoRoster, Unmet, Breaks}
 use Rattle.rota_pb.specs.Faults.{FailsCheck, fault_of_file}

@@ -1,7 +1,7 @@
 -- What the fault of a run says, in words.
 use Rattle.std.specs.Prelude.{ℕ, List, ◌++◌, codes, decimal, Option, Some, None}
 use Rattle.rota_core.specs.FaultTexts.{file_fault_text}
-use Rattle.rota_core.specs.Rules.{rule_name}
+use Rattle.rota_core.specs.RuleNames.{rule_name}
 use Rattle.solver_text.specs.Status.{status_words}
 use Rattle.rota_pb.specs.declared.fault.Fault.{Fault}
 use Rattle.rota_pb.specs.declared.fault.Fault.TheVariants.{File, Memory, Write, Read, Answer, NoRoster, Unmet, Breaks}

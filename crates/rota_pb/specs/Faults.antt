@@ -5,8 +5,7 @@ use Rattle.rota_core.specs.declared.fault.FileName.{FileName}
 use Rattle.rota_core.specs.declared.fault.FileFault.{FileFault}
 use Rattle.rota_core.specs.declared.fault.FileFault.TheVariants as refusals
 use Rattle.rota_read.specs.Layout.{Layout}
-use Rattle.rota_read.specs.Files.{HasFault}
-use Rattle.rota_read.specs.Reading.{LONGEST}
+use Rattle.rota_read.specs.Files.{HasFault, LONGEST}
 use Rattle.rota_pb.specs.Readers.{Reader}
 use Rattle.rota_pb.specs.WholeRead.{FailsWithin, IsReadWhole}
 use Rattle.rota_pb.specs.declared.fault.Fault.{Fault}

@@ -6,12 +6,10 @@ use Rattle.rota_core.specs.Week.{Week}
 use Rattle.rota_core.specs.declared.ports.Target.{Ghosts}
 use Rattle.rota_items.specs.Variables.{unit_number}
 use Rattle.rota_items.specs.Events.{Event, start_row, term, close_row}
-use Rattle.rota_items.specs.Items.{positive_part}
-use Rattle.rota_items.specs.Judging.{Judging, judged, lacking}
+use Rattle.rota_items.specs.Judging.{Judging, judged, lacking, open_slacks}
 use Rattle.rota_items.specs.Slacks.{is_slack_needed, slack_count}
 use Rattle.rota_items.specs.Charges.{soft_items}
 use Rattle.rota_items.specs.WeekModel.{assignment_of, numbered_items}
-use Rattle.rota_items.specs.declared.tallies.RowSums.{RowSums}
 use Rattle.opb_text.specs.SinkTaker.{EventTexts}
 use Rattle.solver_text.specs.AnswerWriter.{sink_of, literals_of, literal_text}
 use Rattle.solver_text.specs.declared.answer_writer.AnswerWriter.{AnswerWriter}
@@ -41,12 +39,9 @@ slacks_text n week roster =
 abbrev pub after_slacks : ℕ → Week → ℕ
 after_slacks n week = literals_after n (slack_count (soft_items week))
 
--- the slacks of a row with these sums, and whether each is true, where the row has this degree: the first are, as many as it lacks
-abbrev pub slacks_in : RowSums → ℕ
-slacks_in sums = positive_part sums.slacks
-
-abbrev pub is_lacking : RowSums → ℤ → ℕ → Bool
-is_lacking sums degree place = nat_lt place (lacking sums degree)
+-- whether each slack of the judge's open row is true, where the row has this degree: the first are, as many as it lacks
+abbrev pub is_lacking : Judging → ℤ → ℕ → Bool
+is_lacking judging degree place = nat_lt place (lacking judging degree)
 
 -- what a judge of the roster makes of the row that is open, whether slacks are put now, and how many literals were put
 pub record Progress : Type 0 where
@@ -60,7 +55,7 @@ event_text progress (start_row part) = []
 event_text progress (term coefficient v) = []
 event_text progress (close_row degree) =
     if progress.puts_slacks
-    then values_text progress.literals (slacks_in progress.judging.tally.sums) (is_lacking progress.judging.tally.sums degree)
+    then values_text progress.literals (open_slacks progress.judging) (is_lacking progress.judging degree)
     else []
 
 abbrev pub progress_after : Progress → Event → Progress
@@ -68,7 +63,7 @@ progress_after progress (start_row part) = record progress { judging = judged pr
 progress_after progress (term coefficient v) = record progress { judging = judged progress.judging (term coefficient v) }
 progress_after progress (close_row degree) =
     if progress.puts_slacks
-    then record progress { literals = literals_after progress.literals (slacks_in progress.judging.tally.sums) }
+    then record progress { literals = literals_after progress.literals (open_slacks progress.judging) }
     else progress
 
 -- the texts of events, and the progress that they make

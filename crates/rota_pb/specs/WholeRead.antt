@@ -1,7 +1,7 @@
 -- How a file is read whole, and why that stops.
 use Rattle.std.specs.Prelude.{◌≡◌, ℕ, ◌+◌, ◌<◌, ◌≤◌, List, length}
 use Rattle.std.specs.Io.KnownBytes.{prepend_known}
-use Rattle.rota_read.specs.Reading.{LONGEST}
+use Rattle.rota_read.specs.Files.{LONGEST}
 use Rattle.rota_pb.specs.Readers.{FailsBeforeEnd, IsEnded, Reader}
 use Rattle.rota_pb.specs.declared.fault.Fault.{Fault}
 use Rattle.rota_pb.specs.declared.fault.Fault.TheVariants.{File, Memory, Write, Read, Answer, NoRoster, Unmet, Breaks}

@@ -4,7 +4,7 @@ ghost use Rattle.rota_core.specs.InstanceTables.{week_of};
 ghost use Rattle.rota_core.specs.Roster.{InWeek};
 ghost use Rattle.rota_core.specs.HardRules.{KeepsOneCell};
 ghost use Rattle.rota_core.specs.RosterTables.{HasShapeOf, set_of};
-ghost use Rattle.rota_read.specs.Reading.{LONGEST};
+ghost use Rattle.rota_read.specs.Files.{LONGEST};
 ghost use Rattle.rota_read.specs.SolutionRows.{SpellsRoster};
 ghost use Rattle.rota_read.specs.SolutionText.{assignment_text, heading_text, rows_text, solution_text};
 ghost use Rattle.opb_text.specs.Sink.{PutsText, sink_failed};

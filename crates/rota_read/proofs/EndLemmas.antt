@@ -6,7 +6,8 @@ use Rattle.rota_read.specs.declared.fault.Fault.{Fault}
 use Rattle.rota_read.specs.declared.fault.Stop.{Stop}
 use Rattle.rota_read.specs.declared.fault.Stop.TheVariants as stops
 use Rattle.rota_read.specs.Layout.{Layout}
-use Rattle.rota_read.specs.Reading.{and_then, read, at_end, begin, opened, read_file, LONGEST, Fails}
+use Rattle.rota_read.specs.Reading.{and_then, read, at_end, begin, opened, read_file, Fails}
+use Rattle.rota_read.specs.Files.{LONGEST}
 
 pub not_longer : (n : ℕ) → n ≤ LONGEST → nat_lt LONGEST n ≡ false
 not_longer n h = grind (arith, nat_tests)

@@ -16,9 +16,8 @@ use Rattle.rota_core.specs.Words.{IsWord}
 use Rattle.rota_core.proofs.Loops.{AllByRecursion-append}
 use Rattle.rota_core.proofs.RisesWithin.{RisesWithin}
 use Rattle.rota_read.specs.Days.{day_names}
-use Rattle.rota_read.specs.Files.{Fills}
+use Rattle.rota_read.specs.Files.{Fills, LONGEST}
 use Rattle.rota_read.specs.Layout.{Layout, end, exactly, number, any_word, known_name, none_taken, repeat}
-use Rattle.rota_read.specs.Reading.{LONGEST}
 use Rattle.rota_read.specs.ScenarioLayout.{setting}
 use Rattle.rota_read.specs.SolutionLayout.{is_same_cell, is_one_cell, assignment_row, solution_heading, solution}
 use Rattle.rota_read.specs.SolutionRows.{SpellsRoster}

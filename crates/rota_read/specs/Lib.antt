@@ -1,10 +1,13 @@
 pub mod Days
+pub mod FileAnswers
 pub mod FileFaults
 pub mod Files
 pub mod HistoryLayout
 pub mod HistoryRows
 pub mod Layout
+pub mod OneMeaning
 pub mod Reading
+pub mod RosterReading
 pub mod ScenarioLayout
 pub mod ScenarioRows
 pub mod ShiftLayout

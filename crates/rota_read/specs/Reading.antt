@@ -7,6 +7,7 @@ use Rattle.rota_read.specs.declared.fault.Stop.{Stop}
 use Rattle.rota_read.specs.declared.fault.Stop.TheVariants as stops
 use Rattle.rota_read.specs.Tokens.{Token, Reading, tokens}
 use Rattle.rota_read.specs.Layout.{Slot, Layout, end, slot, ◌>>=◌, misfit}
+use Rattle.rota_read.specs.Files.{LONGEST}
 
 abbrev pub and_then : {A B : Type 0} → Result A Fault → (A → Result B Fault) → Result B Fault
 and_then (Ok a) f = f a
@@ -31,10 +32,6 @@ Fails (stops.Fault f) result = result ≡ Err f
 abbrev pub Reads : {X V : Type 0} → (X → V) → Result X Stop → Reading → Result (V × Reading) Fault → Type 0
 Reads view (Ok x) left result = result ≡ Ok (view x, left)
 Reads view (Err e) left result = Fails e result
-
--- the greatest length of a file
-abbrev pub LONGEST : ℕ
-LONGEST = 4194304
 
 -- after the last slot the file ends
 abbrev pub at_end : List Token → Result (Unit {0}) Fault

@@ -10,7 +10,7 @@ use Rattle.rota_core.specs.HardRules.{KeepsOneCell}
 use Rattle.rota_core.specs.RosterTables.{RosterTables, HasShapeOf, set_of}
 use Rattle.rota_core.specs.ScenarioTables.{ScenarioTables}
 use Rattle.rota_read.specs.Days.{day_names}
-use Rattle.rota_read.specs.Reading.{LONGEST}
+use Rattle.rota_read.specs.Files.{LONGEST}
 use Rattle.rota_read.specs.SolutionRows.{SpellsRoster}
 
 abbrev pub name_at : List (List ℕ) → ℕ → List ℕ

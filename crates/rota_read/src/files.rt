@@ -4,7 +4,9 @@ ghost use Rattle.std.specs.Prelude.{◌≡◌, IfOk, IfErr};
 ghost use Rattle.rota_core.specs.Parts.{scenario_of};
 ghost use Rattle.rota_core.specs.declared.fault.FileName.TheVariants as files;
 ghost use Rattle.rota_read.specs.FileFaults.{fault_in};
-ghost use Rattle.rota_read.specs.Files.{Spells, IsFaultOf, OneMeaning};
+ghost use Rattle.rota_read.specs.Files.{Spells};
+ghost use Rattle.rota_read.specs.FileAnswers.{IsFaultOf};
+ghost use Rattle.rota_read.specs.OneMeaning.{OneMeaning};
 ghost use Rattle.rota_read.specs.Reading.{opened, read_file, ReadsFile};
 ghost use Rattle.rota_read.specs.ScenarioLayout.{scenario};
 

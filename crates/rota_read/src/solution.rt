@@ -5,12 +5,14 @@ ghost use Rattle.rota_core.specs.declared.fault.FileName.TheVariants as files;
 ghost use Rattle.rota_core.specs.InstanceTables.{week_of};
 ghost use Rattle.rota_core.specs.RosterTables.{HasShapeOf};
 ghost use Rattle.rota_core.specs.ScenarioTables.{ScenarioTables};
-ghost use Rattle.rota_read.specs.Files.{IsFaultOf, OneMeaning};
+ghost use Rattle.rota_read.specs.FileAnswers.{IsFaultOf};
+ghost use Rattle.rota_read.specs.OneMeaning.{OneMeaning};
 ghost use Rattle.rota_read.specs.Layout.{repeat};
 ghost use Rattle.rota_read.specs.Reading.{read, Reads, read_file};
 ghost use Rattle.rota_read.specs.SolutionLayout.{assignment_row, solution_heading, solution};
 ghost use Rattle.rota_read.specs.SolutionText.{EachRosterHasItsText};
-ghost use Rattle.rota_read.specs.SolutionRows.{HasCells, SpellsRoster, ReadsRoster, ReadsRosterFile};
+ghost use Rattle.rota_read.specs.SolutionRows.{HasCells, SpellsRoster};
+ghost use Rattle.rota_read.specs.RosterReading.{ReadsRoster, ReadsRosterFile};
 
 use crate::cursor::Cursor;
 use crate::fault::Stop;

@@ -1,24 +1,22 @@
 -- The items of complete weekends charge the nurses who work on only one of its days.
-use Rattle.rota_items.proofs.LogicWords.{◌∷◌, [], refl, arith}
+use Rattle.rota_items.proofs.LogicWords.{true, refl, arith}
 use Rattle.rota_items.proofs.ModelWords.{Week}
 use Rattle.rota_core.specs.declared.rule.Rule.TheVariants.{S5}
 use Rattle.rota_items.proofs.AlikeRosters.{works-alike}
 use Rattle.rota_items.proofs.SoftRules.Sound.{IsNurseRuleSound}
 use Rattle.rota_items.proofs.SoftRules.WeekendItems.{sound-items_where, weighted-items_where}
-use Rattle.rota_items.specs.RunPatterns.{with_property, without_property}
 use Rattle.rota_items.specs.rules.CompleteWeekends.Cost.{complete_weekend_weight}
 
 pub sound-complete_weekends : (week : Week) → IsNurseRuleSound week S5
 sound-complete_weekends week =
-    let on_saturday = with_property 5 ∷ without_property 6 ∷ [] in
     record {
       items = λ n n_in.
-          sound-items_where week S5 complete_weekend_weight n on_saturday (refl, omega arith) n_in (omega arith)
+          sound-items_where week S5 complete_weekend_weight n true (refl, omega arith) n_in (omega arith)
           (week.contract n).complete;
       charges = λ roster one n n_in.
           grind (
             arith,
-            weighted-items_where week S5 complete_weekend_weight n on_saturday (refl, omega arith) n_in roster one
+            weighted-items_where week S5 complete_weekend_weight n true (refl, omega arith) n_in roster one
                 (week.contract n).complete,
           );
       alike = λ one other same n n_in.

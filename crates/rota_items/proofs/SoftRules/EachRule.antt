@@ -1,9 +1,11 @@
 -- What is shown of each soft rule holds of all items.
-use Rattle.rota_items.proofs.LogicWords.{◌≡◌, ◌+◌, true, List, [], ◌∷◌, refl, arith, pos, ◌+ℤ◌, AllByRecursion, flat_map, sum_by, ints, sum_by-append, sum_by-cons, AllByRecursion-append, AllByRecursion-each_below}
+use Rattle.rota_items.proofs.LogicWords.{◌≡◌, ◌+◌, true, List, [], ◌∷◌, refl, sym, ◌∙◌, arith, pos, ◌+ℤ◌, AllByRecursion, flat_map, sum_by, ints, sum_by-append, sum_by-cons, AllByRecursion-append, AllByRecursion-each_below}
 use Rattle.rota_items.proofs.ModelWords.{KeepsCompetitionRules, Roster, Week, Rule, Cell, Item, weighted_shortages, value_of, soft_rules, cell_terms, cell_terms_of_rule, constant, constant_of_rule, is_soft, items_of_rule, penalty, rule_cost, soft_items}
 use Rattle.std.specs.List.{list_all}
 use Rattle.std.proofs.lemmas.Bool.{and_parts}
 use Rattle.std.proofs.lemmas.List.{append-nil}
+use Rattle.rota_core.specs.Below.{sum_below}
+use Rattle.rota_core.specs.Lists.{each_below}
 use Rattle.rota_core.specs.declared.rule.Rule.TheVariants.{S1, S2, S3, S4, S5, S6, S7}
 use Rattle.rota_items.proofs.AlikeRosters.{AreAlike}
 use Rattle.rota_items.proofs.ListAll.{all-weaker}
@@ -17,8 +19,9 @@ use Rattle.rota_items.proofs.SoftRules.ShiftOffRequests.{sound-shift_off_request
 use Rattle.rota_items.proofs.SoftRules.Sound.{IsItemSound, IsNurseRuleSound, IsSoftRuleSound, charges-nurses, weighted}
 use Rattle.rota_items.proofs.SoftRules.TotalAssignments.{sound-total_assignments}
 use Rattle.rota_items.proofs.SoftRules.WorkedWeekends.{sound-worked_weekends}
-use Rattle.rota_items.proofs.SumsBelow.{sum_below-same}
+use Rattle.rota_items.proofs.SumsBelow.{sum_below-same, sum_below-zero}
 use Rattle.rota_items.specs.Charges.{nurse_items}
+use Rattle.rota_items.proofs.NurseCosts.{nurse_cost}
 use Rattle.rota_items.specs.rules.ShiftOffRequests.Terms.{request_terms}
 
 module _ (week : Week) where
@@ -36,14 +39,27 @@ module _ (week : Week) where
     alike = λ _ _ _ _ _. refl;
   }
 
+  -- a rule that charges each nurse
+  by_nurse : (rule : Rule) → items_of_rule week rule ≡ each_below week.nurses (nurse_items week rule) → cell_terms_of_rule week rule ≡ [] →
+      ((roster : Roster) → rule_cost week roster rule ≡ sum_below week.nurses (nurse_cost week roster rule)) → IsSoftRuleSound week rule
+  by_nurse rule items_are no_terms costs =
+      let sound = sound-nurse_rule rule in record {
+        items = rw items_are (AllByRecursion-each_below (IsItemSound week rule) week.nurses (nurse_items week rule) sound.items);
+        charges = λ roster keeps.
+            rw (items_are, no_terms, costs roster) (omega (arith, ints, charges-nurses week rule sound roster keeps.one_cell));
+        alike = λ one other same.
+            costs one ∙ sum_below-same week.nurses _ _ (sound.alike one other same) ∙ sym (costs other);
+      }
+
   pub sound-rule : (rule : Rule) → IsSoftRuleSound week rule
   sound-rule S1 = sound-optimal_coverage week
+  sound-rule S2 = by_nurse S2 refl refl (λ roster. refl)
+  sound-rule S3 = by_nurse S3 refl refl (λ roster. refl)
   sound-rule S4 = sound-shift_off_requests week
-  sound-rule rule = let sound = sound-nurse_rule rule in record {
-    items = AllByRecursion-each_below (IsItemSound week rule) week.nurses (nurse_items week rule) sound.items;
-    charges = λ roster keeps. omega (arith, ints, charges-nurses week rule sound roster keeps.one_cell);
-    alike = λ one other same. sum_below-same week.nurses _ _ (sound.alike one other same);
-  }
+  sound-rule S5 = by_nurse S5 refl refl (λ roster. refl)
+  sound-rule S6 = by_nurse S6 refl refl (λ roster. refl)
+  sound-rule S7 = by_nurse S7 refl refl (λ roster. refl)
+  sound-rule rule = by_nurse rule refl refl (λ roster. sym (sum_below-zero week.nurses (nurse_cost week roster rule) (λ n n_in. refl)))
 
   -- ---- all items
 

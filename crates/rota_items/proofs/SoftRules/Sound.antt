@@ -7,7 +7,7 @@ use Rattle.rota_items.proofs.AlikeRosters.{AreAlike}
 use Rattle.rota_items.proofs.SoundTerms.{AreSound}
 use Rattle.rota_items.proofs.SumsBelow.{sum_by-each, sum_below-plus, sum_below-same, sum_below-zero}
 use Rattle.rota_items.specs.Charges.{nurse_constant, nurse_items}
-use Rattle.rota_items.specs.Penalty.{nurse_cost}
+use Rattle.rota_items.proofs.NurseCosts.{nurse_cost}
 
 -- ---- of an item
 

@@ -1,25 +1,23 @@
 -- The items of worked weekends and their part of the constant charge the weekends above the greatest number.
-use Rattle.rota_items.proofs.LogicWords.{ℕ, Bool, [], ◌∷◌, refl, arith, ◌-◌, ◌&&◌, ◌||◌, nat_le}
+use Rattle.rota_items.proofs.LogicWords.{ℕ, Bool, false, refl, arith, ◌-◌, ◌&&◌, nat_le}
 use Rattle.rota_items.proofs.ModelWords.{works, Week}
 use Rattle.rota_core.specs.declared.rule.Rule.TheVariants.{S7}
 use Rattle.rota_items.proofs.AlikeRosters.{works-alike}
 use Rattle.rota_items.proofs.SoftRules.Sound.{IsNurseRuleSound}
 use Rattle.rota_items.proofs.SoftRules.WeekendItems.{sound-items_where, weighted-items_where}
 use Rattle.rota_items.specs.CountedTotals.{greatest_totals_count}
-use Rattle.rota_items.specs.RunPatterns.{with_property}
 use Rattle.rota_items.specs.rules.WorkedWeekends.Cost.{worked_weekend_weight}
 
 pub sound-worked_weekends : (week : Week) → IsNurseRuleSound week S7
 sound-worked_weekends week =
-    let on_saturday = with_property 5 ∷ [] in
     let is_charged : ℕ → Bool = λ n. greatest_totals_count week && nat_le (week.contract n).weekends (week.past n).weekends in
     record {
       items = λ n n_in.
-          sound-items_where week S7 worked_weekend_weight n on_saturday (refl, omega arith) n_in (omega arith) (is_charged n);
+          sound-items_where week S7 worked_weekend_weight n false (refl, omega arith) n_in (omega arith) (is_charged n);
       charges = λ roster one n n_in.
           grind (
             arith,
-            weighted-items_where week S7 worked_weekend_weight n on_saturday (refl, omega arith) n_in roster one (is_charged n),
+            weighted-items_where week S7 worked_weekend_weight n false (refl, omega arith) n_in roster one (is_charged n),
           );
       alike = λ one other same n n_in.
           rw (works-alike week one other same n 5 n_in (omega arith), works-alike week one other same n 6 n_in (omega arith)) refl;

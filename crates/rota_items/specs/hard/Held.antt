@@ -1,12 +1,7 @@
 -- H5: each held cell is in the roster.
-use Rattle.std.specs.Prelude.{pos, false, List, [], ◌∷◌, map}
-use Rattle.rota_core.specs.declared.values.Cell.{Cell}
-use Rattle.rota_core.specs.declared.rule.Rule.TheVariants.{H5}
+use Rattle.rota_items.specs.Words.{pos, false, List, [], ◌∷◌, map, Cell, H5, Week}
+use Rattle.rota_items.specs.ModelWords.{Hard, times, LinearRow}
 use Rattle.rota_core.specs.RosterCells.{cells_of}
-use Rattle.rota_core.specs.Week.{Week}
-use Rattle.rota_items.specs.declared.part.Part.TheVariants.{Hard}
-use Rattle.rota_items.specs.Linear.{times}
-use Rattle.rota_items.specs.LinearRow.{LinearRow}
 
 abbrev pub h5_row : Cell → LinearRow Cell
 h5_row one = record { part = Hard H5; terms = times (pos 1) (one ∷ []); degree = pos 1 }

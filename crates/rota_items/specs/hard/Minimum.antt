@@ -1,13 +1,6 @@
 -- H2: the least number of nurses, where one is asked for.
-use Rattle.std.specs.Prelude.{ℕ, pos, nat_lt, List}
-use Rattle.rota_core.specs.declared.values.Cell.{Cell}
-use Rattle.rota_core.specs.declared.rule.Rule.TheVariants.{H2}
-use Rattle.rota_core.specs.Week.{Week}
-use Rattle.rota_core.specs.Lists.{each_below, only_if}
-use Rattle.rota_items.specs.declared.part.Part.TheVariants.{Hard}
-use Rattle.rota_items.specs.Cells.{demand_cells}
-use Rattle.rota_items.specs.Linear.{times}
-use Rattle.rota_items.specs.LinearRow.{LinearRow}
+use Rattle.rota_items.specs.Words.{ℕ, pos, nat_lt, List, Cell, H2, Week}
+use Rattle.rota_items.specs.ModelWords.{each_below, only_if, Hard, demand_cells, times, LinearRow}
 
 abbrev pub h2_row : Week → ℕ → ℕ → ℕ → LinearRow Cell
 h2_row week d s k = record {

@@ -1,13 +1,6 @@
 -- H1: at most one cell of a nurse's day.
-use Rattle.std.specs.Prelude.{ℕ, negsuc, List, [], ◌∷◌}
-use Rattle.rota_core.specs.declared.values.Cell.{Cell}
-use Rattle.rota_core.specs.declared.rule.Rule.TheVariants.{H1}
-use Rattle.rota_core.specs.Week.{Week}
-use Rattle.rota_core.specs.Lists.{each_below}
-use Rattle.rota_items.specs.declared.part.Part.TheVariants.{Hard}
-use Rattle.rota_items.specs.Cells.{work_cells}
-use Rattle.rota_items.specs.Linear.{times}
-use Rattle.rota_items.specs.LinearRow.{LinearRow}
+use Rattle.rota_items.specs.Words.{ℕ, negsuc, List, [], ◌∷◌, Cell, H1, Week}
+use Rattle.rota_items.specs.ModelWords.{each_below, Hard, work_cells, times, LinearRow}
 
 abbrev pub h1_row : Week → ℕ → ℕ → LinearRow Cell
 h1_row week n d = record { part = Hard H1; terms = times (negsuc 0) (work_cells week n d); degree = negsuc 0 }

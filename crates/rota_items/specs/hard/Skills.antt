@@ -1,13 +1,6 @@
 -- H4: no cell that needs a skill that the nurse lacks.
-use Rattle.std.specs.Prelude.{ℕ, pos, negsuc, not, List}
-use Rattle.rota_core.specs.declared.values.Cell.{Cell}
-use Rattle.rota_core.specs.declared.rule.Rule.TheVariants.{H4}
-use Rattle.rota_core.specs.Week.{Week}
-use Rattle.rota_core.specs.Lists.{each_below, only_if}
-use Rattle.rota_items.specs.declared.part.Part.TheVariants.{Hard}
-use Rattle.rota_items.specs.Cells.{skill_cells}
-use Rattle.rota_items.specs.Linear.{times}
-use Rattle.rota_items.specs.LinearRow.{LinearRow}
+use Rattle.rota_items.specs.Words.{ℕ, pos, negsuc, not, List, Cell, H4, Week}
+use Rattle.rota_items.specs.ModelWords.{each_below, only_if, Hard, skill_cells, times, LinearRow}
 
 abbrev pub h4_row : Week → ℕ → ℕ → LinearRow Cell
 h4_row week n k = record { part = Hard H4; terms = times (negsuc 0) (skill_cells week n k); degree = pos 0 }

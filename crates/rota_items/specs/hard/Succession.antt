@@ -1,13 +1,6 @@
 -- H3: no shift type after one that it may not follow.
-use Rattle.std.specs.Prelude.{ℕ, ◌+◌, pos, negsuc, Bool, false, List, ◌++◌, Option, Some, None}
-use Rattle.rota_core.specs.declared.values.Cell.{Cell}
-use Rattle.rota_core.specs.declared.rule.Rule.TheVariants.{H3}
-use Rattle.rota_core.specs.Week.{Week}
-use Rattle.rota_core.specs.Lists.{each_below, only_if}
-use Rattle.rota_items.specs.declared.part.Part.TheVariants.{Hard}
-use Rattle.rota_items.specs.Cells.{on_cells}
-use Rattle.rota_items.specs.Linear.{times}
-use Rattle.rota_items.specs.LinearRow.{LinearRow}
+use Rattle.rota_items.specs.Words.{ℕ, ◌+◌, pos, negsuc, Bool, false, List, ◌++◌, Option, Some, None, Cell, H3, Week}
+use Rattle.rota_items.specs.ModelWords.{each_below, only_if, Hard, on_cells, times, LinearRow}
 
 -- not t on Monday
 abbrev pub h3_monday_row : Week → ℕ → ℕ → LinearRow Cell

@@ -1,5 +1,5 @@
 use Rattle.std.specs.Prelude.{◌≡◌, ◌+◌, ◌*◌, ◌≤◌, take, sum}
-use Rattle.rota_items.specs.CountedTotals.{added_excess}
+use Rattle.rota_items.specs.EarlyWeeks.{added_excess}
 use Rattle.rota_items.proofs.early_weeks.early_excess.Given as goal
 
 abbrev pub invariant-loop-step : goal.invariant-loop-step

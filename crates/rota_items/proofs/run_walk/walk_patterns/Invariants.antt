@@ -1,5 +1,5 @@
 use Rattle.rota_items.proofs.Common.{week_of, Walked, runs_of, each_below}
-use Rattle.rota_items.specs.RunItems.{pattern_items_on}
+use Rattle.rota_items.specs.RunItemParts.{pattern_items_on}
 use Rattle.rota_items.proofs.run_walk.walk_patterns.Given as goal
 
 abbrev pub invariant-loop-day : goal.invariant-loop-day

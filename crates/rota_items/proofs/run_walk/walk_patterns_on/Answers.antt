@@ -1,7 +1,7 @@
 use Rattle.rota_items.proofs.Common.{arith, week_of, runs_of, each_below}
 use Rattle.rota_items.proofs.RunItemLists.{pattern_items-on}
 use Rattle.rota_items.proofs.Walking.{walk_exits, walk_ends, walk_refused, walk_stops, walk_then, fits_before, fits_after, fits_within}
-use Rattle.rota_items.specs.RunItems.{closed_items_at, edge_items_on}
+use Rattle.rota_items.specs.RunItemParts.{closed_items_at, edge_items_on}
 use Rattle.rota_items.proofs.run_walk.walk_patterns_on.Goals as goal
 
 pub walk_pattern-requires-clause-slacks_fit : goal.walk_pattern-requires-clause-slacks_fit

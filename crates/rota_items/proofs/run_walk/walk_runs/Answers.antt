@@ -1,7 +1,7 @@
 use Rattle.rota_items.proofs.Common.{week_of, runs_of, each_below}
 use Rattle.rota_items.proofs.RunItemLists.{run_items-are}
 use Rattle.rota_items.proofs.Walking.{walk_exits, walk_stops, walk_then, fits_before, fits_after}
-use Rattle.rota_items.specs.RunItems.{window_items_on, pattern_items_on}
+use Rattle.rota_items.specs.RunItemParts.{window_items_on, pattern_items_on}
 use Rattle.rota_items.proofs.run_walk.walk_runs.Goals as goal
 
 pub walk_windows-requires-clause-slacks_fit : goal.walk_windows-requires-clause-slacks_fit

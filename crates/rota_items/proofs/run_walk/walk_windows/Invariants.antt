@@ -1,5 +1,5 @@
 use Rattle.rota_items.proofs.Common.{week_of, Walked, runs_of, each_below}
-use Rattle.rota_items.specs.RunItems.{window_items_on}
+use Rattle.rota_items.specs.RunItemParts.{window_items_on}
 use Rattle.rota_items.proofs.run_walk.walk_windows.Given as goal
 
 abbrev pub invariant-loop-day : goal.invariant-loop-day

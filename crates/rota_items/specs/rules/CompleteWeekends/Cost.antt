@@ -1,9 +1,5 @@
 -- S5, complete weekends: nurses with complete weekends who work on only one of its days.
-use Rattle.std.specs.Prelude.{ℕ, Bool, not, ◌&&◌, ◌||◌, if◌then◌else◌}
-use Rattle.rota_core.specs.Below.{sum_below}
-use Rattle.rota_core.specs.HardRules.{works}
-use Rattle.rota_core.specs.Roster.{Roster}
-use Rattle.rota_core.specs.Week.{Week}
+use Rattle.rota_items.specs.Words.{ℕ, Bool, not, ◌&&◌, ◌||◌, if◌then◌else◌, sum_below, works, Roster, Week}
 
 -- for each nurse's weekend
 abbrev pub complete_weekend_weight : ℕ

@@ -1,9 +1,5 @@
 -- S2, consecutive assignments: runs on a shift type and runs of working days that are too long or too short.
-use Rattle.std.specs.Prelude.{ℕ, ◌+◌, ◌*◌, ◌==◌, if◌then◌else◌, Option, Some, None}
-use Rattle.rota_core.specs.Below.{sum_below}
-use Rattle.rota_core.specs.HardRules.{is_on, works}
-use Rattle.rota_core.specs.Roster.{Roster}
-use Rattle.rota_core.specs.Week.{Week}
+use Rattle.rota_items.specs.Words.{ℕ, ◌+◌, ◌*◌, ◌==◌, if◌then◌else◌, Option, Some, None, sum_below, is_on, works, Roster, Week}
 use Rattle.rota_items.specs.Runs.{run_cost}
 
 -- for each day that a run on a shift type is too long or too short

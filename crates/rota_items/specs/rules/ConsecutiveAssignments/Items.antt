@@ -1,11 +1,6 @@
 -- How the model charges S2: the items of a nurse's runs.
-use Rattle.std.specs.Prelude.{ℕ, List, ◌++◌}
-use Rattle.rota_core.specs.declared.rule.Rule.TheVariants.{S2}
-use Rattle.rota_core.specs.declared.values.Cell.{Cell}
-use Rattle.rota_core.specs.Lists.{each_below}
-use Rattle.rota_core.specs.Week.{Week}
-use Rattle.rota_items.specs.Cells.{on_cells, work_cells}
-use Rattle.rota_items.specs.Items.{Item}
+use Rattle.rota_items.specs.Words.{ℕ, List, ◌++◌, S2, Cell, Week}
+use Rattle.rota_items.specs.ModelWords.{each_below, on_cells, work_cells, Item}
 use Rattle.rota_items.specs.RunItems.{Runs, Present, run_items}
 use Rattle.rota_items.specs.rules.ConsecutiveAssignments.Cost.{shift_run_weight, work_run_weight, history_on}
 
@@ -31,6 +26,3 @@ work_runs week n = record {
 abbrev pub assignment_runs_of : Week → ℕ → List (Item Cell)
 assignment_runs_of week n =
     each_below week.shifts (λ s. run_items (shift_runs week n s)) ++ run_items (work_runs week n)
-
-abbrev pub consecutive_assignment_items : Week → List (Item Cell)
-consecutive_assignment_items week = each_below week.nurses (assignment_runs_of week)

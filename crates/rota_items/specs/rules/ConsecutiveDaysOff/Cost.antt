@@ -1,9 +1,5 @@
 -- S3, consecutive days off: runs of days off that are too long or too short.
-use Rattle.std.specs.Prelude.{ℕ, ◌*◌}
-use Rattle.rota_core.specs.Below.{sum_below}
-use Rattle.rota_core.specs.HardRules.{is_off}
-use Rattle.rota_core.specs.Roster.{Roster}
-use Rattle.rota_core.specs.Week.{Week}
+use Rattle.rota_items.specs.Words.{ℕ, ◌*◌, sum_below, is_off, Roster, Week}
 use Rattle.rota_items.specs.Runs.{run_cost}
 
 -- for each day that a run is too long or too short

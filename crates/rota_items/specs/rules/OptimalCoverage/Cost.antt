@@ -1,9 +1,5 @@
 -- S1, optimal coverage: nurses below the optimal number of a day's shift type and skill.
-use Rattle.std.specs.Prelude.{ℕ, ◌-◌, ◌*◌}
-use Rattle.rota_core.specs.Below.{sum_below}
-use Rattle.rota_core.specs.HardRules.{nurses_at}
-use Rattle.rota_core.specs.Roster.{Roster}
-use Rattle.rota_core.specs.Week.{Week}
+use Rattle.rota_items.specs.Words.{ℕ, ◌-◌, ◌*◌, sum_below, nurses_at, Roster, Week}
 
 -- for each nurse who is missing
 abbrev pub optimum_weight : ℕ

@@ -1,12 +1,6 @@
 -- How the model charges S1: an item for each day, shift type and skill.
-use Rattle.std.specs.Prelude.{ℕ, ◌-◌, pos, nat_lt, List}
-use Rattle.rota_core.specs.declared.rule.Rule.TheVariants.{S1}
-use Rattle.rota_core.specs.declared.values.Cell.{Cell}
-use Rattle.rota_core.specs.Lists.{each_below, only_if}
-use Rattle.rota_core.specs.Week.{Week}
-use Rattle.rota_items.specs.Cells.{demand_cells}
-use Rattle.rota_items.specs.Items.{Item}
-use Rattle.rota_items.specs.Linear.{times}
+use Rattle.rota_items.specs.Words.{ℕ, ◌-◌, pos, nat_lt, List, S1, Cell, Week}
+use Rattle.rota_items.specs.ModelWords.{each_below, only_if, demand_cells, Item, times}
 use Rattle.rota_items.specs.rules.OptimalCoverage.Cost.{optimum_weight}
 
 abbrev pub optimum_item : Week → ℕ → ℕ → ℕ → Item Cell

@@ -1,8 +1,5 @@
 -- S4, requests: cells that request rows ask to be free of.
-use Rattle.std.specs.Prelude.{ℕ, ◌*◌, if◌then◌else◌}
-use Rattle.rota_core.specs.Below.{sum_below}
-use Rattle.rota_core.specs.Roster.{Roster, cell}
-use Rattle.rota_core.specs.Week.{Week}
+use Rattle.rota_items.specs.Words.{ℕ, ◌*◌, if◌then◌else◌, sum_below, Roster, cell, Week}
 
 -- for each cell and each request row that it matches
 abbrev pub request_weight : ℕ

@@ -1,10 +1,6 @@
 -- How the model charges S4: by terms of the objective at the cells, with no item.
-use Rattle.std.specs.Prelude.{ℕ, ◌*◌, pos, nat_lt, List}
-use Rattle.rota_core.specs.declared.values.Cell.{Cell}
-use Rattle.rota_core.specs.Lists.{each_below, only_if}
-use Rattle.rota_core.specs.Roster.{cell}
-use Rattle.rota_core.specs.Week.{Week}
-use Rattle.rota_items.specs.Linear.{Term}
+use Rattle.rota_items.specs.Words.{ℕ, ◌*◌, pos, nat_lt, List, Cell, cell, Week}
+use Rattle.rota_items.specs.ModelWords.{each_below, only_if, Term}
 use Rattle.rota_items.specs.rules.ShiftOffRequests.Cost.{request_weight}
 
 -- those of a nurse's day on a shift type

@@ -1,9 +1,6 @@
 -- S6, total assignments: assignments outside the limits of the nurse's total.
-use Rattle.std.specs.Prelude.{ℕ, ◌+◌, ◌-◌, ◌*◌, if◌then◌else◌}
-use Rattle.rota_core.specs.Below.{sum_below, count_below}
-use Rattle.rota_core.specs.Roster.{Roster, cell}
-use Rattle.rota_core.specs.Week.{Week}
-use Rattle.rota_items.specs.CountedTotals.{CountedTotal, charged_total, least_totals_count}
+use Rattle.rota_items.specs.Words.{ℕ, ◌+◌, ◌-◌, ◌*◌, if◌then◌else◌, sum_below, count_below, Roster, cell, Week}
+use Rattle.rota_items.specs.CountedTotals.{charged_excess, least_totals_count}
 
 -- for each assignment outside the limits
 abbrev pub assignment_weight : ℕ
@@ -21,16 +18,10 @@ below_least_total week roster n =
     then (week.contract n).total.min - ((week.past n).assignments + assignments_of week roster n)
     else 0)
 
--- the nurse's assignments as a total, and those above its greatest number
-abbrev pub assignment_total : ℕ → CountedTotal
-assignment_total n = record {
-  before = λ week. (week.past n).assignments;
-  now = λ week roster. assignments_of week roster n;
-  most = λ week. (week.contract n).total.max;
-}
-
+-- those above the greatest total
 abbrev pub above_greatest_total : Week → Roster → ℕ → ℕ
-above_greatest_total week roster n = charged_total (assignment_total n) week roster
+above_greatest_total week roster n =
+    charged_excess week (week.contract n).total.max (week.past n).assignments (assignments_of week roster n)
 
 -- of a nurse
 abbrev pub assignment_cost_of : Week → Roster → ℕ → ℕ

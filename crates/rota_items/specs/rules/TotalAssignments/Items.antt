@@ -1,14 +1,7 @@
 -- How the model charges S6: the items of a nurse's total, and what no roster can avoid.
-use Rattle.std.specs.Prelude.{ℕ, ◌+◌, ◌-◌, ◌*◌, pos, negsuc, ◌-ℤ◌, nat_lt, min, ◌&&◌, if◌then◌else◌, List, ◌++◌}
-use Rattle.rota_core.specs.declared.rule.Rule.TheVariants.{S6}
-use Rattle.rota_core.specs.declared.values.Cell.{Cell}
-use Rattle.rota_core.specs.Below.{sum_below}
-use Rattle.rota_core.specs.Lists.{each_below, only_if}
-use Rattle.rota_core.specs.Week.{Week}
-use Rattle.rota_items.specs.Cells.{nurse_cells}
+use Rattle.rota_items.specs.Words.{ℕ, ◌+◌, ◌-◌, ◌*◌, pos, negsuc, ◌-ℤ◌, nat_lt, min, ◌&&◌, if◌then◌else◌, List, ◌++◌, S6, Cell, Week}
+use Rattle.rota_items.specs.ModelWords.{only_if, nurse_cells, Item, times}
 use Rattle.rota_items.specs.CountedTotals.{excess_before_counts, greatest_totals_count, least_totals_count}
-use Rattle.rota_items.specs.Items.{Item}
-use Rattle.rota_items.specs.Linear.{times}
 use Rattle.rota_items.specs.rules.TotalAssignments.Cost.{assignment_weight}
 
 -- the assignments that the nurse's least total still asks for, and those that her greatest leaves room for
@@ -48,9 +41,6 @@ greatest_totals_of week n =
 abbrev pub totals_of : Week → ℕ → List (Item Cell)
 totals_of week n = least_totals_of week n ++ greatest_totals_of week n
 
-abbrev pub assignment_items : Week → List (Item Cell)
-assignment_items week = each_below week.nurses (totals_of week)
-
 -- a nurse's assignments that are wanted beyond a day each
 abbrev pub wanted_beyond_days : Week → ℕ → ℕ
 wanted_beyond_days week n = (if least_totals_count week then still_wanted week n - 7 else 0)
@@ -63,6 +53,3 @@ assignments_above week n =
 -- of a nurse
 abbrev pub assignment_constant_of : Week → ℕ → ℕ
 assignment_constant_of week n = assignment_weight * (wanted_beyond_days week n + assignments_above week n)
-
-abbrev pub constant_of_assignments : Week → ℕ
-constant_of_assignments week = sum_below week.nurses (assignment_constant_of week)

@@ -1,10 +1,6 @@
 -- S7, worked weekends: those above the nurse's greatest number.
-use Rattle.std.specs.Prelude.{ℕ, ◌*◌, ◌||◌, if◌then◌else◌}
-use Rattle.rota_core.specs.Below.{sum_below}
-use Rattle.rota_core.specs.HardRules.{works}
-use Rattle.rota_core.specs.Roster.{Roster}
-use Rattle.rota_core.specs.Week.{Week}
-use Rattle.rota_items.specs.CountedTotals.{CountedTotal, charged_total}
+use Rattle.rota_items.specs.Words.{ℕ, ◌*◌, ◌||◌, if◌then◌else◌, sum_below, works, Roster, Week}
+use Rattle.rota_items.specs.CountedTotals.{charged_excess}
 
 -- for each weekend above the greatest number
 abbrev pub worked_weekend_weight : ℕ
@@ -14,16 +10,10 @@ worked_weekend_weight = 30
 abbrev pub worked_weekend : Week → Roster → ℕ → ℕ
 worked_weekend week roster n = (if works week roster n 5 || works week roster n 6 then 1 else 0)
 
--- the nurse's worked weekends as a total, and those above its greatest number
-abbrev pub weekend_total : ℕ → CountedTotal
-weekend_total n = record {
-  before = λ week. (week.past n).weekends;
-  now = λ week roster. worked_weekend week roster n;
-  most = λ week. (week.contract n).weekends;
-}
-
+-- the worked weekends above the greatest number
 abbrev pub above_greatest_weekends : Week → Roster → ℕ → ℕ
-above_greatest_weekends week roster n = charged_total (weekend_total n) week roster
+above_greatest_weekends week roster n =
+    charged_excess week (week.contract n).weekends (week.past n).weekends (worked_weekend week roster n)
 
 -- of a nurse
 abbrev pub worked_weekend_cost_of : Week → Roster → ℕ → ℕ

@@ -1,0 +1,14 @@
+-- The constraints of items, apart from any week.
+use Rattle.rota_items.specs.Words.{ℕ, ◌<◌, List, map, All}
+use Rattle.rota_items.specs.ModelWords.{Term, Constraint, linear_constraint, Item}
+use Rattle.rota_items.specs.Slacks.{item_row, item_rows}
+
+abbrev pub item_constraint : Item ℕ → ℕ → Constraint
+item_constraint item first = linear_constraint (item_row item first)
+
+abbrev pub item_constraints : ℕ → List (Item ℕ) → List Constraint
+item_constraints first items = map linear_constraint (item_rows first items)
+
+-- each variable of the items' terms stands below this number
+abbrev pub StandBelow : ℕ → List (Item ℕ) → Type 0
+StandBelow first items = All (λ item. All (λ (term : Term ℕ). term.1 < first) item.terms) items

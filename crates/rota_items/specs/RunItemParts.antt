@@ -1,0 +1,34 @@
+-- The run items of a day, and what the laws on run items ask.
+use Rattle.rota_items.specs.Words.{ℕ, ◌≤◌, ◌<◌, Bool, List, ◌++◌, map, count_by, ◌≡◌, length, ◌+◌, range_with_len}
+use Rattle.rota_items.specs.ModelWords.{Item}
+use Rattle.rota_items.specs.RunPatterns.{Pattern, closed_patterns_at, edge_patterns_on, windows_on, patterns_on}
+use Rattle.rota_items.specs.RunItems.{Property, variables_on, Runs, pattern_items}
+
+-- those of one day's window, of a closed pattern, of the edge pattern and of all patterns that end before the day
+abbrev pub window_items_on : {X : Type 0} → Runs X → ℕ → List (Item X)
+window_items_on runs d = pattern_items runs (windows_on runs.history runs.limits d)
+
+abbrev pub closed_items_at : {X : Type 0} → Runs X → ℕ → ℕ → List (Item X)
+closed_items_at runs d count = pattern_items runs (closed_patterns_at runs.limits.min d count)
+
+abbrev pub edge_items_on : {X : Type 0} → Runs X → ℕ → List (Item X)
+edge_items_on runs d = pattern_items runs (edge_patterns_on runs.history runs.limits.min d)
+
+abbrev pub pattern_items_on : {X : Type 0} → Runs X → ℕ → List (Item X)
+pattern_items_on runs d = pattern_items runs (patterns_on runs.history runs.limits d)
+
+-- the items of one day's window and patterns
+abbrev pub day_items : {X : Type 0} → Runs X → ℕ → List (Item X)
+day_items runs d =
+    pattern_items runs (windows_on runs.history runs.limits d ++ patterns_on runs.history runs.limits d)
+
+-- on each day of the week at most one of the property's variables is true
+abbrev pub AtMostOneADay : {X : Type 0} → Property X → (X → Bool) → Type 0
+AtMostOneADay property assignment =
+    (d : ℕ) → d < 7 → count_by assignment (variables_on property d) ≤ 1
+
+-- the pattern's days follow one another within the week
+pub record DaysFollow (pattern : Pattern) : Type 0 where
+  pub first : ℕ
+  pub days_are : map (λ day. day.day) pattern.days ≡ range_with_len first (length pattern.days)
+  pub in_week : first + length pattern.days ≤ 7
