@@ -1,9 +1,9 @@
 -- The job that the matches of a subcommand spell.
-use Rattle.std.specs.Prelude.{◌≡◌, ◌⊎◌, Bool, List, Some, None, true, false, codes, ⊤}
+use Rattle.std.specs.Prelude.{◌≡◌, ◌⊎◌, Bool, List, [], Some, None, true, false, codes, ⊤}
 use Rattle.std.specs.Prelude.{IsSomeAnd, map, option_map, string_bytes}
 use Rattle.std.specs.Borrow.{Bor}
 use Rattle.clap.specs.Words.{Row, Text, first_of, found_of, kind_of, one_of, rows_of}
-use Rattle.clap.specs.Words.{subcommand_of, takes}
+use Rattle.clap.specs.Words.{HasKind, fault_of, subcommand_of, takes}
 use Rattle.clap.specs.declared.error.kind.ErrorKind.TheVariants.{OutOfMemory}
 use Rattle.clap.specs.declared.parser.matches.ArgMatches.{ArgMatches}
 use Rattle.inrc2pb.specs.CommandLine.{inrc2pb_app}
@@ -72,8 +72,10 @@ IsForMemoryOr lacks (Words error) = ⊥
 IsForMemoryOr lacks Missing = lacks
 IsForMemoryOr lacks Memory = ⊤
 
--- why the words give no job: words that the command takes are refused only for want of memory
+-- why the words give no job: clap's error is of a kind that stands for what is wrong with them, or it is out of memory, as it is where the
+-- command takes them; a path is missing only from words with which nothing is wrong
 abbrev pub IsFaultOf : List Text → JobFault → Type 0
-IsFaultOf words (Words error) = takes inrc2pb_app words ≡ true → kind_of error ≡ OutOfMemory
-IsFaultOf words Missing = IsSomeAnd (subcommand_of inrc2pb_app words) LacksPath
+IsFaultOf words (Words error) =
+    HasKind (fault_of inrc2pb_app words) error × (takes inrc2pb_app words ≡ true → kind_of error ≡ OutOfMemory)
+IsFaultOf words Missing = (fault_of inrc2pb_app words ≡ []) × IsSomeAnd (subcommand_of inrc2pb_app words) LacksPath
 IsFaultOf words Memory = ⊤

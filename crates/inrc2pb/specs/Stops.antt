@@ -1,6 +1,6 @@
 -- Why the program ends where the words give no job.
-use Rattle.std.specs.Prelude.{◌≡◌, ◌⊎◌, ℕ, ⊤}
-use Rattle.clap.specs.Words.{kind_of}
+use Rattle.std.specs.Prelude.{◌≡◌, ◌⊎◌, ℕ, Bool, [], if◌then◌else◌, ⊤}
+use Rattle.clap.specs.Words.{IsAmong, Kinds, kind_of}
 use Rattle.clap.specs.declared.error.kind.ErrorKind.{ErrorKind}
 use Rattle.clap.specs.declared.error.kind.ErrorKind.TheVariants.{DisplayHelp, DisplayVersion, OutOfMemory}
 use Rattle.inrc2pb.specs.declared.job_fault.JobFault.{JobFault}
@@ -30,10 +30,22 @@ IsStopOf (Words error) stop = (IsAskedFor (kind_of error) → stop ≡ stopped.S
 IsStopOf Missing stop = IsUsage stop
 IsStopOf Memory stop = stop ≡ stopped.Job failed.Memory
 
+-- why the program ends without a job, by the kinds of what is wrong with the words: it shows what is asked for and no mistake, it tells a
+-- mistake, or memory ran out; without any of them, a path is missing
+abbrev pub IsStopFor : Kinds → Stop → Type 0
+IsStopFor kinds (stopped.Shown text) = IsAmong (kind_of text) kinds × IsAskedFor (kind_of text)
+IsStopFor kinds (stopped.Words text) = IsAmong (kind_of text) kinds × ¬ IsAskedFor (kind_of text)
+IsStopFor kinds (stopped.Usage text) = kinds ≡ []
+IsStopFor kinds (stopped.Job fault) = fault ≡ failed.Memory
+
+-- the status after a text that was asked for: that of a failed write where it did not go out
+abbrev pub status_after_text : Bool → ℕ
+status_after_text unshown = if unshown then exit_status failed.Write else 0
+
 -- what the program then exits with: 2 for a mistake in the words, a job's fault with its own status, and
--- 0 for a text that was asked for, or the status of a failed write where it did not go out
-abbrev pub IsStatusOf : Stop → ℕ → Type 0
-IsStatusOf (stopped.Shown text) status = (status ≡ 0) ⊎ (status ≡ exit_status failed.Write)
-IsStatusOf (stopped.Words text) status = status ≡ 2
-IsStatusOf (stopped.Usage text) status = status ≡ 2
-IsStatusOf (stopped.Job fault) status = status ≡ exit_status fault
+-- the status after a text that was asked for; the test says that a text did not go out
+abbrev pub IsStatusOf : Bool → Stop → ℕ → Type 0
+IsStatusOf unshown (stopped.Shown text) status = status ≡ status_after_text unshown
+IsStatusOf unshown (stopped.Words text) status = status ≡ 2
+IsStatusOf unshown (stopped.Usage text) status = status ≡ 2
+IsStatusOf unshown (stopped.Job fault) status = status ≡ exit_status fault

@@ -1,20 +1,33 @@
 //! The job that the words of the command line spell.
-ghost use Rattle.std.specs.Prelude.{◌≡◌, IfErr, IfOk, IsSomeAnd, Some, option_map, string_bytes};
-ghost use Rattle.clap.specs.Words.{first_of, subcommand_of};
+ghost use Rattle.std.specs.Prelude.{◌≡◌, [], IfErr, IfOk, IsSomeAnd, OnOk, Some, option_map, string_bytes};
+ghost use Rattle.clap.specs.Words.{fault_of, first_of, subcommand_of};
 ghost use Rattle.inrc2pb.specs.CommandLine.{inrc2pb_app};
 ghost use Rattle.inrc2pb.specs.Jobs.{HasFlag, HasInputs, IsFaultOf, IsForMemoryOr, IsJobOf, IsSubcommand};
 ghost use Rattle.inrc2pb.specs.Jobs.{LacksInput, LacksOption, LacksPath, options_of, texts};
+ghost use Rattle.inrc2pb.specs.Stops.{IsStopFor};
 
 use crate::command;
 use crate::job_fault::JobFault;
+use crate::stop::Stop;
 use clap::ArgMatches;
 use inrc2pb_job::{Inputs, Job};
 use std::alloc::{AllocError, Global};
+
+/// The job that the words spell, or why the program ends without one.
+pub fn asked_job(alloc: Global, words: &[&str]) -> Result<Job, Stop>
+    ensures ok { IfOk result (λ j. IsSomeAnd (subcommand_of inrc2pb_app (texts words.now))
+        (λ matched. IsJobOf matched j)) }
+    ensures taken { OnOk result (fault_of inrc2pb_app (texts words.now) ≡ []) }
+    ensures err { IfErr result (IsStopFor (fault_of inrc2pb_app (texts words.now))) }
+{
+    Ok(job(alloc, words)?)
+}
 
 /// The job that the words spell, the first of which is the program's name.
 pub fn job(alloc: Global, words: &[&str]) -> Result<Job, JobFault>
     ensures ok { IfOk result (λ j. IsSomeAnd (subcommand_of inrc2pb_app (texts words.now))
         (λ matched. IsJobOf matched j)) }
+    ensures taken { OnOk result (fault_of inrc2pb_app (texts words.now) ≡ []) }
     ensures err { IfErr result (IsFaultOf (texts words.now)) }
 {
     let command = command::inrc2pb(alloc)?;

@@ -9,10 +9,12 @@ mod command_line;
 mod fault_line;
 mod files;
 mod job_fault;
+mod shows;
 mod stop;
 
 use crate::files::{FileOnFirstWrite, HostFiles, StandardInput, StandardOutput};
-use crate::stop::Stop;
+use crate::shows::OnOutput;
+use crate::stop::{Stop, exit_code};
 use inrc2pb_job::{Job, perform};
 use rota_core::FromRead;
 use rota_pb::Fault;
@@ -21,10 +23,7 @@ use std::rt::{Env, Files};
 use std::{env, io};
 
 fn main(rt: HostRuntime) -> ExitCode {
-    match run(&rt) {
-        Ok(()) => ExitCode::SUCCESS,
-        Err(stop) => ExitCode::from(stop.report(&rt)),
-    }
+    exit_code(&run(&rt), &mut OnOutput::new(&rt), &rt)
 }
 
 fn run<R: Env + Files + Input + Print + AllocGlobal>(rt: &R) -> Result<(), Stop> {
@@ -48,7 +47,7 @@ fn run<R: Env + Files + Input + Print + AllocGlobal>(rt: &R) -> Result<(), Stop>
 fn asked_job<R: Env + AllocGlobal>(rt: &R) -> Result<Job, Stop> {
     let words = arguments(rt)?;
     let words: Vec<&str> = words.iter().map(|word| word.as_str()).collect(rt.alloc())?;
-    Ok(command_line::job(rt.alloc(), words.as_slice())?)
+    command_line::asked_job(rt.alloc(), words.as_slice())
 }
 
 fn arguments<R: Env + AllocGlobal>(rt: &R) -> Result<Vec<String>, Stop> {

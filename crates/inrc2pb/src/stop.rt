@@ -1,16 +1,19 @@
 //! Why the program ends before its work is done, and what it then says.
-ghost use Rattle.std.specs.Prelude.{◌≡◌, ◌⊎◌, OnErr, OnOk};
-ghost use Rattle.inrc2pb.specs.Stops.{IsStatusOf, IsStopOf};
+ghost use Rattle.std.specs.Prelude.{◌≡◌, false, MatchResult};
+ghost use Rattle.std.specs.Process.{exit_status as code_of};
+ghost use Rattle.inrc2pb.specs.Stops.{IsStatusOf, IsStopOf, status_after_text};
 ghost use Rattle.inrc2pb.specs.declared.stop.Stop.TheVariants.{Job};
 ghost use Rattle.rota_pb.specs.Statuses.{exit_status};
-ghost use Rattle.rota_pb.specs.declared.fault.Fault.TheVariants.{Memory, Write};
+ghost use Rattle.rota_pb.specs.declared.fault.Fault.TheVariants.{Memory};
 
 use crate::fault_line::FaultLine;
 use crate::job_fault::JobFault;
+use crate::shows::Shows;
 use clap::error::ErrorKind;
 use rota_pb::{Fault, status_of};
 use std::alloc::AllocError;
 use std::io;
+use std::process::ExitCode;
 
 #[derive(Drop)]
 pub enum Stop {
@@ -27,32 +30,44 @@ pub enum Stop {
 impl Stop {
     /// Says why on the standard error, or shows the text that was asked for. The answer is what the
     /// program exits with.
-    pub fn report<R: Print + Eprint>(&self, rt: &R) -> u8
-        ensures { IsStatusOf self.now result }
+    pub fn report<S: Shows, E: Eprint>(&self, output: &mut S, errors: &E) -> u8
+        requires { S.has_failed output.old ≡ false }
+        ensures { IsStatusOf (S.has_failed output.new) self.now result }
     {
         match self {
-            Stop::Shown(text) => show(rt, text),
-            Stop::Words(text) => told(rt.eprint(text), 2),
-            Stop::Usage(text) => told(eprintln!(rt; "error: {text}"), 2),
-            Stop::Job(fault) => report_fault(rt, fault),
+            Stop::Shown(text) => show(text, output, errors),
+            Stop::Words(text) => told(errors.eprint(text), 2),
+            Stop::Usage(text) => told(eprintln!(errors; "error: {text}"), 2),
+            Stop::Job(fault) => report_fault(errors, fault),
         }
     }
 }
 
-fn show<R: Print + Eprint>(rt: &R, text: &clap::Error) -> u8
-    ensures { (result ≡ 0) ⊎ (result ≡ exit_status Write) }
+/// What the process ends with: 0 where the program did its work, else the status of why it stopped, which is
+/// told.
+pub fn exit_code<S: Shows, E: Eprint>(
+    ended: &Result<(), Stop>,
+    output: &mut S,
+    errors: &E,
+) -> ExitCode
+    requires { S.has_failed output.old ≡ false }
+    ensures { MatchResult ended.now (λ _. code_of result ≡ 0)
+        (λ stop. IsStatusOf (S.has_failed output.new) stop (code_of result)) }
 {
-    shown(rt, rt.print(text))
+    match ended {
+        Ok(()) => ExitCode::SUCCESS,
+        Err(stop) => ExitCode::from(stop.report(output, errors)),
+    }
 }
 
-// The status after a text that was asked for, which went out or could not be written.
-fn shown(rt: &impl Eprint, printed: io::Result<()>) -> u8
-    ensures written { OnOk printed (result ≡ 0) }
-    ensures unwritten { OnErr printed (result ≡ exit_status Write) }
+// Shows a text that was asked for. The answer is the status after it.
+fn show<S: Shows, E: Eprint>(text: &clap::Error, output: &mut S, errors: &E) -> u8
+    requires { S.has_failed output.old ≡ false }
+    ensures { result ≡ status_after_text (S.has_failed output.new) }
 {
-    match printed {
+    match output.show(text) {
         Ok(()) => 0,
-        Err(_) => report_fault(rt, &Fault::Write),
+        Err(_) => report_fault(errors, &Fault::Write),
     }
 }
 
