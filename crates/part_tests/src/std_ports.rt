@@ -189,3 +189,92 @@ fn failed_flush_is_for_good(rt: HostRuntime) {
         assert!(rt; calls == 1 && flushes == 1);
     }
 }
+
+// What a reader with these steps answers to four calls with a buffer of four bytes, and how often it was called.
+fn read_four_times(steps: &[Step]) -> ([Result<usize, PortFault>; 4], u32) {
+    let (mut calls, mut flushes) = (0, 0);
+    let mut source = FromRead::new(Scripted {
+        steps,
+        calls: &mut calls,
+        flushes: &mut flushes,
+    });
+    let mut buffer = [0; 4];
+    let answers = [
+        source.read(&mut buffer),
+        source.read(&mut buffer),
+        source.read(&mut buffer),
+        source.read(&mut buffer),
+    ];
+    (answers, calls)
+}
+
+// Behind its end a reader is asked again, and what it says is passed on.
+#[test]
+fn reader_behind_its_end(rt: HostRuntime) {
+    let steps = [
+        Step::Moves(1),
+        Step::Moves(0),
+        Step::Moves(0),
+        Step::Moves(2),
+    ];
+    assert!(rt; read_four_times(&steps) == ([Ok(1), Ok(0), Ok(0), Ok(2)], 4));
+    let steps = [Step::Moves(0), Step::Fails(ErrorKind::Other)];
+    let failed = Err(PortFault);
+    assert!(rt; read_four_times(&steps) == ([Ok(0), failed, failed, failed], 2));
+}
+
+// The port fails at the call at which the reader does, and not before.
+#[test]
+fn reader_fails_at_each_call(rt: HostRuntime) {
+    for place in 0..4 {
+        let mut steps = [Step::Moves(3); 4];
+        steps[place] = Step::Fails(ErrorKind::Interrupted);
+        let (answers, calls) = read_four_times(&steps);
+        for (call, answer) in answers.iter().enumerate() {
+            let wanted = if call < place { Ok(3) } else { Err(PortFault) };
+            assert!(rt; *answer == wanted, "call {call} of {place}");
+        }
+        assert!(rt; calls as usize == place + 1);
+    }
+}
+
+// The port fails at the call at which the writer does: the two pieces are written, and then it is flushed.
+#[test]
+fn writer_fails_at_each_call(rt: HostRuntime) {
+    for place in 0..3 {
+        let mut steps = [Step::Moves(4); 3];
+        steps[place] = Step::Fails(ErrorKind::WouldBlock);
+        let end = write_pieces(&steps);
+        let [first, _, second] = end.answers;
+        assert!(rt; first.is_ok() == (place > 0) && second.is_ok() == (place > 1));
+        assert!(rt; end.flush == Err(PortFault) && end.calls as usize == place + 1);
+        assert!(rt; end.flushes == u32::from(place == 2));
+    }
+}
+
+// Great buffers and pieces are passed on whole, and a flush ends nothing.
+#[test]
+fn great_pieces_and_flushes(rt: HostRuntime) -> Result<(), Fail> {
+    let (mut calls, mut flushes) = (0, 0);
+    let mut bytes = vec![in rt.alloc(); 0; 1_000_000]?;
+    let steps = [
+        Step::Moves(usize::MAX),
+        Step::Moves(0),
+        Step::Moves(999_999),
+    ];
+    let mut target = ToWrite::new(Scripted {
+        steps: &steps,
+        calls: &mut calls,
+        flushes: &mut flushes,
+    });
+    assert!(rt; target.write(&bytes) == Ok(1_000_000) && target.flush() == Ok(()));
+    assert!(rt; target.write(&bytes) == Ok(999_999));
+    let mut source = FromRead::new(Scripted {
+        steps: &[Step::Moves(usize::MAX)],
+        calls: &mut calls,
+        flushes: &mut flushes,
+    });
+    assert!(rt; source.read(&mut bytes) == Ok(1_000_000));
+    assert!(rt; calls == 4 && flushes == 1);
+    Ok(())
+}
