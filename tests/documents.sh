@@ -2,8 +2,8 @@
 # Runs each shell block of README.md, bench/README.md and docs/, in the order of its page, in a copy of the repository,
 # and compares what a block prints with the block of text that follows it. Checks the links between the pages, that
 # README.md has at most 900 words and shows the roster that it speaks of, that the example weeks are those of their
-# generator, that the libraries' examples are their tests, that `make install` puts the parts in their places, and the
-# scripts by shellcheck, where that is installed.
+# generator, that the libraries' examples are their tests and the pages' code is theirs, that `make install` puts the parts
+# in their places, and the scripts by shellcheck, where that is installed.
 #
 #   tests/documents.sh [llvm | rattle | PROGRAM]
 #
@@ -137,6 +137,22 @@ installs() {
     cp "$program" "$room/copy/out/inrc2pb"
 }
 
+# Code that a page shows is a run of lines of a crate's source, which is proved.
+quotes_code() {
+    local blocks number code
+    blocks=$(grep -c '^```rust$' "$1") || return
+    begins_case "the code in $1"
+    code=$(cat crates/*/src/*.rt)
+    for number in $(seq "$blocks"); do
+        [[ $'\n'$code$'\n' == *$'\n'"$(quote "$1" "$number")"$'\n'* ]] || complain "in no crate: $(quote "$1" "$number")"
+    done
+}
+
+# quote PAGE NUMBER: this block of code of the page.
+quote() {
+    awk -v wanted="$2" '/^```/ { inside = $0 == "```rust"; number += inside; next } inside && number == wanted' "$1"
+}
+
 # The example with which a library opens is the text of a test, line for line.
 examples_are_tests() {
     local crate example test
@@ -152,6 +168,7 @@ examples_are_tests() {
 for page in README.md bench/README.md docs/*.md CHANGELOG.md; do
     runs_blocks "$page"
     links_hold "$page"
+    quotes_code "$page"
 done
 begins_case 'the length of README.md'
 [ "$(wc -w < README.md)" -le 900 ] || complain "$(wc -w < README.md) words"
