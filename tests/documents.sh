@@ -1,5 +1,5 @@
 #!/usr/bin/env bash
-# Runs each shell block of README.md, bench/README.md and docs/, in the order of its page, in a copy of the repository,
+# Runs each shell block of the pages, in the order of its page, in a copy of the repository,
 # and compares what a block prints with the block of text that follows it. Checks the links between the pages, that
 # README.md has at most 900 words and shows the roster that it speaks of, that the example weeks are those of their
 # generator, that the libraries' examples are their tests and the pages' code is theirs, that `make install` puts the parts
@@ -165,7 +165,7 @@ examples_are_tests() {
     done
 }
 
-for page in README.md bench/README.md docs/*.md CHANGELOG.md; do
+for page in README.md CONTRIBUTING.md CHANGELOG.md bench/README.md docs/*.md; do
     runs_blocks "$page"
     links_hold "$page"
     quotes_code "$page"
