@@ -5,8 +5,8 @@
 #   . "$(dirname "$0")/kit.sh"           SCRIPT [llvm | rattle | PROGRAM]
 #
 # `llvm`, or no word, is the program as LLVM builds it, and `rattle` as Rattle's own compiler does, as the gate and
-# `make programs` leave them. A script ends with `finish`. What is expected is in docs/formats.md, docs/rules.md and
-# docs/model.md.
+# `make programs` leave them. A script ends with `finish`. What is expected is in docs/formats.md, docs/answers.md,
+# docs/rules.md and docs/model.md.
 # shellcheck disable=SC2034  # The scripts use what the kit sets.
 set -u
 script=$(basename "$0")
