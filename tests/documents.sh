@@ -180,5 +180,5 @@ weeks_are_made
 examples_are_tests
 installs
 begins_case 'the scripts'
-[ -n "$ending" ] || ! command -v shellcheck > /dev/null || shellcheck .ci/run tests/*.sh > "$room/checked" || complain "$(head -n 20 "$room/checked")"
+! command -v shellcheck > /dev/null || shellcheck .ci/run tests/*.sh > "$room/checked" || complain "$(head -n 20 "$room/checked")"
 finish
