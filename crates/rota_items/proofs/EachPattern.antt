@@ -9,6 +9,7 @@ use Rattle.rota_core.specs.declared.values.Span.{Span}
 use Rattle.rota_core.proofs.Loops.{AllByRecursion-append, AllByRecursion-each_below, AllByRecursion-only_if, length-each_below, length-only_if}
 use Rattle.rota_core.specs.Lists.{each_below}
 use Rattle.rota_items.proofs.ListLengths.{length-each_below_both}
+use Rattle.rota_items.specs.Bounds.{most_run_items}
 use Rattle.rota_items.specs.RunPatterns.{PatternDay, Pattern, with_property, without_property, window, windows_on, windows, closed_pattern, closed_patterns_at, closed_patterns_on, edge_pattern, edge_patterns_on, patterns_on, patterns}
 use Rattle.rota_items.specs.RunItemParts.{DaysFollow}
 
@@ -106,7 +107,7 @@ module _ (history : ℕ) (limits : Span) where
 
   -- ---- how many
 
-  pub few-run_patterns : length (windows history limits) + length (patterns history limits) ≤ 56
+  pub few-run_patterns : length (windows history limits) + length (patterns history limits) ≤ most_run_items
   few-run_patterns =
       omega (
         arith,

@@ -7,7 +7,7 @@ use Rattle.rota_core.specs.InstanceTables.{InstanceTables, IsInstance, week_of}
 use Rattle.rota_core.specs.ScenarioTables.{AreLimits, IsContract}
 use Rattle.rota_core.specs.Week.{no_span, no_contract, no_demand, no_past}
 use Rattle.rota_core.specs.WeekTables.{IsDemand, IsPast}
-use Rattle.rota_items.specs.Limits.{IsWithinLimits}
+use Rattle.rota_items.specs.Limits.{IsWithinLimits, most_number}
 
 -- what holds of each element and of the default holds at any place
 pub AllByRecursion-or_default : {X : Type 0} (P : X → Type 0) (xs : List X) (i : ℕ) (default : X) →
@@ -42,5 +42,5 @@ module _ (t : InstanceTables) (limits : IsInstance t) where
     assignments = λ n. (past-small n).totals.0;
     weekends = λ n. (past-small n).totals.1;
     requests = λ n d s.
-        AllByRecursion-or_default (λ count. count ≤ 9999) t.week.requests _ 0 limits.week.requests.1 (omega arith);
+        AllByRecursion-or_default (λ count. count ≤ most_number) t.week.requests _ 0 limits.week.requests.1 (omega arith);
   }

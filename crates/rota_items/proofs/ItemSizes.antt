@@ -1,13 +1,14 @@
 -- How large items are: their weights, slacks, terms and degrees.
-use Rattle.rota_items.proofs.LogicWords.{ℕ, ◌*◌, ◌≤◌, Bool, true, false, List, [], ◌∷◌, ◌++◌, length, arith, ℤ, pos, negsuc, nat_abs, if◌then◌else◌, ints, length-append, length-map, sum_by-append, sum_by-cons, AllByRecursion, flat_map, length-each_below}
-use Rattle.rota_items.proofs.ModelWords.{Week, Rule, Cell, cell, Item, positive_part, Term, times, IsWithinLimits, on_cells, work_cells, nurse_cells, demand_cells}
+use Rattle.rota_items.proofs.LogicWords.{ℕ, ◌*◌, ◌≤◌, Bool, true, false, List, [], ◌∷◌, ◌++◌, length, arith, ℤ, pos, negsuc, nat_abs, if◌then◌else◌, ints, length-append, length-map, sum_by-append, sum_by-cons, AllByRecursion, flat_map}
+use Rattle.rota_items.proofs.ModelWords.{Week, Rule, Cell, Item, positive_part, Term, times, IsWithinLimits, on_cells, work_cells, nurse_cells, demand_cells}
 use Rattle.std.proofs.lemmas.Nat.{mul-le}
 use Rattle.rota_core.specs.declared.rule.Rule.TheVariants.{S1}
 use Rattle.rota_items.proofs.EachPattern.{IsRunPattern, each-pattern, few-run_patterns}
 use Rattle.rota_items.proofs.ListAll.{all-map, all-weaker}
 use Rattle.rota_items.proofs.SmallSums.{positive_part-parts, spread}
+use Rattle.rota_items.proofs.SumsBelow.{length-at_most}
 use Rattle.rota_items.specs.Bounds.{heaviest, most_cells_of_day, most_run_items, most_slacks, most_terms, most_weight}
-use Rattle.rota_items.specs.Limits.{most_number, most_skills}
+use Rattle.rota_items.specs.Limits.{most_number, most_nurses, most_shifts, most_skills}
 use Rattle.rota_items.specs.RunItems.{Present, Property, Runs, day_terms, is_plain, pattern_item, run_items, variables_on}
 use Rattle.rota_items.specs.RunPatterns.{Pattern, PatternDay, patterns, windows}
 use Rattle.rota_items.specs.WeekendItems.{only_sunday, saturday, weekend_items}
@@ -58,24 +59,23 @@ spread-days property most few (day ∷ days) =
 
 module _ (week : Week) (limits : IsWithinLimits week) where
   length-skills : (n s d : ℕ) → length (on_cells week n s d) ≤ most_skills
-  length-skills n s d = omega (arith, limits.skills, length-each_below week.skills 1 (λ k. cell n d s k ∷ []) (λ k _. omega arith))
+  length-skills n s d =
+      let few : length (on_cells week n s d) ≤ most_skills * 1 = length-at_most {m = 1} most_skills limits.skills _ (λ k. omega arith) in
+      omega (arith, few)
 
   pub length-on : (n s d : ℕ) → length (on_cells week n s d) ≤ most_cells_of_day
   length-on n s d = omega (arith, length-skills n s d)
 
   pub length-work : (n d : ℕ) → length (work_cells week n d) ≤ most_cells_of_day
-  length-work n d =
-      omega (
-        arith,
-        limits.shifts,
-        length-each_below week.shifts most_skills (λ s. on_cells week n s d) (λ s _. length-skills n s d),
-      )
+  length-work n d = length-at_most most_shifts limits.shifts _ (λ s. length-skills n s d)
 
   pub length-nurse : (n : ℕ) → length (nurse_cells week n) ≤ most_terms
-  length-nurse n = omega (arith, length-each_below 7 most_cells_of_day (λ d. work_cells week n d) (λ d _. length-work n d))
+  length-nurse n = length-at_most 7 (omega arith) _ (length-work n)
 
   pub length-demand : (d s k : ℕ) → length (demand_cells week d s k) ≤ most_terms
-  length-demand d s k = omega (arith, limits.nurses, length-each_below week.nurses 1 (λ n. cell n d s k ∷ []) (λ n _. omega arith))
+  length-demand d s k =
+      let few : length (demand_cells week d s k) ≤ most_nurses * 1 = length-at_most {m = 1} most_nurses limits.nurses _ (λ n. omega arith) in
+      omega (arith, few)
 
 -- ---- patterns
 

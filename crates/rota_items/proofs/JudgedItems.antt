@@ -15,7 +15,7 @@ use Rattle.rota_items.proofs.JudgedRows.{Comes, IsJudged, covers, positive-satur
 use Rattle.rota_items.proofs.JudgedTerms.{AtSlacks, Before, others-of, slacks-of, sums_of}
 use Rattle.std.proofs.lemmas.List.FromFn.{length-range_with_len as length-range}
 use Rattle.rota_items.proofs.PatternItems.{value_of-append}
-use Rattle.rota_items.proofs.SmallSums.{positive_part-parts, shortage-least, spread}
+use Rattle.rota_items.proofs.SmallSums.{half_limit, positive_part-parts, shortage-least, signed_limit, spread}
 use Rattle.rota_items.proofs.TermsHold.{value_of-agree}
 use Rattle.rota_items.proofs.UnitTerms.{spread-units, units-times}
 
@@ -89,7 +89,7 @@ module _ (week : Week) (subject : Subject) where
 
   pub record IsFit (item : Item ℕ) : Type 0 where
     pub before : Before week subject item.terms
-    pub small : spread item.terms + item.slacks + positive_part item.degree < 2 ^ 62
+    pub small : spread item.terms + item.slacks + positive_part item.degree < half_limit
 
   pub at_slacks : (coefficient : ℤ) (item : Item ℕ) (first : ℕ) → unit_number week < first →
       AtSlacks week subject (times coefficient (slack_variables item first))
@@ -106,7 +106,7 @@ module _ (week : Week) (subject : Subject) where
     abbrev paid_slacks : ℕ
     paid_slacks = count_by A (slack_variables item first)
 
-    pub item-spread : spread (item_row item first).terms < 2 ^ 63
+    pub item-spread : spread (item_row item first).terms < signed_limit
     item-spread =
         omega (
           arith,

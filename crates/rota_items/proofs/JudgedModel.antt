@@ -24,7 +24,7 @@ use Rattle.rota_items.proofs.ListSums.{sum_by-each-same, sum_by-flat_map, sum_by
 use Rattle.rota_items.proofs.ObjectiveBound.{objective-below}
 use Rattle.rota_items.proofs.RuleSizes.{each-small}
 use Rattle.rota_items.proofs.SlackBound.{rows-below, variables-below}
-use Rattle.rota_items.proofs.SmallSums.{spread}
+use Rattle.rota_items.proofs.SmallSums.{half_limit, signed_limit, spread}
 use Rattle.rota_items.proofs.SoftRules.AllItems.{in-cell_terms}
 use Rattle.rota_items.proofs.SoftRules.EachRule.{cell_terms-are, each-item, sound-rule}
 use Rattle.rota_items.proofs.SoftRules.ShiftOffRequests.{value_of-request_terms}
@@ -41,7 +41,7 @@ spread-numbered week terms =
     sum_by-map (λ (term : Term ℕ). nat_abs term.0) (λ (term : Term Cell). (term.0, cell_number week term.1)) terms
 
 abbrev FitsIn : Item Cell → Type 0
-FitsIn item = spread item.terms + item.slacks + positive_part item.degree < 2 ^ 62
+FitsIn item = spread item.terms + item.slacks + positive_part item.degree < half_limit
 
 spread-positive : (terms : List (Term ℕ)) → OnCoefficients IsPositive terms → value_of (λ v. true) terms ≡ pos (spread terms)
 spread-positive [] all = refl
@@ -198,7 +198,7 @@ module _ (week : Week) (subject : Subject) (limits : IsWithinLimits week) where
     requests_are = is;
   }
 
-  objective-comes : (terms : List (Term ℕ)) → spread terms < 2 ^ 63 → value_of (counted_other week subject) terms ≡ pos (given week subject) →
+  objective-comes : (terms : List (Term ℕ)) → spread terms < signed_limit → value_of (counted_other week subject) terms ≡ pos (given week subject) →
       ComesTo (fold (tallied week subject) no_tally (events (objective_rows terms))) (rows_of week) (paid week subject) (charges week subject)
   unfolding events
   objective-comes [] small is = none-closed no_sums 0 (omega (arith, ints, is))
@@ -215,7 +215,7 @@ module _ (week : Week) (subject : Subject) (limits : IsWithinLimits week) where
       ComesTo (fold (tallied week subject) no_tally (events (objective_rows (objective_terms week)) ++ events (rows_of week))) [] 0 (λ rule. 0)
   model-comes =
       let soft : List (LinearRow ℕ) = item_rows (first_slack week) (numbered_items week) in
-      let small : spread (objective_terms week) < 2 ^ 63 = omega (
+      let small : spread (objective_terms week) < signed_limit = omega (
         arith,
         ints,
         objective-below week (λ v. true) limits,

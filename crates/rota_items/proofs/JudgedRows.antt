@@ -1,5 +1,5 @@
 -- What a judge makes of rows, one after the other.
-use Rattle.rota_items.proofs.LogicWords.{◌≡◌, ℕ, ◌+◌, ◌*◌, ◌^◌, ◌<◌, ◌≤◌, Bool, true, false, List, [], ◌∷◌, ◌++◌, map, length, refl, sym, ap, ◌∙◌, arith, min, w64, Option, Some, None, add-zero, inl, inr, ℤ, pos, negsuc, ◌+ℤ◌, ◌-ℤ◌, ◌==◌, int_le, nat_le, if◌then◌else◌, fold, AllByRecursion, ints, fold-append}
+use Rattle.rota_items.proofs.LogicWords.{◌≡◌, ℕ, ◌+◌, ◌-◌, ◌*◌, ◌^◌, ◌<◌, ◌≤◌, Bool, true, false, List, [], ◌∷◌, ◌++◌, map, length, refl, sym, ap, ◌∙◌, arith, min, w64, Option, Some, None, add-zero, inl, inr, ℤ, pos, negsuc, ◌+ℤ◌, ◌-ℤ◌, ◌==◌, int_le, nat_le, if◌then◌else◌, fold, AllByRecursion, ints, fold-append}
 use Rattle.rota_items.proofs.ModelWords.{soft_rules, Week, Rule, positive_part, LinearRow, is_satisfied}
 use Rattle.std.specs.Int.{saturate_signed}
 use Rattle.std.specs.Option.{option_or}
@@ -16,7 +16,7 @@ use Rattle.rota_items.specs.Verdicts.{soft_place}
 use Rattle.rota_items.specs.FirstUnmet.{first_unmet, later, rule_of_part}
 use Rattle.rota_items.proofs.FirstUnmet.{Named, later-later}
 use Rattle.rota_items.proofs.JudgedTerms.{Before, opened, others-before, row-tallied, slacks-before, sums_of}
-use Rattle.rota_items.proofs.SmallSums.{positive_part-parts, spread}
+use Rattle.rota_items.proofs.SmallSums.{half_limit, positive_part-parts, signed_limit, spread}
 
 -- ---- what a rule is charged, in sums that stay at the greatest number
 
@@ -55,12 +55,12 @@ unmet-next (Some x) false c rule rest = refl
 
 -- ---- what the close of a row finds
 
-pub positive-saturated : (z : ℤ) → positive_part (saturate_signed w64 z) ≡ min (positive_part z) 9223372036854775807
+pub positive-saturated : (z : ℤ) → positive_part (saturate_signed w64 z) ≡ min (positive_part z) (signed_limit - 1)
 positive-saturated (pos n) = omega arith
 positive-saturated (negsuc n) = refl
 
 -- what is lacking is no more than a few slacks exactly where the sum with them comes up to the degree
-pub covers : (d v : ℤ) (slacks : ℕ) → slacks < 2 ^ 62 →
+pub covers : (d v : ℤ) (slacks : ℕ) → slacks < half_limit →
     nat_le (positive_part (saturate_signed w64 (d -ℤ v))) slacks ≡ int_le d (v +ℤ pos slacks)
 covers d v slacks few =
     elim (leb_tells (positive_part (saturate_signed w64 (d -ℤ v))) slacks) [
@@ -77,7 +77,7 @@ module _ (week : Week) (subject : Subject) where
   pub record IsJudged (row : LinearRow ℕ) (weight lacks slacks : ℕ) : Type 0 where
     pub closes : (tally : Tally) →
         closed subject tally row.part row.degree ≡ constraint_closed subject tally (rule_of_part row.part) weight row.degree
-    pub small : spread row.terms < 2 ^ 63
+    pub small : spread row.terms < signed_limit
     pub lacks_is : lacking_in (sums_of week subject row.terms) row.degree ≡ lacks
     pub slacks_are : true_slacks subject (sums_of week subject row.terms) lacks ≡ slacks
     pub met : nat_le lacks slacks ≡ is_satisfied assignment row
@@ -88,7 +88,7 @@ module _ (week : Week) (subject : Subject) where
     pub rule : Rule
     pub part_is : row.part ≡ Hard rule
     pub before : Before week subject row.terms
-    pub small : spread row.terms < 2 ^ 63
+    pub small : spread row.terms < signed_limit
 
   no-slacks : (given : Subject) (sums : RowSums) (lacks : ℕ) → sums.slacks ≡ pos 0 → true_slacks given sums lacks ≡ 0
   no-slacks (assigned bits) sums lacks none = ap positive_part none

@@ -8,7 +8,7 @@ use Rattle.rota_items.specs.Events.{close_row, row_events, start_row, term_event
 use Rattle.rota_items.specs.Judging.{Subject, assignment_in, assigned, extended, closed, counts_for, no_sums, tallied}
 use Rattle.rota_items.proofs.Extension.{extension-below}
 use Rattle.rota_items.proofs.PatternItems.{value_of-append}
-use Rattle.rota_items.proofs.SmallSums.{chosen-small, spread}
+use Rattle.rota_items.proofs.SmallSums.{chosen-small, signed_limit, spread}
 use Rattle.rota_items.proofs.TermsHold.{OnTerms, value_of-agree}
 
 abbrev chosen : Bool → ℤ → ℤ
@@ -18,7 +18,7 @@ abbrev with_sums : Tally → ℤ → ℤ → Tally
 with_sums tally x y = record tally { sums = record { others = x; slacks = y } }
 
 -- what stays small is not cut
-saturated : (z : ℤ) → nat_abs z < 2 ^ 63 → saturate_signed w64 z ≡ z
+saturated : (z : ℤ) → nat_abs z < signed_limit → saturate_signed w64 z ≡ z
 saturated (pos n) small = ap pos (omega arith)
 saturated (negsuc n) small = ap negsuc (omega arith)
 
@@ -26,7 +26,7 @@ and_none : (z : ℤ) → z ≡ z +ℤ pos 0
 and_none z = omega (arith, ints)
 
 -- a term counts at a slack or at another variable, or it does not count
-term-tallied : (above counts : Bool) (tally : Tally) (x y c : ℤ) → nat_abs x + nat_abs c < 2 ^ 63 → nat_abs y + nat_abs c < 2 ^ 63 →
+term-tallied : (above counts : Bool) (tally : Tally) (x y c : ℤ) → nat_abs x + nat_abs c < signed_limit → nat_abs y + nat_abs c < signed_limit →
     (if counts
     then record tally {
       sums = if above
@@ -64,7 +64,7 @@ module _ (week : Week) (subject : Subject) where
   sums_of terms = record { others = value_of counted_other terms; slacks = value_of counted_slack terms }
 
   -- the sums of small terms are exact
-  terms-tallied : (tally : Tally) (x y : ℤ) (terms : List (Term ℕ)) → nat_abs x + spread terms < 2 ^ 63 → nat_abs y + spread terms < 2 ^ 63 →
+  terms-tallied : (tally : Tally) (x y : ℤ) (terms : List (Term ℕ)) → nat_abs x + spread terms < signed_limit → nat_abs y + spread terms < signed_limit →
       fold (tallied week subject) (with_sums tally x y) (term_events terms) ≡
       with_sums tally (x +ℤ value_of counted_other terms) (y +ℤ value_of counted_slack terms)
   unfolding term_events
@@ -85,7 +85,7 @@ module _ (week : Week) (subject : Subject) where
   abbrev pub opened : Tally → LinearRow ℕ → Tally
   opened tally row = record tally { part = row.part; sums = sums_of row.terms }
 
-  pub row-opened : (tally : Tally) (row : LinearRow ℕ) → spread row.terms < 2 ^ 63 →
+  pub row-opened : (tally : Tally) (row : LinearRow ℕ) → spread row.terms < signed_limit →
       fold (tallied week subject) tally (start_row row.part ∷ term_events row.terms) ≡ opened tally row
   row-opened tally row small =
       let others : pos 0 +ℤ value_of counted_other row.terms ≡ value_of counted_other row.terms = omega (arith, ints) in
@@ -93,7 +93,7 @@ module _ (week : Week) (subject : Subject) where
       terms-tallied (record tally { part = row.part; sums = no_sums }) (pos 0) (pos 0) row.terms (omega arith) (omega arith) ∙
       (λ i. with_sums (record tally { part = row.part; sums = no_sums }) (others i) (slacks i))
 
-  pub row-tallied : (tally : Tally) (row : LinearRow ℕ) → spread row.terms < 2 ^ 63 →
+  pub row-tallied : (tally : Tally) (row : LinearRow ℕ) → spread row.terms < signed_limit →
       fold (tallied week subject) tally (row_events row) ≡ closed subject (opened tally row) row.part row.degree
   row-tallied tally row small =
       fold-append (tallied week subject) tally (start_row row.part ∷ term_events row.terms) (close_row row.degree ∷ []) ∙

@@ -47,6 +47,7 @@ pub mod RisingCells
 pub mod RisingTerms
 pub mod RunItemLists
 pub mod RunLaw
+pub mod RowSizes
 pub mod RuleSizes
 pub mod Satisfied
 pub mod SlackBound

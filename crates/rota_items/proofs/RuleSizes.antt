@@ -1,8 +1,7 @@
 -- How large the numbers of the soft rules are in a week within the limits: their items, their constant and their cost.
-use Rattle.rota_items.proofs.LogicWords.{◌≡◌, ℕ, ◌+◌, ◌-◌, ◌*◌, ◌≤◌, Bool, ◌&&◌, ◌||◌, cond, [], ◌∷◌, length, refl, arith, pos, negsuc, ◌-ℤ◌, nat_lt, nat_le, AllByRecursion, count_by-le-length, length-append, ints, AllByRecursion-append, AllByRecursion-each_below, AllByRecursion-only_if, length-each_below, length-only_if, true, false}
+use Rattle.rota_items.proofs.LogicWords.{◌≡◌, ℕ, ◌+◌, ◌-◌, ◌*◌, ◌≤◌, Bool, ◌&&◌, ◌||◌, cond, [], ◌∷◌, length, refl, arith, pos, negsuc, ◌-ℤ◌, nat_lt, nat_le, AllByRecursion, count_by-le-length, length-append, ints, AllByRecursion-append, AllByRecursion-each_below, AllByRecursion-only_if, length-only_if, true, false}
 use Rattle.rota_items.proofs.ModelWords.{Roster, Week, Rule, Cell, Item, is_on, is_off, works, nurses_at, cell, nurse_cells, demand_cells, IsWithinLimits, positive_part, constant_of_rule, items_of_rule, rule_cost, soft_items, soft_rules}
 use Rattle.std.proofs.lemmas.List.Sums.{sum_by-le-sum_by}
-use Rattle.std.proofs.Math.Nat.{mul-le-mul_right}
 use Rattle.rota_core.specs.Below.{sum_below}
 use Rattle.rota_core.specs.Lists.{each_below}
 use Rattle.rota_core.specs.declared.rule.Rule.TheVariants.{S1, S2, S3, S4, S5, S6, S7}
@@ -10,8 +9,8 @@ use Rattle.rota_core.specs.declared.values.Span.{Span}
 use Rattle.rota_items.proofs.ItemSizes.{IsItemSmall, few-run_items, few-weekend, length-demand, length-nurse, length-on, length-work, small-runs, small-weekend, spread-times}
 use Rattle.rota_items.proofs.ListAll.{all-flat_map, all-weaker}
 use Rattle.rota_items.proofs.SmallSums.{positive_part-parts, spread}
-use Rattle.rota_items.proofs.SumsBelow.{sum_below-at_most, where_in}
-use Rattle.rota_items.specs.Bounds.{most_cells, most_cells_of_day, most_constant_of_nurse, most_constant_of_rule, most_cost, most_cost_of_nurse, most_items, most_items_of_nurse, most_run_items, most_weight}
+use Rattle.rota_items.proofs.SumsBelow.{length-at_most, sum_below-at_most, where_in}
+use Rattle.rota_items.specs.Bounds.{most_cells, most_constant_of_nurse, most_constant_of_rule, most_cost, most_cost_of_nurse, most_items, most_items_of_nurse, most_weight}
 use Rattle.rota_items.specs.CountedTotals.{charged_excess, excess_before_counts, greatest_totals_count, least_totals_count}
 use Rattle.rota_items.specs.Limits.{most_nurses, most_number, most_shifts, most_skills}
 use Rattle.rota_items.specs.Charges.{nurse_constant, nurse_items}
@@ -22,7 +21,7 @@ use Rattle.rota_items.specs.rules.CompleteWeekends.Cost.{complete_weekend_weight
 use Rattle.rota_items.specs.rules.ConsecutiveAssignments.Cost.{history_on, shift_run_cost}
 use Rattle.rota_items.specs.rules.ConsecutiveAssignments.Items.{shift_runs, work_runs}
 use Rattle.rota_items.specs.rules.ConsecutiveDaysOff.Items.{off_runs}
-use Rattle.rota_items.specs.rules.OptimalCoverage.Items.{optimum_item, optimum_items_at, optimum_items_of, optimum_items_on}
+use Rattle.rota_items.specs.rules.OptimalCoverage.Items.{optimum_item, optimum_items_at}
 use Rattle.rota_items.specs.rules.ShiftOffRequests.Cost.{request_cost, request_weight}
 use Rattle.rota_items.specs.rules.TotalAssignments.Cost.{assignments_of}
 use Rattle.rota_items.specs.rules.TotalAssignments.Items.{greatest_total_item, greatest_totals_of, least_total_item, least_totals_of, still_allowed, still_wanted}
@@ -84,16 +83,6 @@ module _ (week : Week) (limits : IsWithinLimits week) where
     degree = limits.optimal d s k;
   }
 
-  optimum-few : length (items_of_rule week S1) ≤ most_items S1
-  optimum-few =
-      length-each_below 7 most_cells_of_day (optimum_items_of week) (λ d _.
-      omega (
-        arith,
-        limits.shifts,
-        length-each_below week.shifts most_skills (optimum_items_on week d) (λ s _.
-            omega (arith, limits.skills, length-each_below week.skills 1 (optimum_items_at week d s) (λ k _. length-only_if _ _))),
-      ))
-
   optimal_coverage : IsRuleSmall week S1
   optimal_coverage = record {
     items =
@@ -101,7 +90,9 @@ module _ (week : Week) (limits : IsWithinLimits week) where
         AllByRecursion-each_below (IsItemSmall S1) week.shifts _ (λ s _.
         AllByRecursion-each_below (IsItemSmall S1) week.skills (optimum_items_at week d s) (λ k _.
         AllByRecursion-only_if (IsItemSmall S1) (wanted d s k) (optimum_item week d s k) (λ _. small-optimum d s k))));
-    few = optimum-few;
+    few =
+        length-at_most 7 (omega arith) _ (λ d. length-at_most most_shifts limits.shifts _ (λ s.
+        length-at_most most_skills limits.skills _ (λ k. length-only_if _ _)));
     constant = sum_below-at_most week.nurses most_nurses 0 _ limits.nurses (λ n. omega arith);
     cost = λ roster.
         omega (
@@ -123,9 +114,8 @@ module _ (week : Week) (limits : IsWithinLimits week) where
     few = λ n.
         omega (
           arith,
-          limits.shifts,
           length-append (each_below week.shifts (λ s. run_items (shift_runs week n s))) (run_items (work_runs week n)),
-          length-each_below week.shifts most_run_items (λ s. run_items (shift_runs week n s)) (λ s _. few-run_items (shift_runs week n s)),
+          length-at_most most_shifts limits.shifts (λ s. run_items (shift_runs week n s)) (λ s. few-run_items (shift_runs week n s)),
           few-run_items (work_runs week n),
         );
     constant = λ n. omega arith;
@@ -265,12 +255,7 @@ module _ (week : Week) (limits : IsWithinLimits week) where
       IsRuleSmall week rule
   of_nurses rule cost items_are most_is = let small = small-nurse_rule rule in record {
     items = rw items_are (AllByRecursion-each_below (IsItemSmall rule) week.nurses (nurse_items week rule) (λ n _. small.items n));
-    few = rw (items_are, most_is)
-        (omega (
-          arith,
-          length-each_below week.nurses (most_items_of_nurse rule) (nurse_items week rule) (λ n _. small.few n),
-          mul-le-mul_right (most_items_of_nurse rule) limits.nurses,
-        ));
+    few = rw (items_are, most_is) (length-at_most most_nurses limits.nurses _ small.few);
     constant = sum_below-at_most week.nurses most_nurses (most_constant_of_nurse rule) (nurse_constant week rule) limits.nurses small.constant;
     cost = cost;
   }

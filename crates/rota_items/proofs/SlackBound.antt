@@ -5,12 +5,12 @@ use Rattle.std.proofs.lemmas.List.Concat.{length-flat_map}
 use Rattle.std.proofs.lemmas.List.Sums.{sum_by-le-sum_by}
 use Rattle.std.proofs.lemmas.Nat.{mul-le}
 use Rattle.std.proofs.Math.Nat.{mul-le-mul}
-use Rattle.rota_items.proofs.HardRules.EachRule.{rows-are}
 use Rattle.rota_items.proofs.ItemSizes.{IsItemSmall}
 use Rattle.rota_items.proofs.ListAll.{all-weaker}
 use Rattle.rota_items.proofs.ListSums.{sum_by-flat_map}
+use Rattle.rota_items.proofs.RowSizes.{rule_rows-few}
 use Rattle.rota_items.proofs.RuleSizes.{small-rule}
-use Rattle.rota_items.specs.Bounds.{most_cells, most_items, most_slacks}
+use Rattle.rota_items.specs.Bounds.{count_limit, most_cells, most_items, most_slacks}
 use Rattle.rota_items.specs.Variables.{cell_count}
 use Rattle.rota_items.specs.Limits.{most_nurses}
 
@@ -64,28 +64,28 @@ module _ (week : Week) (limits : IsWithinLimits week) where
       omega (arith, mul-le-mul (mul-le-mul days limits.shifts) limits.skills)
 
   -- the number after that of the last slack
-  pub slack_end-below : first_slack week + slack_count (soft_items week) < 2 ^ 25
+  pub slack_end-below : first_slack week + slack_count (soft_items week) < count_limit
   slack_end-below = omega (arith, cells-few, slacks-few)
 
   pub variables_fit : first_slack week + slack_count (soft_items week) < 2 ^ 32
   variables_fit = omega (arith, slack_end-below)
 
-  pub variables-below : (model_of week).variables < 2 ^ 25
+  pub variables-below : (model_of week).variables < count_limit
   variables-below = omega (arith, slack_end-below)
 
   -- ---- rows
 
-  pub rows-below : length (rows_of week) < 2 ^ 25
+  pub rows-below : length (rows_of week) < count_limit
   rows-below =
       omega (
         arith,
         length-append (hard_rows week) (item_rows (first_slack week) (numbered_items week)),
-        (rows-are week).few limits,
+        rule_rows-few week limits,
         length-map (rule_rows week) (numbered_row week),
         length-item_rows (first_slack week) (numbered_items week),
         length-map (soft_items week) (numbered (cell_number week)),
         items-few,
       )
 
-  pub constraints-below : length (model_of week).constraints < 2 ^ 25
+  pub constraints-below : length (model_of week).constraints < count_limit
   constraints-below = omega (arith, length-map (rows_of week) linear_constraint, rows-below)

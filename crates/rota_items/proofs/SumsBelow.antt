@@ -1,11 +1,12 @@
 -- Sums and tests over the numbers below a number.
-use Rattle.std.proofs.Common.{◌≡◌, ℕ, zero, suc, ◌+◌, ◌*◌, ◌<◌, ◌≤◌, Bool, true, false, cond, inl, inr, List, [], ◌∷◌, refl, ap, ◌∙◌, arith, zero-add}
+use Rattle.std.proofs.Common.{◌≡◌, ℕ, zero, suc, ◌+◌, ◌*◌, ◌<◌, ◌≤◌, Bool, true, false, cond, inl, inr, List, [], ◌∷◌, length, refl, ap, ◌∙◌, arith, zero-add}
 use Rattle.std.specs.List.{sum_by, count_by, list_any}
 use Rattle.std.proofs.lemmas.List.Sums.{sum_by-append}
 use Rattle.std.proofs.lemmas.List.Folds.{list_any-append}
 use Rattle.std.proofs.lemmas.Bool.{cases_lt}
 use Rattle.std.proofs.lemmas.Nat.{mul-le}
 use Rattle.rota_core.specs.Below.{sum_below, count_below, any_below}
+use Rattle.rota_core.proofs.Loops.{length-each_below}
 use Rattle.rota_core.specs.Lists.{each_below}
 
 pub sum_below-same : (n : ℕ) (f g : ℕ → ℕ) → ((i : ℕ) → i < n → f i ≡ g i) → sum_below n f ≡ sum_below n g
@@ -72,6 +73,12 @@ one-sum_below (suc n) f one i j i_below j_below some other =
 pub sum_below-at_most : (n most m : ℕ) (f : ℕ → ℕ) → n ≤ most → ((i : ℕ) → f i ≤ m) → sum_below n f ≤ most * m
 sum_below-at_most n most m f few small =
     omega (arith, sum_below-within n m f (λ i _. small i), mul-le n m most m few (omega arith))
+
+-- the length of what loops give
+pub length-at_most : {A : Type 0} {n m : ℕ} (most : ℕ) → n ≤ most → (f : ℕ → List A) → ((i : ℕ) → length (f i) ≤ m) →
+    length (each_below n f) ≤ most * m
+length-at_most {A} {n} {m} most few f small =
+    omega (arith, length-each_below n m f (λ i _. small i), mul-le n m most m few (omega arith))
 
 pub where_in : (b : Bool) (n : ℕ) → cond b n 0 ≤ n
 where_in true n = omega arith

@@ -1,5 +1,5 @@
 -- How large the numbers of a week's model are: what follows from the limits of its tables and from the rules' weights.
-use Rattle.std.specs.Prelude.{ℕ, ◌+◌, ◌*◌, max, sum_by}
+use Rattle.std.specs.Prelude.{ℕ, ◌+◌, ◌-◌, ◌*◌, ◌^◌, max, sum_by}
 use Rattle.rota_core.specs.declared.rule.Rule.{Rule}
 use Rattle.rota_core.specs.declared.rule.Rule.TheVariants.{S1, S2, S6, S7}
 use Rattle.rota_core.specs.Rules.{soft_rules}
@@ -23,6 +23,10 @@ most_cells_of_nurse = 7 * most_cells_of_day
 
 abbrev pub most_cells : ℕ
 most_cells = most_nurses * most_cells_of_nurse
+
+-- how many variables and constraints: numbers of at most 8 digits
+abbrev pub count_limit : ℕ
+count_limit = 2 ^ 25
 
 -- ---- items
 
@@ -68,7 +72,7 @@ most_shortage = most_number + most_terms
 
 -- what no roster can avoid
 abbrev pub most_constant_of_nurse : Rule → ℕ
-most_constant_of_nurse S6 = assignment_weight * (most_number + most_number)
+most_constant_of_nurse S6 = assignment_weight * ((most_number - 7) + most_number)
 most_constant_of_nurse S7 = worked_weekend_weight * most_number
 most_constant_of_nurse _ = 0
 

@@ -2,6 +2,7 @@
 ghost use Rattle.std.specs.Prelude.{◌≡◌, ℕ, ◌≤◌, List, ◌∷◌, All, length, sum};
 ghost use Rattle.std.specs.List.{sum_by};
 ghost use Rattle.rota_items.specs.EarlyWeeks.{FollowEarly, RosteredWeek, added_by_all, added_excess, assignment_total, early_charges, weekend_total};
+ghost use Rattle.rota_items.specs.Limits.{most_number, most_weeks};
 ghost use Rattle.rota_items.specs.rules.TotalAssignments.Cost.{above_greatest_total};
 ghost use Rattle.rota_items.specs.rules.WorkedWeekends.Cost.{above_greatest_weekends};
 
@@ -11,9 +12,9 @@ ghost use Rattle.rota_items.specs.rules.WorkedWeekends.Cost.{above_greatest_week
 /// Each week begins where the one before it ended. In all they pay for what is above the limit in the
 /// end, less what was above it at the start.
 pub fn early_excess(limit: u16, start: u16, steps: &[u8]) -> u64
-    requires limit_in { limit ≤ 9999 }
-    requires start_in { start ≤ 9999 }
-    requires few { length steps.now ≤ 52 }
+    requires limit_in { limit ≤ most_number }
+    requires start_in { start ≤ most_number }
+    requires few { length steps.now ≤ most_weeks }
     requires small { All (λ step. step ≤ 7) steps.now }
     ensures weeks { result ≡ early_charges limit start steps.now }
     ensures whole { result ≡ added_excess limit start (sum steps.now) }

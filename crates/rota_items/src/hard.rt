@@ -19,6 +19,7 @@ use crate::hard::minimum::{count_h2, give_h2};
 use crate::hard::one_cell::{count_h1, give_h1};
 use crate::hard::skills::{count_h4, give_h4};
 use crate::hard::succession::{count_h3, give_h3};
+use crate::limits::within_limits;
 use crate::part::Part;
 use crate::takers::Taker;
 use crate::variables::unit_var;
@@ -71,8 +72,7 @@ pub fn give_hard_rows<T: Taker>(instance: &Instance, taker: &mut T) -> Result<()
 
 // The number of the rule's rows, 0 where it is no hard rule.
 fn count_rows_of(instance: &Instance, rule: Rule) -> u32
-    ensures few { result ≤ 1792000 }
-    ensures number { let week = week_of instance.now in result ≡ length (rows_of_hard_rule week rule) }
+    ensures { let week = week_of instance.now in result ≡ length (rows_of_hard_rule week rule) }
 {
     match rule {
         Rule::H1 => count_h1(instance),
@@ -86,9 +86,9 @@ fn count_rows_of(instance: &Instance, rule: Rule) -> u32
 
 /// The number of rows of the hard rules.
 pub fn count_rule_rows(instance: &Instance) -> u32
-    ensures few { result ≤ 5 * 1792000 }
-    ensures number { result ≡ length (rule_rows (week_of instance.now)) }
+    ensures { result ≡ length (rule_rows (week_of instance.now)) }
 {
+    within_limits(instance);
     let mut rows = 0;
     for rule in Rule::HARD {
         rows += count_rows_of(instance, rule);

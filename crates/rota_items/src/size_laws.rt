@@ -33,7 +33,7 @@ pub fn objective_coefficients_are_positive()
     ensures { (week : Week) → All (λ (term : Term ℕ). pos 0 <ℤ term.0) (model_of week).objective }
 {}
 
-/// Within the limits each coefficient of the objective is small: at INRC-II's weights at most 699,930,000,
+/// Within the limits each coefficient of the objective is small: at INRC-II's weights at most 699,790,000,
 /// which is below 2^30.
 pub fn objective_coefficients_are_small()
     ensures { (week : Week) →

@@ -1,5 +1,5 @@
 -- What is shown of each hard rule holds of all their rows.
-use Rattle.rota_items.proofs.LogicWords.{◌*◌, List, [], ◌∷◌, length, arith, AllByRecursion, flat_map}
+use Rattle.rota_items.proofs.LogicWords.{List, [], ◌∷◌, AllByRecursion, flat_map}
 use Rattle.rota_items.proofs.ModelWords.{KeepsHardRules, Roster, hard_rules, Week, Rule, Cell, rows_of_hard_rule, rule_rows, LinearRow}
 use Rattle.rota_core.specs.declared.rule.Rule.TheVariants.{H1, H2, H3, H4, H5}
 use Rattle.rota_items.proofs.HardRules.Held.{held}
@@ -29,13 +29,12 @@ module _ (week : Week) where
   OnRules rules P = AllByRecursion (λ rule. AllByRecursion P (rows_of_hard_rule week rule)) rules
 
   rows_of-are : (rules : List Rule) → AllByRecursion (IsHardRuleSound week) rules →
-      Are week (flat_map (rows_of_hard_rule week) rules) (OnRules rules) (length rules * 1792000)
-  rows_of-are [] all = record { all = λ P each. tt; each = λ P all. tt; few = λ limits. omega arith }
+      Are (flat_map (rows_of_hard_rule week) rules) (OnRules rules)
+  rows_of-are [] all = record { all = λ P each. tt; each = λ P all. tt }
   rows_of-are (rule ∷ rules) all =
-      let parts = in-parts (listed (rows_of_hard_rule week rule) all.0.few) (rows_of-are rules all.1) in
-      record { all = parts.all; each = parts.each; few = λ limits. omega (arith, parts.few limits) }
+      in-parts (listed (rows_of_hard_rule week rule)) (rows_of-are rules all.1)
 
-  pub rows-are : Are week (rule_rows week) (OnRules hard_rules) (5 * 1792000)
+  pub rows-are : Are (rule_rows week) (OnRules hard_rules)
   rows-are = rows_of-are hard_rules (each-rule week)
 
   pub each-row : (P : LinearRow Cell → Type 0) → ((rule : Rule) (row : LinearRow Cell) → IsRowSound week rule row → P row) →

@@ -1,11 +1,11 @@
 -- H5: each held cell is in the roster.
-use Rattle.rota_items.proofs.LogicWords.{◌≡◌, ◌≤◌, ◌↔◌, Bool, true, false, cond, inl, length, refl, arith, pos, ◌+ℤ◌, ◌≤ℤ◌, ints}
-use Rattle.rota_items.proofs.ModelWords.{Has, IsWithinLimits, Week, Cell}
+use Rattle.rota_items.proofs.LogicWords.{◌≡◌, ◌↔◌, Bool, true, false, cond, inl, refl, arith, pos, ◌+ℤ◌, ◌≤ℤ◌, ints}
+use Rattle.rota_items.proofs.ModelWords.{Has, Week, Cell}
 use Rattle.rota_core.specs.RosterCells.{cells_of}
 use Rattle.rota_core.specs.declared.rule.Rule.TheVariants.{H5}
 use Rattle.rota_core.proofs.CellLists.{all-cells_of, at-cells_of}
 use Rattle.rota_items.specs.hard.Held.{h5_row, h5_rows}
-use Rattle.rota_items.proofs.HardRules.RowsAre.{Are, in-turns, of-each, where-holds}
+use Rattle.rota_items.proofs.HardRules.RowsAre.{Are, of-each}
 use Rattle.rota_items.proofs.HardRules.Sound.{Holds, IsHardRuleSound, IsRowSound}
 use Rattle.rota_items.proofs.Numbers.{cell_number-below}
 
@@ -15,18 +15,12 @@ one-where_true true = (λ holds. refl, λ is. omega (arith, ints))
 one-where_true false = (λ holds. absurd (omega (arith, ints, holds)), λ is. cc)
 
 module _ (week : Week) where
-  pub few-cells : IsWithinLimits week → length (cells_of week week.is_held) ≤ 1792000
-  unfolding cells_of
-  few-cells =
-      (in-turns 1000 (λ limits. limits.nurses) (λ n. in-turns 7 (λ _. omega arith) (λ d.
-      in-turns 16 (λ limits. limits.shifts) (λ s. in-turns 16 (λ limits. limits.skills) (λ k. where-holds))))).few
-
-  cells-are : Are week (cells_of week week.is_held) (λ P. (one : Cell) → Has week week.is_held one → P one) 1792000
-  cells-are = record { all = all-cells_of week week.is_held; each = at-cells_of week week.is_held; few = few-cells }
+  cells-are : Are (cells_of week week.is_held) (λ P. (one : Cell) → Has week week.is_held one → P one)
+  cells-are = record { all = all-cells_of week week.is_held; each = at-cells_of week week.is_held }
 
   pub held : IsHardRuleSound week H5
   held =
-      let rows-are : Are week (h5_rows week) (λ P. (one : Cell) → Has week week.is_held one → P (h5_row one)) 1792000 =
+      let rows-are : Are (h5_rows week) (λ P. (one : Cell) → Has week week.is_held one → P (h5_row one)) =
       of-each cells-are in record {
         rows = rows-are.all (IsRowSound week H5) (λ one has. record {
           part_is = refl;
@@ -35,9 +29,7 @@ module _ (week : Week) where
             rise = (omega arith, omega (arith, cell_number-below week one has.in_week));
             units = (inl refl, tt);
           };
-          degree = λ _. omega arith;
           holds = λ roster _ keeps. (one-where_true (roster one)).1 (keeps one has);
         });
-        few = rows-are.few;
         mean = λ roster all one has. (one-where_true (roster one)).0 (rows-are.each (Holds roster) all one has);
       }

@@ -15,10 +15,8 @@ module _ (week : Week) where
       (d : ℕ) → d < 7 → (s : ℕ) → s < week.shifts → (k : ℕ) → k < week.skills →
       nat_lt 0 (week.demand d s k).minimum ≡ true → P (h2_row week d s k)
 
-  rows-are : Are week (h2_rows week) OnRows 1792
-  rows-are =
-      in-turns 7 (λ _. omega arith) (λ d. in-turns 16 (λ limits. limits.shifts) (λ s.
-      in-turns 16 (λ limits. limits.skills) (λ k. where-holds)))
+  rows-are : Are (h2_rows week) OnRows
+  rows-are = in-turns (λ d. in-turns (λ s. in-turns (λ k. where-holds)))
 
   means : (roster : Roster) (d s k : ℕ) →
       Holds roster (h2_row week d s k) ↔ ((week.demand d s k).minimum ≤ nurses_at week roster d s k)
@@ -32,10 +30,8 @@ module _ (week : Week) where
     rows = rows-are.all (IsRowSound week H2) (λ d d_in s s_in k k_in _. record {
       part_is = refl;
       terms = sound-demand week d s k d_in s_in k_in;
-      degree = λ small. small d s k;
       holds = λ roster _ met. (means roster d s k).1 (met d s k d_in s_in k_in);
     });
-    few = λ limits. omega (arith, rows-are.few limits);
     mean = λ roster all d s k d_in s_in k_in.
         elim (cases_Bool (nat_lt 0 (week.demand d s k).minimum)) [
           | inl asked ↦ (means roster d s k).0 (rows-are.each (Holds roster) all d d_in s s_in k k_in asked)

@@ -13,8 +13,8 @@ module _ (week : Week) where
   abbrev OnRows : (LinearRow Cell → Type 0) → Type 0
   OnRows P = (n : ℕ) → n < week.nurses → (d : ℕ) → d < 7 → P (h1_row week n d)
 
-  rows-are : Are week (h1_rows week) OnRows 7000
-  rows-are = in-turns 1000 (λ limits. limits.nurses) (λ n. in-turns 7 (λ _. omega arith) (λ d. alone))
+  rows-are : Are (h1_rows week) OnRows
+  rows-are = in-turns (λ n. in-turns (λ d. alone))
 
   means : (roster : Roster) (n d : ℕ) → Holds roster (h1_row week n d) ↔ (work_count week roster n d ≤ 1)
   means roster n d =
@@ -27,10 +27,8 @@ module _ (week : Week) where
     rows = rows-are.all (IsRowSound week H1) (λ n n_in d d_in. record {
       part_is = refl;
       terms = sound-work week n d n_in d_in;
-      degree = λ _. omega arith;
       holds = λ roster one _. (means roster n d).1 (work_count-le week roster one n d n_in d_in);
     });
-    few = λ limits. omega (arith, rows-are.few limits);
     mean = λ roster all one other has_one has_other nurse_same day_same.
         let this = has_one.in_week in
         let that = has_other.in_week in

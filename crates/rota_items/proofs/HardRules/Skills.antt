@@ -15,8 +15,8 @@ module _ (week : Week) where
   OnRows P =
       (n : ℕ) → n < week.nurses → (k : ℕ) → k < week.skills → not (week.has_skill n k) ≡ true → P (h4_row week n k)
 
-  rows-are : Are week (h4_rows week) OnRows 16000
-  rows-are = in-turns 1000 (λ limits. limits.nurses) (λ n. in-turns 16 (λ limits. limits.skills) (λ k. where-holds))
+  rows-are : Are (h4_rows week) OnRows
+  rows-are = in-turns (λ n. in-turns (λ k. where-holds))
 
   means : (roster : Roster) (n k : ℕ) → Holds roster (h4_row week n k) ↔ (skill_count week roster n k ≡ 0)
   means roster n k =
@@ -29,11 +29,9 @@ module _ (week : Week) where
     rows = rows-are.all (IsRowSound week H4) (λ n n_in k k_in lacks. record {
       part_is = refl;
       terms = sound-skill week n k n_in k_in;
-      degree = λ _. omega arith;
       holds = λ roster _ skilled.
           (means roster n k).1 (no_skill_cells week roster skilled n k n_in k_in (not-true (week.has_skill n k) lacks));
     });
-    few = λ limits. omega (arith, rows-are.few limits);
     mean = λ roster all one has.
         elim (cases_Bool (week.has_skill one.nurse one.skill)) [
           | inl skilled ↦ skilled

@@ -1,6 +1,6 @@
 -- What is to be shown of a hard rule and its rows.
-use Rattle.rota_items.proofs.LogicWords.{◌≡◌, ℕ, ◌≤◌, ◌≤ℤ◌, List, length, AllByRecursion}
-use Rattle.rota_items.proofs.ModelWords.{KeepsOneCell, KeepsMinimum, KeepsSuccession, KeepsSkills, KeepsHeld, IsWithinLimits, Roster, Week, Rule, Cell, rows_of_hard_rule, positive_part, value_of, LinearRow}
+use Rattle.rota_items.proofs.LogicWords.{◌≡◌, ◌≤ℤ◌, List, AllByRecursion}
+use Rattle.rota_items.proofs.ModelWords.{KeepsOneCell, KeepsMinimum, KeepsSuccession, KeepsSkills, KeepsHeld, Roster, Week, Rule, Cell, rows_of_hard_rule, value_of, LinearRow}
 use Rattle.rota_core.specs.declared.rule.Rule.TheVariants.{H1, H2, H3, H4, H5}
 use Rattle.rota_items.specs.declared.part.Part.TheVariants.{Hard}
 use Rattle.rota_items.proofs.SoundTerms.{AreSound}
@@ -21,16 +21,14 @@ Keeps week roster H4 = KeepsSkills week roster
 Keeps week roster H5 = KeepsHeld week roster
 Keeps week roster _ = Unit {0}
 
--- The row stands for the rule, its terms are sound, its degree is small where the least numbers of nurses are, and it
--- holds on the rosters that keep the rule, among those with one cell a day.
+-- The row stands for the rule, its terms are sound, and it holds on the rosters that keep the rule, among those with one
+-- cell a day.
 pub record IsRowSound (week : Week) (rule : Rule) (row : LinearRow Cell) : Type 0 where
   pub part_is : row.part ≡ Hard rule
   pub terms : AreSound week row.terms
-  pub degree : ((d s k : ℕ) → (week.demand d s k).minimum ≤ 9999) → positive_part row.degree ≤ 9999
   pub holds : (roster : Roster) → KeepsOneCell week roster → Keeps week roster rule → Holds roster row
 
--- The rule's rows are sound and few, and hold on no rosters but those that keep it.
+-- The rule's rows are sound, and hold on no rosters but those that keep it.
 pub record IsHardRuleSound (week : Week) (rule : Rule) : Type 0 where
   pub rows : AllByRecursion (IsRowSound week rule) (rows_of_hard_rule week rule)
-  pub few : IsWithinLimits week → length (rows_of_hard_rule week rule) ≤ 1792000
   pub mean : (roster : Roster) → AllHold roster (rows_of_hard_rule week rule) → Keeps week roster rule

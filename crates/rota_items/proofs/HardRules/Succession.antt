@@ -23,12 +23,9 @@ module _ (week : Week) where
       ((d : ℕ) → d < 6 → (s : ℕ) → s < week.shifts → (t : ℕ) → t < week.shifts →
       week.is_forbidden s t ≡ true → P (h3_row week n d s t))
 
-  rows-are : Are week (h3_rows week) OnRows 1552000
+  rows-are : Are (h3_rows week) OnRows
   rows-are =
-      in-turns 1000 (λ limits. limits.nurses) (λ n. in-parts
-      (in-turns 16 (λ limits. limits.shifts) (λ t. where-holds))
-      (in-turns 6 (λ _. omega arith) (λ d. in-turns 16 (λ limits. limits.shifts) (λ s.
-      in-turns 16 (λ limits. limits.shifts) (λ t. where-holds)))))
+      in-turns (λ n. in-parts (in-turns (λ t. where-holds)) (in-turns (λ d. in-turns (λ s. in-turns (λ t. where-holds)))))
 
   sound-h3_row : (n d s t : ℕ) → n < week.nurses → d < 6 → s < week.shifts → t < week.shifts →
       AreSound week (h3_row week n d s t).terms
@@ -129,16 +126,13 @@ module _ (week : Week) where
       λ t t_in forbidden. record {
         part_is = refl;
         terms = sound-on week n t 0 n_in t_in (omega arith);
-        degree = λ _. omega arith;
         holds = λ roster _ kept. monday-holds roster kept n t n_in t_in forbidden;
       },
       λ d d_in s s_in t t_in forbidden. record {
         part_is = refl;
         terms = sound-h3_row n d s t n_in d_in s_in t_in;
-        degree = λ _. omega arith;
         holds = λ roster one kept. row-holds roster one kept n d s t n_in d_in s_in t_in forbidden;
       },
     ));
-    few = λ limits. omega (arith, rows-are.few limits);
     mean = λ roster all. rows-mean roster (rows-are.each (Holds roster) all);
   }

@@ -6,7 +6,6 @@ ghost use Rattle.rota_items.specs.CellEvents.{cell_row_events};
 ghost use Rattle.rota_items.specs.Takes.{Takes};
 ghost use Rattle.rota_items.specs.hard.Held.{h5_row, h5_rows};
 
-use crate::limits::within_limits;
 use crate::part::Part;
 use crate::sums::{Sign, give_cell};
 use crate::takers::Taker;
@@ -36,9 +35,7 @@ pub fn give_h5<T: Taker>(instance: &Instance, taker: &mut T) -> Result<(), T::Fa
 
 /// The number of rows of H5: one for each held cell.
 pub fn count_h5(instance: &Instance) -> u32
-    ensures few { result ≤ 1792000 }
-    ensures number { result ≡ length (h5_rows (week_of instance.now)) }
+    ensures { result ≡ length (h5_rows (week_of instance.now)) }
 {
-    within_limits(instance);
     instance.held_count()
 }

@@ -47,8 +47,7 @@ pub fn give_h4<T: Taker>(instance: &Instance, taker: &mut T) -> Result<(), T::Fa
 /// The number of rows of H4.
 #[tactic(auto, using(crate::proofs::ListLengths::counting), unfolding(rota_core::specs::Lists::only_if))]
 pub fn count_h4(instance: &Instance) -> u32
-    ensures few { result ≤ 16000 }
-    ensures number { result ≡ length (h4_rows (week_of instance.now)) }
+    ensures { result ≡ length (h4_rows (week_of instance.now)) }
 {
     let mut rows = 0;
     for nurse in 0..instance.nurses() {

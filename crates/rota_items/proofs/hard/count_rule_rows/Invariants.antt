@@ -1,4 +1,5 @@
 use Rattle.rota_items.proofs.Common.{◌≡◌, ◌*◌, ◌≤◌, length, take, flat_map, week_of}
+use Rattle.rota_items.specs.Bounds.{most_cells}
 use Rattle.rota_items.specs.HardRows.{rows_of_hard_rule}
 use Rattle.rota_items.proofs.hard.count_rule_rows.Given as goal
 
@@ -6,4 +7,4 @@ abbrev pub invariant-loop-rule : goal.invariant-loop-rule
 invariant-loop-rule l =
     let week = week_of l.fn.instance in
     (l.rows ≡ length (flat_map (rows_of_hard_rule week) (take l.rule-index l.rule-items))) ×
-    (l.rows ≤ l.rule-index * 1792000)
+    (l.rows ≤ l.rule-index * most_cells)

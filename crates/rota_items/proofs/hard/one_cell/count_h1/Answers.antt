@@ -3,8 +3,8 @@ use Rattle.rota_items.specs.hard.OneCell.{h1_rows_of}
 use Rattle.rota_items.proofs.ListLengths.{length-each-is}
 use Rattle.rota_items.proofs.hard.one_cell.count_h1.Goals as goal
 
-pub returns-clause-number : goal.returns-clause-number
-returns-clause-number c =
+pub returns : goal.returns
+returns c =
     let week = week_of c.args.instance.now in
     omega (
       arith,

@@ -1,0 +1,56 @@
+-- How many rows the hard rules have in a week within the limits: none has more than there are cells.
+use Rattle.rota_items.proofs.LogicWords.{ℕ, ◌*◌, ◌≤◌, length, arith, length-append, length-map, length-only_if}
+use Rattle.rota_items.proofs.ModelWords.{Week, Rule, IsWithinLimits, hard_rules, rows_of_hard_rule, rule_rows}
+use Rattle.std.proofs.lemmas.List.Concat.{length-flat_map}
+use Rattle.std.proofs.lemmas.List.Sums.{sum_by-le-sum_by}
+use Rattle.rota_core.specs.Lists.{each_below}
+use Rattle.rota_core.specs.RosterCells.{cells_of}
+use Rattle.rota_core.specs.declared.rule.Rule.TheVariants.{H1, H2, H3, H4, H5}
+use Rattle.rota_items.proofs.SumsBelow.{length-at_most}
+use Rattle.rota_items.specs.Bounds.{most_cells, most_cells_of_nurse}
+use Rattle.rota_items.specs.Limits.{most_nurses, most_shifts, most_skills}
+use Rattle.rota_items.specs.hard.Held.{h5_row}
+use Rattle.rota_items.specs.hard.Succession.{h3_monday_rows, h3_rows_between, h3_rows_of}
+
+module _ (week : Week) (limits : IsWithinLimits week) where
+  -- those of a nurse for Monday, and from each day to the next
+  pub nurse-few : (n : ℕ) → length (h3_rows_of week n) ≤ most_cells_of_nurse
+  nurse-few n =
+      let monday : length (h3_monday_rows week n) ≤ most_shifts * 1 =
+      length-at_most most_shifts limits.shifts _ (λ t. length-only_if _ _) in
+      let later : length (each_below 6 (h3_rows_between week n)) ≤ 6 * (most_shifts * (most_shifts * 1)) =
+      length-at_most 6 (omega arith) _ (λ d. length-at_most most_shifts limits.shifts _ (λ s.
+      length-at_most most_shifts limits.shifts _ (λ t. length-only_if _ _))) in
+      omega (arith, length-append (h3_monday_rows week n) (each_below 6 (h3_rows_between week n)), monday, later)
+
+  pub cells-few : length (cells_of week week.is_held) ≤ most_cells
+  unfolding cells_of
+  cells-few =
+      length-at_most most_nurses limits.nurses _ (λ n. length-at_most 7 (omega arith) _ (λ d.
+      length-at_most most_shifts limits.shifts _ (λ s. length-at_most most_skills limits.skills _ (λ k. length-only_if _ _))))
+
+  pub rows-few : (rule : Rule) → length (rows_of_hard_rule week rule) ≤ most_cells
+  rows-few H1 =
+      let few : length (rows_of_hard_rule week H1) ≤ most_nurses * (7 * 1) =
+      length-at_most most_nurses limits.nurses _ (λ n. length-at_most {m = 1} 7 (omega arith) _ (λ d. omega arith)) in
+      omega (arith, few)
+  rows-few H2 =
+      let few : length (rows_of_hard_rule week H2) ≤ 7 * (most_shifts * (most_skills * 1)) =
+      length-at_most 7 (omega arith) _ (λ d. length-at_most most_shifts limits.shifts _ (λ s.
+      length-at_most most_skills limits.skills _ (λ k. length-only_if _ _))) in
+      omega (arith, few)
+  rows-few H3 = length-at_most most_nurses limits.nurses _ nurse-few
+  rows-few H4 =
+      let few : length (rows_of_hard_rule week H4) ≤ most_nurses * (most_skills * 1) =
+      length-at_most most_nurses limits.nurses _ (λ n. length-at_most most_skills limits.skills _ (λ k. length-only_if _ _)) in
+      omega (arith, few)
+  rows-few H5 = omega (arith, length-map (cells_of week week.is_held) h5_row, cells-few)
+  rows-few _ = omega arith
+
+  pub rule_rows-few : length (rule_rows week) ≤ length hard_rules * most_cells
+  rule_rows-few =
+      omega (
+        arith,
+        length-flat_map (rows_of_hard_rule week) hard_rules,
+        sum_by-le-sum_by (λ rule. length (rows_of_hard_rule week rule)) (λ _. most_cells) hard_rules rows-few,
+      )
