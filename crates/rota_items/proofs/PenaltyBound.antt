@@ -1,12 +1,13 @@
 -- How large the penalty, the constant and the shortages are.
-use Rattle.rota_items.proofs.LogicWords.{◌*◌, ◌^◌, ◌<◌, ◌≤◌, arith}
+use Rattle.rota_items.proofs.LogicWords.{ℕ, ◌*◌, ◌^◌, ◌<◌, ◌≤◌, arith}
 use Rattle.rota_items.proofs.ModelWords.{Roster, soft_rules, Week, Rule, shortage, weighted_shortages, IsWithinLimits, constant, constant_of_rule, items_of_rule, penalty, rule_cost}
 use Rattle.std.proofs.lemmas.List.Sums.{sum_by-le-sum_by}
 use Rattle.std.proofs.lemmas.Nat.{mul-le}
 use Rattle.rota_core.specs.declared.rule.Rule.TheVariants.{S1, S2, S6, S7}
-use Rattle.rota_items.proofs.RuleSizes.{small-rule}
+use Rattle.rota_items.proofs.RuleSizes.{small-nurse_rule, small-rule}
 use Rattle.rota_items.proofs.SlackBound.{items-le}
 use Rattle.rota_items.proofs.SmallSums.{shortage-least}
+use Rattle.rota_items.specs.Charges.{nurse_constant}
 use Rattle.rota_items.specs.Bounds.{most_constant, most_constant_of_rule, most_cost, most_items, most_items_of_any, most_shortage, most_weight}
 
 items-of_any : (rule : Rule) → most_items rule ≤ most_items_of_any
@@ -25,6 +26,9 @@ module _ (week : Week) (limits : IsWithinLimits week) where
 
   pub constant_of_rule-few : (rule : Rule) → constant_of_rule week rule ≤ most_constant
   constant_of_rule-few rule = omega (arith, (small-rule week limits rule).constant, constants-of_any rule)
+
+  pub nurse_constant-few : (rule : Rule) (n : ℕ) → nurse_constant week rule n ≤ most_constant
+  nurse_constant-few rule n = omega (arith, (small-nurse_rule week limits rule).constant n, constants-of_any rule)
 
   pub constant-few : constant week ≤ most_constant
   constant-few =

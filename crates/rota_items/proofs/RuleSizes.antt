@@ -236,7 +236,7 @@ module _ (week : Week) (limits : IsWithinLimits week) where
 
   -- ---- each rule
 
-  small-nurse_rule : (rule : Rule) → IsNurseRuleSmall week rule
+  pub small-nurse_rule : (rule : Rule) → IsNurseRuleSmall week rule
   small-nurse_rule S2 = consecutive_assignments
   small-nurse_rule S3 = consecutive_days_off
   small-nurse_rule S5 = complete_weekends

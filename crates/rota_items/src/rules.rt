@@ -249,8 +249,7 @@ pub fn count_soft_items(instance: &Instance) -> ItemCounts
 // for the rules of totals, in the weeks in which they count.
 fn nurse_constant(instance: &Instance, rule: Rule, nurse: u16) -> u64
     requires { nurse < (week_of instance.now).nurses }
-    ensures few { result ≤ 3000000 }
-    ensures number { result ≡ nurse_constant (week_of instance.now) rule nurse }
+    ensures { result ≡ nurse_constant (week_of instance.now) rule nurse }
 {
     match rule {
         Rule::S6 => total_assignments::constant(instance, nurse),
@@ -262,8 +261,7 @@ fn nurse_constant(instance: &Instance, rule: Rule, nurse: u16) -> u64
 /// What no roster of the week can avoid of a rule: the sum of the nurses' parts.
 #[tactic(auto, using(crate::proofs::ListLengths::counting))]
 pub fn constant_of_rule(instance: &Instance, rule: Rule) -> u64
-    ensures number { result ≡ constant_of_rule (week_of instance.now) rule }
-    ensures few { result ≤ 3000000000 }
+    ensures { result ≡ constant_of_rule (week_of instance.now) rule }
 {
     let mut sum = 0;
     for nurse in 0..instance.nurses() {
@@ -276,6 +274,7 @@ pub fn constant_of_rule(instance: &Instance, rule: Rule) -> u64
 pub fn constant(instance: &Instance) -> u64
     ensures { result ≡ constant (week_of instance.now) }
 {
+    crate::limits::within_limits(instance);
     let mut sum = 0;
     for rule in Rule::SOFT {
         sum += constant_of_rule(instance, rule);

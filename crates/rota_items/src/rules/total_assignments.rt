@@ -161,36 +161,34 @@ pub fn count(instance: &Instance, nurse: u16) -> ItemCounts
 }
 
 // The nurse's assignments that are wanted beyond one for each day of the week.
-fn wanted_beyond_days(instance: &Instance, nurse: u16) -> u64
+fn wanted_beyond_days(instance: &Instance, nurse: u16) -> u16
     requires { nurse < (week_of instance.now).nurses }
-    ensures few { result ≤ 65535 }
-    ensures number { result ≡ wanted_beyond_days (week_of instance.now) nurse }
+    ensures { result ≡ wanted_beyond_days (week_of instance.now) nurse }
 {
     if !least_totals_count(instance) {
         return 0;
     }
-    u64::from(still_wanted(instance, nurse).saturating_sub(u16::from(DAYS)))
+    still_wanted(instance, nurse).saturating_sub(u16::from(DAYS))
 }
 
 // The nurse's assignments that the history has above her greatest total.
-fn assignments_above(instance: &Instance, nurse: u16) -> u64
+fn assignments_above(instance: &Instance, nurse: u16) -> u16
     requires { nurse < (week_of instance.now).nurses }
-    ensures few { result ≤ 65535 }
-    ensures number { result ≡ assignments_above (week_of instance.now) nurse }
+    ensures { result ≡ assignments_above (week_of instance.now) nurse }
 {
     if !excess_before_counts(instance) {
         return 0;
     }
     let greatest = instance.contract(nurse).total.max;
-    u64::from(instance.past(nurse).assignments.saturating_sub(greatest))
+    instance.past(nurse).assignments.saturating_sub(greatest)
 }
 
 /// What no roster of the week can avoid of a nurse: assignments that are wanted beyond seven days, and,
 /// unless excess is charged early, those that the history has above the greatest total.
 pub fn constant(instance: &Instance, nurse: u16) -> u64
     requires { nurse < (week_of instance.now).nurses }
-    ensures few { result ≤ 3000000 }
-    ensures number { result ≡ assignment_constant_of (week_of instance.now) nurse }
+    ensures { result ≡ assignment_constant_of (week_of instance.now) nurse }
 {
-    u64::from(WEIGHT) * (wanted_beyond_days(instance, nurse) + assignments_above(instance, nurse))
+    let wanted = u64::from(wanted_beyond_days(instance, nurse));
+    u64::from(WEIGHT) * (wanted + u64::from(assignments_above(instance, nurse)))
 }

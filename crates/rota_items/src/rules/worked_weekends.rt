@@ -61,24 +61,22 @@ pub fn count(instance: &Instance, nurse: u16) -> u32
 }
 
 // The nurse's weekends that the history has above her greatest number.
-fn weekends_above(instance: &Instance, nurse: u16) -> u64
+fn weekends_above(instance: &Instance, nurse: u16) -> u16
     requires { nurse < (week_of instance.now).nurses }
-    ensures few { result ≤ 65535 }
-    ensures number { result ≡ weekends_above (week_of instance.now) nurse }
+    ensures { result ≡ weekends_above (week_of instance.now) nurse }
 {
     if !excess_before_counts(instance) {
         return 0;
     }
     let greatest = instance.contract(nurse).weekends;
-    u64::from(instance.past(nurse).weekends.saturating_sub(greatest))
+    instance.past(nurse).weekends.saturating_sub(greatest)
 }
 
 /// What no roster of the week can avoid of a nurse: the weekends that the history has above her greatest
 /// number, unless excess is charged early.
 pub fn constant(instance: &Instance, nurse: u16) -> u64
     requires { nurse < (week_of instance.now).nurses }
-    ensures few { result ≤ 3000000 }
-    ensures number { result ≡ weekend_constant_of (week_of instance.now) nurse }
+    ensures { result ≡ weekend_constant_of (week_of instance.now) nurse }
 {
-    u64::from(WEIGHT) * weekends_above(instance, nurse)
+    u64::from(WEIGHT) * u64::from(weekends_above(instance, nurse))
 }

@@ -1,5 +1,5 @@
 use Rattle.std.proofs.lemmas.Grind.{common_steps}
-use Rattle.rota_items.proofs.Common.{◌≡◌, ℕ, ◌≤◌, length, length-append, arith, week_of}
+use Rattle.rota_items.proofs.Common.{◌≡◌, ℕ, ◌≤◌, length, length-append, arith}
 use Rattle.rota_core.specs.Week.{Week}
 use Rattle.rota_core.specs.declared.rule.Rule.{Rule}
 use Rattle.rota_items.proofs.InstanceLimits.{instance-within_limits}

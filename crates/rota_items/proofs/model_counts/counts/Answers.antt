@@ -20,6 +20,6 @@ returns-clause-constraints c =
       length-map (rule_rows week) (numbered_row week),
       length-item_rows (first_slack week) (numbered_items week),
       length-map (soft_items week) (numbered (cell_number week)),
-      c.count_rule_rows.ensures,
+      c.count_rule_rows.ensures.number,
       c.count_soft_items-soft.ensures.items,
     )

@@ -1,15 +1,31 @@
-use Rattle.rota_items.proofs.Common.{arith, week_of}
+use Rattle.rota_items.proofs.Common.{◌≡◌, ℕ, ◌≤◌, arith, week_of}
 use Rattle.rota_core.specs.Rules.{soft_rules}
+use Rattle.rota_core.specs.Week.{Week}
+use Rattle.rota_core.specs.declared.rule.Rule.{Rule}
+use Rattle.rota_items.proofs.InstanceLimits.{instance-within_limits}
 use Rattle.rota_items.proofs.ListTotals.{sum-all, sum-more}
+use Rattle.rota_items.proofs.PenaltyBound.{constant_of_rule-few}
+use Rattle.rota_items.specs.Bounds.{most_constant}
 use Rattle.rota_items.specs.Charges.{constant_of_rule}
+use Rattle.rota_items.specs.Limits.{IsWithinLimits}
 use Rattle.rota_items.proofs.rules.constant.Goals as goal
+
+few_of : (week : Week) → IsWithinLimits week → (rule : Rule) (constant : ℕ) → constant ≡ constant_of_rule week rule → constant ≤ most_constant
+few_of week limits rule constant is = omega (arith, is, constant_of_rule-few week limits rule)
+
+pub overflow_add-sum : goal.overflow_add-sum
+overflow_add-sum c =
+    omega (
+      arith,
+      c.loop-rule.invariant.few,
+      few_of _ (instance-within_limits c.args.instance.now c.within_limits.ensures) _ _ c.constant_of_rule-sum.ensures,
+    )
 
 pub loop-rule-preserved : goal.loop-rule-preserved
 loop-rule-preserved c =
-    let counted = c.constant_of_rule-sum.ensures in
-    record {
-      number = sum-more soft_rules (constant_of_rule (week_of c.args.instance.now)) _ _ _ _ (omega arith) c.loop-rule.invariant.number counted.number;
-      few = omega (arith, counted.few);
+    let few = few_of _ (instance-within_limits c.args.instance.now c.within_limits.ensures) _ _ c.constant_of_rule-sum.ensures in record {
+      number = sum-more soft_rules (constant_of_rule (week_of c.args.instance.now)) _ _ _ _ (omega arith) c.loop-rule.invariant.number c.constant_of_rule-sum.ensures;
+      few = omega (arith, c.loop-rule.invariant.few, few);
     }
 
 pub returns : goal.returns

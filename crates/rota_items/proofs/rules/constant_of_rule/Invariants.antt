@@ -1,7 +1,8 @@
 use Rattle.rota_items.proofs.Common.{week_of}
 use Rattle.rota_items.proofs.ListLengths.{SumOfEach}
+use Rattle.rota_items.specs.Bounds.{most_constant}
 use Rattle.rota_items.specs.Charges.{nurse_constant}
 use Rattle.rota_items.proofs.rules.constant_of_rule.Given as goal
 
 abbrev pub invariant-loop-nurse : goal.invariant-loop-nurse
-invariant-loop-nurse l = SumOfEach l.nurse 3000000 (nurse_constant (week_of l.fn.instance) l.fn.rule) l.sum
+invariant-loop-nurse l = SumOfEach l.nurse most_constant (nurse_constant (week_of l.fn.instance) l.fn.rule) l.sum
