@@ -9,6 +9,7 @@ use Rattle.rota_items.specs.rules.TotalAssignments.Items.{assignment_constant_of
 use Rattle.rota_items.specs.rules.WorkedWeekends.Items.{weekend_constant_of, worked_weekends_of}
 use Rattle.rota_items.specs.Charges.{items_of_rule, constant_of_rule, cell_terms_of_rule}
 
+-- what the items charge
 abbrev pub weighted_shortages : {X : Type 0} → (X → Bool) → List (Item X) → ℕ
 weighted_shortages assignment items =
     sum_by (λ item. item.weight * shortage assignment item) items
@@ -19,6 +20,7 @@ charged week roster rule =
     pos (weighted_shortages roster (items_of_rule week rule) + constant_of_rule week rule) +ℤ
     value_of roster (cell_terms_of_rule week rule)
 
+-- the items of each rule that charges the nurses, of all of them, and its part of the constant
 abbrev pub consecutive_assignment_items : Week → List (Item Cell)
 consecutive_assignment_items week = each_below week.nurses (assignment_runs_of week)
 

@@ -4,7 +4,7 @@ use Rattle.rota_items.specs.ModelWords.{Item}
 use Rattle.rota_items.specs.RunPatterns.{Pattern, closed_patterns_at, edge_patterns_on, windows_on, patterns_on}
 use Rattle.rota_items.specs.RunItems.{Property, variables_on, Runs, pattern_items}
 
--- those of one day's window, of a closed pattern, of the edge pattern and of all patterns that end before the day
+-- the items of one day's window, of a closed pattern, of the edge pattern and of all patterns that end before the day
 abbrev pub window_items_on : {X : Type 0} → Runs X → ℕ → List (Item X)
 window_items_on runs d = pattern_items runs (windows_on runs.history runs.limits d)
 
@@ -17,7 +17,7 @@ edge_items_on runs d = pattern_items runs (edge_patterns_on runs.history runs.li
 abbrev pub pattern_items_on : {X : Type 0} → Runs X → ℕ → List (Item X)
 pattern_items_on runs d = pattern_items runs (patterns_on runs.history runs.limits d)
 
--- the items of one day's window and patterns
+-- those of one day's window and of its patterns
 abbrev pub day_items : {X : Type 0} → Runs X → ℕ → List (Item X)
 day_items runs d =
     pattern_items runs (windows_on runs.history runs.limits d ++ patterns_on runs.history runs.limits d)

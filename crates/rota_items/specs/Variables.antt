@@ -6,6 +6,7 @@ use Rattle.rota_core.specs.RosterTables.{cell_at, cell_place}
 abbrev pub cell_number : Week → Cell → ℕ
 cell_number week cell = cell_place week.shifts week.skills cell + 1
 
+-- the cell of a variable
 abbrev pub cell_of_number : Week → ℕ → Cell
 cell_of_number week v = cell_at week.shifts week.skills (v - 1)
 

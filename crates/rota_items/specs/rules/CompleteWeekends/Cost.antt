@@ -8,7 +8,7 @@ complete_weekend_weight = 30
 abbrev pub exactly_one : Bool → Bool → Bool
 exactly_one x y = (x && not y) || (not x && y)
 
--- of a nurse
+-- the cost of a nurse's weekend
 abbrev pub complete_weekend_cost_of : Week → Roster → ℕ → ℕ
 complete_weekend_cost_of week roster n =
     (if (week.contract n).complete && exactly_one (works week roster n 5) (works week roster n 6)

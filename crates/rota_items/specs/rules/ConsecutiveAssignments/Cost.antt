@@ -18,6 +18,7 @@ past_on (Some last) s length = (if last == s then length else 0)
 abbrev pub history_on : Week → ℕ → ℕ → ℕ
 history_on week n s = past_on (week.past n).last s (week.past n).shift_run
 
+-- the units that a nurse's runs cost: on a shift type, and of working days
 abbrev pub shift_run_cost : Week → Roster → ℕ → ℕ → ℕ
 shift_run_cost week roster n s =
     run_cost (is_on week roster n s) (history_on week n s) (week.limits s)
@@ -26,7 +27,7 @@ abbrev pub work_run_cost : Week → Roster → ℕ → ℕ
 work_run_cost week roster n =
     run_cost (works week roster n) (week.past n).work_run (week.contract n).work
 
--- of a nurse
+-- the cost of a nurse's runs
 abbrev pub consecutive_assignment_cost_of : Week → Roster → ℕ → ℕ
 consecutive_assignment_cost_of week roster n =
     shift_run_weight * sum_below week.shifts (shift_run_cost week roster n) + work_run_weight * work_run_cost week roster n

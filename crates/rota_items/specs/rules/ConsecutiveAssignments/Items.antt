@@ -22,7 +22,7 @@ work_runs week n = record {
   limits = (week.contract n).work;
 }
 
--- those of a nurse
+-- the items of a nurse's runs
 abbrev pub assignment_runs_of : Week → ℕ → List (Item Cell)
 assignment_runs_of week n =
     each_below week.shifts (λ s. run_items (shift_runs week n s)) ++ run_items (work_runs week n)

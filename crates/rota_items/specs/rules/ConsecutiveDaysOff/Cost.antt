@@ -10,7 +10,7 @@ abbrev pub off_run_cost : Week → Roster → ℕ → ℕ
 off_run_cost week roster n =
     run_cost (is_off week roster n) (week.past n).off_run (week.contract n).off
 
--- of a nurse
+-- the cost of a nurse's runs
 abbrev pub consecutive_day_off_cost_of : Week → Roster → ℕ → ℕ
 consecutive_day_off_cost_of week roster n = off_run_weight * off_run_cost week roster n
 

@@ -3,7 +3,7 @@ use Rattle.rota_items.specs.Words.{ℕ, ◌*◌, pos, nat_lt, List, Cell, cell, 
 use Rattle.rota_items.specs.ModelWords.{each_below, only_if, Term}
 use Rattle.rota_items.specs.rules.ShiftOffRequests.Cost.{request_weight}
 
--- those of a nurse's day on a shift type
+-- the terms of a nurse's day on a shift type
 abbrev pub request_terms_on : Week → ℕ → ℕ → ℕ → List (Term Cell)
 request_terms_on week n d s =
     each_below week.skills (λ k.

@@ -23,7 +23,7 @@ abbrev pub above_greatest_total : Week → Roster → ℕ → ℕ
 above_greatest_total week roster n =
     charged_excess week (week.contract n).total.max (week.past n).assignments (assignments_of week roster n)
 
--- of a nurse
+-- the cost of a nurse's total
 abbrev pub assignment_cost_of : Week → Roster → ℕ → ℕ
 assignment_cost_of week roster n =
     assignment_weight * (below_least_total week roster n + above_greatest_total week roster n)

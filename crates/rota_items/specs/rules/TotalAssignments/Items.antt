@@ -37,7 +37,7 @@ abbrev pub greatest_totals_of : Week → ℕ → List (Item Cell)
 greatest_totals_of week n =
     only_if (greatest_totals_count week && nat_lt (still_allowed week n) 7) (greatest_total_item week n)
 
--- those of a nurse
+-- the items of a nurse's total
 abbrev pub totals_of : Week → ℕ → List (Item Cell)
 totals_of week n = least_totals_of week n ++ greatest_totals_of week n
 
@@ -50,6 +50,6 @@ abbrev pub assignments_above : Week → ℕ → ℕ
 assignments_above week n =
     (if excess_before_counts week then (week.past n).assignments - (week.contract n).total.max else 0)
 
--- of a nurse
+-- what no roster can avoid, of a nurse
 abbrev pub assignment_constant_of : Week → ℕ → ℕ
 assignment_constant_of week n = assignment_weight * (wanted_beyond_days week n + assignments_above week n)

@@ -15,7 +15,7 @@ abbrev pub above_greatest_weekends : Week → Roster → ℕ → ℕ
 above_greatest_weekends week roster n =
     charged_excess week (week.contract n).weekends (week.past n).weekends (worked_weekend week roster n)
 
--- of a nurse
+-- the cost of a nurse's weekends
 abbrev pub worked_weekend_cost_of : Week → Roster → ℕ → ℕ
 worked_weekend_cost_of week roster n = worked_weekend_weight * above_greatest_weekends week roster n
 

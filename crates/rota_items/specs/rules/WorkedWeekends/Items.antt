@@ -17,6 +17,6 @@ abbrev pub weekends_above : Week → ℕ → ℕ
 weekends_above week n =
     (if excess_before_counts week then (week.past n).weekends - (week.contract n).weekends else 0)
 
--- what no roster can avoid, of a nurse and of all
+-- what no roster can avoid, of a nurse
 abbrev pub weekend_constant_of : Week → ℕ → ℕ
 weekend_constant_of week n = worked_weekend_weight * weekends_above week n
