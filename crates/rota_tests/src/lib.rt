@@ -13,6 +13,12 @@ mod job_runs;
 // What a run reads and writes: one job of each kind.
 #[cfg(test)]
 mod jobs;
+// Files and outputs in memory, each with its path.
+#[cfg(test)]
+mod memory_files;
+// Jobs that are performed over files in memory.
+#[cfg(test)]
+mod performed_jobs;
 // Want of memory in the middle of a run.
 #[cfg(test)]
 mod refused_memory;
