@@ -5,7 +5,6 @@ use Rattle.std.proofs.lemmas.List.{map-append}
 use Rattle.std.proofs.lemmas.List.Elements.{All-from_recursion, recursion_from_All}
 use Rattle.rota_core.specs.Week.{Week}
 use Rattle.rota_core.specs.HardRules.{KeepsHardRules}
-use Rattle.rota_core.specs.InstanceTables.{InstanceTables, week_of}
 use Rattle.rota_core.specs.Roster.{Roster}
 use Rattle.rota_items.specs.Variables.{first_slack, roster_of, unit_number}
 use Rattle.rota_items.specs.Linear.{Constraint, Satisfies}
@@ -18,13 +17,9 @@ use Rattle.rota_items.proofs.FirstBroken.{first_broken}
 use Rattle.rota_items.proofs.Satisfied.{hard_constraints-hold, hard_constraints-mean}
 use Rattle.opb_text.specs.ModelText.{opb_text}
 use Rattle.opb_text.proofs.OneModel.{each_text_spells_one_model}
-use Rattle.rota_pb.specs.Encoding.{BeginsModel, IsModelText, WritesModel}
+use Rattle.rota_pb.specs.Encoding.{IsModelText}
 use Rattle.rota_pb.specs.ExactModel.{IsExactModel}
 use Rattle.rota_pb.specs.Meaning.{IsExtension, MeansRules}
-use Rattle.rota_pb.specs.declared.week_files.Choice.{Choice}
-use Rattle.rota_pb.specs.Readers.{WeekReaders}
-use Rattle.rota_pb.specs.WeekFiles.{SpellsWeek}
-use Rattle.rota_pb.specs.Writers.{Writer, WritesBeginning, WritesText}
 
 module _ (week : Week) where
   -- its hard constraints, and what they mean
@@ -69,20 +64,11 @@ module _ (week : Week) where
     extends = is_extension;
   }
 
-module _ (choice : Choice) (readers : WeekReaders) (tables : InstanceTables) (spelled : SpellsWeek choice readers tables) (out : Writer) where
-  is_model_text : IsModelText choice readers (opb_text (model_of (week_of tables)))
-  is_model_text = record {
-    tables = tables;
-    spelled = spelled;
-    model = model_of (week_of tables);
+  pub model_text : IsModelText week (opb_text (model_of week))
+  model_text = record {
+    model = model_of week;
     is_text = refl;
-    is_only = λ other spells. each_text_spells_one_model (opb_text (model_of (week_of tables))) other (model_of (week_of tables)) spells refl;
-    means = model-means (week_of tables);
-    exact = model-exact (week_of tables);
+    is_only = λ other spells. each_text_spells_one_model (opb_text (model_of week)) other (model_of week) spells refl;
+    means = model-means;
+    exact = model-exact;
   }
-
-  pub writes-model : WritesText out (opb_text (model_of (week_of tables))) → WritesModel choice readers out
-  writes-model written = record { text = opb_text (model_of (week_of tables)); is_model = is_model_text; written = written }
-
-  pub begins-model : WritesBeginning out (opb_text (model_of (week_of tables))) → BeginsModel choice readers out
-  begins-model begun = record { text = opb_text (model_of (week_of tables)); is_model = is_model_text; begun = begun }

@@ -11,13 +11,13 @@ use Rattle.solver_text.specs.Lines.{cut}
 use Rattle.solver_text.specs.States.{LeadsTo, fault_within}
 use Rattle.solver_text.proofs.StayLaws.{fault-stays}
 use Rattle.rota_pb.specs.declared.fault.Fault.{Fault}
-use Rattle.rota_pb.specs.declared.fault.Fault.TheVariants.{File, Memory, Write, Read, Answer, NoRoster, Unmet, Breaks}
+use Rattle.rota_pb.specs.declared.fault.Fault.TheVariants.{Read, Answer}
 use Rattle.rota_pb.specs.AnswerPieces.{FailsAnswer, IsSolved}
 use Rattle.rota_pb.specs.Feeding.{HasTaken, HasTakenAll, FaultTaken, StopsTaking}
 use Rattle.rota_pb.specs.Readers.{IsEnded, Reader}
 use Rattle.rota_pb.proofs.WholeFiles.{told_are}
 
-prepend_known-append : (xs ys : List ℕ) (told : Told) → prepend_known (xs ++ ys) told ≡ prepend_known xs (prepend_known ys told)
+pub prepend_known-append : (xs ys : List ℕ) (told : Told) → prepend_known (xs ++ ys) told ≡ prepend_known xs (prepend_known ys told)
 prepend_known-append xs ys None = refl
 prepend_known-append xs ys (Some bytes) = ap Some (append_assoc xs ys bytes)
 
@@ -82,49 +82,42 @@ all_taken reader taken bytes front at_end told =
 module _ (variables : ℕ) (reader : Reader) (old : AnswerState) (from : LeadsTo variables [] old) where
   -- why not all bytes were taken is why the answer is not taken
   pub fails_answer : (fault : Fault) → StopsTaking reader old fault → FailsAnswer variables reader fault
-  fails_answer (Answer fault) stops = (
-    λ bytes told.
+  fails_answer (Answer fault) stops = record {
+    means = λ bytes told.
         let parts : (rest : List ℕ) × (reader.left ≡ Some rest) × (stops.taken ++ rest ≡ bytes) =
         told_are reader.given reader.left stops.taken bytes stops.front told in
         subst (λ (text : List ℕ). outcome variables text ≡ Err fault) parts.2
-        (fault-stays.whole variables stops.taken parts.0 fault from.few (stops.judged variables from)),
-    stops.sound,
-  )
+        (fault-stays.whole variables stops.taken parts.0 fault from.few (stops.judged variables from));
+    sound = stops.sound;
+  }
   fails_answer Read stops = record {
     taken = stops.taken;
     front = stops.front;
     unjudged = stops.unjudged variables from;
     no_end = stops.no_end;
   }
-  fails_answer (File file) stops = absurd stops
-  fails_answer Memory stops = absurd stops
-  fails_answer Write stops = absurd stops
-  fails_answer (NoRoster status) stops = absurd stops
-  fails_answer (Unmet number) stops = absurd stops
-  fails_answer (Breaks rule) stops = absurd stops
+  fails_answer _ stops = absurd stops
 
   module _ (new : AnswerState) (all : HasTakenAll reader old new) where
     -- the fault at the end
     pub fails_at_end : (fault : AnswerFault) →
         ((text : List ℕ) → LeadsTo variables text new → outcome variables text ≡ Err fault) →
         FailsAnswer variables reader (Answer fault)
-    fails_at_end fault ends = (
-      λ bytes told.
+    fails_at_end fault ends = record {
+      means = λ bytes told.
           subst (λ (text : List ℕ). outcome variables text ≡ Err fault) (all_taken reader all.taken bytes all.front all.at_end told)
-          (ends all.taken (all.leads variables from)),
-      all.sound,
-    )
+          (ends all.taken (all.leads variables from));
+      sound = all.sound;
+    }
 
     pub is_solved : (solved : Solved) →
         ((text : List ℕ) → LeadsTo variables text new → outcome variables text ≡ Ok solved) →
         ((text : List ℕ) → LeadsTo variables text new → length solved.bits ≡ variables) →
         IsSolved variables reader solved
     is_solved solved ends bits = record {
-      answered = record {
-        means = λ bytes told.
-            subst (λ (text : List ℕ). outcome variables text ≡ Ok solved)
-            (all_taken reader all.taken bytes all.front all.at_end told) (ends all.taken (all.leads variables from));
-        to_end = record { taken = all.taken; front = all.front; ended = all.at_end; sound = all.sound };
-      };
+      means = λ bytes told.
+          subst (λ (text : List ℕ). outcome variables text ≡ Ok solved)
+          (all_taken reader all.taken bytes all.front all.at_end told) (ends all.taken (all.leads variables from));
+      to_end = record { taken = all.taken; front = all.front; ended = all.at_end; sound = all.sound };
       bits = bits all.taken (all.leads variables from);
     }

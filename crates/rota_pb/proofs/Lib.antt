@@ -1,13 +1,10 @@
 pub mod DecodedAnswer
-pub mod DecodedRun
 pub mod Encoded
 pub mod ExtensionLaws
-pub mod FailedReads
 pub mod Feeding
 pub mod GivenFiles
-pub mod Outcomes
 pub mod PutModel
-pub mod RunExtended
+pub mod Runs
 pub mod SinkLoops
 pub mod SlackRows
 pub mod SlackSteps

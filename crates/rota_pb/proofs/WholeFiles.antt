@@ -1,6 +1,7 @@
 -- A file that was read whole, or up to a byte more than a file may have.
-use Rattle.std.proofs.Common.{◌≡◌, ℕ, ◌+◌, ◌≤◌, List, [], ◌++◌, length, Option, None, Some, refl, sym, subst, ◌∙◌, ap, arith, length-append}
+use Rattle.std.proofs.Common.{◌≡◌, ℕ, ◌+◌, ◌≤◌, List, [], ◌++◌, length, Option, None, Some, inl, inr, refl, sym, subst, ◌∙◌, ap, arith, length-append}
 use Rattle.std.specs.Io.KnownBytes.{prepend_known, IsAtEnd}
+use Rattle.std.proofs.lemmas.Bool.{cases_lt}
 use Rattle.std.proofs.lemmas.List.{append-nil}
 use Rattle.rota_core.specs.Ports.{Told}
 use Rattle.rota_core.specs.declared.fault.FileName.{FileName}
@@ -11,11 +12,11 @@ use Rattle.rota_read.specs.Layout.{Layout}
 use Rattle.rota_read.specs.Files.{LONGEST, HasFault, too_long, misses_slot, goes_on, Spells}
 use Rattle.rota_read.specs.FileAnswers.{IsFaultOf}
 use Rattle.rota_pb.specs.declared.fault.Fault.{Fault}
-use Rattle.rota_pb.specs.declared.fault.Fault.TheVariants.{File, Memory, Write, Read, Answer, NoRoster, Unmet, Breaks}
+use Rattle.rota_pb.specs.declared.fault.Fault.TheVariants.{Memory, Read}
 use Rattle.rota_pb.specs.Faults.{FailsCheck, fault_of_file}
 use Rattle.rota_pb.specs.Readers.{Reader}
 use Rattle.rota_pb.specs.WeekFiles.{IsRead}
-use Rattle.rota_pb.specs.WholeRead.{IsReadUpTo, StopsReading}
+use Rattle.rota_pb.specs.WholeRead.{IsReadInPart, IsReadUpTo, StopsReading}
 
 some_injective : {A : Type 0} (a b : A) → ◌≡◌ {A = Option A} (Some a) (Some b) → a ≡ b
 some_injective a b same = cc
@@ -45,10 +46,22 @@ module _ {V : Type 0} (name : FileName) (layout : Layout V) (reader : Reader) (t
   fault-of_file fault (goes_on short goes) bytes told =
       subst (λ (b : List ℕ). HasFault layout b fault) (whole short bytes told) (goes_on short goes)
 
+  -- memory may run out once the text is read
+  in_part : IsReadInPart reader
+  in_part = record {
+    taken = text;
+    front = read.front;
+    begun = elim (cases_lt 0 (length text)) [
+      | inl some ↦ inl some
+      | inr none ↦ inr (read.ended (omega arith))
+    ];
+    sound = read.sound;
+  }
+
   -- why the check of a file fails whose text was read
   pub fails-check : (f : FileFault) → IsFaultOf name layout text f → FailsCheck name layout reader (fault_of_file f)
   fails-check (refusals.Bad kind file line) is_fault = ((is_fault.0, fault-of_file (record { kind = kind; line = line }) is_fault.1), record { taken = text; read = read })
-  fails-check refusals.Memory is_fault = read.sound
+  fails-check refusals.Memory is_fault = in_part
 
   -- the file is read whose text spells a value
   pub is-read : (value : V) → Spells layout text value → IsRead layout reader value
@@ -65,11 +78,6 @@ module _ {V : Type 0} (name : FileName) (layout : Layout V) (reader : Reader) (t
 -- why the check of a file fails that was not read
 pub stops-check : {V : Type 0} (name : FileName) (layout : Layout V) (reader : Reader) (fault : Fault) →
     StopsReading (LONGEST + 1) reader fault → FailsCheck name layout reader fault
-stops-check name layout reader (File file) stops = absurd stops
 stops-check name layout reader Memory stops = stops
-stops-check name layout reader Write stops = absurd stops
 stops-check name layout reader Read stops = stops
-stops-check name layout reader (Answer fault) stops = absurd stops
-stops-check name layout reader (NoRoster status) stops = absurd stops
-stops-check name layout reader (Unmet number) stops = absurd stops
-stops-check name layout reader (Breaks rule) stops = absurd stops
+stops-check name layout reader _ stops = absurd stops

@@ -1,36 +1,29 @@
 -- A solver's answer that is read in pieces, to its end.
 use Rattle.std.specs.Prelude.{◌≡◌, ℕ, ◌-◌, ◌≤◌, ◌^◌, List, length, Some, Ok, Err}
 use Rattle.std.specs.Io.KnownBytes.{prepend_known}
+use Rattle.solver_text.specs.declared.outcome.AnswerFault.{AnswerFault}
 use Rattle.solver_text.specs.declared.outcome.Solved.{Solved}
 use Rattle.solver_text.specs.Answers.{outcome}
 use Rattle.solver_text.specs.States.{fault_within}
 use Rattle.rota_pb.specs.declared.fault.Fault.{Fault}
-use Rattle.rota_pb.specs.declared.fault.Fault.TheVariants.{File, Memory, Write, Read, Answer, NoRoster, Unmet, Breaks}
+use Rattle.rota_pb.specs.declared.fault.Fault.TheVariants.{Memory, Read, Answer}
 use Rattle.rota_pb.specs.Readers.{FailsBeforeEnd, IsReadToEnd, Reader}
+use Rattle.rota_pb.specs.Runs.{Run, read}
 
 -- an answer is read in at most 2^64 - 1 pieces, each of which has a byte
 abbrev pub MOST_PIECES : ℕ
 MOST_PIECES = 2 ^ 64 - 1
 
--- the reader was read to its end, and its bytes mean this for the variables 1 to `variables`
-pub record IsAnswered (variables : ℕ) (reader : Reader) (solved : Solved) : Type 0 where
+-- the reader was read to its end, and its bytes mean this for the variables 1 to `variables`, with a bit for each
+pub record IsSolved (variables : ℕ) (reader : Reader) (solved : Solved) : Type 0 where
   pub means : (bytes : List ℕ) → reader.given ≡ Some bytes → outcome variables bytes ≡ Ok solved
   pub to_end : IsReadToEnd reader
-
--- what was read is an answer for the variables 1 to `variables`, with a bit for each
-pub record IsSolved (variables : ℕ) (reader : Reader) (solved : Solved) : Type 0 where
-  pub answered : IsAnswered variables reader solved
   pub bits : length solved.bits ≡ variables
 
 -- why no end came after the bytes that were taken: the reader failed before it said one, or there would have been too many pieces
 pub data LacksEnd (reader : Reader) (taken : List ℕ) : Type 0 where
   by_failure : FailsBeforeEnd reader → LacksEnd reader taken
   by_length : MOST_PIECES ≤ length taken → reader.failed ≡ reader.failed_before → reader.ended ≡ reader.ended_before → LacksEnd reader taken
-
--- no end of the answer came
-pub record HasNoEnd (reader : Reader) : Type 0 where
-  pub taken : List ℕ
-  pub lacks : LacksEnd reader taken
 
 -- no end came after the bytes that were taken, and no fault was judged in them
 pub record StopsUnjudged (variables : ℕ) (reader : Reader) : Type 0 where
@@ -39,15 +32,18 @@ pub record StopsUnjudged (variables : ℕ) (reader : Reader) : Type 0 where
   pub unjudged : fault_within variables taken ≡ Ok tt
   pub no_end : LacksEnd reader taken
 
+-- its bytes have the fault, and the reader did not fail
+pub record IsFaulty (variables : ℕ) (reader : Reader) (fault : AnswerFault) : Type 0 where
+  pub means : (bytes : List ℕ) → reader.given ≡ Some bytes → outcome variables bytes ≡ Err fault
+  pub sound : reader.failed ≡ reader.failed_before
+
 -- Why an answer is not taken: its bytes have the fault, while its reader did not fail; or no end came before a fault was judged; or there
 -- was no memory for the bits, before the first read.
 abbrev pub FailsAnswer : ℕ → Reader → Fault → Type 0
-FailsAnswer variables reader (Answer fault) =
-    ((bytes : List ℕ) → reader.given ≡ Some bytes → outcome variables bytes ≡ Err fault) × (reader.failed ≡ reader.failed_before)
+FailsAnswer variables reader (Answer fault) = IsFaulty variables reader fault
 FailsAnswer variables reader Read = StopsUnjudged variables reader
 FailsAnswer variables reader Memory = reader.untouched
-FailsAnswer variables reader (File file) = ⊥
-FailsAnswer variables reader Write = ⊥
-FailsAnswer variables reader (NoRoster status) = ⊥
-FailsAnswer variables reader (Unmet number) = ⊥
-FailsAnswer variables reader (Breaks rule) = ⊥
+FailsAnswer variables reader _ = ⊥
+
+abbrev pub read_answer : ℕ → Reader → Run Solved
+read_answer variables reader = read reader (IsSolved variables reader) (FailsAnswer variables reader)

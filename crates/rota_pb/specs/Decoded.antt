@@ -13,19 +13,18 @@ use Rattle.rota_items.specs.FirstUnmet.{first_unmet}
 use Rattle.rota_items.specs.Variables.{truth_of, roster_of}
 use Rattle.rota_items.specs.WeekModel.{model_of, rows_of}
 use Rattle.solver_text.specs.declared.outcome.Status.{Status}
-use Rattle.solver_text.specs.declared.outcome.Status.TheVariants.{Satisfiable, Optimum, Unsatisfiable, Unknown, Unsupported}
+use Rattle.solver_text.specs.declared.outcome.Status.TheVariants.{Satisfiable, Optimum}
 use Rattle.solver_text.specs.declared.outcome.Solved.{Solved}
 use Rattle.rota_pb.specs.declared.decoded.Decoded.{Decoded}
 use Rattle.rota_pb.specs.declared.fault.Fault.{Fault}
-use Rattle.rota_pb.specs.declared.fault.Fault.TheVariants.{File, Memory, Write, Read, Answer, NoRoster, Unmet, Breaks}
+use Rattle.rota_pb.specs.declared.fault.Fault.TheVariants.{NoRoster, Unmet}
+use Rattle.rota_pb.specs.Runs.{Run, check}
 
 -- the statuses of an answer that gives an assignment
 abbrev pub FindsRoster : Status → Type 0
 FindsRoster Satisfiable = Unit {0}
 FindsRoster Optimum = Unit {0}
-FindsRoster Unsatisfiable = ⊥
-FindsRoster Unknown = ⊥
-FindsRoster Unsupported = ⊥
+FindsRoster _ = ⊥
 
 -- The variables that the answer makes true satisfy the model of the week. The roster has exactly the cells whose variable is true, keeps the
 -- hard rules, and costs the penalty, which is at most the objective.
@@ -53,9 +52,7 @@ pub record IsFirstUnmet (week : Week) (assignment : ℕ → Bool) (number : ℕ)
 abbrev pub LacksRoster : Week → Solved → Fault → Type 0
 LacksRoster week solved (NoRoster status) = (status ≡ solved.status) × (FindsRoster solved.status → ⊥)
 LacksRoster week solved (Unmet number) = FindsRoster solved.status × IsFirstUnmet week (truth_of solved.bits) number
-LacksRoster week solved (File file) = ⊥
-LacksRoster week solved Memory = ⊥
-LacksRoster week solved Write = ⊥
-LacksRoster week solved Read = ⊥
-LacksRoster week solved (Answer fault) = ⊥
-LacksRoster week solved (Breaks rule) = ⊥
+LacksRoster week solved _ = ⊥
+
+abbrev pub find_roster : Week → Solved → Run Decoded
+find_roster week solved = check (IsDecoded week solved) (LacksRoster week solved)

@@ -6,7 +6,7 @@ use Rattle.solver_text.specs.declared.answer.Answer.{Answer as AnswerState}
 use Rattle.solver_text.specs.declared.outcome.AnswerFault.{AnswerFault}
 use Rattle.solver_text.specs.States.{LeadsTo, fault_within}
 use Rattle.rota_pb.specs.declared.fault.Fault.{Fault}
-use Rattle.rota_pb.specs.declared.fault.Fault.TheVariants.{File, Memory, Write, Read, Answer, NoRoster, Unmet, Breaks}
+use Rattle.rota_pb.specs.declared.fault.Fault.TheVariants.{Read, Answer}
 use Rattle.rota_pb.specs.AnswerPieces.{LacksEnd}
 use Rattle.rota_pb.specs.Readers.{IsEnded, Reader}
 
@@ -44,9 +44,4 @@ pub record NoEndTaken (reader : Reader) (old : AnswerState) : Type 0 where
 abbrev pub StopsTaking : Reader → AnswerState → Fault → Type 0
 StopsTaking reader old (Answer fault) = FaultTaken reader old fault
 StopsTaking reader old Read = NoEndTaken reader old
-StopsTaking reader old (File file) = ⊥
-StopsTaking reader old Memory = ⊥
-StopsTaking reader old Write = ⊥
-StopsTaking reader old (NoRoster status) = ⊥
-StopsTaking reader old (Unmet number) = ⊥
-StopsTaking reader old (Breaks rule) = ⊥
+StopsTaking reader old _ = ⊥

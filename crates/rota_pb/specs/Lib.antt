@@ -10,6 +10,7 @@ pub mod Feeding
 pub mod Meaning
 pub mod Readers
 pub mod Report
+pub mod Runs
 pub mod SlackTaker
 pub mod Statuses
 pub mod WeekFiles

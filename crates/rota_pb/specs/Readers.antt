@@ -53,10 +53,3 @@ pub record WeekReaders : Type 1 where
 
 abbrev pub week_readers : Reader → Reader → Reader → Reader → WeekReaders
 week_readers scenario history week fix = record { scenario = scenario; history = history; week = week; fix = fix }
-
--- one of them failed before it said its end
-pub data OneFailsBeforeEnd (readers : WeekReaders) : Type 0 where
-  of_scenario : FailsBeforeEnd readers.scenario → OneFailsBeforeEnd readers
-  of_history : FailsBeforeEnd readers.history → OneFailsBeforeEnd readers
-  of_week : FailsBeforeEnd readers.week → OneFailsBeforeEnd readers
-  of_fix : FailsBeforeEnd readers.fix → OneFailsBeforeEnd readers

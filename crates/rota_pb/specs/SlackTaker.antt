@@ -11,7 +11,7 @@ use Rattle.rota_items.specs.Slacks.{is_slack_needed, slack_count}
 use Rattle.rota_items.specs.Charges.{soft_items}
 use Rattle.rota_items.specs.WeekModel.{assignment_of, numbered_items}
 use Rattle.opb_text.specs.SinkTaker.{EventTexts}
-use Rattle.solver_text.specs.AnswerWriter.{sink_of, literals_of, literal_text}
+use Rattle.solver_text.specs.AnswerWriter.{literals_of, literal_text}
 use Rattle.solver_text.specs.declared.answer_writer.AnswerWriter.{AnswerWriter}
 use Rattle.rota_pb.specs.declared.slack_taker.SlackTaker.{SlackTaker}
 

@@ -1,10 +1,10 @@
 -- The files of a week, checked one after the other.
-use Rattle.std.specs.Prelude.{◌≡◌, ℕ, ◌≤◌, ◌<◌, Bool, true, false, List, Some, None}
-use Rattle.rota_core.specs.Ports.{Told}
+use Rattle.std.specs.Prelude.{◌≡◌, ℕ, ◌≤◌, Bool, List, Some, None}
 use Rattle.rota_core.specs.ScenarioTables.{ScenarioTables}
 use Rattle.rota_core.specs.WeekTables.{HistoryTables, WeekTables}
 use Rattle.rota_core.specs.InstanceTables.{InstanceTables, IsInstance, holding, week_of}
 use Rattle.rota_core.specs.RosterTables.{RosterTables, HasShapeOf}
+use Rattle.rota_core.specs.declared.fault.FileName.{FileName}
 use Rattle.rota_core.specs.declared.fault.FileName.TheVariants as names
 use Rattle.rota_core.specs.declared.fault.Kind.TheVariants.{LateWeek}
 use Rattle.rota_core.specs.declared.fault.FileFault.TheVariants.{Bad}
@@ -20,66 +20,56 @@ use Rattle.rota_pb.specs.declared.fault.Fault.{Fault}
 use Rattle.rota_pb.specs.declared.fault.Fault.TheVariants.{File}
 use Rattle.rota_pb.specs.Readers.{IsReadToEnd, Reader, WeekReaders}
 use Rattle.rota_pb.specs.Faults.{FailsCheck}
+use Rattle.rota_pb.specs.Runs.{Run, ◌>>=◌, check, find, only_if_asked, read}
 
--- the told bytes spell the value
-abbrev pub SpellsTold : {V : Type 0} → Layout V → Told → V → Type 0
-SpellsTold layout given value = (bytes : List ℕ) → given ≡ Some bytes → Spells layout bytes value
-
--- the file was read to its end, and spells the value
+-- the file was read to its end, and its told bytes spell the value
 pub record IsRead {V : Type 0} (layout : Layout V) (reader : Reader) (value : V) : Type 0 where
-  pub spelled : SpellsTold layout reader.given value
+  pub spelled : (bytes : List ℕ) → reader.given ≡ Some bytes → Spells layout bytes value
   pub to_end : IsReadToEnd reader
 
--- the file was read to its end, and spells the roster
+-- the file was read to its end, and its told bytes spell the roster
 pub record IsRosterRead (tables : InstanceTables) (reader : Reader) (roster : RosterTables) : Type 0 where
   pub spelled : (bytes : List ℕ) → reader.given ≡ Some bytes → SpellsRoster tables bytes roster
   pub shape : HasShapeOf (week_of tables) roster
   pub to_end : IsReadToEnd reader
 
--- the three files spell the tables of a week that the scenario spans, with no cell held
-pub record SpellsTables (early : Bool) (sce his wee : Reader) (tables : InstanceTables) : Type 0 where
-  pub scenario_read : IsRead scenario sce tables.scenario
-  pub history_read : IsRead (history tables.scenario) his tables.history
-  pub week_read : IsRead (week tables.scenario) wee tables.week
-  pub spanned : tables.history.week < tables.scenario.weeks
-  pub is_early : tables.is_early ≡ early
-  pub none_held : tables.held ≡ None
+abbrev pub read_file : {V : Type 0} → FileName → Layout V → Reader → Run V
+read_file name layout reader = read reader (IsRead layout reader) (FailsCheck name layout reader)
 
--- The tables are those given, with the cells held that the fix file spells. Without such a file its reader is not touched.
-pub data HoldsCells (fixed : Bool) (fix : Reader) (given tables : InstanceTables) : Type 0 where
-  without_file : fixed ≡ false → fix.untouched → tables ≡ given → HoldsCells fixed fix given tables
-  with_file : fixed ≡ true → (roster : RosterTables) → IsRosterRead given fix roster → tables ≡ holding given roster →
-      HoldsCells fixed fix given tables
+abbrev pub read_roster : FileName → InstanceTables → Reader → Run RosterTables
+read_roster name tables reader = read reader (IsRosterRead tables reader) (FailsCheck name (solution tables.scenario) reader)
 
--- the files spell the tables of a week, and the cells that are held; all are within their limits
-pub record SpellsWeek (choice : Choice) (readers : WeekReaders) (tables : InstanceTables) : Type 0 where
+-- the tables of the three files, with no cell held, within their limits
+pub record AreJoined (s : ScenarioTables) (h : HistoryTables) (w : WeekTables) (early : Bool) (tables : InstanceTables) : Type 0 where
+  pub joined : tables ≡ record { scenario = s; history = h; week = w; is_early = early; held = None }
   pub limits : IsInstance tables
-  pub unheld : InstanceTables
-  pub spelled : SpellsTables choice.early readers.scenario readers.history readers.week unheld
-  pub holds : HoldsCells choice.fixed readers.fix unheld tables
 
--- The first check of the history and of the week's data that fails gives the fault, and the later reader is not touched.
-pub data StopsAfterScenario (s : ScenarioTables) (his wee : Reader) (fault : Fault) : Type 0 where
-  by_history : FailsCheck names.History (history s) his fault → wee.untouched → StopsAfterScenario s his wee fault
-  by_week : (h : HistoryTables) → IsRead (history s) his h → FailsCheck names.Week (week s) wee fault → StopsAfterScenario s his wee fault
+-- the history's week number is not below the scenario's number of weeks
+pub record IsLate (s : ScenarioTables) (h : HistoryTables) (fault : Fault) : Type 0 where
+  pub late : s.weeks ≤ h.week
+  pub named : fault ≡ File (Bad LateWeek names.History 0)
 
--- The first check of the three files that fails gives the fault, and later readers are not touched.
-pub data StopsAtTables (sce his wee : Reader) (fault : Fault) : Type 0 where
-  at_scenario : FailsCheck names.Scenario scenario sce fault →
-      his.untouched → wee.untouched → StopsAtTables sce his wee fault
-  at_history : (s : ScenarioTables) → IsRead scenario sce s →
-      FailsCheck names.History (history s) his fault →
-      wee.untouched → StopsAtTables sce his wee fault
-  at_week : (s : ScenarioTables) (h : HistoryTables) → IsRead scenario sce s → IsRead (history s) his h →
-      FailsCheck names.Week (week s) wee fault → StopsAtTables sce his wee fault
-  at_late_week : (s : ScenarioTables) (h : HistoryTables) (w : WeekTables) →
-      IsRead scenario sce s → IsRead (history s) his h → IsRead (week s) wee w →
-      s.weeks ≤ h.week → fault ≡ File (Bad LateWeek names.History 0) → StopsAtTables sce his wee fault
+-- the scenario must span the week
+abbrev pub join : ScenarioTables → HistoryTables → WeekTables → Bool → Run InstanceTables
+join s h w early = check (AreJoined s h w early) (IsLate s h)
 
--- The first check of the week's files that fails gives the fault: those of the three files come before that of the fix file, where there
--- is one. Later readers are not touched.
-pub data StopsAt (choice : Choice) (readers : WeekReaders) (fault : Fault) : Type 0 where
-  at_tables : StopsAtTables readers.scenario readers.history readers.week fault → readers.fix.untouched → StopsAt choice readers fault
-  at_fix : choice.fixed ≡ true → (tables : InstanceTables) →
-      SpellsTables choice.early readers.scenario readers.history readers.week tables →
-      FailsCheck names.Fixed (solution tables.scenario) readers.fix fault → StopsAt choice readers fault
+-- the three files are read, and joined
+abbrev pub read_tables : Bool → Reader → Reader → Reader → Run InstanceTables
+read_tables early sce his wee = do
+  s ← read_file names.Scenario scenario sce
+  h ← read_file names.History (history s) his
+  w ← read_file names.Week (week s) wee
+  join s h w early
+
+-- the tables with the roster's cells held
+pub record AreHeld (tables : InstanceTables) (roster : RosterTables) (held : InstanceTables) : Type 0 where
+  pub holds : held ≡ holding tables roster
+  pub limits : IsInstance held
+
+-- the three files are read, and then the fix file, where it is asked for
+abbrev pub read_week : Choice → WeekReaders → Run InstanceTables
+read_week choice readers = do
+  tables ← read_tables choice.early readers.scenario readers.history readers.week
+  only_if_asked choice.fixed tables do
+    roster ← read_roster names.Fixed tables readers.fix
+    find (AreHeld tables roster)

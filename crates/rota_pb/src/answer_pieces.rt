@@ -1,6 +1,6 @@
 //! A solver's answer, read in pieces.
-ghost use Rattle.std.specs.Prelude.{IfOk, IfErr, OnOk};
-ghost use Rattle.rota_pb.specs.AnswerPieces.{FailsAnswer, IsSolved};
+ghost use Rattle.std.specs.Prelude.{IfErr, OnOk};
+ghost use Rattle.rota_pb.specs.AnswerPieces.{read_answer as answer_reading};
 ghost use Rattle.rota_pb.specs.Feeding.{HasTakenAll, StopsTaking};
 ghost use Rattle.rota_pb.specs.Readers.{reader_of};
 
@@ -35,8 +35,7 @@ pub(crate) fn read_answer<A: Source>(
     variables: u32,
     source: &mut A,
 ) -> Result<Solved, Fault>
-    ensures solved { IfOk result (IsSolved variables (reader_of A.Source source.old source.new)) }
-    ensures fault { IfErr result (FailsAnswer variables (reader_of A.Source source.old source.new)) }
+    ensures { (answer_reading variables (reader_of A.Source source.old source.new)).ends result }
 {
     let mut answer = Answer::new(alloc, variables)?;
     feed_all(source, &mut answer)?;

@@ -1,60 +1,17 @@
 //! The run that turns a solver's answer into a solution file and a report.
-ghost use Rattle.std.specs.Prelude.{◌≡◌, ◌⊎◌, Err, IfErr};
-ghost use Rattle.rota_core.specs.HardRules.{KeepsOneCell};
-ghost use Rattle.rota_core.specs.InstanceTables.{week_of};
-ghost use Rattle.rota_core.specs.RosterTables.{HasShapeOf, set_of};
-ghost use Rattle.rota_read.specs.SolutionText.{solution_text};
-ghost use Rattle.rota_pb.specs.declared.fault.Fault.TheVariants.{Read, Write};
-ghost use Rattle.rota_pb.specs.AnswerPieces.{HasNoEnd};
-ghost use Rattle.rota_pb.specs.Decoded.{FindsRoster};
-ghost use Rattle.rota_pb.specs.Decoding.{DecodeOutcome, DecodesWeek, SendsBoth};
-ghost use Rattle.rota_pb.specs.Report.{report_text};
-ghost use Rattle.rota_pb.specs.Readers.{OneFailsBeforeEnd, reader_of, week_readers};
+ghost use Rattle.rota_pb.specs.Decoding.{DecodeOutcome};
+ghost use Rattle.rota_pb.specs.Readers.{reader_of, week_readers};
 ghost use Rattle.rota_pb.specs.Writers.{writer_of};
 
 use crate::answer_pieces::read_answer;
-use crate::decoded::{Decoded, decode};
+use crate::decoded::decode;
 use crate::fault::Fault;
 use crate::report::write_report;
 use crate::week_files::{Choice, read_instance};
 use crate::written_solution::write_solution;
-use rota_core::{Instance, Source, Target};
+use rota_core::{Source, Target};
 use rota_items::counts;
 use std::alloc::Global;
-
-// Writes the solution file of the roster and, once it is out whole and flushed, the report.
-fn write_both<W: Target, R: Target>(
-    instance: &Instance,
-    decoded: &Decoded,
-    sol: &mut W,
-    report: &mut R,
-) -> Result<(), Fault>
-    requires shape { HasShapeOf (week_of instance.now) decoded.now.roster }
-    requires one_cell { KeepsOneCell (week_of instance.now) (set_of decoded.now.roster) }
-    requires finds { FindsRoster decoded.now.status }
-    ensures sends { SendsBoth (writer_of W.Target sol.old sol.new) (writer_of R.Target report.old report.new)
-        (solution_text instance.now (set_of decoded.now.roster)) (report_text decoded.now) result }
-    ensures fault { IfErr result (λ fault. fault ≡ Write) }
-{
-    write_solution(instance, &decoded.roster, sol)?;
-    write_report(decoded, report)
-}
-
-// Reads a solver's answer to the week's model, and writes the solution file of its roster and the report.
-fn decode_week<A: Source, W: Target, R: Target>(
-    alloc: Global,
-    instance: &Instance,
-    answer: &mut A,
-    sol: &mut W,
-    report: &mut R,
-) -> Result<(), Fault>
-    ensures { DecodesWeek instance.now (reader_of A.Source answer.old answer.new)
-        (writer_of W.Target sol.old sol.new) (writer_of R.Target report.old report.new) result }
-{
-    let solved = read_answer(alloc, counts(instance).variables, answer)?;
-    let decoded = decode(instance, solved)?;
-    write_both(instance, &decoded, sol, report)
-}
 
 /// Reads the files of a week and a solver's answer to the week's model, each to its end, and writes
 /// the solution file of the answer's roster to `sol` and then a report to `report`.
@@ -88,11 +45,10 @@ pub fn run_decode<S: Source, H: Source, K: Source, F: Source, A: Source, W: Targ
         (reader_of K.Source week.old week.new) (reader_of F.Source fix_file.old fix_file.new))
         (reader_of A.Source answer.old answer.new)
         (writer_of W.Target sol.old sol.new) (writer_of R.Target report.old report.new) result }
-    ensures read { result ≡ Err Read → OneFailsBeforeEnd (week_readers
-        (reader_of S.Source sce.old sce.new) (reader_of H.Source his.old his.new)
-        (reader_of K.Source week.old week.new) (reader_of F.Source fix_file.old fix_file.new))
-        ⊎ HasNoEnd (reader_of A.Source answer.old answer.new) }
 {
     let instance = read_instance(alloc, choice, sce, his, week, fix_file)?;
-    decode_week(alloc, &instance, answer, sol, report)
+    let solved = read_answer(alloc, counts(&instance).variables, answer)?;
+    let decoded = decode(&instance, solved)?;
+    write_solution(&instance, &decoded.roster, sol)?;
+    write_report(&decoded, report)
 }

@@ -1,13 +1,13 @@
 //! Runs that write a model.
-ghost use Rattle.std.specs.Prelude.{◌≡◌, true, Err, IsErr, IfErr};
+ghost use Rattle.std.specs.Prelude.{◌≡◌, true, IsErr};
 ghost use Rattle.rota_core.specs.InstanceTables.{week_of};
 ghost use Rattle.rota_items.specs.WeekModel.{model_of};
 ghost use Rattle.opb_text.specs.ModelText.{opb_text};
 ghost use Rattle.opb_text.specs.OpbTaker.{sink_of};
 ghost use Rattle.opb_text.specs.Sink.{PutsText, sink_failed};
-ghost use Rattle.rota_pb.specs.declared.fault.Fault.TheVariants.{Read, Write};
 ghost use Rattle.rota_pb.specs.Encoding.{EncodeOutcome};
-ghost use Rattle.rota_pb.specs.Readers.{OneFailsBeforeEnd, reader_of, week_readers};
+ghost use Rattle.rota_pb.specs.Readers.{reader_of, week_readers};
+ghost use Rattle.rota_pb.specs.Runs.{send};
 ghost use Rattle.rota_pb.specs.Writers.{SendsText, writer_of};
 
 use crate::fault::Fault;
@@ -42,8 +42,7 @@ fn send_model<W: Target>(instance: &Instance, out: &mut W) -> Result<(), PortFau
 /// Takes no memory. The only error is `Write`, where the writer failed: what went out then begins the
 /// text.
 pub fn encode<W: Target>(instance: &Instance, out: &mut W) -> Result<(), Fault>
-    ensures sends { SendsText (writer_of W.Target out.old out.new) (opb_text (model_of (week_of instance.now))) result }
-    ensures fault { IfErr result (λ fault. fault ≡ Write) }
+    ensures { (send (writer_of W.Target out.old out.new) (opb_text (model_of (week_of instance.now)))).ends result }
 {
     match send_model(instance, out) {
         Ok(()) => Ok(()),
@@ -77,9 +76,6 @@ pub fn run_encode<S: Source, H: Source, K: Source, F: Source, W: Target>(
         (reader_of S.Source sce.old sce.new) (reader_of H.Source his.old his.new)
         (reader_of K.Source week.old week.new) (reader_of F.Source fix_file.old fix_file.new))
         (writer_of W.Target out.old out.new) result }
-    ensures read { result ≡ Err Read → OneFailsBeforeEnd (week_readers
-        (reader_of S.Source sce.old sce.new) (reader_of H.Source his.old his.new)
-        (reader_of K.Source week.old week.new) (reader_of F.Source fix_file.old fix_file.new)) }
 {
     let instance = read_instance(alloc, choice, sce, his, week, fix_file)?;
     encode(&instance, out)

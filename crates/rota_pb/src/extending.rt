@@ -1,10 +1,8 @@
 //! Runs that extend a roster to an answer of its week's model.
-ghost use Rattle.std.specs.Prelude.{◌≡◌, ◌⊎◌, Err};
 ghost use Rattle.rota_core.specs.InstanceTables.{week_of};
 ghost use Rattle.rota_core.specs.RosterTables.{HasShapeOf, set_of};
-ghost use Rattle.rota_pb.specs.declared.fault.Fault.TheVariants.{Read};
-ghost use Rattle.rota_pb.specs.Extending.{ExtendOutcome, ExtendsGiven, ExtensionOutcome, extension_answer};
-ghost use Rattle.rota_pb.specs.Readers.{FailsBeforeEnd, OneFailsBeforeEnd, reader_of, week_readers};
+ghost use Rattle.rota_pb.specs.Extending.{ExtendOutcome, extend_roster, extension_answer};
+ghost use Rattle.rota_pb.specs.Readers.{reader_of, week_readers};
 ghost use Rattle.rota_pb.specs.Writers.{SendsText, writer_of};
 
 use crate::driven::verdict_of;
@@ -45,7 +43,7 @@ fn send_extension<W: Target>(
 /// breaks, and nothing is written; `Write` where the writer failed: what went out then begins the text.
 pub fn extend<W: Target>(instance: &Instance, roster: &Roster, out: &mut W) -> Result<(), Fault>
     requires shape { HasShapeOf (week_of instance.now) roster.now }
-    ensures { ExtensionOutcome (week_of instance.now) (set_of roster.now) (writer_of W.Target out.old out.new) result }
+    ensures { (extend_roster (week_of instance.now) (set_of roster.now) (writer_of W.Target out.old out.new)).ends result }
 {
     let verdict = verdict_of(instance, Judge::of_roster(instance, roster));
     if let Some((_, rule)) = verdict.unmet {
@@ -55,19 +53,6 @@ pub fn extend<W: Target>(instance: &Instance, roster: &Roster, out: &mut W) -> R
         Ok(()) => Ok(()),
         Err(_) => Err(Fault::Write),
     }
-}
-
-// Reads a solution file, and extends its roster.
-fn extend_given<G: Source, W: Target>(
-    alloc: Global,
-    instance: &Instance,
-    given: &mut G,
-    out: &mut W,
-) -> Result<(), Fault>
-    ensures { ExtendsGiven instance.now (reader_of G.Source given.old given.new) (writer_of W.Target out.old out.new) result }
-{
-    let roster = read_roster(alloc, instance, given)?;
-    extend(instance, &roster, out)
 }
 
 /// Reads the files of a week and a solution file, each to its end, and writes the answer that a solver
@@ -95,11 +80,8 @@ pub fn run_extend<S: Source, H: Source, K: Source, F: Source, G: Source, W: Targ
         (reader_of S.Source sce.old sce.new) (reader_of H.Source his.old his.new)
         (reader_of K.Source week.old week.new) (reader_of F.Source fix_file.old fix_file.new))
         (reader_of G.Source given.old given.new) (writer_of W.Target out.old out.new) result }
-    ensures read { result ≡ Err Read → OneFailsBeforeEnd (week_readers
-        (reader_of S.Source sce.old sce.new) (reader_of H.Source his.old his.new)
-        (reader_of K.Source week.old week.new) (reader_of F.Source fix_file.old fix_file.new))
-        ⊎ FailsBeforeEnd (reader_of G.Source given.old given.new) }
 {
     let instance = read_instance(alloc, choice, sce, his, week, fix_file)?;
-    extend_given(alloc, &instance, given, out)
+    let roster = read_roster(alloc, &instance, given)?;
+    extend(&instance, &roster, out)
 }

@@ -1,10 +1,7 @@
 //! Rosters that are given as files: a solution, and the cells that are held.
-ghost use Rattle.std.specs.Prelude.{IfOk, IfErr};
 ghost use Rattle.rota_core.specs.declared.fault.FileName.TheVariants as names;
-ghost use Rattle.rota_read.specs.SolutionLayout.{solution};
-ghost use Rattle.rota_pb.specs.WeekFiles.{IsRosterRead};
-ghost use Rattle.rota_pb.specs.Faults.{FailsCheck};
 ghost use Rattle.rota_pb.specs.Readers.{reader_of};
+ghost use Rattle.rota_pb.specs.WeekFiles.{read_roster as roster_reading};
 
 use crate::fault::Fault;
 use crate::whole_read::read_within;
@@ -18,8 +15,7 @@ pub(crate) fn read_roster<S: Source>(
     instance: &Instance,
     source: &mut S,
 ) -> Result<Roster, Fault>
-    ensures read { IfOk result (IsRosterRead instance.now (reader_of S.Source source.old source.new)) }
-    ensures fault { IfErr result (FailsCheck names.Solution (solution instance.now.scenario) (reader_of S.Source source.old source.new)) }
+    ensures { (roster_reading names.Solution instance.now (reader_of S.Source source.old source.new)).ends result }
 {
     let text = read_within(alloc, source, LONGEST + 1)?;
     Ok(read_solution(alloc, instance, &text)?)
@@ -31,8 +27,7 @@ pub(crate) fn read_held<S: Source>(
     instance: &Instance,
     source: &mut S,
 ) -> Result<Roster, Fault>
-    ensures read { IfOk result (IsRosterRead instance.now (reader_of S.Source source.old source.new)) }
-    ensures fault { IfErr result (FailsCheck names.Fixed (solution instance.now.scenario) (reader_of S.Source source.old source.new)) }
+    ensures { (roster_reading names.Fixed instance.now (reader_of S.Source source.old source.new)).ends result }
 {
     let text = read_within(alloc, source, LONGEST + 1)?;
     Ok(read_fixed(alloc, instance, &text)?)

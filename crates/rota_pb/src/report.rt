@@ -1,11 +1,11 @@
 //! The report on a decoded answer.
-ghost use Rattle.std.specs.Prelude.{◌≡◌, true, IsErr, IfErr, codes};
+ghost use Rattle.std.specs.Prelude.{◌≡◌, true, IsErr, codes};
 ghost use Rattle.opb_text.specs.Sink.{PutsText, sink_failed};
 ghost use Rattle.rota_read.specs.SolutionText.{spaced, ended};
 ghost use Rattle.solver_text.specs.Status.{status_words};
-ghost use Rattle.rota_pb.specs.declared.fault.Fault.TheVariants.{Write};
 ghost use Rattle.rota_pb.specs.Decoded.{FindsRoster};
 ghost use Rattle.rota_pb.specs.Report.{cost_lines, last_o_line, number_line, report_text};
+ghost use Rattle.rota_pb.specs.Runs.{send};
 ghost use Rattle.rota_pb.specs.Writers.{SendsText, writer_of};
 
 use crate::decoded::Decoded;
@@ -91,8 +91,7 @@ fn send_report<W: Target>(decoded: &Decoded, out: &mut W) -> Result<(), PortFaul
 /// text.
 pub fn write_report<W: Target>(decoded: &Decoded, out: &mut W) -> Result<(), Fault>
     requires finds { FindsRoster decoded.now.status }
-    ensures sends { SendsText (writer_of W.Target out.old out.new) (report_text decoded.now) result }
-    ensures fault { IfErr result (λ fault. fault ≡ Write) }
+    ensures { (send (writer_of W.Target out.old out.new) (report_text decoded.now)).ends result }
 {
     match send_report(decoded, out) {
         Ok(()) => Ok(()),

@@ -1,13 +1,12 @@
 //! The files of a week, read whole and checked one after the other.
-ghost use Rattle.std.specs.Prelude.{IfOk, IfErr, MatchResult};
+ghost use Rattle.std.specs.Prelude.{IfOk};
 ghost use Rattle.rota_core.specs.declared.fault.FileName.TheVariants as names;
-ghost use Rattle.rota_core.specs.InstanceTables.{HasNumbersOf, IsInstance};
+ghost use Rattle.rota_core.specs.InstanceTables.{HasNumbersOf};
 ghost use Rattle.rota_read.specs.ScenarioLayout.{scenario as scenario_layout};
 ghost use Rattle.rota_read.specs.HistoryLayout.{history as history_layout};
 ghost use Rattle.rota_read.specs.WeekLayout.{week as week_layout};
-ghost use Rattle.rota_pb.specs.Faults.{FailsCheck};
 ghost use Rattle.rota_pb.specs.Readers.{reader_of, week_readers};
-ghost use Rattle.rota_pb.specs.WeekFiles.{IsRead, SpellsTables, SpellsWeek, StopsAfterScenario, StopsAt, StopsAtTables};
+ghost use Rattle.rota_pb.specs.WeekFiles.{join as joining, read_file, read_tables as tables_reading, read_week as week_reading};
 
 use crate::fault::Fault;
 use crate::given_roster::read_held;
@@ -26,8 +25,7 @@ pub struct Choice {
 }
 
 fn read_scenario_from<S: Source>(alloc: Global, source: &mut S) -> Result<Scenario, Fault>
-    ensures read { IfOk result (IsRead scenario_layout (reader_of S.Source source.old source.new)) }
-    ensures fault { IfErr result (FailsCheck names.Scenario scenario_layout (reader_of S.Source source.old source.new)) }
+    ensures { (read_file names.Scenario scenario_layout (reader_of S.Source source.old source.new)).ends result }
 {
     let text = read_within(alloc, source, LONGEST + 1)?;
     Ok(read_scenario(alloc, &text)?)
@@ -39,8 +37,7 @@ fn read_history_from<S: Source>(
     source: &mut S,
 ) -> Result<History, Fault>
     ensures fits { IfOk result (λ h. HasNumbersOf scenario.now h.nurses h.shifts h.skills) }
-    ensures read { IfOk result (IsRead (history_layout scenario.now) (reader_of S.Source source.old source.new)) }
-    ensures fault { IfErr result (FailsCheck names.History (history_layout scenario.now) (reader_of S.Source source.old source.new)) }
+    ensures reads { (read_file names.History (history_layout scenario.now) (reader_of S.Source source.old source.new)).ends result }
 {
     let text = read_within(alloc, source, LONGEST + 1)?;
     Ok(read_history(alloc, scenario, &text)?)
@@ -52,31 +49,19 @@ fn read_week_from<S: Source>(
     source: &mut S,
 ) -> Result<Week, Fault>
     ensures fits { IfOk result (λ w. HasNumbersOf scenario.now w.nurses w.shifts w.skills) }
-    ensures read { IfOk result (IsRead (week_layout scenario.now) (reader_of S.Source source.old source.new)) }
-    ensures fault { IfErr result (FailsCheck names.Week (week_layout scenario.now) (reader_of S.Source source.old source.new)) }
+    ensures reads { (read_file names.Week (week_layout scenario.now) (reader_of S.Source source.old source.new)).ends result }
 {
     let text = read_within(alloc, source, LONGEST + 1)?;
     Ok(read_week(alloc, scenario, &text)?)
 }
 
-// Reads the history and the week's data of the scenario. Where the history fails, the reader of
-// the week is not touched.
-fn read_history_and_week<H: Source, K: Source>(
-    alloc: Global,
-    scenario: &Scenario,
-    his: &mut H,
-    week: &mut K,
-) -> Result<(History, Week), Fault>
-    ensures history_fits { IfOk result (λ p. HasNumbersOf scenario.now p.0.nurses p.0.shifts p.0.skills) }
-    ensures week_fits { IfOk result (λ p. HasNumbersOf scenario.now p.1.nurses p.1.shifts p.1.skills) }
-    ensures history_read { IfOk result (λ p. IsRead (history_layout scenario.now) (reader_of H.Source his.old his.new) p.0) }
-    ensures week_read { IfOk result (λ p. IsRead (week_layout scenario.now) (reader_of K.Source week.old week.new) p.1) }
-    ensures fault { IfErr result (StopsAfterScenario scenario.now
-        (reader_of H.Source his.old his.new) (reader_of K.Source week.old week.new)) }
+// The three files joined, where the scenario spans the week.
+fn join(scenario: Scenario, history: History, week: Week, early: bool) -> Result<Instance, Fault>
+    requires history_fits { HasNumbersOf scenario history.nurses history.shifts history.skills }
+    requires week_fits { HasNumbersOf scenario week.nurses week.shifts week.skills }
+    ensures { (joining scenario history week early).ends result }
 {
-    let history = read_history_from(alloc, scenario, his)?;
-    let week = read_week_from(alloc, scenario, week)?;
-    Ok((history, week))
+    Ok(Instance::join(scenario, history, week, early)?)
 }
 
 // The instance that the three files spell, with no cell held. The first check that fails is the
@@ -88,15 +73,13 @@ fn read_tables<S: Source, H: Source, K: Source>(
     his: &mut H,
     week: &mut K,
 ) -> Result<Instance, Fault>
-    ensures limits { IfOk result IsInstance }
-    ensures spelled { IfOk result (SpellsTables early
-        (reader_of S.Source sce.old sce.new) (reader_of H.Source his.old his.new) (reader_of K.Source week.old week.new)) }
-    ensures fault { IfErr result (StopsAtTables
-        (reader_of S.Source sce.old sce.new) (reader_of H.Source his.old his.new) (reader_of K.Source week.old week.new)) }
+    ensures { (tables_reading early
+        (reader_of S.Source sce.old sce.new) (reader_of H.Source his.old his.new) (reader_of K.Source week.old week.new)).ends result }
 {
     let scenario = read_scenario_from(alloc, sce)?;
-    let (history, week) = read_history_and_week(alloc, &scenario, his, week)?;
-    Ok(Instance::join(scenario, history, week, early)?)
+    let history = read_history_from(alloc, &scenario, his)?;
+    let week = read_week_from(alloc, &scenario, week)?;
+    join(scenario, history, week, early)
 }
 
 // The instance that the files of a week spell, with the cells held that the fix file spells, where
@@ -109,10 +92,9 @@ pub(crate) fn read_instance<S: Source, H: Source, K: Source, F: Source>(
     week: &mut K,
     fix_file: &mut F,
 ) -> Result<Instance, Fault>
-    ensures { let readers = week_readers
+    ensures { (week_reading choice (week_readers
         (reader_of S.Source sce.old sce.new) (reader_of H.Source his.old his.new)
-        (reader_of K.Source week.old week.new) (reader_of F.Source fix_file.old fix_file.new) in
-        MatchResult result (SpellsWeek choice readers) (StopsAt choice readers) }
+        (reader_of K.Source week.old week.new) (reader_of F.Source fix_file.old fix_file.new))).ends result }
 {
     let instance = read_tables(alloc, choice.early, sce, his, week)?;
     if choice.fixed {

@@ -1,5 +1,5 @@
 //! The solution file of a roster.
-ghost use Rattle.std.specs.Prelude.{◌≡◌, ◌≤◌, length, true, IsErr, IfErr, OnOk};
+ghost use Rattle.std.specs.Prelude.{◌≡◌, ◌≤◌, length, true, IsErr, OnOk};
 ghost use Rattle.rota_core.specs.InstanceTables.{week_of};
 ghost use Rattle.rota_core.specs.Roster.{InWeek};
 ghost use Rattle.rota_core.specs.HardRules.{KeepsOneCell};
@@ -9,7 +9,7 @@ ghost use Rattle.rota_read.specs.SolutionRows.{SpellsRoster};
 ghost use Rattle.rota_read.specs.SolutionText.{assignment_text, heading_text, rows_text, solution_text};
 ghost use Rattle.opb_text.specs.Sink.{PutsText, sink_failed};
 ghost use Rattle.rota_core.specs.RosterCells.{cells_of};
-ghost use Rattle.rota_pb.specs.declared.fault.Fault.TheVariants.{Write};
+ghost use Rattle.rota_pb.specs.Runs.{send};
 ghost use Rattle.rota_pb.specs.Writers.{SendsText, writer_of};
 
 use crate::fault::Fault;
@@ -116,8 +116,7 @@ pub fn write_solution<W: Target>(
 ) -> Result<(), Fault>
     requires shape { HasShapeOf (week_of instance.now) roster.now }
     requires one_cell { KeepsOneCell (week_of instance.now) (set_of roster.now) }
-    ensures sends { SendsText (writer_of W.Target out.old out.new) (solution_text instance.now (set_of roster.now)) result }
-    ensures fault { IfErr result (λ fault. fault ≡ Write) }
+    ensures sends { (send (writer_of W.Target out.old out.new) (solution_text instance.now (set_of roster.now))).ends result }
 
     // what went out spells the same roster, where it is not too long to be read
     ensures spelled { OnOk result (

@@ -1,24 +1,41 @@
-use Rattle.std.proofs.Common.{refl, inl, inr}
-use Rattle.std.proofs.lemmas.Result.{err_from_is_err_and}
-use Rattle.rota_pb.specs.Decoding.{at_week}
-use Rattle.rota_pb.specs.WeekFiles.{StopsAt}
-use Rattle.rota_pb.proofs.DecodedRun.{answer_lacks_end, decodes_outcome}
-use Rattle.rota_pb.proofs.FailedReads.{one_fails}
-use Rattle.rota_pb.proofs.Outcomes.{checked, not_written}
+use Rattle.std.proofs.Common.{refl}
+use Rattle.rota_pb.specs.Runs.{went_on}
+use Rattle.rota_pb.proofs.Runs.{stopped_by}
 use Rattle.rota_pb.proofs.decoding.run_decode.Goals as goal
 
-pub returns-in_err-instance-clause-outcome : goal.returns-in_err-instance-clause-outcome
-returns-in_err-instance-clause-outcome g c =
-    let p = err_from_is_err_and c.from_residual.result c.from_residual.ensures.1 in
-    rw (p.1, p.2) (checked (StopsAt _ _) _ (not_written _ _) _ c.in_err-instance.ensures (at_week c.in_err-instance.ensures refl, refl, refl))
+pub returns-in_err-instance : goal.returns-in_err-instance
+returns-in_err-instance g c = record { outcome = stopped_by _ _ c.from_residual.ensures.1 c.in_err-instance.ensures (λ tables. (refl, λ solved. (tt, λ decoded. (refl, λ sent. refl)))) }
 
-pub returns-clause-outcome : goal.returns-clause-outcome
-returns-clause-outcome g c = decodes_outcome _ _ _ _ c.in_ok-instance.ensures _ _ _ c.decode_week.ensures
+pub returns-in_err-solved : goal.returns-in_err-solved
+returns-in_err-solved g c = record {
+  outcome =
+      went_on c.in_ok-instance.instance c.in_ok-instance.ensures
+      (stopped_by _ _ c.from_residual-in_err-solved.ensures.1 (rw c.counts.ensures.variables at c.in_err-solved.ensures)
+      (λ solved. (tt, λ decoded. (refl, λ sent. refl))));
+}
 
-pub returns-in_err-instance-clause-read : goal.returns-in_err-instance-clause-read
-returns-in_err-instance-clause-read g c =
-    let p = err_from_is_err_and c.from_residual.result c.from_residual.ensures.1 in
-    rw (p.1, p.2) (λ is. inl (one_fails _ _ _ is c.in_err-instance.ensures))
+pub returns-in_err-decoded : goal.returns-in_err-decoded
+returns-in_err-decoded g c = record {
+  outcome =
+      went_on c.in_ok-instance.instance c.in_ok-instance.ensures
+      (went_on c.in_ok-solved.solved (rw c.counts.ensures.variables at c.in_ok-solved.ensures)
+      (stopped_by _ _ c.from_residual-in_err-decoded.ensures.1 c.in_err-decoded.ensures.fault (λ decoded. (refl, λ sent. refl))));
+}
 
-pub returns-clause-read : goal.returns-clause-read
-returns-clause-read g c = λ is. inr (answer_lacks_end _ _ _ _ _ c.decode_week.ensures is)
+pub returns-in_err-write_solution : goal.returns-in_err-write_solution
+returns-in_err-write_solution g c = record {
+  outcome =
+      went_on c.in_ok-instance.instance c.in_ok-instance.ensures
+      (went_on c.in_ok-solved.solved (rw c.counts.ensures.variables at c.in_ok-solved.ensures)
+      (went_on c.in_ok-decoded.decoded c.in_ok-decoded.ensures.decoded
+      (stopped_by _ _ c.from_residual-in_err-write_solution.ensures.1 c.in_err-write_solution.ensures.sends (λ sent. refl))));
+}
+
+pub returns : goal.returns
+returns g c = record {
+  outcome =
+      went_on c.in_ok-instance.instance c.in_ok-instance.ensures
+      (went_on c.in_ok-solved.solved (rw c.counts.ensures.variables at c.in_ok-solved.ensures)
+      (went_on c.in_ok-decoded.decoded c.in_ok-decoded.ensures.decoded
+      (went_on tt c.in_ok-write_solution.ensures.sends c.write_report.ensures)));
+}

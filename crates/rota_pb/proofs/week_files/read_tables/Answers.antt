@@ -1,18 +1,23 @@
-use Rattle.std.proofs.Common.{refl, ap}
-use Rattle.std.proofs.lemmas.Result.{err_from_is_err_and}
-use Rattle.rota_pb.specs.Faults.{fault_of_file}
-use Rattle.rota_pb.specs.WeekFiles.{at_late_week}
-use Rattle.rota_pb.proofs.Outcomes.{after_scenario}
+use Rattle.std.proofs.Common.{refl}
+use Rattle.rota_pb.specs.Runs.{went_on}
+use Rattle.rota_pb.proofs.Runs.{stopped_by}
 use Rattle.rota_pb.proofs.week_files.read_tables.Goals as goal
 
-pub returns-in_err-history-clause-fault : goal.returns-in_err-history-clause-fault
-returns-in_err-history-clause-fault g c =
-    let p = err_from_is_err_and c.from_residual-in_err-history.result c.from_residual-in_err-history.ensures.1 in
-    rw (p.1, p.2) (after_scenario _ _ _ _ c.in_ok-scenario.ensures.read _ c.in_err-history.ensures.fault)
+pub returns-in_err-scenario : goal.returns-in_err-scenario
+returns-in_err-scenario g c = stopped_by _ _ c.from_residual.ensures.1 c.in_err-scenario.ensures (λ s. (refl, λ h. (refl, λ w. tt)))
 
-pub returns-in_err-join-clause-fault : goal.returns-in_err-join-clause-fault
-returns-in_err-join-clause-fault g c =
-    let p = err_from_is_err_and c.from_residual-in_err-join.result c.from_residual-in_err-join.ensures.1 in
-    rw (p.1, p.2)
-    (at_late_week _ _ _ c.in_ok-scenario.ensures.read c.in_ok-history.ensures.history_read c.in_ok-history.ensures.week_read
-    (c.in_err-join.ensures.late.0 refl) (ap fault_of_file c.in_err-join.ensures.fault))
+pub returns-in_err-history : goal.returns-in_err-history
+returns-in_err-history g c =
+    went_on c.in_ok-scenario.scenario c.in_ok-scenario.ensures
+    (stopped_by _ _ c.from_residual-in_err-history.ensures.1 c.in_err-history.ensures.reads (λ h. (refl, λ w. tt)))
+
+pub returns-in_err-week : goal.returns-in_err-week
+returns-in_err-week g c =
+    went_on c.in_ok-scenario.scenario c.in_ok-scenario.ensures
+    (went_on c.in_ok-history.history c.in_ok-history.ensures.reads
+    (stopped_by _ _ c.from_residual-in_err-week.ensures.1 c.in_err-week.ensures.reads (λ w. tt)))
+
+pub returns : goal.returns
+returns g c =
+    went_on c.in_ok-scenario.scenario c.in_ok-scenario.ensures
+    (went_on c.in_ok-history.history c.in_ok-history.ensures.reads (went_on c.in_ok-week.week c.in_ok-week.ensures.reads c.join.ensures))
