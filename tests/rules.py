@@ -181,27 +181,32 @@ def counts(week, roster, early=False):
     shifts, number = shifts_by_day(roster), numbers(roster)
     for where, (_, optimal) in week.required.items():
         yield "S1", "missing", max(0, optimal - number[where]), 30
-    for nurse, of in week.nurses.items():
-        contract, history = week.contracts[of.contract], week.history[nurse]
-        shift_on = [shifts[nurse, day] for day in range(7)]
-        for shift, limits in week.shifts.items():
-            before = history.same if history.last == shift else 0
-            above, below = run_counts([shift in now for now in shift_on], before, limits)
-            yield "S2", "shift above", above, 15
-            yield "S2", "shift below", below, 15
-        above, below = run_counts([bool(now) for now in shift_on], history.work, contract.work)
-        yield "S2", "work above", above, 30
-        yield "S2", "work below", below, 30
-        above, below = run_counts([not now for now in shift_on], history.off, contract.off)
-        yield "S3", "off above", above, 30
-        yield "S3", "off below", below, 30
-        for who, shift, day in week.requests:
-            if who == nurse:
-                worked = shift_on[day] if shift == "Any" else [s for s in shift_on[day] if s == shift]
-                yield "S4", "Any" if shift == "Any" else "shift", len(worked), 10
-        saturday, sunday = bool(shift_on[SATURDAY]), bool(shift_on[SUNDAY])
-        yield "S5", "half", int(contract.complete and saturday != sunday), 30
-        yield from total_counts(week, contract, history, sum(map(len, shift_on)), saturday or sunday, early)
+    for nurse in week.nurses:
+        yield from nurse_counts(week, shifts, nurse, early)
+
+
+def nurse_counts(week, shifts, nurse, early=False):
+    """What the rules count for a nurse, of the shift types that nurses have on days."""
+    contract, history = week.contracts[week.nurses[nurse].contract], week.history[nurse]
+    shift_on = [shifts[nurse, day] for day in range(7)]
+    for shift, limits in week.shifts.items():
+        before = history.same if history.last == shift else 0
+        above, below = run_counts([shift in now for now in shift_on], before, limits)
+        yield "S2", "shift above", above, 15
+        yield "S2", "shift below", below, 15
+    above, below = run_counts([bool(now) for now in shift_on], history.work, contract.work)
+    yield "S2", "work above", above, 30
+    yield "S2", "work below", below, 30
+    above, below = run_counts([not now for now in shift_on], history.off, contract.off)
+    yield "S3", "off above", above, 30
+    yield "S3", "off below", below, 30
+    for who, shift, day in week.requests:
+        if who == nurse:
+            worked = shift_on[day] if shift == "Any" else [s for s in shift_on[day] if s == shift]
+            yield "S4", "Any" if shift == "Any" else "shift", len(worked), 10
+    saturday, sunday = bool(shift_on[SATURDAY]), bool(shift_on[SUNDAY])
+    yield "S5", "half", int(contract.complete and saturday != sunday), 30
+    yield from total_counts(week, contract, history, sum(map(len, shift_on)), saturday or sunday, early)
 
 
 def total_counts(week, contract, history, works, weekend, early):
@@ -219,12 +224,23 @@ def total_counts(week, contract, history, works, weekend, early):
         yield "S7", "above", max(0, weekends - most), 30
 
 
+def cost_by_rule(counted):
+    """The cost of each soft rule, of what the rules count."""
+    cost = dict.fromkeys(SOFT_RULES, 0)
+    for rule, _, count, weight in counted:
+        cost[rule] += count * weight
+    return cost
+
+
 def costs(week, roster, early=False):
     """The cost of each soft rule, in their order; the penalty is their sum."""
-    cost = dict.fromkeys(SOFT_RULES, 0)
-    for rule, _, count, weight in counts(week, roster, early):
-        cost[rule] += count * weight
-    return list(cost.values())
+    return list(cost_by_rule(counts(week, roster, early)).values())
+
+
+def nurse_costs(week, roster, early=False):
+    """The same of each nurse; of S1 no nurse pays."""
+    shifts = shifts_by_day(roster)
+    return {nurse: cost_by_rule(nurse_counts(week, shifts, nurse, early)) for nurse in week.nurses}
 
 
 def main():
