@@ -7,7 +7,7 @@ unfoldable pub use Rattle.rota_core.specs.Lists.{each_below, only_if}
 pub use Rattle.rota_core.specs.Week.{Week}
 pub use Rattle.rota_core.specs.declared.values.Cell.{Cell}
 pub use Rattle.rota_items.specs.CellEvents.{cell_row_events, cell_term_events, coefficient_of, sum_events}
-pub use Rattle.rota_items.specs.ItemEvents.{SlacksFit, Walked}
+pub use Rattle.rota_items.specs.ItemTakes.{TookItems}
 pub use Rattle.rota_items.specs.ItemValues.{charged_items, item_of, property_of, runs_of}
 pub use Rattle.rota_items.specs.Items.{Item}
 pub use Rattle.rota_items.specs.RunItems.{Runs, day_terms, run_items}

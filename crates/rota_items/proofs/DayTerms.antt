@@ -44,33 +44,33 @@ module _ (week : Week) (f : PatternDay → List (Term Cell)) where
     after = only_if pattern.off_after (without_property pattern.end)
 
     pub refused_before : (s t : S) → Refused T (day_events before) s t → Refused T (day_events (days_of pattern)) s t
-    refused_before s t p = stop T days_join before (held ++ after) s t p
+    refused_before s t p = stop days_join before (held ++ after) s t p
 
     pub refused_held : (s t u : S) → Took T (day_events before) s t → Refused T (day_events held) t u →
         Refused T (day_events (days_of pattern)) s u
-    refused_held s t u p q = go_on T days_join before (held ++ after) s t u p (stop T days_join held after t u q)
+    refused_held s t u p q = go_on days_join before (held ++ after) s t u p (stop days_join held after t u q)
 
     pub takes_after : {R : Type 0} (s t u v : S) (r : Result R F) → Took T (day_events before) s t → Took T (day_events held) t u →
         Takes T (day_events after) u v r → Takes T (day_events (days_of pattern)) s v r
     takes_after s t u v r p q o =
-        rw (days_join.append, days_join.append) (Takes-then T _ _ s t v r p (Takes-then T _ _ t u v r q o))
+        rw (days_join.append, days_join.append) (Takes-then _ _ s t v r p (Takes-then _ _ t u v r q o))
 
   module _ {S F : Type 0} (T : Ghosts S F) (first day : ℕ) where
     pub days_none : (s : S) → Took T (day_events (days_with first first)) s s
-    days_none s = let none : first - first ≡ 0 = omega arith in rw none (nothing T days_join s)
+    days_none s = let none : first - first ≡ 0 = omega arith in rw none (nothing days_join s)
 
     pub days_more : (s t u : S) → first ≤ day → Took T (day_events (days_with first day)) s t →
         Took T (cell_term_events week (f (with_property day))) t u → Took T (day_events (days_with first (day + 1))) s u
     days_more s t u ordered p q =
         let longer : day + 1 - first ≡ day - first + 1 = omega arith in
         rw (longer, map-range_with_len_more with_property first (day - first) day (omega arith))
-        (both T days_join (days_with first day) (with_property day ∷ []) s t u p (rw append-nil q))
+        (both days_join (days_with first day) (with_property day ∷ []) s t u p (rw append-nil q))
 
     pub days_refused : (end : ℕ) (s t u : S) → first ≤ day → day < end → Took T (day_events (days_with first day)) s t →
         Refused T (cell_term_events week (f (with_property day))) t u → Refused T (day_events (days_with first end)) s u
     days_refused end s t u ordered below p q =
         let within : day - first < length (days_with first end) =
         omega (arith, length-map-range_with_len with_property first (end - first)) in
-        list_refused T (terms_join week) f (days_with first end) (day - first) (with_property day) s t u within
+        list_refused (terms_join week) f (days_with first end) (day - first) (with_property day) s t u within
         (rw (take-map-range_with_len with_property first (end - first) (day - first) (omega arith)) p)
         (rw (get_or-map-range_with_len with_property first (end - first) (day - first) day (with_property day) (omega arith) (omega arith)) q)

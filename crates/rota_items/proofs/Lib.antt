@@ -18,8 +18,10 @@ pub mod FirstUnmet
 pub mod HardRules
 pub mod HeldModel
 pub mod InstanceLimits
+pub mod ItemCounting
 pub mod ItemEventLists
 pub mod ItemLaw
+pub mod ItemRows
 pub mod ItemSizes
 pub mod JudgedItems
 pub mod JudgedModel

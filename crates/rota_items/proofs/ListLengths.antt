@@ -1,21 +1,14 @@
--- The lengths of lists made by loops, and the slacks of items in them.
+-- The lengths of lists made by loops.
 use Rattle.std.proofs.Common.{◌≡◌, ℕ, zero, suc, ◌+◌, ◌-◌, ◌*◌, ◌/◌, ◌<◌, ◌≤◌, List, ◌++◌, length, arith, lit≤, refl, length-append, add-one}
 use Rattle.rota_core.specs.Below.{sum_below}
-use Rattle.rota_core.proofs.Loops.{each_below-zero, each_below-more}
-use Rattle.rota_items.proofs.ItemEventLists.{slack_count-append}
-use Rattle.rota_items.specs.Items.{Item}
+use Rattle.rota_core.proofs.Loops.{each_below-more}
 use Rattle.rota_core.specs.Lists.{each_below}
-use Rattle.rota_items.specs.Slacks.{slack_count}
 
 -- ---- what a loop counts or adds up
 
 -- the length of what a loop gave in some turns, each of which gives no more than the most
 abbrev pub LengthOfEach : {A : Type 0} → ℕ → ℕ → ℕ → (ℕ → List A) → ℕ → Type 0
 LengthOfEach start turns most f sum = (sum ≡ start + length (each_below turns f)) × (sum ≤ start + turns * most)
-
--- the slacks of the items that it gave
-abbrev pub SlacksOfEach : {X : Type 0} → ℕ → ℕ → ℕ → (ℕ → List (Item X)) → ℕ → Type 0
-SlacksOfEach start turns most f sum = (sum ≡ start + slack_count (each_below turns f)) × (sum ≤ start + turns * most)
 
 -- the sum of numbers, one for each turn
 abbrev pub SumOfEach : ℕ → ℕ → (ℕ → ℕ) → ℕ → Type 0
@@ -28,13 +21,6 @@ length-each_none f = refl
 pub length-each_more : {A : Type 0} (n : ℕ) (f : ℕ → List A) → length (each_below (n + 1) f) ≡ length (each_below n f) + length (f n)
 length-each_more n f = rw (each_below-more n f, length-append (each_below n f) (f n)) refl
 
-pub slack_count-each_none : {X : Type 0} (f : ℕ → List (Item X)) → slack_count (each_below 0 f) ≡ 0
-slack_count-each_none f = rw (each_below-zero f) refl
-
-pub slack_count-each_more : {X : Type 0} (n : ℕ) (f : ℕ → List (Item X)) →
-    slack_count (each_below (n + 1) f) ≡ slack_count (each_below n f) + slack_count (f n)
-slack_count-each_more n f = rw (each_below-more n f, slack_count-append (each_below n f) (f n)) refl
-
 pub sum_below-none : (number : ℕ → ℕ) → sum_below 0 number ≡ 0
 unfolding sum_below
 sum_below-none number = refl
@@ -43,7 +29,7 @@ pub sum_below-more : (n : ℕ) (number : ℕ → ℕ) → sum_below (n + 1) numb
 unfolding sum_below
 sum_below-more n number = rw add-one refl
 
-pub ruleset counting = (length-append, slack_count-append, length-each_none, length-each_more, slack_count-each_none, slack_count-each_more, sum_below-none, sum_below-more)
+pub ruleset counting = (length-append, length-each_none, length-each_more, sum_below-none, sum_below-more)
 
 -- ---- lengths and slacks
 

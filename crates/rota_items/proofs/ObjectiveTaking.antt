@@ -70,4 +70,4 @@ no_row (first ∷ others) none = absurd (true≢false (sym (lt-ltb 0 (length (fi
 module _ {S F : Type 0} (T : Ghosts S F) (week : Week) where
   pub cell_terms_nowhere : (test : Bool) (n : ℕ) (f : ℕ → Term Cell) (s : S) → test ≡ false →
       Took T (cell_term_events week (each_below n (λ k. only_if test (f k)))) s s
-  cell_terms_nowhere test n f s fails = rw (each_below-nowhere test n f fails) (nothing T (terms_join week) s)
+  cell_terms_nowhere test n f s fails = rw (each_below-nowhere test n f fails) (nothing (terms_join week) s)

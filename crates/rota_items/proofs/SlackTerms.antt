@@ -7,12 +7,12 @@ use Rattle.std.proofs.lemmas.List.Sums.{fold-append}
 use Rattle.std.proofs.lemmas.List.FromFn.{map-range_with_len_more}
 use Rattle.rota_core.specs.Week.{Week}
 use Rattle.rota_core.specs.declared.values.Cell.{Cell}
-use Rattle.rota_items.proofs.ItemEventLists.{term_events-append, item_events-row, item_events-weights}
+use Rattle.rota_items.proofs.ItemEventLists.{term_events-append}
 use Rattle.rota_items.proofs.Taking.{numbers_join, Took-then, Refused-before, Refused-after, loop_refused, term_refused, refused_at_start, refused_at_terms, closed}
 use Rattle.rota_items.specs.CellEvents.{cell_term_events}
 use Rattle.rota_items.specs.Variables.{cell_number}
 use Rattle.rota_items.specs.Events.{start_row, term, close_row, term_events}
-use Rattle.rota_items.specs.ItemEvents.{item_events}
+use Rattle.rota_items.specs.ItemRows.{row_of_item}
 use Rattle.rota_items.specs.Items.{Item, numbered}
 use Rattle.rota_items.specs.Linear.{Term, times}
 use Rattle.rota_items.specs.LinearRow.{LinearRow}
@@ -20,7 +20,6 @@ use Rattle.rota_core.specs.Lists.{each_below}
 use Rattle.rota_items.specs.Slacks.{item_row}
 use Rattle.rota_items.specs.Takes.{Took, Refused, Takes}
 use Rattle.rota_items.specs.declared.part.Part.TheVariants.{Soft}
-use Rattle.rota_items.specs.declared.soft_item.ItemPart.TheVariants.{Row, SlackWeights}
 use Rattle.rota_items.specs.declared.takers.Taker.{Ghosts}
 
 -- one variable, so far from the first
@@ -57,7 +56,7 @@ module _ {S F : Type 0} (T : Ghosts S F) where
       T.left (T.value t) (term coefficient (first + i)) u → Refused T (term_events (times coefficient (range_with_len first n))) s u
   range_refused coefficient first i n s t u below p refused =
       rw (slack_terms-are coefficient first n)
-      (loop_refused T numbers_join i n (slack_term coefficient first) s t u below
+      (loop_refused numbers_join i n (slack_term coefficient first) s t u below
       (rw (slack_terms-are coefficient first i) at p) (term_refused T coefficient (first + i) t u refused))
 
   module _ (week : Week) (first : ℕ) (item : Item Cell) where
@@ -65,34 +64,26 @@ module _ {S F : Type 0} (T : Ghosts S F) where
     row = item_row (numbered (cell_number week) item) first
 
     pub item_refused_at_start : (s t : S) → T.left (T.value s) (start_row (Soft item.rule item.weight)) t →
-        Refused T (item_events Row week first (item ∷ [])) s t
-    item_refused_at_start s t h = rw (item_events-row week first item) (refused_at_start T row s t h)
+        Refused T (row_of_item (numbered (cell_number week) item) first) s t
+    item_refused_at_start s t h = refused_at_start T row s t h
 
     pub item_refused_at_terms : (s t u : S) → T.value t ≡ T.step (T.value s) (start_row (Soft item.rule item.weight)) →
-        Refused T (cell_term_events week item.terms) t u → Refused T (item_events Row week first (item ∷ [])) s u
+        Refused T (cell_term_events week item.terms) t u → Refused T (row_of_item (numbered (cell_number week) item) first) s u
     unfolding cell_term_events
     item_refused_at_terms s t u started refused =
-        rw (item_events-row week first item)
-        (refused_at_terms T row s t u started (rw term_events-append (Refused-before T _ _ t u refused)))
+        (refused_at_terms T row s t u started (rw term_events-append (Refused-before _ _ t u refused)))
 
     pub item_refused_at_slacks : (s t u v : S) → T.value t ≡ T.step (T.value s) (start_row (Soft item.rule item.weight)) →
         Took T (cell_term_events week item.terms) t u → Refused T (term_events (times (pos 1) (range_with_len first item.slacks))) u v →
-        Refused T (item_events Row week first (item ∷ [])) s v
+        Refused T (row_of_item (numbered (cell_number week) item) first) s v
     unfolding cell_term_events
     item_refused_at_slacks s t u v started taken refused =
-        rw (item_events-row week first item)
-        (refused_at_terms T row s t v started (rw term_events-append (Refused-after T _ _ t u v taken refused)))
+        (refused_at_terms T row s t v started (rw term_events-append (Refused-after _ _ t u v taken refused)))
 
     pub item_closed : (s t u v w : S) (r : Result (Unit {0}) F) → T.value t ≡ T.step (T.value s) (start_row (Soft item.rule item.weight)) →
         Took T (cell_term_events week item.terms) t u → Took T (term_events (times (pos 1) (range_with_len first item.slacks))) u v →
         MatchResult r (λ _. T.value w ≡ T.step (T.value v) (close_row item.degree)) (λ _. T.left (T.value v) (close_row item.degree) w) →
-        Takes T (item_events Row week first (item ∷ [])) s w r
+        Takes T (row_of_item (numbered (cell_number week) item) first) s w r
     unfolding cell_term_events
     item_closed s t u v w r started taken slacks closes =
-        rw (item_events-row week first item)
-        (closed T row s t v w r started (rw term_events-append (Took-then T _ _ t u v taken slacks)) closes)
-
-    pub weights_taken : {R : Type 0} (s t : S) (r : Result R F) →
-        Takes T (term_events (times (pos item.weight) (range_with_len first item.slacks))) s t r →
-        Takes T (item_events SlackWeights week first (item ∷ [])) s t r
-    weights_taken s t r taken = rw (item_events-weights week first item) taken
+        (closed T row s t v w r started (rw term_events-append (Took-then _ _ t u v taken slacks)) closes)

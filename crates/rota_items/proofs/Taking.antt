@@ -12,11 +12,11 @@ use Rattle.rota_core.specs.declared.values.Cell.{Cell}
 use Rattle.rota_core.proofs.Loops.{each_below-zero, each_below-more, last_or_before, only_if-holds, only_if-fails}
 use Rattle.rota_items.specs.CellEvents.{cell_term_events, cell_row_events, coefficient_of, sum_events}
 use Rattle.rota_items.specs.Variables.{cell_number}
-use Rattle.rota_items.specs.Events.{Event, start_row, term, close_row, row_events, term_events, events}
+use Rattle.rota_items.specs.Events.{start_row, term, close_row, row_events, term_events, events}
 use Rattle.rota_items.specs.Linear.{Term, times}
 use Rattle.rota_items.specs.LinearRow.{LinearRow}
 use Rattle.rota_core.specs.Lists.{each_below, only_if}
-use Rattle.rota_items.specs.Takes.{Took, Refused, Takes}
+use Rattle.rota_items.specs.Takes.{TookAll, RefusedOne, TakesAll, Took, Refused, Takes}
 use Rattle.rota_items.specs.WeekModel.{numbered_row, numbered_terms}
 use Rattle.rota_items.specs.declared.sums.Sign.{Sign}
 use Rattle.rota_items.specs.declared.takers.Taker.{Ghosts}
@@ -34,7 +34,7 @@ in_turn P longer i (suc n) f below here =
 
 -- ---- what makes events of a list, element by element
 
-pub record Joins {A : Type 0} (h : List A → List Event) : Type 0 where
+pub record Joins {A E : Type 0} (h : List A → List E) : Type 0 where
   pub none : h [] ≡ []
   pub append : (xs ys : List A) → h (xs ++ ys) ≡ h xs ++ h ys
 
@@ -95,25 +95,25 @@ cell_row_events-one : (week : Week) (row : LinearRow Cell) → cell_row_events w
 unfolding cell_row_events events
 cell_row_events-one week row = append-nil (row_events (numbered_row week row))
 
-module _ {S F : Type 0} (T : Ghosts S F) where
-  -- ---- call by call
+-- ---- a taker of anything: one list, then another
 
-  pub Took-none : (s : S) → Took T [] s s
+module _ {S V E : Type 0} {value : S → V} {step : V → E → V} {left : V → E → S → Type 0} where
+  pub Took-none : (s : S) → TookAll value step left [] s s
   Took-none s = record { value_is = refl }
 
-  pub Took-one : (event : Event) (s t : S) → T.value t ≡ T.step (T.value s) event → Took T (event ∷ []) s t
+  pub Took-one : (event : E) (s t : S) → value t ≡ step (value s) event → TookAll value step left (event ∷ []) s t
   Took-one event s t e = record { value_is = e }
 
-  pub Took-then : (a b : List Event) (s t u : S) → Took T a s t → Took T b t u → Took T (a ++ b) s u
+  pub Took-then : (a b : List E) (s t u : S) → TookAll value step left a s t → TookAll value step left b t u → TookAll value step left (a ++ b) s u
   Took-then a b s t u p q = record {
-    value_is = q.value_is ∙ (ap (λ v. fold T.step v b) p.value_is ∙ sym (fold-append T.step (T.value s) a b));
+    value_is = q.value_is ∙ (ap (λ v. fold step v b) p.value_is ∙ sym (fold-append step (value s) a b));
   }
 
-  pub Refused-one : (event : Event) (s t : S) → T.left (T.value s) event t → Refused T (event ∷ []) s t
+  pub Refused-one : (event : E) (s t : S) → left (value s) event t → RefusedOne value step left (event ∷ []) s t
   Refused-one event s t h = record { taken = []; event = event; untold = []; are = refl; leaves = h }
 
   -- refused among the first events
-  pub Refused-before : (a b : List Event) (s t : S) → Refused T a s t → Refused T (a ++ b) s t
+  pub Refused-before : (a b : List E) (s t : S) → RefusedOne value step left a s t → RefusedOne value step left (a ++ b) s t
   Refused-before a b s t p = record {
     taken = p.taken;
     event = p.event;
@@ -123,45 +123,54 @@ module _ {S F : Type 0} (T : Ghosts S F) where
   }
 
   -- refused after the first events
-  pub Refused-after : (a b : List Event) (s t u : S) → Took T a s t → Refused T b t u → Refused T (a ++ b) s u
+  pub Refused-after : (a b : List E) (s t u : S) → TookAll value step left a s t → RefusedOne value step left b t u → RefusedOne value step left (a ++ b) s u
   Refused-after a b s t u p q = record {
     taken = a ++ q.taken;
     event = q.event;
     untold = q.untold;
     are = ap (λ xs. a ++ xs) q.are ∙ sym (append_assoc a q.taken (q.event ∷ q.untold));
-    leaves = rw (fold-append T.step (T.value s) a q.taken, ← p.value_is) q.leaves;
+    leaves = rw (fold-append step (value s) a q.taken, ← p.value_is) q.leaves;
   }
 
   -- the exit of a `?`
-  pub exits : {R : Type 0} (all : List Event) (s t : S) (r : Result R F) → IsErr r → Refused T all s t → Takes T all s t r
+  pub exits : {R F : Type 0} (all : List E) (s t : S) (r : Result R F) → IsErr r → RefusedOne value step left all s t → TakesAll value step left all s t r
   exits all s t r err refused = MatchResult-from_err r _ _ err (λ _. refused)
 
-  pub Takes-then : {R : Type 0} (a b : List Event) (s t u : S) (r : Result R F) → Took T a s t → Takes T b t u r → Takes T (a ++ b) s u r
+  pub Takes-then : {R F : Type 0} (a b : List E) (s t u : S) (r : Result R F) → TookAll value step left a s t → TakesAll value step left b t u r → TakesAll value step left (a ++ b) s u r
   Takes-then a b s t u r p q =
       MatchResult-weaker r q (λ _ taken. Took-then a b s t u p taken) (λ _ refused. Refused-after a b s t u p refused)
 
   -- ---- list by list
 
-  module _ {A : Type 0} {h : List A → List Event} (joins : Joins h) where
-    pub stop : (xs ys : List A) (s t : S) → Refused T (h xs) s t → Refused T (h (xs ++ ys)) s t
+  module _ {A : Type 0} {h : List A → List E} (joins : Joins h) where
+    pub stop : (xs ys : List A) (s t : S) → RefusedOne value step left (h xs) s t → RefusedOne value step left (h (xs ++ ys)) s t
     stop xs ys s t p = rw joins.append (Refused-before (h xs) (h ys) s t p)
 
-    pub go_on : (xs ys : List A) (s t u : S) → Took T (h xs) s t → Refused T (h ys) t u → Refused T (h (xs ++ ys)) s u
+    pub go_on : (xs ys : List A) (s t u : S) → TookAll value step left (h xs) s t → RefusedOne value step left (h ys) t u → RefusedOne value step left (h (xs ++ ys)) s u
     go_on xs ys s t u p q = rw joins.append (Refused-after (h xs) (h ys) s t u p q)
 
-    pub loop_refused : (i n : ℕ) (f : ℕ → List A) (s t u : S) → i < n → Took T (h (each_below i f)) s t → Refused T (h (f i)) t u → Refused T (h (each_below n f)) s u
+    pub loop_refused : (i n : ℕ) (f : ℕ → List A) (s t u : S) → i < n → TookAll value step left (h (each_below i f)) s t → RefusedOne value step left (h (f i)) t u →
+        RefusedOne value step left (h (each_below n f)) s u
     loop_refused i n f s t u below p q =
-        in_turn (λ xs. Refused T (h xs) s u) (λ xs ys. stop xs ys s u) i n f below (go_on (each_below i f) (f i) s t u p q)
+        in_turn (λ xs. RefusedOne value step left (h xs) s u) (λ xs ys. stop xs ys s u) i n f below (go_on (each_below i f) (f i) s t u p q)
 
-    pub nothing : (s : S) → Took T (h []) s s
+    pub loop_ended : (i n : ℕ) (f : ℕ → List A) (s t : S) → i ≡ n → TookAll value step left (h (each_below i f)) s t →
+        TookAll value step left (h (each_below n f)) s t
+    loop_ended i n f s t e p = rw (← e) p
+
+    pub nothing : (s : S) → TookAll value step left (h []) s s
     nothing s = rw joins.none (Took-none s)
 
-    pub both : (xs ys : List A) (s t u : S) → Took T (h xs) s t → Took T (h ys) t u → Took T (h (xs ++ ys)) s u
+    pub both : (xs ys : List A) (s t u : S) → TookAll value step left (h xs) s t → TookAll value step left (h ys) t u → TookAll value step left (h (xs ++ ys)) s u
     both xs ys s t u p q = rw joins.append (Took-then (h xs) (h ys) s t u p q)
 
-    pub goes_on : {R : Type 0} (xs ys : List A) (s t u : S) (r : Result R F) → Took T (h xs) s t → Takes T (h ys) t u r → Takes T (h (xs ++ ys)) s u r
+    pub goes_on : {R F : Type 0} (xs ys : List A) (s t u : S) (r : Result R F) → TookAll value step left (h xs) s t → TakesAll value step left (h ys) t u r →
+        TakesAll value step left (h (xs ++ ys)) s u r
     goes_on xs ys s t u r p q = rw joins.append (Takes-then (h xs) (h ys) s t u r p q)
 
+-- ---- a taker of rows
+
+module _ {S F : Type 0} (T : Ghosts S F) where
   -- ---- one term
 
   pub term_taken : (coefficient : ℤ) (variable : ℕ) (s t : S) → T.value t ≡ T.step (T.value s) (term coefficient variable) →

@@ -6,10 +6,8 @@ use Rattle.std.proofs.lemmas.List.Concat.{flat_map-append}
 use Rattle.std.specs.List.{flat_map}
 use Rattle.rota_core.specs.Week.{Week}
 use Rattle.rota_items.specs.CellEvents.{cell_row_events}
-use Rattle.rota_items.specs.Events.{Event}
-use Rattle.rota_items.specs.Takes.{Took, Refused}
+use Rattle.rota_items.specs.Takes.{TookAll, RefusedOne}
 use Rattle.rota_items.specs.hard.Held.{h5_row}
-use Rattle.rota_items.specs.declared.takers.Taker.{Ghosts}
 use Rattle.rota_items.proofs.Taking.{Joins, go_on, rows_join, stop}
 
 -- the lists of the elements before one, of it, and of those after it
@@ -27,12 +25,13 @@ in_list P longer f xs i other below here =
     (rw (flat_map-append f (take (i + 1) xs) (drop (i + 1) xs))
     (longer (flat_map f (take (i + 1) xs)) (flat_map f (drop (i + 1) xs)) (rw (flat_map-next f xs i other below) here)))
 
-module _ {S F : Type 0} (T : Ghosts S F) {A : Type 0} {h : List A → List Event} (joins : Joins h) {X : Type 0} (f : X → List A) (xs : List X) where
-  pub list_refused : (i : ℕ) (other : X) (s t u : S) → i < length xs → Took T (h (flat_map f (take i xs))) s t →
-      Refused T (h (f (get_or xs i other))) t u → Refused T (h (flat_map f xs)) s u
+module _ {S V E : Type 0} {value : S → V} {step : V → E → V} {left : V → E → S → Type 0}
+    {A : Type 0} {h : List A → List E} (joins : Joins h) {X : Type 0} (f : X → List A) (xs : List X) where
+  pub list_refused : (i : ℕ) (other : X) (s t u : S) → i < length xs → TookAll value step left (h (flat_map f (take i xs))) s t →
+      RefusedOne value step left (h (f (get_or xs i other))) t u → RefusedOne value step left (h (flat_map f xs)) s u
   list_refused i other s t u below before here =
-      in_list (λ ys. Refused T (h ys) s u) (λ ys zs. stop T joins ys zs s u) f xs i other below
-      (go_on T joins (flat_map f (take i xs)) (f (get_or xs i other)) s t u before here)
+      in_list (λ ys. RefusedOne value step left (h ys) s u) (λ ys zs. stop joins ys zs s u) f xs i other below
+      (go_on joins (flat_map f (take i xs)) (f (get_or xs i other)) s t u before here)
 
 -- what makes events of held cells, cell by cell
 pub held_join : (week : Week) → Joins (λ cells. cell_row_events week (map h5_row cells))

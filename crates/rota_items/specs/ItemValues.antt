@@ -96,11 +96,6 @@ item_of week item = record {
   degree = item.degree;
 }
 
--- the item, if there is one
-abbrev pub items_given : Week → Option SoftItem → List (Item Cell)
-items_given week None = []
-items_given week (Some item) = item_of week item ∷ []
-
 -- the charge's nurse and shift type are some of the week's
 pub record IsChargeOf (week : Week) (charge : RunCharge) : Type 0 where
   pub nurse_in : charge.nurse < week.nurses

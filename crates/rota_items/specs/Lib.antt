@@ -10,7 +10,10 @@ pub mod Events
 pub mod FirstUnmet
 pub mod HardRows
 pub mod ItemConstraints
-pub mod ItemEvents
+pub mod ItemCounting
+pub mod ItemRows
+pub mod ItemTakes
+pub mod ItemTaking
 pub mod ItemValues
 pub mod Items
 pub mod Judged

@@ -1,54 +1,66 @@
 //! How many items there are, and how many slacks they have.
-ghost use Rattle.std.specs.Prelude.{◌≡◌, ◌≤◌, ℕ, IfSome, length};
-ghost use Rattle.rota_core.specs.Week.{Week};
-ghost use Rattle.rota_items.specs.ItemValues.{items_given};
+ghost use Rattle.std.specs.Prelude.{◌≡◌, length};
+ghost use Rattle.rota_core.specs.InstanceTables.{week_of};
 ghost use Rattle.rota_items.specs.Slacks.{slack_count};
+ghost use Rattle.rota_items.specs.Charges.{soft_items};
 
-use crate::soft_item::SoftItem;
+use crate::item_takers::{ItemTaker, RunTaker};
+use crate::limits::within_limits;
+use crate::rules::walk_soft_items;
+use crate::run_counts::{patterns_of, windows_of};
+use crate::soft_item::{NurseRuns, SoftItem};
+use rota_core::Instance;
+use std::convert::Infallible;
 
-/// How many items there are, and how many slacks they have.
+/// Counts items and their slacks. A number that would not fit stays at the greatest.
 #[derive(Clone, Copy)]
 pub struct ItemCounts {
     pub items: u32,
     pub slacks: u32,
 }
 
-impl ItemCounts {
-    /// Those of no items.
-    pub fn none() -> Self
-        ensures items { result.items ≡ 0 }
-        ensures slacks { result.slacks ≡ 0 }
-    {
-        ItemCounts {
-            items: 0,
-            slacks: 0,
-        }
-    }
+impl ItemTaker for ItemCounts {
+    type Fault = Infallible;
 
-    /// Those of the item, if there is one.
-    pub fn of(item: Option<SoftItem>) -> Self
-        ensures one { result.items ≤ 1 }
-        ensures few { (most : ℕ) → IfSome item (λ one. one.slacks ≤ most) → result.slacks ≤ most }
-        ensures items { (week : Week) → result.items ≡ length (items_given week item) }
-        ensures slacks { (week : Week) → result.slacks ≡ slack_count (items_given week item) }
-    {
-        match item {
-            Some(one) => ItemCounts {
-                items: 1,
-                slacks: one.slacks,
-            },
-            None => ItemCounts::none(),
-        }
-    }
+    ghost use Rattle.rota_items.specs.ItemCounting.{ItemNumbers, with_one};
 
-    /// Those of `items` items of one slack each.
-    pub fn of_one_slack(items: u32) -> Self
-        ensures items { result.items ≡ items }
-        ensures slacks { result.slacks ≡ items }
-    {
-        ItemCounts {
-            items,
-            slacks: items,
-        }
+    ghost Value = { ItemNumbers };
+
+    ghost value = { λ counts. record { items = counts.items; slacks = counts.slacks } };
+
+    ghost step = { with_one };
+
+    ghost left = { λ _ _ _. ⊥ };
+
+    fn item(&mut self, _instance: &Instance, item: SoftItem) -> Result<(), Infallible> {
+        self.items = self.items.saturating_add(1);
+        self.slacks = self.slacks.saturating_add(item.slacks);
+        Ok(())
+    }
+}
+
+impl RunTaker for ItemCounts {
+    // Each window and each pattern is an item of one slack.
+    fn runs(&mut self, _instance: &Instance, runs: NurseRuns) -> Result<(), Infallible> {
+        let items = windows_of(runs.history, runs.limits) + patterns_of(runs.history, runs.limits);
+        self.items = self.items.saturating_add(items);
+        self.slacks = self.slacks.saturating_add(items);
+        Ok(())
+    }
+}
+
+/// The numbers of the soft rules' items and slacks.
+pub fn count_soft_items(instance: &Instance) -> ItemCounts
+    ensures items { result.items ≡ length (soft_items (week_of instance.now)) }
+    ensures slacks { result.slacks ≡ slack_count (soft_items (week_of instance.now)) }
+{
+    within_limits(instance);
+    let mut counts = ItemCounts {
+        items: 0,
+        slacks: 0,
+    };
+    match walk_soft_items(instance, &mut counts) {
+        Ok(()) => counts,
+        Err(never) => match never {},
     }
 }

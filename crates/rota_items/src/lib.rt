@@ -29,10 +29,12 @@ mod hard;
 mod item_counts;
 // What items mean: their constraints, their slacks and their shortages.
 mod item_laws;
+// The rows of items, handed to a taker of rows.
+mod item_rows;
 // The terms of items.
 mod item_sums;
-// The walk over one item: its row, or the weights of its slacks.
-mod item_walk;
+// What takes the items of the soft rules, item by item.
+mod item_takers;
 // The taker that evaluates.
 mod judging;
 // The limits of an instance's numbers.
@@ -61,6 +63,8 @@ mod run_patterns;
 mod run_walk;
 // How large the numbers of a week's model are, and what its coefficients are.
 mod size_laws;
+// The weights of items' slacks, handed to a taker of rows as terms of the objective.
+mod slack_weights;
 // The items of the soft rules as values: what a walk over them hands to a taker.
 mod soft_item;
 // What a judge evaluates.

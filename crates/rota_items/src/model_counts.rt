@@ -5,8 +5,8 @@ ghost use Rattle.rota_items.specs.WeekModel.{model_of};
 
 use crate::counting::Counts;
 use crate::hard::count_rule_rows;
+use crate::item_counts::count_soft_items;
 use crate::limits::within_limits;
-use crate::rules::count_soft_items;
 use crate::variables::unit_var;
 use rota_core::Instance;
 

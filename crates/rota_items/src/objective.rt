@@ -9,7 +9,8 @@ ghost use Rattle.rota_items.specs.Takes.{Takes};
 
 use crate::limits::within_limits;
 use crate::part::Part;
-use crate::rules::{constant, give_cell_terms, give_slack_weights};
+use crate::rules::{constant, give_cell_terms};
+use crate::slack_weights::give_slack_weights;
 use crate::takers::Taker;
 use crate::variables::unit_var;
 use rota_core::Instance;

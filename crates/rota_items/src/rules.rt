@@ -1,18 +1,14 @@
 //! The soft rules, a room each: what a rule's room does, by the rule.
-ghost use Rattle.std.specs.Prelude.{◌≡◌, ◌*◌, ◌<◌, ◌≤◌, IfSome, [], ◌∷◌, length};
+ghost use Rattle.std.specs.Prelude.{◌≡◌, ◌<◌, ◌≤◌, IfSome, [], ◌∷◌, length};
 ghost use Rattle.rota_core.specs.InstanceTables.{week_of};
 ghost use Rattle.rota_core.specs.Lists.{each_below};
 ghost use Rattle.rota_core.specs.Rules.{soft_rules};
 ghost use Rattle.rota_items.specs.CellEvents.{cell_term_events};
-ghost use Rattle.rota_items.specs.Variables.{first_slack};
-ghost use Rattle.rota_items.specs.Events.{events, term_events};
-ghost use Rattle.rota_items.specs.ItemEvents.{SlacksFit, Walks, item_events};
+ghost use Rattle.rota_items.specs.ItemTakes.{TakesItems};
 ghost use Rattle.rota_items.specs.Charges.{nurse_constant, nurse_items, cell_terms, cell_terms_of_rule, constant, constant_of_rule, items_of_rule, soft_items};
-ghost use Rattle.rota_items.specs.Slacks.{item_rows, slack_count, slack_weights};
 ghost use Rattle.rota_items.specs.Verdicts.{soft_place};
 ghost use Rattle.rota_items.specs.Takes.{Takes};
 ghost use Rattle.rota_items.specs.RuleCharges.{constant_of_assignments, constant_of_weekends};
-ghost use Rattle.rota_items.specs.WeekModel.{numbered_items};
 
 mod complete_weekends;
 mod consecutive_assignments;
@@ -22,11 +18,8 @@ mod shift_off_requests;
 mod total_assignments;
 mod worked_weekends;
 
-use crate::item_counts::ItemCounts;
-use crate::limits::within_limits;
-use crate::soft_item::ItemPart;
+use crate::item_takers::RunTaker;
 use crate::takers::Taker;
-use crate::variables::unit_var;
 use rota_core::{Instance, Rule};
 
 /// The place of a soft rule in `Rule::SOFT`.
@@ -39,111 +32,61 @@ pub fn soft_place(rule: Rule) -> Option<usize>
 
 // The items of a rule that charges each nurse, at a nurse.
 #[tactic(auto, using(crate::proofs::Walking::walking))]
-fn walk_nurse<T: Taker>(
+fn walk_nurse<T: RunTaker>(
     instance: &Instance,
     taker: &mut T,
-    part: ItemPart,
-    first: u32,
     rule: Rule,
     nurse: u16,
-) -> Result<u32, T::Fault>
+) -> Result<(), T::Fault>
     requires nurse_in { nurse < (week_of instance.now).nurses }
-    requires slacks_fit { SlacksFit first (nurse_items (week_of instance.now) rule nurse) }
     ensures { let week = week_of instance.now in
-        Walks T.Taker part week first (nurse_items week rule nurse) taker.old taker.new result }
+        TakesItems T.ItemTaker week (nurse_items week rule nurse) taker.old taker.new result }
 {
     match rule {
-        Rule::S2 => consecutive_assignments::walk(instance, taker, part, first, nurse),
-        Rule::S3 => consecutive_days_off::walk(instance, taker, part, first, nurse),
-        Rule::S5 => complete_weekends::walk(instance, taker, part, first, nurse),
-        Rule::S6 => total_assignments::walk(instance, taker, part, first, nurse),
-        Rule::S7 => worked_weekends::walk(instance, taker, part, first, nurse),
-        _ => Ok(first),
+        Rule::S2 => consecutive_assignments::walk(instance, taker, nurse),
+        Rule::S3 => consecutive_days_off::walk(instance, taker, nurse),
+        Rule::S5 => complete_weekends::walk(instance, taker, nurse),
+        Rule::S6 => total_assignments::walk(instance, taker, nurse),
+        Rule::S7 => worked_weekends::walk(instance, taker, nurse),
+        _ => Ok(()),
     }
 }
 
 // The items of a rule that charges each nurse.
 #[tactic(auto, using(crate::proofs::Walking::walking))]
-fn walk_nurses<T: Taker>(
-    instance: &Instance,
-    taker: &mut T,
-    part: ItemPart,
-    first: u32,
-    rule: Rule,
-) -> Result<u32, T::Fault>
-    requires slacks_fit { let week = week_of instance.now in
-        SlacksFit first (each_below week.nurses (nurse_items week rule)) }
+fn walk_nurses<T: RunTaker>(instance: &Instance, taker: &mut T, rule: Rule) -> Result<(), T::Fault>
     ensures { let week = week_of instance.now in
-        Walks T.Taker part week first (each_below week.nurses (nurse_items week rule))
+        TakesItems T.ItemTaker week (each_below week.nurses (nurse_items week rule))
         taker.old taker.new result }
 {
-    let mut next = first;
     for nurse in 0..instance.nurses() {
-        next = walk_nurse(instance, taker, part, next, rule, nurse)?;
-    }
-    Ok(next)
-}
-
-// The items of a rule, whose slacks have the numbers from the first on.
-#[tactic(auto, using(crate::proofs::NurseItemLists::items_of_nurses))]
-fn walk_rule<T: Taker>(
-    instance: &Instance,
-    taker: &mut T,
-    part: ItemPart,
-    first: u32,
-    rule: Rule,
-) -> Result<u32, T::Fault>
-    requires slacks_fit { SlacksFit first (items_of_rule (week_of instance.now) rule) }
-    ensures { let week = week_of instance.now in
-        Walks T.Taker part week first (items_of_rule week rule) taker.old taker.new result }
-{
-    match rule {
-        Rule::S1 => optimal_coverage::walk(instance, taker, part, first),
-        _ => walk_nurses(instance, taker, part, first, rule),
-    }
-}
-
-// The items of all soft rules, in the order of the rules.
-#[tactic(auto, using(crate::proofs::Walking::walking, crate::proofs::ListTotals::listing))]
-fn walk_soft_items<T: Taker>(
-    instance: &Instance,
-    taker: &mut T,
-    part: ItemPart,
-) -> Result<(), T::Fault>
-    ensures { let week = week_of instance.now in
-        Takes T.Taker (item_events part week (first_slack week) (soft_items week))
-        taker.old taker.new result }
-{
-    within_limits(instance);
-    let mut next = unit_var(instance) + 1;
-    for rule in Rule::SOFT {
-        next = walk_rule(instance, taker, part, next, rule)?;
+        walk_nurse(instance, taker, rule, nurse)?;
     }
     Ok(())
 }
 
-/// Hands the taker the row of each item of the soft rules, in the order of the rules.
-///
-/// A row has the item's terms by rising variable, then its slacks, each with 1. The slacks of all
-/// items follow one another from the one after the unit variable on.
-#[tactic(auto, unfolding(crate::specs::ItemEvents::item_events))]
-pub fn give_item_rows<T: Taker>(instance: &Instance, taker: &mut T) -> Result<(), T::Fault>
+// The items of a rule.
+#[tactic(auto, using(crate::proofs::NurseItemLists::items_of_nurses))]
+fn walk_rule<T: RunTaker>(instance: &Instance, taker: &mut T, rule: Rule) -> Result<(), T::Fault>
     ensures { let week = week_of instance.now in
-        Takes T.Taker (events (item_rows (first_slack week) (numbered_items week)))
-        taker.old taker.new result }
+        TakesItems T.ItemTaker week (items_of_rule week rule) taker.old taker.new result }
 {
-    walk_soft_items(instance, taker, ItemPart::Row)
+    match rule {
+        Rule::S1 => optimal_coverage::walk(instance, taker),
+        _ => walk_nurses(instance, taker, rule),
+    }
 }
 
-/// Hands the taker a term for each slack of the soft rules' items, by rising variable: the weight of
-/// its item.
-#[tactic(auto, unfolding(crate::specs::ItemEvents::item_events))]
-pub fn give_slack_weights<T: Taker>(instance: &Instance, taker: &mut T) -> Result<(), T::Fault>
+/// The items of all soft rules, in the order of the rules.
+#[tactic(auto, using(crate::proofs::Walking::walking, crate::proofs::ListTotals::listing))]
+pub fn walk_soft_items<T: RunTaker>(instance: &Instance, taker: &mut T) -> Result<(), T::Fault>
     ensures { let week = week_of instance.now in
-        Takes T.Taker (term_events (slack_weights (first_slack week) (numbered_items week)))
-        taker.old taker.new result }
+        TakesItems T.ItemTaker week (soft_items week) taker.old taker.new result }
 {
-    walk_soft_items(instance, taker, ItemPart::SlackWeights)
+    for rule in Rule::SOFT {
+        walk_rule(instance, taker, rule)?;
+    }
+    Ok(())
 }
 
 // Hands the taker the terms that a rule has at cells.
@@ -172,77 +115,6 @@ pub fn give_cell_terms<T: Taker>(instance: &Instance, taker: &mut T) -> Result<(
         give_cell_terms_of_rule(instance, taker, rule)?;
     }
     Ok(())
-}
-
-// The numbers of a rule's items and slacks at a nurse.
-#[tactic(auto, using(crate::proofs::NurseItemLists::items_of_nurses))]
-fn count_nurse(instance: &Instance, rule: Rule, nurse: u16) -> ItemCounts
-    requires { nurse < (week_of instance.now).nurses }
-    ensures few_items { result.items ≤ 952 }
-    ensures few_slacks { result.slacks ≤ 952 }
-    ensures items { result.items ≡ length (nurse_items (week_of instance.now) rule nurse) }
-    ensures slacks { result.slacks ≡ slack_count (nurse_items (week_of instance.now) rule nurse) }
-{
-    match rule {
-        Rule::S2 => ItemCounts::of_one_slack(consecutive_assignments::count(instance, nurse)),
-        Rule::S3 => ItemCounts::of_one_slack(consecutive_days_off::count(instance, nurse)),
-        Rule::S5 => ItemCounts::of_one_slack(complete_weekends::count(instance, nurse)),
-        Rule::S6 => total_assignments::count(instance, nurse),
-        Rule::S7 => ItemCounts::of_one_slack(worked_weekends::count(instance, nurse)),
-        _ => ItemCounts::none(),
-    }
-}
-
-// The numbers of the items and slacks of a rule that charges each nurse.
-#[tactic(auto, using(crate::proofs::ListLengths::counting))]
-fn count_nurses(instance: &Instance, rule: Rule) -> ItemCounts
-    ensures few_items { result.items ≤ 952000 }
-    ensures few_slacks { result.slacks ≤ 952000 }
-    ensures items { let week = week_of instance.now in
-        result.items ≡ length (each_below week.nurses (nurse_items week rule)) }
-    ensures slacks { let week = week_of instance.now in
-        result.slacks ≡ slack_count (each_below week.nurses (nurse_items week rule)) }
-{
-    let mut items = 0;
-    let mut slacks = 0;
-    for nurse in 0..instance.nurses() {
-        let of_nurse = count_nurse(instance, rule, nurse);
-        items += of_nurse.items;
-        slacks += of_nurse.slacks;
-    }
-    ItemCounts { items, slacks }
-}
-
-// The numbers of a rule's items and slacks.
-#[tactic(auto, using(crate::proofs::NurseItemLists::items_of_nurses))]
-fn count_rule(instance: &Instance, rule: Rule) -> ItemCounts
-    ensures few_items { result.items ≤ 952000 }
-    ensures few_slacks { result.slacks ≤ 117438720 }
-    ensures items { result.items ≡ length (items_of_rule (week_of instance.now) rule) }
-    ensures slacks { result.slacks ≡ slack_count (items_of_rule (week_of instance.now) rule) }
-{
-    match rule {
-        Rule::S1 => optimal_coverage::count(instance),
-        _ => count_nurses(instance, rule),
-    }
-}
-
-/// The numbers of the soft rules' items and slacks.
-#[tactic(auto, using(crate::proofs::ListLengths::counting, crate::proofs::ListTotals::listing))]
-pub fn count_soft_items(instance: &Instance) -> ItemCounts
-    ensures few_items { result.items ≤ length soft_rules * 952000 }
-    ensures few_slacks { result.slacks ≤ length soft_rules * 117438720 }
-    ensures items { result.items ≡ length (soft_items (week_of instance.now)) }
-    ensures slacks { result.slacks ≡ slack_count (soft_items (week_of instance.now)) }
-{
-    let mut items = 0;
-    let mut slacks = 0;
-    for rule in Rule::SOFT {
-        let of_rule = count_rule(instance, rule);
-        items += of_rule.items;
-        slacks += of_rule.slacks;
-    }
-    ItemCounts { items, slacks }
 }
 
 // What no roster of the week can avoid of a rule at a nurse: the history has made it so. It is 0 but

@@ -49,15 +49,6 @@ fn edge_patterns_of(history: u16, minimum: u16) -> u32
     }
 }
 
-/// The number of the items that charge a nurse's runs.
-#[tactic(auto, using(crate::proofs::EachPattern::run_counting))]
-pub fn count_run_items(runs: NurseRuns) -> u32
-    ensures few { result ≤ 56 }
-    ensures number { (week : Week) → result ≡ length (run_items (runs_of week runs)) }
-{
-    windows_of(runs.history, runs.limits) + patterns_of(runs.history, runs.limits)
-}
-
 /// The numbers of windows and of patterns of some histories and limits.
 #[tactic(auto, unfolding(rota_core::specs::Lists::each_below, rota_core::specs::Lists::only_if))]
 pub fn worked_runs_have_their_patterns()

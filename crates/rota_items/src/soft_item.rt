@@ -1,14 +1,9 @@
 //! The items of the soft rules as values: what a walk over them hands to a taker.
+ghost use Rattle.std.specs.Prelude.{◌≡◌, ◌+◌, ◌^◌, ◌<◌};
+ghost use Rattle.rota_items.specs.ItemRows.{slacks_within};
 
 use crate::sums::Sign;
 use rota_core::{Rule, Span};
-
-/// What of each item a walk hands over: its row, or the weight of each of its slacks.
-#[derive(Clone, Copy)]
-pub enum ItemPart {
-    Row,
-    SlackWeights,
-}
 
 /// What a nurse's run is made of: days on a shift type, days of work, or days off.
 #[derive(Clone, Copy)]
@@ -62,6 +57,20 @@ pub struct SoftItem {
     pub slacks: u32,
     pub sum: ItemSum,
     pub degree: i64,
+}
+
+impl SoftItem {
+    /// The item with as many of its slacks as there are numbers for, from the first on. A week's model
+    /// has numbers for all.
+    pub fn within_numbers(self, first: u32) -> SoftItem
+        ensures slacks_fit { first + result.slacks < 2 ^ 32 }
+        ensures item { result ≡ record self { slacks = slacks_within first self.slacks } }
+    {
+        SoftItem {
+            slacks: self.slacks.min(u32::MAX - first),
+            ..self
+        }
+    }
 }
 
 /// What of a nurse's days is charged: the rule, the weight of a unit, and the property that the days of

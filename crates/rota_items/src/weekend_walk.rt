@@ -1,13 +1,13 @@
 //! The items of a nurse's weekend, which two rules charge.
 ghost use Rattle.std.specs.Prelude.{◌≡◌, [], ◌∷◌};
 ghost use Rattle.rota_core.specs.InstanceTables.{week_of};
-ghost use Rattle.rota_items.specs.ItemEvents.{SlacksFit, Walks};
+ghost use Rattle.rota_items.specs.ItemTakes.{TakesItems};
 ghost use Rattle.rota_items.specs.ItemValues.{IsChargeOf, IsInWeek, charged_items, pattern_of};
 ghost use Rattle.rota_items.specs.WeekendItems.{only_sunday, saturday};
 
+use crate::item_takers::ItemTaker;
 use crate::run_walk::walk_pattern;
-use crate::soft_item::{DayPattern, ItemPart, RunCharge};
-use crate::takers::Taker;
+use crate::soft_item::{DayPattern, RunCharge};
 use rota_core::Instance;
 
 // Work on Saturday, and none on Sunday where Saturday is to be alone.
@@ -41,22 +41,18 @@ fn only_sunday() -> DayPattern
 }
 
 /// The items that charge a nurse's Saturday, alone or not, and her Sunday without Saturday.
-pub fn walk_weekend<T: Taker>(
+pub fn walk_weekend<T: ItemTaker>(
     instance: &Instance,
     taker: &mut T,
-    part: ItemPart,
-    first: u32,
     charge: RunCharge,
     alone: bool,
-) -> Result<u32, T::Fault>
+) -> Result<(), T::Fault>
     requires charge_in { IsChargeOf (week_of instance.now) charge }
-    requires slacks_fit { let week = week_of instance.now in
-        SlacksFit first (charged_items week charge (saturday alone ∷ only_sunday ∷ [])) }
     ensures { let week = week_of instance.now in
-        Walks T.Taker part week first (charged_items week charge (saturday alone ∷ only_sunday ∷ []))
+        TakesItems T.ItemTaker week (charged_items week charge (saturday alone ∷ only_sunday ∷ []))
         taker.old taker.new result }
 {
     let on_saturday = saturday(alone);
-    let next = walk_pattern(instance, taker, part, first, charge, Some(on_saturday))?;
-    walk_pattern(instance, taker, part, next, charge, Some(only_sunday()))
+    walk_pattern(instance, taker, charge, Some(on_saturday))?;
+    walk_pattern(instance, taker, charge, Some(only_sunday()))
 }

@@ -1,17 +1,15 @@
 //! S2, consecutive assignments: runs on a shift type and runs of working days that are too long or too
 //! short.
-ghost use Rattle.std.specs.Prelude.{◌≡◌, ◌<◌, ◌≤◌, length};
+ghost use Rattle.std.specs.Prelude.{◌≡◌, ◌<◌, ◌≤◌};
 ghost use Rattle.rota_core.specs.InstanceTables.{week_of};
-ghost use Rattle.rota_items.specs.ItemEvents.{SlacksFit, Walks};
+ghost use Rattle.rota_items.specs.ItemTakes.{TakesItems};
 ghost use Rattle.rota_items.specs.ItemValues.{IsChargeOf, runs_of};
 ghost use Rattle.rota_items.specs.RunItems.{run_items};
 ghost use Rattle.rota_items.specs.rules.ConsecutiveAssignments.Items.{assignment_runs_of, shift_runs, work_runs};
 ghost use Rattle.rota_items.specs.rules.ConsecutiveAssignments.Cost.{history_on};
 
-use crate::run_counts::count_run_items;
-use crate::run_walk::walk_runs;
-use crate::soft_item::{DayProperty, ItemPart, NurseRuns, RunCharge};
-use crate::takers::Taker;
+use crate::item_takers::RunTaker;
+use crate::soft_item::{DayProperty, NurseRuns, RunCharge};
 use rota_core::{Instance, Rule};
 
 // What a day costs that a run on a shift type is too long or too short.
@@ -71,37 +69,15 @@ fn work_runs(instance: &Instance, nurse: u16) -> NurseRuns
 
 /// A nurse's runs on each shift type, then those of working days.
 #[tactic(auto, using(crate::proofs::Walking::walking))]
-pub fn walk<T: Taker>(
-    instance: &Instance,
-    taker: &mut T,
-    part: ItemPart,
-    first: u32,
-    nurse: u16,
-) -> Result<u32, T::Fault>
+pub fn walk<T: RunTaker>(instance: &Instance, taker: &mut T, nurse: u16) -> Result<(), T::Fault>
     requires nurse_in { nurse < (week_of instance.now).nurses }
-    requires slacks_fit { SlacksFit first (assignment_runs_of (week_of instance.now) nurse) }
     ensures { let week = week_of instance.now in
-        Walks T.Taker part week first (assignment_runs_of week nurse) taker.old taker.new result }
+        TakesItems T.ItemTaker week (assignment_runs_of week nurse) taker.old taker.new result }
 {
-    let mut next = first;
     for shift in 0..instance.shifts() {
         let runs = shift_runs(instance, nurse, shift);
-        next = walk_runs(instance, taker, part, next, runs)?;
+        taker.runs(instance, runs)?;
     }
     let runs = work_runs(instance, nurse);
-    walk_runs(instance, taker, part, next, runs)
-}
-
-/// The number of a nurse's items, each of one slack.
-#[tactic(auto, using(crate::proofs::ListLengths::counting))]
-pub fn count(instance: &Instance, nurse: u16) -> u32
-    requires { nurse < (week_of instance.now).nurses }
-    ensures few { result ≤ 952 }
-    ensures number { result ≡ length (assignment_runs_of (week_of instance.now) nurse) }
-{
-    let mut items = 0;
-    for shift in 0..instance.shifts() {
-        items += count_run_items(shift_runs(instance, nurse, shift));
-    }
-    items + count_run_items(work_runs(instance, nurse))
+    taker.runs(instance, runs)
 }

@@ -1,16 +1,13 @@
 //! S1, optimal coverage: nurses below the optimal number of a day's shift type and skill.
-ghost use Rattle.std.specs.Prelude.{◌≡◌, ◌<◌, ◌≤◌, IfSome, length};
+ghost use Rattle.std.specs.Prelude.{◌≡◌, ◌<◌};
 ghost use Rattle.rota_core.specs.InstanceTables.{week_of};
-ghost use Rattle.rota_items.specs.ItemEvents.{SlacksFit, Walks};
-ghost use Rattle.rota_items.specs.ItemValues.{IsSumOf, item_of, items_given};
-ghost use Rattle.rota_items.specs.Slacks.{slack_count};
+ghost use Rattle.rota_items.specs.ItemTakes.{TakesItems};
+ghost use Rattle.rota_items.specs.ItemValues.{IsSumOf, item_of};
 ghost use Rattle.rota_items.specs.rules.OptimalCoverage.Items.{optimum_item, optimum_items, optimum_items_at};
 
-use crate::item_counts::ItemCounts;
-use crate::item_walk::walk_item;
+use crate::item_takers::ItemTaker;
 use crate::limits::DAYS;
-use crate::soft_item::{ItemPart, ItemSum, SoftItem};
-use crate::takers::Taker;
+use crate::soft_item::{ItemSum, SoftItem};
 use rota_core::{Instance, Rule};
 
 // What a missing nurse costs.
@@ -23,7 +20,6 @@ fn missing_nurses(instance: &Instance, day: u8, shift: u8, skill: u8) -> SoftIte
     requires skill_in { skill < (week_of instance.now).skills }
     ensures item { let week = week_of instance.now in item_of week result ≡ optimum_item week day shift skill }
     ensures sum_in { IsSumOf (week_of instance.now) result.sum }
-    ensures few { result.slacks ≤ 65535 }
 {
     let demand = instance.demand(day, shift, skill);
     SoftItem {
@@ -36,64 +32,39 @@ fn missing_nurses(instance: &Instance, day: u8, shift: u8, skill: u8) -> SoftIte
 }
 
 // The item of a day's shift type and skill, where the optimal number is above the least.
-#[tactic(auto, unfolding(rota_core::specs::Lists::only_if))]
-fn item(instance: &Instance, day: u8, shift: u8, skill: u8) -> Option<SoftItem>
+#[tactic(auto, using(crate::proofs::Walking::walking), unfolding(rota_core::specs::Lists::only_if))]
+fn walk_at<T: ItemTaker>(
+    instance: &Instance,
+    taker: &mut T,
+    day: u8,
+    shift: u8,
+    skill: u8,
+) -> Result<(), T::Fault>
     requires day_in { day < 7 }
     requires shift_in { shift < (week_of instance.now).shifts }
     requires skill_in { skill < (week_of instance.now).skills }
-    ensures item { let week = week_of instance.now in items_given week result ≡ optimum_items_at week day shift skill }
-    ensures sum_in { IfSome result (λ one. IsSumOf (week_of instance.now) one.sum) }
-    ensures few { IfSome result (λ one. one.slacks ≤ 65535) }
+    ensures { let week = week_of instance.now in
+        TakesItems T.ItemTaker week (optimum_items_at week day shift skill) taker.old taker.new result }
 {
     let demand = instance.demand(day, shift, skill);
     if demand.optimal <= demand.minimum {
-        return None;
+        return Ok(());
     }
-    Some(missing_nurses(instance, day, shift, skill))
+    taker.item(instance, missing_nurses(instance, day, shift, skill))
 }
 
 /// Each nurse missing below the optimal number, for each day, shift type and skill.
 #[tactic(auto, using(crate::proofs::Walking::walking))]
-pub fn walk<T: Taker>(
-    instance: &Instance,
-    taker: &mut T,
-    part: ItemPart,
-    first: u32,
-) -> Result<u32, T::Fault>
-    requires slacks_fit { SlacksFit first (optimum_items (week_of instance.now)) }
+pub fn walk<T: ItemTaker>(instance: &Instance, taker: &mut T) -> Result<(), T::Fault>
     ensures { let week = week_of instance.now in
-        Walks T.Taker part week first (optimum_items week) taker.old taker.new result }
+        TakesItems T.ItemTaker week (optimum_items week) taker.old taker.new result }
 {
-    let mut next = first;
     for day in 0..DAYS {
         for shift in 0..instance.shifts() {
             for skill in 0..instance.skills() {
-                let missing = item(instance, day, shift, skill);
-                next = walk_item(instance, taker, part, next, missing)?;
+                walk_at(instance, taker, day, shift, skill)?;
             }
         }
     }
-    Ok(next)
-}
-
-/// The numbers of the rule's items and slacks.
-#[tactic(auto, using(crate::proofs::ListLengths::counting))]
-pub fn count(instance: &Instance) -> ItemCounts
-    ensures few_items { result.items ≤ 1792 }
-    ensures few_slacks { result.slacks ≤ 117438720 }
-    ensures items { result.items ≡ length (optimum_items (week_of instance.now)) }
-    ensures slacks { result.slacks ≡ slack_count (optimum_items (week_of instance.now)) }
-{
-    let mut items = 0;
-    let mut slacks = 0;
-    for day in 0..DAYS {
-        for shift in 0..instance.shifts() {
-            for skill in 0..instance.skills() {
-                let missing = ItemCounts::of(item(instance, day, shift, skill));
-                items += missing.items;
-                slacks += missing.slacks;
-            }
-        }
-    }
-    ItemCounts { items, slacks }
+    Ok(())
 }

@@ -1,19 +1,16 @@
 //! S6, total assignments: assignments outside the limits of the nurse's total.
-ghost use Rattle.std.specs.Prelude.{◌≡◌, ◌<◌, ◌≤◌, ◌&&◌, nat_lt, IfSome, length};
+ghost use Rattle.std.specs.Prelude.{◌≡◌, ◌<◌, ◌≤◌, ◌&&◌, nat_lt};
 ghost use Rattle.rota_core.specs.InstanceTables.{week_of};
 ghost use Rattle.rota_items.specs.CountedTotals.{greatest_totals_count, least_totals_count};
-ghost use Rattle.rota_items.specs.ItemEvents.{SlacksFit, Walks};
-ghost use Rattle.rota_items.specs.ItemValues.{IsSumOf, item_of, items_given};
-ghost use Rattle.rota_items.specs.Slacks.{slack_count};
+ghost use Rattle.rota_items.specs.ItemTakes.{TakesItems};
+ghost use Rattle.rota_items.specs.ItemValues.{IsSumOf, item_of};
 ghost use Rattle.rota_items.specs.rules.TotalAssignments.Items.{assignment_constant_of, assignments_above, greatest_total_item, greatest_totals_of, least_total_item, least_totals_of, still_allowed, still_wanted, totals_of, wanted_beyond_days};
 
 use crate::counted_totals::{excess_before_counts, greatest_totals_count, least_totals_count};
-use crate::item_counts::ItemCounts;
-use crate::item_walk::walk_item;
+use crate::item_takers::ItemTaker;
 use crate::limits::DAYS;
-use crate::soft_item::{ItemPart, ItemSum, SoftItem};
+use crate::soft_item::{ItemSum, SoftItem};
 use crate::sums::Sign;
-use crate::takers::Taker;
 use rota_core::{Instance, Rule};
 
 // What an assignment below the least or above the greatest total costs.
@@ -60,7 +57,6 @@ fn least_total(instance: &Instance, nurse: u16) -> SoftItem
     requires nurse_in { nurse < (week_of instance.now).nurses }
     ensures item { let week = week_of instance.now in item_of week result ≡ least_total_item week nurse }
     ensures sum_in { IsSumOf (week_of instance.now) result.sum }
-    ensures few { result.slacks ≤ 7 }
 {
     let missing = still_wanted(instance, nurse).min(u16::from(DAYS));
     SoftItem {
@@ -80,7 +76,6 @@ fn greatest_total(instance: &Instance, nurse: u16) -> SoftItem
     requires nurse_in { nurse < (week_of instance.now).nurses }
     ensures item { let week = week_of instance.now in item_of week result ≡ greatest_total_item week nurse }
     ensures sum_in { IsSumOf (week_of instance.now) result.sum }
-    ensures few { result.slacks ≤ 7 }
 {
     let room = still_allowed(instance, nurse);
     SoftItem {
@@ -96,68 +91,44 @@ fn greatest_total(instance: &Instance, nurse: u16) -> SoftItem
 }
 
 // The item of a nurse's least total, where it counts and asks for more.
-#[tactic(auto, unfolding(rota_core::specs::Lists::only_if))]
-fn too_few(instance: &Instance, nurse: u16) -> Option<SoftItem>
+#[tactic(auto, using(crate::proofs::Walking::walking), unfolding(rota_core::specs::Lists::only_if))]
+fn walk_least<T: ItemTaker>(instance: &Instance, taker: &mut T, nurse: u16) -> Result<(), T::Fault>
     requires nurse_in { nurse < (week_of instance.now).nurses }
-    ensures item { let week = week_of instance.now in items_given week result ≡ least_totals_of week nurse }
-    ensures sum_in { IfSome result (λ one. IsSumOf (week_of instance.now) one.sum) }
-    ensures few { IfSome result (λ one. one.slacks ≤ 7) }
+    ensures { let week = week_of instance.now in
+        TakesItems T.ItemTaker week (least_totals_of week nurse) taker.old taker.new result }
 {
     if !asks_for_more(instance, nurse) {
-        return None;
+        return Ok(());
     }
-    Some(least_total(instance, nurse))
+    taker.item(instance, least_total(instance, nurse))
 }
 
 // The item of a nurse's greatest total, where it counts and the week can exceed it.
-#[tactic(auto, unfolding(rota_core::specs::Lists::only_if))]
-fn too_many(instance: &Instance, nurse: u16) -> Option<SoftItem>
+#[tactic(auto, using(crate::proofs::Walking::walking), unfolding(rota_core::specs::Lists::only_if))]
+fn walk_greatest<T: ItemTaker>(
+    instance: &Instance,
+    taker: &mut T,
+    nurse: u16,
+) -> Result<(), T::Fault>
     requires nurse_in { nurse < (week_of instance.now).nurses }
-    ensures item { let week = week_of instance.now in items_given week result ≡ greatest_totals_of week nurse }
-    ensures sum_in { IfSome result (λ one. IsSumOf (week_of instance.now) one.sum) }
-    ensures few { IfSome result (λ one. one.slacks ≤ 7) }
+    ensures { let week = week_of instance.now in
+        TakesItems T.ItemTaker week (greatest_totals_of week nurse) taker.old taker.new result }
 {
     if !can_exceed(instance, nurse) {
-        return None;
+        return Ok(());
     }
-    Some(greatest_total(instance, nurse))
+    taker.item(instance, greatest_total(instance, nurse))
 }
 
 /// The items of a nurse's least and of her greatest total.
 #[tactic(auto, using(crate::proofs::Walking::walking))]
-pub fn walk<T: Taker>(
-    instance: &Instance,
-    taker: &mut T,
-    part: ItemPart,
-    first: u32,
-    nurse: u16,
-) -> Result<u32, T::Fault>
+pub fn walk<T: ItemTaker>(instance: &Instance, taker: &mut T, nurse: u16) -> Result<(), T::Fault>
     requires nurse_in { nurse < (week_of instance.now).nurses }
-    requires slacks_fit { SlacksFit first (totals_of (week_of instance.now) nurse) }
     ensures { let week = week_of instance.now in
-        Walks T.Taker part week first (totals_of week nurse) taker.old taker.new result }
+        TakesItems T.ItemTaker week (totals_of week nurse) taker.old taker.new result }
 {
-    let least = too_few(instance, nurse);
-    let next = walk_item(instance, taker, part, first, least)?;
-    let greatest = too_many(instance, nurse);
-    walk_item(instance, taker, part, next, greatest)
-}
-
-/// The numbers of a nurse's items and slacks.
-#[tactic(auto, using(crate::proofs::ListLengths::counting))]
-pub fn count(instance: &Instance, nurse: u16) -> ItemCounts
-    requires { nurse < (week_of instance.now).nurses }
-    ensures few_items { result.items ≤ 2 }
-    ensures few_slacks { result.slacks ≤ 14 }
-    ensures items { result.items ≡ length (totals_of (week_of instance.now) nurse) }
-    ensures slacks { result.slacks ≡ slack_count (totals_of (week_of instance.now) nurse) }
-{
-    let least = ItemCounts::of(too_few(instance, nurse));
-    let greatest = ItemCounts::of(too_many(instance, nurse));
-    ItemCounts {
-        items: least.items + greatest.items,
-        slacks: least.slacks + greatest.slacks,
-    }
+    walk_least(instance, taker, nurse)?;
+    walk_greatest(instance, taker, nurse)
 }
 
 // The nurse's assignments that are wanted beyond one for each day of the week.

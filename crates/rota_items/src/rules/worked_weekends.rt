@@ -1,13 +1,13 @@
 //! S7, worked weekends: those above the nurse's greatest number.
-ghost use Rattle.std.specs.Prelude.{◌≡◌, ◌<◌, ◌≤◌, ◌&&◌, nat_le, length};
+ghost use Rattle.std.specs.Prelude.{◌≡◌, ◌<◌, ◌≤◌, ◌&&◌, nat_le};
 ghost use Rattle.rota_core.specs.InstanceTables.{week_of};
 ghost use Rattle.rota_items.specs.CountedTotals.{greatest_totals_count};
-ghost use Rattle.rota_items.specs.ItemEvents.{SlacksFit, Walks};
+ghost use Rattle.rota_items.specs.ItemTakes.{TakesItems};
 ghost use Rattle.rota_items.specs.rules.WorkedWeekends.Items.{weekend_constant_of, weekends_above, worked_weekends_of};
 
 use crate::counted_totals::{excess_before_counts, greatest_totals_count};
-use crate::soft_item::{DayProperty, ItemPart, RunCharge};
-use crate::takers::Taker;
+use crate::item_takers::ItemTaker;
+use crate::soft_item::{DayProperty, RunCharge};
 use crate::weekend_walk::walk_weekend;
 use rota_core::{Instance, Rule};
 
@@ -27,20 +27,13 @@ fn is_charged(instance: &Instance, nurse: u16) -> bool
 
 /// Work on Saturday, and on Sunday without Saturday, where it is charged.
 #[tactic(auto, using(crate::proofs::Walking::walking))]
-pub fn walk<T: Taker>(
-    instance: &Instance,
-    taker: &mut T,
-    part: ItemPart,
-    first: u32,
-    nurse: u16,
-) -> Result<u32, T::Fault>
+pub fn walk<T: ItemTaker>(instance: &Instance, taker: &mut T, nurse: u16) -> Result<(), T::Fault>
     requires nurse_in { nurse < (week_of instance.now).nurses }
-    requires slacks_fit { SlacksFit first (worked_weekends_of (week_of instance.now) nurse) }
     ensures { let week = week_of instance.now in
-        Walks T.Taker part week first (worked_weekends_of week nurse) taker.old taker.new result }
+        TakesItems T.ItemTaker week (worked_weekends_of week nurse) taker.old taker.new result }
 {
     if !is_charged(instance, nurse) {
-        return Ok(first);
+        return Ok(());
     }
     let charge = RunCharge {
         rule: Rule::S7,
@@ -48,16 +41,7 @@ pub fn walk<T: Taker>(
         nurse,
         property: DayProperty::Work,
     };
-    walk_weekend(instance, taker, part, first, charge, false)
-}
-
-/// The number of a nurse's items, each of one slack.
-pub fn count(instance: &Instance, nurse: u16) -> u32
-    requires { nurse < (week_of instance.now).nurses }
-    ensures few { result ≤ 2 }
-    ensures number { result ≡ length (worked_weekends_of (week_of instance.now) nurse) }
-{
-    if is_charged(instance, nurse) { 2 } else { 0 }
+    walk_weekend(instance, taker, charge, false)
 }
 
 // The nurse's weekends that the history has above her greatest number.

@@ -5,8 +5,8 @@ use Rattle.rota_items.proofs.hard.give_hard_rows.Goals as goal
 
 pub returns-in_err-give_unit : goal.returns-in_err-give_unit
 returns-in_err-give_unit g c =
-    exits g.T.Taker _ _ _ _ c.from_residual.ensures.0 (stop g.T.Taker events_join (_ ∷ []) _ _ _ c.in_err-give_unit.ensures)
+    exits _ _ _ _ c.from_residual.ensures.0 (stop events_join (_ ∷ []) _ _ _ c.in_err-give_unit.ensures)
 
 pub returns : goal.returns
 unfolding cell_row_events
-returns g c = goes_on g.T.Taker events_join (_ ∷ []) _ _ _ _ _ c.in_ok-give_unit.ensures c.give_rules.ensures
+returns g c = goes_on events_join (_ ∷ []) _ _ _ _ _ c.in_ok-give_unit.ensures c.give_rules.ensures

@@ -7,4 +7,4 @@ pub returns-in_default : goal.returns-in_default
 returns-in_default g c =
     let week = week_of c.args.instance.now in
     let none : rows_of_hard_rule week c.args.rule ≡ [] = search rules in
-    rw none (nothing g.T.Taker (rows_join week) _)
+    rw none (nothing (rows_join week) _)

@@ -8,6 +8,6 @@ use Rattle.rota_items.proofs.hard.give_rules.Goals as goal
 pub returns-in_err-give_rule : goal.returns-in_err-give_rule
 returns-in_err-give_rule g c =
     let week = week_of c.args.instance.now in
-    exits g.T.Taker _ _ _ _ c.from_residual.ensures.0
-    (list_refused g.T.Taker (rows_join week) (rows_of_hard_rule week) hard_rules _ _ _ _ _ (omega arith) c.loop-rule.invariant
+    exits _ _ _ _ c.from_residual.ensures.0
+    (list_refused (rows_join week) (rows_of_hard_rule week) hard_rules _ _ _ _ _ (omega arith) c.loop-rule.invariant
     c.in_err-give_rule.ensures)

@@ -3,11 +3,11 @@ use Rattle.rota_items.proofs.hard.give_unit.Goals as goal
 
 pub returns-in_err-start_row : goal.returns-in_err-start_row
 returns-in_err-start_row g c =
-    exits g.T.Taker _ _ _ _ c.from_residual.ensures.0 (row_refused_at_start g.T.Taker _ _ _ c.in_err-start_row.ensures)
+    exits _ _ _ _ c.from_residual.ensures.0 (row_refused_at_start g.T.Taker _ _ _ c.in_err-start_row.ensures)
 
 pub returns-in_err-term : goal.returns-in_err-term
 returns-in_err-term g c =
-    exits g.T.Taker _ _ _ _ c.from_residual-in_err-term.ensures.0
+    exits _ _ _ _ c.from_residual-in_err-term.ensures.0
     (row_refused_at_terms g.T.Taker _ _ _ _ c.in_ok-start_row.ensures
     (term_refused g.T.Taker _ _ _ _ (rw c.unit_var.ensures at c.in_err-term.ensures)))
 

@@ -8,7 +8,7 @@ loop-day-init g c = days_none _ _ g.T.Taker c.args.first 0 _
 
 pub returns-in_err-give_day : goal.returns-in_err-give_day
 returns-in_err-give_day g c =
-    exits g.T.Taker _ _ _ _ c.from_residual.ensures.0
+    exits _ _ _ _ c.from_residual.ensures.0
     (days_refused _ _ g.T.Taker c.args.first c.loop-day.day _ _ _ _ (omega arith) (omega arith) c.loop-day.invariant
     c.in_err-give_day.ensures)
 

@@ -4,17 +4,17 @@ use Rattle.rota_items.proofs.Taking.{events_join, exits, nothing, row_refused_at
 use Rattle.rota_items.proofs.objective.drive_objective.Goals as goal
 
 pub returns-then-not-has_term : goal.returns-then-not-has_term
-returns-then-not-has_term g c = rw (no_row _ (sym c.has_term.ensures ∙ c.if-not-has_term.true)) (nothing g.T.Taker events_join _)
+returns-then-not-has_term g c = rw (no_row _ (sym c.has_term.ensures ∙ c.if-not-has_term.true)) (nothing events_join _)
 
 pub returns-in_err-start_row : goal.returns-in_err-start_row
 returns-in_err-start_row g c =
     rw (one_row _ (sym c.has_term.ensures ∙ c.if-not-has_term.false))
-    (exits g.T.Taker _ _ _ _ c.from_residual.ensures.0 (row_refused_at_start g.T.Taker _ _ _ c.in_err-start_row.ensures))
+    (exits _ _ _ _ c.from_residual.ensures.0 (row_refused_at_start g.T.Taker _ _ _ c.in_err-start_row.ensures))
 
 pub returns-in_err-give_terms : goal.returns-in_err-give_terms
 returns-in_err-give_terms g c =
     rw (one_row _ (sym c.has_term.ensures ∙ c.if-not-has_term.false))
-    (exits g.T.Taker _ _ _ _ c.from_residual-in_err-give_terms.ensures.0
+    (exits _ _ _ _ c.from_residual-in_err-give_terms.ensures.0
     (row_refused_at_terms g.T.Taker _ _ _ _ c.in_ok-start_row.ensures c.in_err-give_terms.ensures))
 
 pub returns : goal.returns

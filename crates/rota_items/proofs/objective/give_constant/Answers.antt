@@ -1,6 +1,6 @@
 use Rattle.std.proofs.lemmas.Int.{to_z_pos}
 use Rattle.rota_core.proofs.Loops.{only_if-fails, only_if-holds}
-use Rattle.rota_items.proofs.Common.{◌≡◌, ℕ, ◌^◌, ◌<◌, pos, nat_lt, true, false, ap, ◌∙◌, w64, arith, week_of}
+use Rattle.rota_items.proofs.Common.{◌≡◌, ◌^◌, ◌<◌, pos, nat_lt, true, false, ap, ◌∙◌, w64, arith, week_of}
 use Rattle.rota_items.proofs.InstanceLimits.{instance-within_limits}
 use Rattle.rota_items.proofs.PenaltyBound.{constant-few}
 use Rattle.rota_items.proofs.Taking.{nothing, numbers_join, term_takes}
@@ -10,7 +10,7 @@ use Rattle.rota_items.proofs.objective.give_constant.Goals as goal
 pub returns-then-constant-eq0 : goal.returns-then-constant-eq0
 returns-then-constant-eq0 g c =
     let none : nat_lt 0 (constant (week_of c.args.instance.now)) ≡ false = grind (arith, c.constant-constant.ensures) in
-    rw (only_if-fails _ _ none) (nothing g.T.Taker numbers_join _)
+    rw (only_if-fails _ _ none) (nothing numbers_join _)
 
 pub overflow_cast-constant : goal.overflow_cast-constant
 overflow_cast-constant g c =

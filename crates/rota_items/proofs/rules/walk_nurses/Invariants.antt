@@ -1,8 +1,8 @@
-use Rattle.rota_items.proofs.Common.{week_of, each_below, Walked}
+use Rattle.rota_items.proofs.Common.{week_of, each_below, TookItems}
 use Rattle.rota_items.specs.Charges.{nurse_items}
 use Rattle.rota_items.proofs.rules.walk_nurses.Given as goal
 
 abbrev pub invariant-loop-nurse : goal.invariant-loop-nurse
 invariant-loop-nurse g l =
     let week = week_of l.fn.instance in
-    Walked g.T.Taker l.fn.part week l.fn.first (each_below l.nurse (nurse_items week l.fn.rule)) l.fn.taker l.taker l.next
+    TookItems g.T.ItemTaker week (each_below l.nurse (nurse_items week l.fn.rule)) l.fn.taker l.taker

@@ -1,15 +1,14 @@
-use Rattle.rota_items.proofs.Common.{sym, subst, week_of, SlacksFit}
-use Rattle.rota_items.proofs.Walking.{walk_none}
+use Rattle.rota_items.proofs.Common.{week_of, item_of}
+use Rattle.rota_items.proofs.Taking.{nothing}
+use Rattle.rota_items.proofs.Walking.{item_taken, items_join}
 use Rattle.rota_items.proofs.run_walk.walk_pattern.Goals as goal
 
 pub returns-in_default : goal.returns-in_default
-returns-in_default g c = rw c.in_default.is (walk_none g.T.Taker _ _ _ _)
-
-pub walk_item-requires-clause-slacks_fit : goal.walk_item-requires-clause-slacks_fit
-walk_item-requires-clause-slacks_fit g c =
-    subst (SlacksFit c.args.first) (sym (c.pattern_item-item.ensures.item (week_of c.args.instance.now)))
-    (rw c.in-Some.is at c.requires.slacks_fit)
+returns-in_default g c = rw c.in_default.is (nothing (items_join _) _)
 
 pub returns : goal.returns
 returns g c =
-    rw c.in-Some.is (rw (c.pattern_item-item.ensures.item (week_of c.args.instance.now)) at c.walk_item.ensures)
+    let week = week_of c.args.instance.now in
+    rw c.in-Some.is
+    (rw (c.pattern_item.ensures.item week) at
+    (item_taken g.T.ItemTaker week (item_of week c.pattern_item.result) _ _ _ c.item.ensures))

@@ -1,14 +1,10 @@
 use Rattle.rota_items.proofs.Common.{arith}
-use Rattle.rota_items.proofs.Walking.{walk_exits, walk_refused, fits_within}
+use Rattle.rota_items.proofs.Taking.{exits, loop_refused}
+use Rattle.rota_items.proofs.Walking.{items_join}
 use Rattle.rota_items.proofs.run_walk.walk_windows.Goals as goal
 
-pub walk_pattern-requires-clause-slacks_fit : goal.walk_pattern-requires-clause-slacks_fit
-walk_pattern-requires-clause-slacks_fit g c =
-    rw c.window_on-window.ensures.pattern
-    (fits_within g.T.Taker _ _ _ _ _ _ _ _ _ (omega arith) c.loop-day.invariant c.requires.slacks_fit)
-
-pub returns-in_err-next : goal.returns-in_err-next
-returns-in_err-next g c =
-    walk_exits g.T.Taker _ _ _ _ _ _ _ c.from_residual.ensures.0
-    (walk_refused g.T.Taker _ _ _ _ _ _ _ _ _ _ (omega arith) c.loop-day.invariant
-    (rw c.window_on-window.ensures.pattern at c.in_err-next.ensures))
+pub returns-in_err-walk_pattern : goal.returns-in_err-walk_pattern
+returns-in_err-walk_pattern g c =
+    exits _ _ _ _ c.from_residual.ensures.0
+    (loop_refused (items_join _) _ _ _ _ _ _ (omega arith) c.loop-day.invariant
+    (rw c.window_on-window.ensures.pattern at c.in_err-walk_pattern.ensures))

@@ -7,5 +7,5 @@ pub returns-in_err-term : goal.returns-in_err-term
 returns-in_err-term g c =
     let w = c.args in
     let exact : to_z w64 (of_z w64 w.coefficient) ≡ w.coefficient = to_z-of_z w64 w.coefficient (search rules) in
-    exits g.T.Taker _ _ _ _ c.from_residual.ensures.0
+    exits _ _ _ _ c.from_residual.ensures.0
     (range_refused g.T.Taker w.coefficient w.first _ _ _ _ _ (omega arith) (rw exact at c.loop-i.invariant) (rw exact at c.in_err-term.ensures))

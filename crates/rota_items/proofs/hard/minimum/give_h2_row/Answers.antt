@@ -7,12 +7,12 @@ use Rattle.rota_items.proofs.hard.minimum.give_h2_row.Goals as goal
 pub returns-in_err-start_row : goal.returns-in_err-start_row
 returns-in_err-start_row g c =
     row_where g.T.Taker _ _ _ _ _ _ (search rules)
-    (exits g.T.Taker _ _ _ _ c.from_residual.ensures.0 (cell_row_refused_at_start g.T.Taker _ _ _ _ c.in_err-start_row.ensures))
+    (exits _ _ _ _ c.from_residual.ensures.0 (cell_row_refused_at_start g.T.Taker _ _ _ _ c.in_err-start_row.ensures))
 
 pub returns-in_err-give_demand_cells : goal.returns-in_err-give_demand_cells
 returns-in_err-give_demand_cells g c =
     row_where g.T.Taker _ _ _ _ _ _ (search rules)
-    (exits g.T.Taker _ _ _ _ c.from_residual-in_err-give_demand_cells.ensures.0
+    (exits _ _ _ _ c.from_residual-in_err-give_demand_cells.ensures.0
     (cell_row_refused_at_terms g.T.Taker _ _ _ _ _ c.in_ok-start_row.ensures c.in_err-give_demand_cells.ensures))
 
 pub returns : goal.returns

@@ -3,11 +3,11 @@ use Rattle.rota_items.proofs.hard.one_cell.give_h1_row.Goals as goal
 
 pub returns-in_err-start_row : goal.returns-in_err-start_row
 returns-in_err-start_row g c =
-    exits g.T.Taker _ _ _ _ c.from_residual.ensures.0 (cell_row_refused_at_start g.T.Taker _ _ _ _ c.in_err-start_row.ensures)
+    exits _ _ _ _ c.from_residual.ensures.0 (cell_row_refused_at_start g.T.Taker _ _ _ _ c.in_err-start_row.ensures)
 
 pub returns-in_err-give_work : goal.returns-in_err-give_work
 returns-in_err-give_work g c =
-    exits g.T.Taker _ _ _ _ c.from_residual-in_err-give_work.ensures.0
+    exits _ _ _ _ c.from_residual-in_err-give_work.ensures.0
     (cell_row_refused_at_terms g.T.Taker _ _ _ _ _ c.in_ok-start_row.ensures c.in_err-give_work.ensures)
 
 pub returns : goal.returns

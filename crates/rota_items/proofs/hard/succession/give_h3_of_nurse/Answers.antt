@@ -4,10 +4,10 @@ use Rattle.rota_items.proofs.hard.succession.give_h3_of_nurse.Goals as goal
 
 pub returns-in_err-give_h3_monday : goal.returns-in_err-give_h3_monday
 returns-in_err-give_h3_monday g c =
-    exits g.T.Taker _ _ _ _ c.from_residual.ensures.0 (stop g.T.Taker (rows_join _) _ _ _ _ c.in_err-give_h3_monday.ensures)
+    exits _ _ _ _ c.from_residual.ensures.0 (stop (rows_join _) _ _ _ _ c.in_err-give_h3_monday.ensures)
 
 pub returns-in_err-give_h3_between : goal.returns-in_err-give_h3_between
 returns-in_err-give_h3_between g c =
-    exits g.T.Taker _ _ _ _ c.from_residual-in_err-give_h3_between.ensures.0
-    (go_on g.T.Taker (rows_join _) _ _ _ _ _ c.in_ok-give_h3_monday.ensures
-    (loop_refused g.T.Taker (rows_join _) _ _ _ _ _ _ (omega arith) c.loop-day.invariant c.in_err-give_h3_between.ensures))
+    exits _ _ _ _ c.from_residual-in_err-give_h3_between.ensures.0
+    (go_on (rows_join _) _ _ _ _ _ c.in_ok-give_h3_monday.ensures
+    (loop_refused (rows_join _) _ _ _ _ _ _ (omega arith) c.loop-day.invariant c.in_err-give_h3_between.ensures))

@@ -1,8 +1,8 @@
-use Rattle.rota_items.proofs.Common.{week_of, Walked, each_below, run_items}
+use Rattle.rota_items.proofs.Common.{week_of, TookItems, each_below, run_items}
 use Rattle.rota_items.specs.rules.ConsecutiveAssignments.Items.{shift_runs}
 use Rattle.rota_items.proofs.rules.consecutive_assignments.walk.Given as goal
 
 abbrev pub invariant-loop-shift : goal.invariant-loop-shift
 invariant-loop-shift g l =
     let week = week_of l.fn.instance in
-    Walked g.T.Taker l.fn.part week l.fn.first (each_below l.shift (λ s. run_items (shift_runs week l.fn.nurse s))) l.fn.taker l.taker l.next
+    TookItems g.T.ItemTaker week (each_below l.shift (λ s. run_items (shift_runs week l.fn.nurse s))) l.fn.taker l.taker

@@ -1,19 +1,18 @@
-use Rattle.rota_items.proofs.Common.{week_of, each_below, Walked}
+use Rattle.rota_items.proofs.Common.{week_of, each_below, TookItems}
 use Rattle.rota_items.specs.rules.OptimalCoverage.Items.{optimum_items_at, optimum_items_of, optimum_items_on}
 use Rattle.rota_items.proofs.rules.optimal_coverage.walk.Given as goal
 
 abbrev pub invariant-loop-day : goal.invariant-loop-day
 invariant-loop-day g l =
     let week = week_of l.fn.instance in
-    Walked g.T.Taker l.fn.part week l.fn.first (each_below l.day (optimum_items_of week)) l.fn.taker l.taker l.next
+    TookItems g.T.ItemTaker week (each_below l.day (optimum_items_of week)) l.fn.taker l.taker
 
 abbrev pub invariant-loop-shift : goal.invariant-loop-shift
 invariant-loop-shift g l =
     let week = week_of l.fn.instance in
-    Walked g.T.Taker l.fn.part week l.initial.next (each_below l.shift (optimum_items_on week l.day)) l.initial.taker l.taker l.next
+    TookItems g.T.ItemTaker week (each_below l.shift (optimum_items_on week l.day)) l.initial.taker l.taker
 
 abbrev pub invariant-loop-skill : goal.invariant-loop-skill
 invariant-loop-skill g l =
     let week = week_of l.fn.instance in
-    Walked g.T.Taker l.fn.part week l.initial.next (each_below l.skill (optimum_items_at week l.day l.shift))
-    l.initial.taker l.taker l.next
+    TookItems g.T.ItemTaker week (each_below l.skill (optimum_items_at week l.day l.shift)) l.initial.taker l.taker

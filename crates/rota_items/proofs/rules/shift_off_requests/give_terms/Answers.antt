@@ -4,7 +4,7 @@ use Rattle.rota_items.proofs.rules.shift_off_requests.give_terms.Goals as goal
 
 pub returns-in_err-give_terms_on : goal.returns-in_err-give_terms_on
 returns-in_err-give_terms_on g c =
-    exits g.T.Taker _ _ _ _ c.from_residual.ensures.0
-    (loop_refused g.T.Taker (terms_join _) _ _ _ _ _ _ (omega arith) c.loop-nurse.invariant
-    (loop_refused g.T.Taker (terms_join _) _ _ _ _ _ _ (omega arith) c.loop-day.invariant
-    (loop_refused g.T.Taker (terms_join _) _ _ _ _ _ _ (omega arith) c.loop-shift.invariant c.in_err-give_terms_on.ensures)))
+    exits _ _ _ _ c.from_residual.ensures.0
+    (loop_refused (terms_join _) _ _ _ _ _ _ (omega arith) c.loop-nurse.invariant
+    (loop_refused (terms_join _) _ _ _ _ _ _ (omega arith) c.loop-day.invariant
+    (loop_refused (terms_join _) _ _ _ _ _ _ (omega arith) c.loop-shift.invariant c.in_err-give_terms_on.ensures)))

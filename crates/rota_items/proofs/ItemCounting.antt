@@ -1,0 +1,82 @@
+-- What a counter makes of a list of items.
+use Rattle.std.proofs.Common.{◌≡◌, ℕ, ◌+◌, ◌^◌, ◌<◌, List, [], ◌∷◌, ◌++◌, map, length, sym, ap, ◌∙◌, arith, length-append}
+use Rattle.std.specs.List.{fold}
+use Rattle.std.proofs.lemmas.List.{length-map}
+use Rattle.rota_core.specs.InstanceTables.{InstanceTables, IsInstance, week_of}
+use Rattle.rota_core.specs.Week.{Week}
+use Rattle.rota_core.specs.declared.values.Cell.{Cell}
+use Rattle.rota_items.proofs.InstanceLimits.{instance-within_limits}
+use Rattle.rota_items.proofs.ItemEventLists.{slack_count-cons, slack_count-numbered}
+use Rattle.rota_items.proofs.NurseItemLists.{have_one-runs, one_slack-each}
+use Rattle.rota_items.proofs.SlackBound.{items-few, variables_fit}
+use Rattle.rota_items.specs.Charges.{soft_items}
+use Rattle.rota_items.specs.ItemCounting.{ItemNumbers, sum_within, with_one}
+use Rattle.rota_items.specs.Items.{Item, numbered}
+use Rattle.rota_items.specs.ItemTaking.{numbered_list}
+use Rattle.rota_items.specs.RunItems.{Runs, pattern_item, run_items}
+use Rattle.rota_items.specs.RunPatterns.{patterns, windows}
+use Rattle.rota_items.specs.Slacks.{slack_count}
+use Rattle.rota_items.specs.Variables.{cell_number}
+
+sum_within-none : (n : ℕ) → n < 2 ^ 32 → n ≡ sum_within n 0
+sum_within-none n below = omega arith
+
+sum_within-more : (n a b : ℕ) → sum_within (sum_within n a) b ≡ sum_within n (a + b)
+sum_within-more n a b = omega arith
+
+one-more : (item : Item ℕ) (items : List (Item ℕ)) → 1 + length items ≡ length (item ∷ items)
+one-more item items = omega arith
+
+-- both numbers fit
+pub record AreWithin (counts : ItemNumbers) : Type 0 where
+  pub items : counts.items < 2 ^ 32
+  pub slacks : counts.slacks < 2 ^ 32
+
+within-one : (counts : ItemNumbers) (item : Item ℕ) → AreWithin (with_one counts item)
+within-one counts item = record { items = omega arith; slacks = omega arith }
+
+pub counted-all : (items : List (Item ℕ)) (counts : ItemNumbers) → AreWithin counts →
+    fold with_one counts items ≡ record { items = sum_within counts.items (length items); slacks = sum_within counts.slacks (slack_count items) }
+counted-all [] counts within = λ i. record { items = sum_within-none counts.items within.items i; slacks = sum_within-none counts.slacks within.slacks i }
+counted-all (item ∷ items) counts within =
+    let items_are : sum_within (sum_within counts.items 1) (length items) ≡ sum_within counts.items (length (item ∷ items)) =
+    sum_within-more counts.items 1 (length items) ∙ ap (sum_within counts.items) (one-more item items) in
+    let slacks_are : sum_within (sum_within counts.slacks item.slacks) (slack_count items) ≡ sum_within counts.slacks (slack_count (item ∷ items)) =
+    sum_within-more counts.slacks item.slacks (slack_count items) ∙ ap (sum_within counts.slacks) (sym (slack_count-cons item items)) in
+    counted-all items (with_one counts item) (within-one counts item) ∙ (λ i. record { items = items_are i; slacks = slacks_are i })
+
+-- the items of a nurse's runs, each of one slack, are as many as these windows and patterns
+pub counted-runs : (week : Week) (runs : Runs Cell) (counts : ItemNumbers) (n : ℕ) → AreWithin counts →
+    n ≡ length (windows runs.history runs.limits) + length (patterns runs.history runs.limits) →
+    fold with_one counts (numbered_list week (run_items runs)) ≡ record { items = sum_within counts.items n; slacks = sum_within counts.slacks n }
+unfolding numbered_list
+counted-runs week runs counts n within are =
+    let number = cell_number week in
+    let listed : length (run_items runs) ≡ n =
+    omega (
+      arith,
+      are,
+      length-map (windows runs.history runs.limits ++ patterns runs.history runs.limits) (pattern_item runs.rule runs.weight runs.property),
+      length-append (windows runs.history runs.limits) (patterns runs.history runs.limits),
+    ) in
+    let items_are : length (map (numbered number) (run_items runs)) ≡ n = length-map (run_items runs) (numbered number) ∙ listed in
+    let slacks_are : slack_count (map (numbered number) (run_items runs)) ≡ n =
+    slack_count-numbered number (run_items runs) ∙ one_slack-each (run_items runs) (have_one-runs runs) ∙ listed in
+    counted-all (map (numbered number) (run_items runs)) counts within ∙
+    (λ i. record { items = sum_within counts.items (items_are i); slacks = sum_within counts.slacks (slacks_are i) })
+
+-- a counter that took the items of a week has their numbers, which fit
+pub counted-week : (tables : InstanceTables) → IsInstance tables → let items = soft_items (week_of tables) in
+    fold with_one (record { items = 0; slacks = 0 }) (numbered_list (week_of tables) items) ≡ record { items = length items; slacks = slack_count items }
+unfolding numbered_list
+counted-week tables valid =
+    let week = week_of tables in
+    let limits = instance-within_limits tables valid in
+    let items = soft_items week in
+    let number = cell_number week in
+    let items_are : sum_within 0 (length (map (numbered number) items)) ≡ length items =
+    omega (arith, items-few week limits, length-map items (numbered number)) in
+    let slacks_are : sum_within 0 (slack_count (map (numbered number) items)) ≡ slack_count items =
+    omega (arith, variables_fit week limits, slack_count-numbered number items) in
+    counted-all (map (numbered number) items) (record { items = 0; slacks = 0 }) (record { items = omega arith; slacks = omega arith }) ∙
+    (λ i. record { items = items_are i; slacks = slacks_are i })

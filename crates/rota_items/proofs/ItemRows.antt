@@ -1,0 +1,163 @@
+-- What a taker of rows takes by the items that are handed on to it.
+use Rattle.std.proofs.Common.{◌≡◌, ℕ, ◌+◌, ◌^◌, ◌<◌, List, [], ◌∷◌, ◌++◌, Result, Ok, Err, refl, sym, ap, subst, ◌∙◌, arith, append_assoc}
+use Rattle.std.specs.List.{fold}
+use Rattle.std.proofs.lemmas.List.Sums.{fold-append}
+use Rattle.std.proofs.lemmas.Result.{MatchResult-weaker}
+use Rattle.rota_core.specs.InstanceTables.{InstanceTables, IsInstance, week_of}
+use Rattle.rota_items.proofs.InstanceLimits.{instance-within_limits}
+use Rattle.rota_items.proofs.ItemEventLists.{slack_count-cons, slack_count-append, slack_count-numbered, term_events-append}
+use Rattle.rota_items.proofs.SlackBound.{variables_fit}
+use Rattle.rota_items.proofs.Taking.{Refused-before, Refused-after}
+use Rattle.rota_items.specs.Charges.{soft_items}
+use Rattle.rota_items.specs.Events.{Event, events, term_events}
+use Rattle.rota_items.specs.ItemRows.{Handing, StopsAt, row_of_item, slacks_within, weights_of_item, with_item, within_numbers}
+use Rattle.rota_items.specs.Items.{Item}
+use Rattle.rota_items.specs.Slacks.{item_rows, slack_count, slack_weights}
+use Rattle.rota_items.specs.Takes.{Took, Refused, Takes, TookAll, RefusedOne, TakesAll}
+use Rattle.rota_items.specs.Variables.{cell_number, first_slack}
+use Rattle.rota_items.specs.WeekModel.{numbered_items}
+use Rattle.rota_items.specs.declared.takers.Taker.{Ghosts}
+
+-- the slacks of the items have numbers of variables, from this one on
+abbrev pub SlacksFit : ℕ → List (Item ℕ) → Type 0
+SlacksFit first items = first + slack_count items < 2 ^ 32
+
+-- the events of a list are those of each item, whose slacks follow one another
+pub record GivesEach (events_of : Item ℕ → ℕ → List Event) (all : ℕ → List (Item ℕ) → List Event) : Type 0 where
+  pub none : (first : ℕ) → all first [] ≡ []
+  pub more : (first : ℕ) (item : Item ℕ) (items : List (Item ℕ)) → all first (item ∷ items) ≡ events_of item first ++ all (first + item.slacks) items
+
+abbrev pub all_rows : ℕ → List (Item ℕ) → List Event
+all_rows first items = events (item_rows first items)
+
+abbrev pub all_weights : ℕ → List (Item ℕ) → List Event
+all_weights first items = term_events (slack_weights first items)
+
+pub gives_rows : GivesEach row_of_item all_rows
+unfolding events
+gives_rows = record { none = λ first. refl; more = λ first item items. refl }
+
+no_terms : term_events [] ≡ []
+unfolding term_events
+no_terms = refl
+
+pub gives_weights : GivesEach weights_of_item all_weights
+gives_weights = record { none = λ first. no_terms; more = λ first item items. term_events-append _ _ }
+
+-- where its slacks fit, an item is handed on as it is
+slacks-all : (first slacks : ℕ) → first + slacks < 2 ^ 32 → slacks_within first slacks ≡ slacks
+slacks-all first slacks fit = omega arith
+
+item-all : (first : ℕ) (item : Item ℕ) → first + item.slacks < 2 ^ 32 → within_numbers first item ≡ item
+item-all first item fit = ap (λ (n : ℕ). record item { slacks = n }) (slacks-all first item.slacks fit)
+
+module _ {events_of : Item ℕ → ℕ → List Event} {all : ℕ → List (Item ℕ) → List Event} (each : GivesEach events_of all) where
+  all-append : (first : ℕ) (xs ys : List (Item ℕ)) → all first (xs ++ ys) ≡ all first xs ++ all (first + slack_count xs) ys
+  all-append first [] ys =
+      let same : first + slack_count {X = ℕ} [] ≡ first = omega arith in
+      rw (each.none first, same) refl
+  all-append first (x ∷ xs) ys =
+      let same : first + x.slacks + slack_count xs ≡ first + slack_count (x ∷ xs) = omega (arith, slack_count-cons x xs) in
+      each.more first x (xs ++ ys) ∙
+      ap (λ rest. events_of x first ++ rest) (all-append (first + x.slacks) xs ys ∙ ap (λ n. all (first + x.slacks) xs ++ all n ys) same) ∙
+      sym (append_assoc (events_of x first) (all (first + x.slacks) xs) (all (first + slack_count (x ∷ xs)) ys)) ∙
+      ap (λ front. front ++ all (first + slack_count (x ∷ xs)) ys) (sym (each.more first x xs))
+
+  module _ {V : Type 0} (step : V → Event → V) where
+    -- the value after the items
+    abbrev pub after : Handing V → List (Item ℕ) → Handing V
+    after handing items = record handing {
+      value = fold step handing.value (all handing.next items);
+      next = handing.next + slack_count items;
+    }
+
+    after-one : (handing : Handing V) (item : Item ℕ) → handing.next + item.slacks < 2 ^ 32 →
+        with_item step events_of handing item ≡ record handing {
+          value = fold step handing.value (events_of item handing.next);
+          next = handing.next + item.slacks;
+        }
+    after-one handing item fit = λ i. record handing {
+      value = fold step handing.value (events_of (item-all handing.next item fit i) handing.next);
+      next = handing.next + slacks-all handing.next item.slacks fit i;
+    }
+
+    pub after-all : (items : List (Item ℕ)) (handing : Handing V) → SlacksFit handing.next items →
+        fold (with_item step events_of) handing items ≡ after handing items
+    after-all [] handing fit =
+        let same : handing.next ≡ handing.next + slack_count {X = ℕ} [] = omega arith in
+        λ i. record handing { value = fold step handing.value (sym (each.none handing.next) i); next = same i }
+    after-all (item ∷ items) handing fit =
+        let counted = slack_count-cons item items in
+        let here : handing.next + item.slacks < 2 ^ 32 = omega (arith, counted) in
+        let next : Handing V = record handing {
+          value = fold step handing.value (events_of item handing.next);
+          next = handing.next + item.slacks;
+        } in
+        let same : handing.next + item.slacks + slack_count items ≡ handing.next + slack_count (item ∷ items) = omega (arith, counted) in
+        let values : fold step next.value (all next.next items) ≡ fold step handing.value (all handing.next (item ∷ items)) =
+        sym (fold-append step handing.value (events_of item handing.next) (all (handing.next + item.slacks) items)) ∙
+        ap (fold step handing.value) (sym (each.more handing.next item items)) in
+        ap (λ h. fold (with_item step events_of) h items) (after-one handing item here) ∙
+        after-all items next (omega (arith, counted)) ∙
+        (λ i. record handing { value = values i; next = same i })
+
+  -- ---- a taker of rows
+
+  module _ {S F : Type 0} (T : Ghosts S F) {Self : Type 0} (old new : Self) (name_of : Self → ℕ) (taker_of : Self → S) (next_of : Self → ℕ) where
+    abbrev handing_of : Self → Handing T.Value
+    handing_of self = record { name = name_of self; value = T.value (taker_of self); next = next_of self }
+
+    abbrev stops_at : Handing T.Value → Item ℕ → Self → Type 0
+    stops_at before item self = StopsAt T events_of before item (name_of self) (taker_of self)
+
+    module _ (items : List (Item ℕ)) (fit : SlacksFit (next_of old) items) where
+      took_all : TookAll handing_of (with_item T.step events_of) stops_at items old new →
+          (name_of new ≡ name_of old) × Took T (all (next_of old) items) (taker_of old) (taker_of new)
+      took_all took =
+          let is = took.value_is ∙ after-all T.step items (handing_of old) fit in
+          (ap (λ (h : Handing T.Value). h.name) is, record { value_is = ap (λ (h : Handing T.Value). h.value) is })
+
+      refused_one : RefusedOne handing_of (with_item T.step events_of) stops_at items old new →
+          (name_of new ≡ name_of old) × Refused T (all (next_of old) items) (taker_of old) (taker_of new)
+      refused_one refused =
+          let taken = refused.taken in
+          let item = refused.event in
+          let rest = refused.untold in
+          let first = next_of old in
+          let counted : slack_count items ≡ slack_count taken + (item.slacks + slack_count rest) =
+          ap slack_count refused.are ∙ slack_count-append taken (item ∷ rest) ∙ ap (λ n. slack_count taken + n) (slack_count-cons item rest) in
+          let here : first + slack_count taken + item.slacks < 2 ^ 32 = omega (arith, counted, fit) in
+          let before : SlacksFit first taken = omega (arith, counted, fit) in
+          let stops : StopsAt T events_of (after T.step (handing_of old) taken) item (name_of new) (taker_of new) =
+          subst (λ h. StopsAt T events_of h item (name_of new) (taker_of new)) (after-all T.step taken (handing_of old) before) refused.leaves in
+          let at_item : Refused T (events_of item (first + slack_count taken)) stops.old (taker_of new) =
+          subst (λ one. Refused T (events_of one (first + slack_count taken)) stops.old (taker_of new)) (item-all (first + slack_count taken) item here)
+          stops.refused in
+          let lists : all first items ≡ all first taken ++ (events_of item (first + slack_count taken) ++ all (first + slack_count taken + item.slacks) rest) =
+          ap (all first) refused.are ∙ all-append first taken (item ∷ rest) ∙
+          ap (λ ys. all first taken ++ ys) (each.more (first + slack_count taken) item rest) in (
+            stops.same_taker,
+            rw lists
+                (Refused-after (all first taken) _ (taker_of old) stops.old (taker_of new) (record { value_is = stops.old_is })
+                (Refused-before _ _ stops.old (taker_of new) at_item)),
+          )
+
+    -- from the number of the first slack of a week on, they fit
+    module _ (tables : InstanceTables) (valid : IsInstance tables) (first : next_of old ≡ first_slack (week_of tables)) where
+      abbrev items : List (Item ℕ)
+      items = numbered_items (week_of tables)
+
+      fit : SlacksFit (next_of old) items
+      fit =
+          let week = week_of tables in
+          omega (arith, variables_fit week (instance-within_limits tables valid), slack_count-numbered (cell_number week) (soft_items week), first)
+
+      pub rows_given : {R : Type 0} (r : Result R F) → TakesAll handing_of (with_item T.step events_of) stops_at items old new r →
+          Takes T (all (first_slack (week_of tables)) items) (taker_of old) (taker_of new) r
+      rows_given r takes =
+          subst (λ n. Takes T (all n items) (taker_of old) (taker_of new) r) first
+          (MatchResult-weaker r takes (λ _ took. (took_all items fit took).1) (λ _ refused. (refused_one items fit refused).1))
+
+      pub same_taker : {R : Type 0} (r : Result R F) → TakesAll handing_of (with_item T.step events_of) stops_at items old new r → name_of new ≡ name_of old
+      same_taker (Ok x) takes = (took_all items fit takes).0
+      same_taker (Err e) takes = (refused_one items fit takes).0
