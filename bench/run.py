@@ -1,11 +1,12 @@
 #!/usr/bin/env python3
-"""Measures the built program on made-up weeks, beside `cat` of the same bytes.
+"""Measures the built program on made-up weeks, beside `dd` and `cat` of the same bytes.
 
 usage: run.py [PROGRAM] [--growth] [--picture FILE]
 
 PROGRAM is crates/inrc2pb/out/inrc2pb where it is left out. For each run it prints the bytes of the model, the
-files or the answer, the least time of some runs, the bytes in a second, how many times `cat` that is, and the
-greatest memory that the program held. --growth prints only the times for weeks of 10 to 1000 nurses, and
+files or the answer, the least time of some runs, the bytes in a second, how many times that is what `dd` takes,
+which moves them in pieces of 4096 bytes as the program does, and what `cat` takes, and the most memory that the
+program held. --growth prints only the times for weeks of 10 to 1000 nurses, and
 --picture draws these as an SVG picture. README.md beside this file says how to read it.
 """
 
@@ -23,6 +24,7 @@ import worst
 
 HERE = os.path.dirname(os.path.abspath(__file__))
 RUNS = 5
+FEW_RUNS = 2
 SHORT_RUNS = 40
 GNU_TIME = "/usr/bin/time"
 MEGABYTE = 1_000_000
@@ -50,15 +52,24 @@ def memory_of(words, **streams):
         return int(told.read().split()[-1]) * 1024
 
 
-def measure(what, paths, words, **streams):
-    """Prints a line on this run, beside `cat` of the files at `paths`."""
-    took = least_seconds(words, **streams)
-    floor = least_seconds(["cat", *paths], stdout=streams.get("stdout", os.devnull))
+def measure(what, paths, words, place=os.devnull, runs=RUNS, **streams):
+    """Prints a line on this run, beside `dd` and `cat` of the files at `paths` to the place that it writes to. They take
+    turns, so that a slow moment of the machine slows all of them."""
+    beside = {"cat": ["cat", *paths]}
+    if len(paths) == 1:
+        beside["dd"] = ["dd", f"if={paths[0]}", "bs=4096", "status=none"]
+    took = {name: [] for name in ("program", *beside)}
+    for _ in range(runs):
+        took["program"].append(seconds_of(words, **streams))
+        for name, others in beside.items():
+            took[name].append(seconds_of(others, stdout=place))
+    least = {name: min(seconds) for name, seconds in took.items()}
+    ratios = "".join(f"{least['program'] / least[name]:>6.1f} {name}" if name in least else f"{'':>9}" for name in ("dd", "cat"))
     megabytes = sum(os.path.getsize(path) for path in paths) / MEGABYTE
     held = memory_of(words, **streams) / MEGABYTE
     print(
-        f"{what:<52}{megabytes:>8.1f} MB{took:>8.3f} s{megabytes / took:>8.0f} MB/s"
-        f"{took / floor:>8.1f} times cat{held:>8.1f} MB held",
+        f"{what:<45}{megabytes:>8.1f} MB{least['program']:>8.3f} s{megabytes / least['program']:>7.0f} MB/s"
+        f"{ratios}{held:>7.1f} MB held",
         flush=True,
     )
 
@@ -78,9 +89,18 @@ def bench_week(program, name, room):
     measure(f"{name}: read the files (a late week)", paths_of(folder, "late"), [program, "encode", *late], status=1)
     subprocess.run([program, "encode", *inputs(folder), "--opb", model], check=True)
     measure(f"{name}: encode to /dev/null", [model], [program, "encode", *inputs(folder)])
-    measure(f"{name}: encode to a file", [model], [program, "encode", *inputs(folder), "--opb", copy])
+    measure(f"{name}: encode to a file", [model], [program, "encode", *inputs(folder), "--opb", copy], place=copy)
     os.remove(copy)
     bench_answers(program, name, folder, model, room)
+    os.remove(model)
+
+
+def bench_greatest(program, room):
+    """The week with the longest model: some seconds a run, so there are few."""
+    folder, model = f"{room}/greatest", f"{room}/greatest.opb"
+    weeks.write_greatest(folder)
+    subprocess.run([program, "encode", *inputs(folder), "--opb", model], check=True)
+    measure("greatest: encode to /dev/null", [model], [program, "encode", *inputs(folder)], runs=FEW_RUNS)
     os.remove(model)
 
 
@@ -149,6 +169,7 @@ def main():
         if not given.growth:
             for name in weeks.SIZES:
                 bench_week(program, name, room)
+            bench_greatest(program, room)
             bench_worst(program, room)
         bench_growth(program, room, given.picture)
 

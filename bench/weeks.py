@@ -1,12 +1,13 @@
 #!/usr/bin/env python3
 """Writes the three files of a made-up week, always the same ones, and an answer to its model.
 
-usage: weeks.py files ward|greatest FOLDER           writes scenario.txt, history.txt and week.txt
-       weeks.py answer ward|greatest MODEL ANSWER    writes a solver's answer, on one line
+usage: weeks.py files ward|large|greatest FOLDER     writes scenario.txt, history.txt and week.txt
+       weeks.py answer ward|large MODEL ANSWER       writes a solver's answer, on one line
 
-`ward` is a last week of 120 nurses, 4 shift types and 4 skills. `greatest` has what the limits allow:
-1000 nurses, 16 shift types, 16 skills, 64 contracts and 9999 requests. The answer's roster meets each
-least demand with nurses of their own, and breaks no rule; all slacks of the model are true.
+`ward` is a last week of 120 nurses, 4 shift types and 4 skills. `large` has as many nurses, shift types,
+skills, contracts and requests as the limits allow: 1000, 16, 16, 64 and 9999. `greatest` is the week with
+the longest model: as large, and all its numbers are those that charge most. The answer's roster meets
+each least demand with nurses of their own, and breaks no rule; all slacks of the model are true.
 """
 
 import os
@@ -35,7 +36,7 @@ class Size:
 
 SIZES = {
     "ward": Size(nurses=120, shifts=4, skills=4, contracts=4, requests=120),
-    "greatest": Size(nurses=1000, shifts=16, skills=16, contracts=64, requests=9999),
+    "large": Size(nurses=1000, shifts=16, skills=16, contracts=64, requests=9999),
 }
 
 # Weeks that differ only in the number of nurses, as wards do: requests grow with it.
@@ -86,16 +87,49 @@ def week(size):
         yield f"nurse{r * 7 % size.nurses} {shift} {DAYS[r % 7]}"
 
 
+def greatest_scenario():
+    """Each succession is forbidden, no nurse has a skill, and limits with the least above the greatest charge both."""
+    names = [f"shift{s}" for s in range(16)]
+    skills = [f"skill{k}" for k in range(16)]
+    yield from ("SCENARIO = bench", "WEEKS = 4", "SKILLS = 16", *skills, "SHIFT_TYPES = 16")
+    yield from (f"{name} (9999,0)" for name in names)
+    yield "FORBIDDEN_SHIFT_TYPES_SUCCESSIONS"
+    yield from (" ".join([name, "16", *names]) for name in names)
+    yield from ("CONTRACTS = 1", "contract0 (9999,0) (9999,0) (9999,0) 0 1", "NURSES = 1000")
+    yield from (f"nurse{n} contract0 0" for n in range(1000))
+
+
+def greatest_history():
+    yield from ("HISTORY", "3 bench", "NURSE_HISTORY")
+    yield from (f"nurse{n} 0 0 shift0 1 1 1" for n in range(1000))
+
+
+def greatest_week():
+    yield from ("WEEK_DATA", "bench", "REQUIREMENTS")
+    yield from (" ".join([f"shift{s}", f"skill{k}", *["(1,9999)"] * 7]) for s in range(16) for k in range(16))
+    yield "SHIFT_OFF_REQUESTS = 9999"
+    yield from (f"nurse{r // 7 % 1000} Any {DAYS[r % 7]}" for r in range(9999))
+
+
 def late_history(size):
     """The same history in a week that the scenario does not have: a run reads all files and ends there."""
     return (line.replace("3 bench", "4 bench") for line in history(size))
 
 
-def write_files(size, folder):
+def write_texts(folder, texts):
     os.makedirs(folder, exist_ok=True)
-    for name, lines in (("scenario", scenario), ("history", history), ("late", late_history), ("week", week)):
+    for name, lines in texts.items():
         with open(f"{folder}/{name}.txt", "w") as file:
-            file.writelines(f"{line}\n" for line in lines(size))
+            file.writelines(f"{line}\n" for line in lines)
+
+
+def write_files(size, folder):
+    texts = {"scenario": scenario, "history": history, "late": late_history, "week": week}
+    write_texts(folder, {name: lines(size) for name, lines in texts.items()})
+
+
+def write_greatest(folder):
+    write_texts(folder, {"scenario": greatest_scenario(), "history": greatest_history(), "week": greatest_week()})
 
 
 def cell_variable(size, nurse, day, shift, skill):
@@ -121,7 +155,9 @@ def write_answer(size, model, answer):
 
 
 def main():
-    if len(sys.argv) == 4 and sys.argv[1] == "files" and sys.argv[2] in SIZES:
+    if len(sys.argv) == 4 and sys.argv[1:3] == ["files", "greatest"]:
+        write_greatest(sys.argv[3])
+    elif len(sys.argv) == 4 and sys.argv[1] == "files" and sys.argv[2] in SIZES:
         write_files(SIZES[sys.argv[2]], sys.argv[3])
     elif len(sys.argv) == 5 and sys.argv[1] == "answer" and sys.argv[2] in SIZES:
         write_answer(SIZES[sys.argv[2]], *sys.argv[3:])
