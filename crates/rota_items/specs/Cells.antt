@@ -1,5 +1,6 @@
 -- The cells that the sums of the model stand for.
-use Rattle.rota_items.specs.Words.{ℕ, List, [], ◌∷◌, Cell, Week, cell}
+use Rattle.std.specs.Prelude.{◌∷◌}
+use Rattle.rota_items.specs.Words.{ℕ, List, [], Cell, Week, cell}
 use Rattle.rota_core.specs.Lists.{each_below}
 
 -- the cells of a nurse's day on a shift type

@@ -1,5 +1,6 @@
 -- Which totals count in a week, and what a week is charged for a greatest total.
-use Rattle.rota_items.specs.Words.{ℕ, ◌+◌, ◌-◌, Bool, not, ◌&&◌, ◌||◌, if◌then◌else◌, Week}
+use Rattle.std.specs.Prelude.{◌+◌, ◌-◌, ◌&&◌, ◌||◌, if◌then◌else◌}
+use Rattle.rota_items.specs.Words.{ℕ, Bool, not, Week}
 
 -- the least totals of assignments count in the last week only
 abbrev pub least_totals_count : Week → Bool

@@ -1,5 +1,6 @@
 -- The first row that an assignment does not satisfy, and the rule that it stands for.
-use Rattle.rota_items.specs.Words.{ℕ, ◌+◌, Bool, if◌then◌else◌, Option, Some, None, List, [], ◌∷◌, MatchOption, Rule, Week, Roster}
+use Rattle.std.specs.Prelude.{◌+◌, if◌then◌else◌, ◌∷◌}
+use Rattle.rota_items.specs.Words.{ℕ, Bool, Option, Some, None, List, [], MatchOption, Rule, Week, Roster}
 use Rattle.rota_items.specs.Words.{KeepsHardRules, FirstBroken}
 use Rattle.rota_items.specs.ModelWords.{Part, Objective, Hard, Soft, LinearRow, is_satisfied}
 use Rattle.rota_core.specs.declared.rule.Rule.TheVariants.{Unit as UnitRule}

@@ -1,5 +1,6 @@
 -- The constraints of items, apart from any week.
-use Rattle.rota_items.specs.Words.{ℕ, ◌<◌, List, map, All}
+use Rattle.std.specs.Prelude.{◌<◌}
+use Rattle.rota_items.specs.Words.{ℕ, List, map, All}
 use Rattle.rota_items.specs.ModelWords.{Term, Constraint, linear_constraint, Item}
 use Rattle.rota_items.specs.Slacks.{item_row, item_rows}
 

@@ -1,5 +1,6 @@
 -- Items: weighted linear constraints over truth values, whose slacks make up for what is missing.
-use Rattle.rota_items.specs.Words.{ℕ, ℤ, pos, negsuc, ◌-ℤ◌, Bool, List, map, Rule}
+use Rattle.std.specs.Prelude.{◌-ℤ◌}
+use Rattle.rota_items.specs.Words.{ℕ, ℤ, pos, negsuc, Bool, List, map, Rule}
 use Rattle.rota_items.specs.Linear.{Term, value_of}
 
 pub record Item (X : Type 0) : Type 0 where

@@ -1,5 +1,6 @@
 -- The row of the objective.
-use Rattle.rota_items.specs.Words.{ℕ, pos, List, [], ◌∷◌}
+use Rattle.std.specs.Prelude.{◌∷◌}
+use Rattle.rota_items.specs.Words.{ℕ, pos, List, []}
 use Rattle.rota_items.specs.ModelWords.{Objective, Term, LinearRow}
 
 -- the objective's row, and none where the objective has no term

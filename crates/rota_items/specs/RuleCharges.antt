@@ -1,5 +1,6 @@
 -- What the model charges for a rule, as the laws and the judge speak of it.
-use Rattle.rota_items.specs.Words.{ℕ, ◌*◌, ℤ, pos, Bool, List, sum_by, Rule, ◌+◌, ◌+ℤ◌, Cell, Roster, Week, sum_below}
+use Rattle.std.specs.Prelude.{◌*◌, ◌+◌, ◌+ℤ◌}
+use Rattle.rota_items.specs.Words.{ℕ, ℤ, pos, Bool, List, sum_by, Rule, Cell, Roster, Week, sum_below}
 use Rattle.rota_items.specs.ModelWords.{each_below, shortage, Item, value_of}
 use Rattle.rota_items.specs.RunItems.{run_items}
 use Rattle.rota_items.specs.rules.CompleteWeekends.Items.{complete_weekends_of}

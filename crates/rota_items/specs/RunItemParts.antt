@@ -1,5 +1,6 @@
 -- The run items of a day, and what the laws on run items ask.
-use Rattle.rota_items.specs.Words.{ℕ, ◌≤◌, ◌<◌, Bool, List, ◌++◌, map, count_by, ◌≡◌, length, ◌+◌, range_with_len}
+use Rattle.std.specs.Prelude.{◌≤◌, ◌<◌, ◌++◌, ◌≡◌, ◌+◌}
+use Rattle.rota_items.specs.Words.{ℕ, Bool, List, map, count_by, length, range_with_len}
 use Rattle.rota_items.specs.ModelWords.{Item}
 use Rattle.rota_items.specs.RunPatterns.{Pattern, closed_patterns_at, edge_patterns_on, windows_on, patterns_on}
 use Rattle.rota_items.specs.RunItems.{Property, variables_on, Runs, pattern_items}

@@ -1,5 +1,6 @@
 -- The items that charge a property's runs.
-use Rattle.rota_items.specs.Words.{ℕ, ◌*◌, pos, negsuc, ◌-ℤ◌, Bool, not, if◌then◌else◌, List, ◌++◌, map, flat_map, count_by, list_any, Rule}
+use Rattle.std.specs.Prelude.{◌*◌, ◌-ℤ◌, if◌then◌else◌, ◌++◌}
+use Rattle.rota_items.specs.Words.{ℕ, pos, negsuc, Bool, not, List, map, flat_map, count_by, list_any, Rule}
 use Rattle.rota_items.specs.Words.{Span}
 use Rattle.rota_items.specs.ModelWords.{Term, times, Item}
 use Rattle.rota_items.specs.RunPatterns.{PatternDay, Pattern, windows, patterns}

@@ -1,5 +1,6 @@
 -- The windows and patterns that charge runs, as days that must have the property or must not.
-use Rattle.rota_items.specs.Words.{ℕ, ◌+◌, ◌-◌, Bool, true, false, ◌&&◌, nat_le, nat_lt, List, [], ◌∷◌, ◌++◌, map, range_with_len, Span}
+use Rattle.std.specs.Prelude.{◌+◌, ◌-◌, ◌&&◌, ◌∷◌, ◌++◌}
+use Rattle.rota_items.specs.Words.{ℕ, Bool, true, false, nat_le, nat_lt, List, [], map, range_with_len, Span}
 use Rattle.rota_items.specs.ModelWords.{each_below, only_if}
 
 -- a day, and whether it must have the property

@@ -1,6 +1,7 @@
 -- Runs of days with a property, and what they cost. `has d` says whether day d has the property, and
 -- `history` is how long a run the days before Monday left.
-use Rattle.rota_items.specs.Words.{ℕ, zero, suc, ◌+◌, ◌-◌, Bool, not, ◌&&◌, if◌then◌else◌, nat_le, nat_lt, count_by, sum_by, List}
+use Rattle.std.specs.Prelude.{◌+◌, ◌-◌, ◌&&◌, if◌then◌else◌}
+use Rattle.rota_items.specs.Words.{ℕ, zero, suc, Bool, not, nat_le, nat_lt, count_by, sum_by, List}
 use Rattle.rota_items.specs.Words.{range_with_len, Span}
 
 -- the days Monday to Sunday

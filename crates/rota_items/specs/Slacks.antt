@@ -1,5 +1,6 @@
 -- The slacks of items: their numbers, the rows that they make up in, and those that are needed.
-use Rattle.rota_items.specs.Words.{ℕ, ◌+◌, ◌-◌, pos, Bool, false, if◌then◌else◌, nat_lt, List, [], ◌∷◌, ◌++◌, sum_by, range_with_len}
+use Rattle.std.specs.Prelude.{◌+◌, ◌-◌, if◌then◌else◌, ◌∷◌, ◌++◌}
+use Rattle.rota_items.specs.Words.{ℕ, pos, Bool, false, nat_lt, List, [], sum_by, range_with_len}
 use Rattle.rota_items.specs.ModelWords.{Soft, Term, times, LinearRow, Item, shortage}
 
 -- an item's slacks, where the first has this number

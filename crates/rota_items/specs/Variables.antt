@@ -1,5 +1,6 @@
 -- The numbers of the model's variables, and the roster that an assignment stands for.
-use Rattle.rota_items.specs.Words.{ℕ, ◌+◌, ◌-◌, ◌*◌, List, Bool, zero, suc, false, slice_index_or, Cell, Week, cell, Roster}
+use Rattle.std.specs.Prelude.{◌+◌, ◌-◌, ◌*◌}
+use Rattle.rota_items.specs.Words.{ℕ, List, Bool, zero, suc, false, slice_index_or, Cell, Week, cell, Roster}
 use Rattle.rota_core.specs.RosterTables.{cell_at, cell_place}
 
 -- the variable that is true where the cell is in the roster

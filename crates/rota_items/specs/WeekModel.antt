@@ -1,6 +1,7 @@
 -- The model of a week, over the numbers of its variables.
 use Rattle.rota_core.specs.declared.rule.Rule.TheVariants.{Unit as UnitRule}
-use Rattle.rota_items.specs.Words.{ℕ, ◌+◌, pos, Bool, true, ◌&&◌, ◌==◌, nat_lt, if◌then◌else◌, List, [], ◌∷◌, ◌++◌, map, Cell, Week}
+use Rattle.std.specs.Prelude.{◌+◌, ◌&&◌, ◌==◌, if◌then◌else◌, ◌∷◌, ◌++◌}
+use Rattle.rota_items.specs.Words.{ℕ, pos, Bool, true, nat_lt, List, [], map, Cell, Week}
 use Rattle.rota_items.specs.Words.{Roster}
 use Rattle.rota_items.specs.ModelWords.{Hard, Term, Constraint, Model, LinearRow, linear_constraint, Item, numbered, only_if}
 use Rattle.rota_items.specs.Variables.{cell_number, cell_of_number, unit_number, first_slack}

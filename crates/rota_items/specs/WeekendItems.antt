@@ -1,5 +1,6 @@
 -- The patterns of a weekend, and the items of a nurse's weekend.
-use Rattle.rota_items.specs.Words.{ℕ, Bool, if◌then◌else◌, List, [], ◌∷◌, map, Rule, Cell, Week}
+use Rattle.std.specs.Prelude.{if◌then◌else◌, ◌∷◌}
+use Rattle.rota_items.specs.Words.{ℕ, Bool, List, [], map, Rule, Cell, Week}
 use Rattle.rota_items.specs.ModelWords.{work_cells, Item}
 use Rattle.rota_items.specs.RunItems.{Present, pattern_item}
 use Rattle.rota_items.specs.RunPatterns.{Pattern, with_property, without_property}

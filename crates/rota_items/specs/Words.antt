@@ -1,7 +1,5 @@
 -- The words that costs and model are said in: lists and numbers, weeks, rosters and rules.
-pub use Rattle.std.specs.Prelude.{ℕ, ◌+◌, ◌-◌, Bool, not, ◌&&◌, ◌||◌, if◌then◌else◌, zero, suc, nat_le, nat_lt, count_by, sum_by, List, ◌*◌}
-pub use Rattle.std.specs.Prelude.{false, slice_index_or, ◌==◌, Option, Some, None, ℤ, int_le, pos, negsuc, ◌-ℤ◌, map, [], ◌∷◌, ◌+ℤ◌, ◌≤◌}
-pub use Rattle.std.specs.Prelude.{◌<◌, ◌++◌, flat_map, ◌≡◌, length, true, All, MatchOption, min}
+pub use Rattle.std.specs.Prelude.{ℕ, Bool, not, zero, suc, nat_le, nat_lt, count_by, sum_by, List, false, slice_index_or, Option, Some, None, ℤ, int_le, pos, negsuc, map, [], flat_map, length, true, All, MatchOption, min}
 pub use Rattle.std.specs.List.{range_with_len, list_any}
 pub use Rattle.rota_core.specs.Below.{sum_below, count_below}
 pub use Rattle.rota_core.specs.Week.{Week}

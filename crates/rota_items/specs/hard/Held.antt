@@ -1,5 +1,6 @@
 -- H5: each held cell is in the roster.
-use Rattle.rota_items.specs.Words.{pos, false, List, [], ◌∷◌, map, Cell, H5, Week}
+use Rattle.std.specs.Prelude.{◌∷◌}
+use Rattle.rota_items.specs.Words.{pos, false, List, [], map, Cell, H5, Week}
 use Rattle.rota_items.specs.ModelWords.{Hard, times, LinearRow}
 use Rattle.rota_core.specs.RosterCells.{cells_of}
 

@@ -1,5 +1,6 @@
 -- H1: at most one cell of a nurse's day.
-use Rattle.rota_items.specs.Words.{ℕ, negsuc, List, [], ◌∷◌, Cell, H1, Week}
+use Rattle.std.specs.Prelude.{◌∷◌}
+use Rattle.rota_items.specs.Words.{ℕ, negsuc, List, [], Cell, H1, Week}
 use Rattle.rota_items.specs.ModelWords.{each_below, Hard, work_cells, times, LinearRow}
 
 abbrev pub h1_row : Week → ℕ → ℕ → LinearRow Cell

@@ -1,5 +1,6 @@
 -- H3: no shift type after one that it may not follow.
-use Rattle.rota_items.specs.Words.{ℕ, ◌+◌, pos, negsuc, Bool, false, List, ◌++◌, Option, Some, None, Cell, H3, Week}
+use Rattle.std.specs.Prelude.{◌+◌, ◌++◌}
+use Rattle.rota_items.specs.Words.{ℕ, pos, negsuc, Bool, false, List, Option, Some, None, Cell, H3, Week}
 use Rattle.rota_items.specs.ModelWords.{each_below, only_if, Hard, on_cells, times, LinearRow}
 
 -- not t on Monday

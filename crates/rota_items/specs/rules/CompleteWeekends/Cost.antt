@@ -1,5 +1,6 @@
 -- S5, complete weekends: nurses with complete weekends who work on only one of its days.
-use Rattle.rota_items.specs.Words.{ℕ, Bool, not, ◌&&◌, ◌||◌, if◌then◌else◌, sum_below, works, Roster, Week}
+use Rattle.std.specs.Prelude.{◌&&◌, ◌||◌, if◌then◌else◌}
+use Rattle.rota_items.specs.Words.{ℕ, Bool, not, sum_below, works, Roster, Week}
 
 -- for each nurse's weekend
 abbrev pub complete_weekend_weight : ℕ

@@ -1,5 +1,6 @@
 -- How the model charges S5: the items of a nurse's weekend.
-use Rattle.rota_items.specs.Words.{ℕ, true, if◌then◌else◌, List, [], S5, Cell, Week}
+use Rattle.std.specs.Prelude.{if◌then◌else◌}
+use Rattle.rota_items.specs.Words.{ℕ, true, List, [], S5, Cell, Week}
 use Rattle.rota_items.specs.ModelWords.{Item}
 use Rattle.rota_items.specs.WeekendItems.{weekend_items}
 use Rattle.rota_items.specs.rules.CompleteWeekends.Cost.{complete_weekend_weight}

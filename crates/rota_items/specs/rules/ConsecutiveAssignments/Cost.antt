@@ -1,5 +1,6 @@
 -- S2, consecutive assignments: runs on a shift type and runs of working days that are too long or too short.
-use Rattle.rota_items.specs.Words.{ℕ, ◌+◌, ◌*◌, ◌==◌, if◌then◌else◌, Option, Some, None, sum_below, is_on, works, Roster, Week}
+use Rattle.std.specs.Prelude.{◌+◌, ◌*◌, ◌==◌, if◌then◌else◌}
+use Rattle.rota_items.specs.Words.{ℕ, Option, Some, None, sum_below, is_on, works, Roster, Week}
 use Rattle.rota_items.specs.Runs.{run_cost}
 
 -- for each day that a run on a shift type is too long or too short

@@ -1,5 +1,6 @@
 -- How the model charges S2: the items of a nurse's runs.
-use Rattle.rota_items.specs.Words.{ℕ, List, ◌++◌, S2, Cell, Week}
+use Rattle.std.specs.Prelude.{◌++◌}
+use Rattle.rota_items.specs.Words.{ℕ, List, S2, Cell, Week}
 use Rattle.rota_items.specs.ModelWords.{each_below, on_cells, work_cells, Item}
 use Rattle.rota_items.specs.RunItems.{Runs, Present, run_items}
 use Rattle.rota_items.specs.rules.ConsecutiveAssignments.Cost.{shift_run_weight, work_run_weight, history_on}

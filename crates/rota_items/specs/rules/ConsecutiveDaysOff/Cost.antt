@@ -1,5 +1,6 @@
 -- S3, consecutive days off: runs of days off that are too long or too short.
-use Rattle.rota_items.specs.Words.{ℕ, ◌*◌, sum_below, is_off, Roster, Week}
+use Rattle.std.specs.Prelude.{◌*◌}
+use Rattle.rota_items.specs.Words.{ℕ, sum_below, is_off, Roster, Week}
 use Rattle.rota_items.specs.Runs.{run_cost}
 
 -- for each day that a run is too long or too short

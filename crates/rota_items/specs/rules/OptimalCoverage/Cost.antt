@@ -1,5 +1,6 @@
 -- S1, optimal coverage: nurses below the optimal number of a day's shift type and skill.
-use Rattle.rota_items.specs.Words.{ℕ, ◌-◌, ◌*◌, sum_below, nurses_at, Roster, Week}
+use Rattle.std.specs.Prelude.{◌-◌, ◌*◌}
+use Rattle.rota_items.specs.Words.{ℕ, sum_below, nurses_at, Roster, Week}
 
 -- for each nurse who is missing
 abbrev pub optimum_weight : ℕ

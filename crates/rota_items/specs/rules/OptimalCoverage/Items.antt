@@ -1,5 +1,6 @@
 -- How the model charges S1: an item for each day, shift type and skill.
-use Rattle.rota_items.specs.Words.{ℕ, ◌-◌, pos, nat_lt, List, S1, Cell, Week}
+use Rattle.std.specs.Prelude.{◌-◌}
+use Rattle.rota_items.specs.Words.{ℕ, pos, nat_lt, List, S1, Cell, Week}
 use Rattle.rota_items.specs.ModelWords.{each_below, only_if, demand_cells, Item, times}
 use Rattle.rota_items.specs.rules.OptimalCoverage.Cost.{optimum_weight}
 

@@ -1,5 +1,6 @@
 -- S4, requests: cells that request rows ask to be free of.
-use Rattle.rota_items.specs.Words.{ℕ, ◌*◌, if◌then◌else◌, sum_below, Roster, cell, Week}
+use Rattle.std.specs.Prelude.{◌*◌, if◌then◌else◌}
+use Rattle.rota_items.specs.Words.{ℕ, sum_below, Roster, cell, Week}
 
 -- for each cell and each request row that it matches
 abbrev pub request_weight : ℕ

@@ -1,5 +1,6 @@
 -- How the model charges S4: by terms of the objective at the cells, with no item.
-use Rattle.rota_items.specs.Words.{ℕ, ◌*◌, pos, nat_lt, List, Cell, cell, Week}
+use Rattle.std.specs.Prelude.{◌*◌}
+use Rattle.rota_items.specs.Words.{ℕ, pos, nat_lt, List, Cell, cell, Week}
 use Rattle.rota_items.specs.ModelWords.{each_below, only_if, Term}
 use Rattle.rota_items.specs.rules.ShiftOffRequests.Cost.{request_weight}
 

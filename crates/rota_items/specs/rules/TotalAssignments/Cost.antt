@@ -1,5 +1,6 @@
 -- S6, total assignments: assignments outside the limits of the nurse's total.
-use Rattle.rota_items.specs.Words.{ℕ, ◌+◌, ◌-◌, ◌*◌, if◌then◌else◌, sum_below, count_below, Roster, cell, Week}
+use Rattle.std.specs.Prelude.{◌+◌, ◌-◌, ◌*◌, if◌then◌else◌}
+use Rattle.rota_items.specs.Words.{ℕ, sum_below, count_below, Roster, cell, Week}
 use Rattle.rota_items.specs.CountedTotals.{charged_excess, least_totals_count}
 
 -- for each assignment outside the limits

@@ -1,5 +1,6 @@
 -- How the model charges S6: the items of a nurse's total, and what no roster can avoid.
-use Rattle.rota_items.specs.Words.{ℕ, ◌+◌, ◌-◌, ◌*◌, pos, negsuc, ◌-ℤ◌, nat_lt, min, ◌&&◌, if◌then◌else◌, List, ◌++◌, S6, Cell, Week}
+use Rattle.std.specs.Prelude.{◌+◌, ◌-◌, ◌*◌, ◌-ℤ◌, ◌&&◌, if◌then◌else◌, ◌++◌}
+use Rattle.rota_items.specs.Words.{ℕ, pos, negsuc, nat_lt, min, List, S6, Cell, Week}
 use Rattle.rota_items.specs.ModelWords.{only_if, nurse_cells, Item, times}
 use Rattle.rota_items.specs.CountedTotals.{excess_before_counts, greatest_totals_count, least_totals_count}
 use Rattle.rota_items.specs.rules.TotalAssignments.Cost.{assignment_weight}

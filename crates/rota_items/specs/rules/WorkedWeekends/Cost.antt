@@ -1,5 +1,6 @@
 -- S7, worked weekends: those above the nurse's greatest number.
-use Rattle.rota_items.specs.Words.{ℕ, ◌*◌, ◌||◌, if◌then◌else◌, sum_below, works, Roster, Week}
+use Rattle.std.specs.Prelude.{◌*◌, ◌||◌, if◌then◌else◌}
+use Rattle.rota_items.specs.Words.{ℕ, sum_below, works, Roster, Week}
 use Rattle.rota_items.specs.CountedTotals.{charged_excess}
 
 -- for each weekend above the greatest number

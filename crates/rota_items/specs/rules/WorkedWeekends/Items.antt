@@ -1,5 +1,6 @@
 -- How the model charges S7: the items of a nurse's weekend, and what no roster can avoid.
-use Rattle.rota_items.specs.Words.{ℕ, ◌-◌, ◌*◌, nat_le, ◌&&◌, false, if◌then◌else◌, List, [], S7, Cell, Week}
+use Rattle.std.specs.Prelude.{◌-◌, ◌*◌, ◌&&◌, if◌then◌else◌}
+use Rattle.rota_items.specs.Words.{ℕ, nat_le, false, List, [], S7, Cell, Week}
 use Rattle.rota_items.specs.ModelWords.{Item}
 use Rattle.rota_items.specs.CountedTotals.{excess_before_counts, greatest_totals_count}
 use Rattle.rota_items.specs.WeekendItems.{weekend_items}
