@@ -201,7 +201,8 @@ def svg(roster):
     left, top, wide, high = 130, 60, 86, 26
     lefts = [left + day * wide + (12 if day > 4 else 0) for day in range(7)]
     right, bottom = lefts[6] + wide + (230 if roster.costs else 10), top + len(roster.nurses) * high
-    end = bottom + 44 + 18 * len(roster.legend())
+    under = bottom + 24 + 20 * ((len(roster.shifts) + 7) // 8)
+    end = under + 18 * len(roster.legend())
     yield (
         f'<svg xmlns="http://www.w3.org/2000/svg" width="{right}" height="{end}" '
         f'viewBox="0 0 {right} {end}" font-family="sans-serif" font-size="12">'
@@ -215,10 +216,11 @@ def svg(roster):
     for row, nurse in enumerate(roster.nurses):
         yield from svg_row(roster, nurse, lefts, top + row * high, wide - 4, high - 4)
     for at, shift in enumerate(roster.shifts):
-        yield svg_place(10 + at * 90, bottom + 18, 14, 14, at, False)
-        yield f'<text class="ink" x="{30 + at * 90}" y="{bottom + 30}">{escape(shift[:9])}</text>'
+        x, y = 10 + at % 8 * 90, bottom + 18 + at // 8 * 20
+        yield svg_place(x, y, 14, 14, at, False)
+        yield f'<text class="ink" x="{x + 20}" y="{y + 12}">{escape(shift[:9])}</text>'
     for at, line in enumerate(roster.legend()):
-        yield f'<text class="ink" x="10" y="{bottom + 54 + 18 * at}">{escape(line)}</text>'
+        yield f'<text class="ink" x="10" y="{under + 10 + 18 * at}">{escape(line)}</text>'
     yield "</svg>"
 
 
