@@ -1,5 +1,5 @@
 #!/usr/bin/env bash
-# Runs the program at the greatest sizes: the week with most variables, rosters and requests of as many rows as a file may
+# Runs the program at great sizes: a week of as many nurses as there may be, rosters and requests of as many rows as a file may
 # have, names of a million bytes, long command lines. None of them is out of memory.
 #
 #   tests/great_sizes.sh [llvm | rattle | PROGRAM]
@@ -8,7 +8,7 @@
 . "$(dirname "$0")/kit.sh"
 needs_reporter
 
-# The greatest week: 1000 nurses with all of 16 skills, and 16 shift types.
+# A large week: 1000 nurses with all of 16 skills, and 16 shift types.
 skills='a b c d e f g h i j k l m n o p'
 {
     printf 'SCENARIO = s1\nWEEKS = 2\nSKILLS = 16\n%s\nSHIFT_TYPES = 16\n' "$skills"
@@ -17,12 +17,12 @@ skills='a b c d e f g h i j k l m n o p'
     printf 't%d 0\n' {0..15}
     printf 'CONTRACTS = 1\nFull (1,9) (1,9) (1,9) 9 0\nNURSES = 1000\n'
     printf "n%d Full 16 $skills\n" {0..999}
-} > "$room/greatest.txt"
+} > "$room/large.txt"
 {
     printf 'HISTORY\n0 s1\nNURSE_HISTORY\n'
     printf 'n%d 0 0 None 0 0 0\n' {0..999}
-} > "$room/greatest_history.txt"
-greatest=(--sce greatest.txt --his greatest_history.txt --week week.txt)
+} > "$room/large_history.txt"
+large=(--sce large.txt --his large_history.txt --week week.txt)
 
 # rows NUMBER: this many different rows of a solution, first one for each nurse and day in the order in which
 # `decode` writes them, then others.
@@ -44,11 +44,11 @@ of_rows one_a_day 7000
 of_rows most_rows 9999
 of_rows too_many_rows 10000
 
-greatest_week() {
-    run 'the greatest week' 0 text nothing encode "${greatest[@]}"
+large_week() {
+    run 'a large week' 0 text nothing encode "${large[@]}"
     [ "$(head -n 1 "$room/out")" = '* #variable= 1792001 #constraint= 7001' ] || complain "$(head -n 1 "$room/out")"
     [ "$(grep -c '>= .* ;$' "$room/out")" = 7001 ] || complain 'not 7001 rows'
-    reports 'the numbers of the greatest week' text greatest.txt greatest_history.txt week.txt
+    reports 'the numbers of a large week' text large.txt large_history.txt week.txt
     tail -n 4 "$room/out" > "$room/numbers"
     cat > "$room/wanted" <<'END_OF_NUMBERS'
 last cell 1792000: 999 6 15 15
@@ -59,26 +59,26 @@ END_OF_NUMBERS
     holds numbers wanted
 }
 
-greatest_rosters() {
-    run 'a roster of 7000 rows' 0 text nothing extend "${greatest[@]}" --from one_a_day
+large_rosters() {
+    run 'a roster of 7000 rows' 0 text nothing extend "${large[@]}" --from one_a_day
     cp "$room/out" "$room/answer"
     [ "$(head -n 2 "$room/answer" | tr '\n' /)" = 'o 0/s SATISFIABLE/' ] || complain 'another head'
-    run 'its answer' 0 text nothing decode "${greatest[@]}" --answer answer --sol solution
+    run 'its answer' 0 text nothing decode "${large[@]}" --answer answer --sol solution
     holds solution one_a_day
     has_line 'penalty 0'
     printf 's SATISFIABLE\nv x1792001 x1792000 x1791999\n' > "$room/answer"
-    refuses 'two cells of the last nurse and day' 6 'constraint 7001 is not satisfied' decode "${greatest[@]}" --answer answer --sol unmade
-    refuses 'a roster of 9999 rows' 6 'roster breaks H1' extend "${greatest[@]}" --from most_rows
-    reports 'the cells of 9999 rows' text greatest.txt greatest_history.txt week.txt most_rows
+    refuses 'two cells of the last nurse and day' 6 'constraint 7001 is not satisfied' decode "${large[@]}" --answer answer --sol unmade
+    refuses 'a roster of 9999 rows' 6 'roster breaks H1' extend "${large[@]}" --from most_rows
+    reports 'the cells of 9999 rows' text large.txt large_history.txt week.txt most_rows
     has_line 'cells 9999'
-    refuses 'a roster of 10000 rows' 1 'solution line 4: out of limits' extend "${greatest[@]}" --from too_many_rows
+    refuses 'a roster of 10000 rows' 1 'solution line 4: out of limits' extend "${large[@]}" --from too_many_rows
 }
 
 # Each row asks for Monday off on one shift type: 7000 rows of 1000 nurses on one, 2999 rows of 429 on another,
 # each charged at 16 skills.
 most_requests() {
     { printf 'WEEK_DATA s1 REQUIREMENTS\nSHIFT_OFF_REQUESTS = 9999\n'; rows 9999 | cut -d ' ' -f 1,3 | awk '{ print $1, $2, "Mon" }'; } > "$room/requests.txt"
-    run '9999 requests' 0 text nothing encode --sce greatest.txt --his greatest_history.txt --week requests.txt
+    run '9999 requests' 0 text nothing encode --sce large.txt --his large_history.txt --week requests.txt
     sed -n 2p "$room/out" | tr ' ' '\n' | awk '/^\+/ { terms++; sum += $0 }
         END { exit terms != 16 * (1000 + 429) || sum != 16 * 10 * 9999 }' || complain 'other terms, or another sum'
 }
@@ -112,8 +112,8 @@ long_command_lines() {
     run '20000 words' 2 nothing text encode "${words[@]}"
 }
 
-greatest_week
-greatest_rosters
+large_week
+large_rosters
 most_requests
 long_names
 long_command_lines
