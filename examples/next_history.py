@@ -1,9 +1,10 @@
 #!/usr/bin/env python3
 """Writes the history with which the next week begins: from a week's scenario, history and roster.
 
-usage: next_history.py SCENARIO HISTORY SOLUTION > NEXT_HISTORY
+usage: next_history.py [--new-period] SCENARIO HISTORY SOLUTION > NEXT_HISTORY
 
-SOLUTION is the week's roster, as `inrc2pb decode` writes it. docs/rules.md says what each number is. Files that do not
+SOLUTION is the week's roster, as `inrc2pb decode` writes it. docs/rules.md says what each number is. With --new-period the
+next week is the first of a new period: its number is 0, and so are the assignments and weekends worked. Files that do not
 belong to one week, and a nurse with two places on one day, are told on standard error, with status 1.
 Needs Python 3.8 or later.
 """
@@ -34,7 +35,8 @@ def rows_of(words, at, width):
 class Week:
     """A scenario's names, and its history: for each nurse six numbers and words."""
 
-    def __init__(self, scenario, history):
+    def __init__(self, scenario, history, new_period=False):
+        self.new_period = new_period
         words = exact_tokens(scenario)
         self.name, self.weeks = words[2], int(words[5])
         _, end = rows_of(words, 6, 1)
@@ -44,8 +46,10 @@ class Week:
         self.number, name = int(words[1]), words[2]
         if name != self.name:
             raise DoesNotFit(f"{history}: it is of {name}, the scenario is {self.name}")
-        if self.number + 1 >= self.weeks:
-            raise DoesNotFit(f"{history}: week {self.number} is the last of {self.weeks}, none comes after it")
+        if self.number + 1 >= self.weeks and not new_period:
+            raise DoesNotFit(
+                f"{history}: week {self.number} is the last of {self.weeks}, none comes after it; a new period begins with --new-period"
+            )
         self.past = {words[at]: words[at + 1 : at + 7] for at in range(4, len(words), 7)}
 
     def roster(self, solution):
@@ -91,12 +95,13 @@ def next_row(past, on):
 
 def next_history(week, shifts):
     yield "HISTORY"
-    yield f"{week.number + 1} {week.name}"
+    yield f"{0 if week.new_period else week.number + 1} {week.name}"
     yield ""
     yield "NURSE_HISTORY"
     for nurse, past in week.past.items():
         on = {day: shift for (one, day), shift in shifts.items() if one == nurse}
-        yield " ".join(map(str, [nurse, *next_row(past, on)]))
+        row = next_row(past, on)
+        yield " ".join(map(str, [nurse, *([0, 0, *row[2:]] if week.new_period else row)]))
 
 
 def main():
@@ -104,13 +109,16 @@ def main():
     parser.add_argument("scenario")
     parser.add_argument("history", help="the one with which the week began")
     parser.add_argument("solution", help="the week's roster, as `inrc2pb decode` writes it")
+    parser.add_argument("--new-period", action="store_true", help="the next week is the first of a new period")
     files = parser.parse_args()
     sys.stderr.reconfigure(errors="replace")
     try:
-        week = Week(files.scenario, files.history)
+        week = Week(files.scenario, files.history, files.new_period)
         lines = list(next_history(week, week.roster(files.solution)))
     except DoesNotFit as fault:
         sys.exit(f"next_history.py: {fault}")
+    except OSError as fault:
+        sys.exit(f"next_history.py: {fault.filename}: {fault.strerror}")
     except (ValueError, IndexError):
         sys.exit("next_history.py: a file is not one of a week, as inrc2pb reads it: try `inrc2pb extend` on them")
     sys.stdout.reconfigure(encoding="utf-8", errors="surrogateescape")

@@ -68,8 +68,8 @@ class Room:
     def __truediv__(self, name):
         return self.folder / name
 
-    def next_history(self):
-        return run(ROOT / "examples/next_history.py", self / "sce", self / "his", self / "sol")
+    def next_history(self, *options):
+        return run(ROOT / "examples/next_history.py", *options, self / "sce", self / "his", self / "sol")
 
 
 def trailing(days, has, before):
@@ -123,6 +123,11 @@ def random_week(chance, room, program):
     wanted += [" ".join(map(str, wanted_row(row, days[row[0]]))) for row in rows]
     if ran.returncode != 0 or ran.stdout.split("\n") != [*wanted, ""]:
         yield f"next history of\n{(room / 'his').read_text()}{(room / 'sol').read_text()}is\n{ran.stdout}{ran.stderr}"
+    ran_anew = room.next_history("--new-period")
+    wanted[1] = "0 ward"
+    wanted[4:] = [" ".join([row.split()[0], "0 0", *row.split()[3:]]) for row in wanted[4:]]
+    if ran_anew.returncode != 0 or ran_anew.stdout.split("\n") != [*wanted, ""]:
+        yield f"a new period after\n{(room / 'his').read_text()}{(room / 'sol').read_text()}begins\n{ran_anew.stdout}{ran_anew.stderr}"
     room.write("next", ran.stdout)
     room.write("wd", "WEEK_DATA ward REQUIREMENTS SHIFT_OFF_REQUESTS = 0\n")
     ran = run(program, "encode", "--sce", room / "sce", "--his", room / "next", "--week", room / "wd")
@@ -149,6 +154,9 @@ def four_weeks(chance, room, program):
         if number == 3:
             if ran.returncode != 1 or "is the last of 4" not in ran.stderr:
                 yield f"after the last week: status {ran.returncode}, {ran.stderr}"
+            ran = room.next_history("--new-period")
+            if ran.returncode != 0 or not ran.stdout.startswith("HISTORY\n0 ward\n"):
+                yield f"a new period after the last week: status {ran.returncode}, {ran.stdout}{ran.stderr}"
         else:
             room.write("his", ran.stdout)
 
@@ -164,6 +172,9 @@ MISFITS = {
 
 
 def misfits(room):
+    ran = run(ROOT / "examples/next_history.py", room / "sce", room / "his", room / "unwritten")
+    if ran.returncode != 1 or "unwritten: No such file" not in ran.stderr or "Traceback" in ran.stderr:
+        yield f"a file that is not there: status {ran.returncode}, {ran.stderr}"
     for what, (number, cells, solved, told) in MISFITS.items():
         room.write("his", history_text(number, [[nurse, 0, 0, "None", 0, 0, 0] for nurse in NURSES]))
         room.write("sol", solution_text(solved, cells))
