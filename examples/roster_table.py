@@ -8,7 +8,8 @@ SOLUTION is a solution file, as `inrc2pb decode` writes it.
 --sce F   the scenario: nurses stand in its order, and those without a shift too
 --fix F   the fix file: cells that it holds have a *
 --week F  the week file: a cell that a request asked to be free has a !
---sce, --his and --week together: what each nurse costs, by rule; --early as it was given to `inrc2pb`
+--sce, --his and --week together: what each nurse costs, by rule, and where nurses are missing; --early as it was given
+          to `inrc2pb`
 --svg     a picture in place of the text, with a colour for each shift type
 --csv     lines for a spreadsheet
 
@@ -67,7 +68,7 @@ class Roster:
             self.cells.setdefault((nurse, day), []).append((shift, skill))
         self.title = f"{self.name}, week {self.week}: {len(rows)} assignment{'' if len(rows) == 1 else 's'}"
         self.held, self.refused = set(), set()
-        self.costs, self.end = {}, []
+        self.costs, self.end, self.missing = {}, [], []
 
     def take_order_of(self, scenario):
         """Nurses and shift types in the scenario's order, used or not."""
@@ -82,6 +83,10 @@ class Roster:
         for _ in range(int(words[nurses + 2])):
             self.nurses.append(words[at])
             at += 3 + int(words[at + 2])
+        if any(nurse not in self.nurses for nurse, _ in self.cells) or any(
+            shift not in self.shifts or skill not in self.skills for cells in self.cells.values() for shift, skill in cells
+        ):
+            raise ValueError("a name that the scenario does not have")
 
     def take_held_cells(self, fix_file):
         self.held = set(rows_of_four(solution_words(fix_file)))
@@ -102,6 +107,7 @@ class Roster:
         import rules
 
         week, roster = rules.read_week(*map(text_of, files[:3])), rules.read_roster(text_of(files[3]))
+        self.missing = list(missing_nurses(week.required, rules.numbers(roster)))
         broken = rules.first_broken(week, roster, rules.read_roster(text_of(fix_file)) if fix_file else ())
         if broken:
             self.end.append(f"roster breaks {broken}: it has no penalty")
@@ -122,6 +128,19 @@ class Roster:
         """A nurse's cost, and the rules that charge it."""
         costs = {rule: cost for rule, cost in self.costs.get(nurse, {}).items() if cost}
         return [sum(costs.values()), " + ".join(f"{rule} {cost}" for rule, cost in costs.items())]
+
+
+def missing_nurses(required, numbers):
+    """A line for each day on which a place has fewer nurses than it asks for."""
+    for day, name in enumerate(DAYS):
+        places = []
+        for (on, shift, skill), (minimum, optimal) in required.items():
+            number = numbers[on, shift, skill]
+            if on == day and number < max(minimum, optimal):
+                least = f", at least {minimum}" * (number < minimum)
+                places.append(f"{shift} {skill} ({number} of {max(minimum, optimal)}{least})")
+        if places:
+            yield f"missing on {name}: {', '.join(places)}"
 
 
 def in_order(names):
@@ -166,15 +185,15 @@ def table(roster, coloured=False):
         return in_colour(padded, roster.shifts.index(cells[0][0])) if coloured and cells else padded
 
     first = max([len(name) for name in nurses.values()], default=0)
-    width = max([len(text(nurse, day)) for nurse in roster.nurses for day in DAYS], default=3)
+    width = max([3, *(len(text(nurse, day)) for nurse in roster.nurses for day in DAYS)])
     days = with_weekend_apart([f"{day:{width}}" for day in DAYS])
     lines = [roster.title, "", f"{'':{first}}  {days}{'  cost' if roster.costs else ''}".rstrip()]
     for nurse, name in nurses.items():
         row = with_weekend_apart([shown(nurse, day, width) for day in DAYS])
         cost = "  {:4}  {}".format(*roster.cost_of(nurse)) if roster.costs else ""
         lines.append(f"{name:{first}}  {row}{cost}".rstrip())
-    cut = [f"{short} = {name}" for name, short in skills.items() if short != name]
-    below = ["  ".join(cut)] * bool(cut) + roster.legend()
+    cut = [f"{short} = {name}" for names in (shifts, skills) for name, short in names.items() if short != name]
+    below = ["  ".join(cut)] * bool(cut) + roster.legend() + roster.missing
     return lines + [""] * bool(below) + below
 
 
@@ -185,7 +204,7 @@ def spreadsheet(roster):
         cells = [[(nurse, day, *cell) for cell in roster.cells.get((nurse, day), [])] for day in DAYS]
         shown = [" + ".join(" ".join([*cell[2:], *roster.marks(cell)]) for cell in of_day) for of_day in cells]
         yield [nurse, *shown, *(roster.cost_of(nurse) if roster.costs else [])]
-    yield from ([line] for line in roster.legend())
+    yield from ([line] for line in roster.legend() + roster.missing)
 
 
 STYLE = """<style>
@@ -261,7 +280,7 @@ def parsed_words():
     parser = argparse.ArgumentParser(description="Shows a roster as a table of nurses by days.")
     parser.add_argument("solution", help="a solution file, as `inrc2pb decode` writes it")
     parser.add_argument("--sce", metavar="SCENARIO", help="takes the nurses and their order from the scenario")
-    parser.add_argument("--his", metavar="HISTORY", help="with --sce and --week: tells what each nurse costs")
+    parser.add_argument("--his", metavar="HISTORY", help="with --sce and --week: tells what each nurse costs, and where nurses are missing")
     parser.add_argument("--week", metavar="WEEK", help=f"marks cells that a request asked to be free by {REFUSED}")
     parser.add_argument("--fix", metavar="F", help=f"marks cells that this file holds by {HELD}")
     parser.add_argument("--early", action="store_true", help="counts costs as inrc2pb does with --early")
@@ -301,8 +320,10 @@ def main():
     words = parsed_words()
     try:
         lines = lines_of(words)
+    except OSError as fault:
+        sys.exit(f"roster_table.py: {fault.filename}: {fault.strerror}")
     except (IndexError, KeyError, ValueError):
-        sys.exit("These files do not belong to one week: inrc2pb names what is wrong.")
+        sys.exit("These files do not belong to one week, or one has a mistake: `inrc2pb extend` on them names it.")
     sys.stdout.reconfigure(encoding="utf-8", errors="replace")
     print("\n".join(lines))
 

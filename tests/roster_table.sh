@@ -78,6 +78,25 @@ begins_case 'files of two weeks'
 sed 's/Patrick/Paul/' plain.txt > other.txt
 "$table" "${week[@]}" other.txt > out 2> err && complain 'no fault is told'
 grep -q 'do not belong to one week' err || complain "told: $(cat err)"
+begins_case 'a scenario of another ward'
+sed 's/Patrick/Paul/' Sc-n005w4.txt > other.txt
+"$table" --sce other.txt plain.txt > out 2> err && complain 'no fault is told'
+grep -q 'do not belong to one week' err || complain "told: $(cat err)"
+begins_case 'a file that is not there'
+"$table" unwritten.txt > out 2> err && complain 'no fault is told'
+grep -qx 'roster_table.py: unwritten.txt: No such file or directory' err || complain "told: $(cat err)"
+begins_case 'places that want more nurses'
+shows "${week[@]}" --fix promised.txt held.txt
+[ $(($(grep '^missing on ' out | tr -cd '(' | wc -c) * 30)) -eq "$(sed -n 's/^S1 //p' report)" ] || complain "S1 is another: $(cat out)"
+begins_case 'a place below its minimum'
+awk '/^Sara Mon/ { next } $1 == "ASSIGNMENTS" { $3 -= 1 } { print }' plain.txt > other.txt
+shows "${week[@]}" other.txt
+has_part 'roster breaks H2'
+has_part ', at least 1)'
+begins_case 'shift types with long names'
+sed 's/Early/Earliest/' plain.txt > other.txt
+shows other.txt
+has_part 'Earli = Earliest'
 begins_case 'words that do not fit'
 "$table" --his H0-n005w4-0.txt plain.txt > out 2> err && complain '--his alone is taken'
 
