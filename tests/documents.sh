@@ -51,6 +51,7 @@ line=\$([ \$# -gt 0 ] && head -n 1 "\${!#}" 2> /dev/null) || line=\$(head -n 1; 
 case \$line in
     '* #variable= 549 #constraint= 480') cat "$room/answers/clasp-optimum.txt" ;;
     '* #variable= 549 #constraint= 481') cat "$room/answers/clasp-held.txt" ;;
+    '* #variable= 1382 #constraint= 853') cat "$room/answers/clasp-lowered.txt" ;;
     '* #variable= 656 #constraint= 570') cat "$room/answers/clasp-ward-0.txt" ;;
     '* #variable= 656 #constraint= 571') cat "$room/answers/clasp-ward-held.txt" ;;
     '* #variable= 665 #constraint= 579') cat "$room/answers/clasp-ward-1.txt" ;;
