@@ -15,6 +15,16 @@ use std::alloc::Global;
 
 /// Performs the job: its files are opened among `files`, `file` is the one that it writes, and `input` and `output` are the program's own.
 ///
+/// Here the program `inrc2pb` performs a job over its own types for files, input and output:
+///
+/// ```
+/// let mut files = HostFiles::new(rt);
+/// let mut input = FromRead::new(StandardInput::new(rt));
+/// let mut file = FileOnFirstWrite::new(rt, job.output_path());
+/// let mut output = StandardOutput::new(rt);
+/// perform(rt.alloc(), &job, &mut files, &mut input, &mut file, &mut output)
+/// ```
+///
 /// # Errors
 /// `Read` where a file does not open: neither the input nor an output is touched then. Else those of the run.
 pub fn perform<O: Opens, A: Source, F: Target + Placed, W: Target + Placed>(

@@ -23,6 +23,8 @@ impl<'a, W: Target> OpbTaker<'a, W> {
     ghost use Rattle.opb_text.specs.Sink.{sink_failed, FinishesSink, PutsText};
 
     /// A taker whose text goes into the sink. No row of the objective is open.
+    ///
+    /// See the example at the head of the crate.
     pub fn new(sink: Sink<'a, W>) -> OpbTaker<'a, W>
         ensures sink { sink_of result ≡ sink.entry }
         ensures no_objective { in_objective result ≡ false }

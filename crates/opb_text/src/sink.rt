@@ -35,6 +35,14 @@ impl<'a, W: Target> Sink<'a, W> {
     ghost use Rattle.opb_text.specs.Sink.{stands_for, sink_failed, target_name, target_of, sent_by, FinishesSink, PutsText};
 
     /// A sink over the target, which stands for what the target was sent.
+    ///
+    /// Here `put_solution` puts a text into a sink over the target `out`, and all of it is sent:
+    ///
+    /// ```
+    /// let mut sink = Sink::new(out);
+    /// put_solution(&mut sink, instance, roster)?;
+    /// sink.finish()
+    /// ```
     pub fn new(target: &'a mut W) -> Sink<'a, W>
         ensures same_target { target_name result ≡ target.entry.ghost_name }
         ensures target { target_of result ≡ target.old }

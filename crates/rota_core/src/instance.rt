@@ -15,8 +15,7 @@ use std::marker::Model;
 
 /// The tables of one week: its scenario, the history before it, and its own demands and requests, all
 /// for the same nurses, shift types and skills. The week is one of those that the scenario spans.
-/// Beside them stand whether excess is charged in each week, and the cells that are held.
-///
+/// Beside them are whether excess is charged in each week, and the cells that are held.
 /// Nurses, shift types and skills are numbered from 0 in the order of the scenario's file, and days
 /// are 0 (Monday) to 6 (Sunday).
 #[derive(Drop)]
@@ -48,7 +47,7 @@ impl Instance {
 
     /// The instance of these three, with no cell held, or `LateWeek` at line 0 of the history where
     /// its week's number is not below the scenario's number of weeks. `early` says whether what
-    /// exceeds a total is charged in each week and not only in the last.
+    /// exceeds a total is charged in each week, not only in the last. See `rota_read::read_week`.
     pub fn join(
         scenario: Scenario,
         history: History,

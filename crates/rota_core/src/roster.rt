@@ -73,6 +73,14 @@ impl Roster {
     }
 
     /// Puts the cell into the roster, and says whether it was not there.
+    ///
+    /// Here the same cell is put twice into an empty roster, which then has one cell:
+    ///
+    /// ```
+    /// let is_new = (roster.put(SUNDAY), roster.put(SUNDAY));
+    /// let has = (roster.has(SUNDAY), roster.has(SATURDAY));
+    /// is_new == (true, false) && has == (true, false) && roster.count() == 1
+    /// ```
     pub fn put(&mut self, cell: Cell) -> bool
         requires { InShape self.old cell }
         ensures is_new { result ≡ not (set_of self.old cell) }
@@ -101,6 +109,8 @@ impl Roster {
     }
 
     /// The roster's cells, by nurse, day, shift type and skill.
+    ///
+    /// See the example at the head of the crate.
     pub fn cells(&self) -> Cells<'_>
         ensures { result ≡ cells_in self.now }
     {

@@ -27,6 +27,8 @@ use rota_core::Instance;
 /// The rules but H5 are those of the problem description of INRC-II. Terms stand by rising variable number,
 /// and the slacks of the rows follow one another from the one after the unit variable on. A taker's
 /// fault is answered at once, and nothing more is handed to it.
+///
+/// See the example at the head of the crate.
 pub fn drive_constraints<T: Taker>(instance: &Instance, taker: &mut T) -> Result<(), T::Fault>
     ensures { Takes T.Taker (events (rows_of (week_of instance.now))) taker.old taker.new result }
 {

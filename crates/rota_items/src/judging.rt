@@ -68,6 +68,8 @@ impl<'a> Judge<'a> {
 
     /// The judge of the roster's extension: the variables of its cells, the unit variable, and of each
     /// constraint of a soft rule the first slacks, as many as it lacks on the roster.
+    ///
+    /// See the example at the head of the crate.
     pub fn of_roster(instance: &'a Instance, roster: &'a Roster) -> Judge<'a>
         requires { HasShapeOf (week_of instance.now) roster.now }
         ensures { result ≡ fresh instance.now (extended roster.now) }

@@ -16,6 +16,14 @@ use rota_core::Instance;
 ///
 /// They are computed from the instance's tables, and no row is made: the first line of a model's text
 /// needs them before the rows.
+///
+/// Here an `OpbTaker` of `opb_text` takes the whole model, the first line first:
+///
+/// ```
+/// taker.first_line(counts(instance))?;
+/// drive_objective(instance, taker)?;
+/// drive_constraints(instance, taker)
+/// ```
 pub fn counts(instance: &Instance) -> Counts
     ensures variables { result.variables ≡ (model_of (week_of instance.now)).variables }
     ensures constraints { result.constraints ≡ length (model_of (week_of instance.now)).constraints }

@@ -33,6 +33,17 @@ pub struct Decoded {
 /// Errors: `NoRoster` where the answer's status is neither `Satisfiable` nor `Optimum`; else `Unmet`
 /// with the first constraint of the model that the answer does not satisfy, where there is one. The
 /// bits are dropped then.
+///
+/// Here an answer is read, and the solution file of its roster is written, and then a report:
+///
+/// ```
+/// let mut answer = Answer::new(alloc, counts(&instance).variables)?;
+/// answer.feed(text)?;
+/// let solved = answer.finish()?;
+/// let decoded = decode(&instance, solved)?;
+/// write_solution(&instance, &decoded.roster, sol)?;
+/// write_report(&decoded, report)
+/// ```
 pub fn decode(instance: &Instance, solved: Solved) -> Result<Decoded, Fault>
     requires bits { length solved.bits ≡ (model_of (week_of instance.now)).variables }
     ensures decoded { IfOk result (IsDecoded (week_of instance.now) solved) }

@@ -28,6 +28,16 @@ use std::alloc::Global;
 /// for a file, or for the answer's bits before it is read. Later readers are not touched then, and no
 /// writer is called. `Write` where a writer failed: what it got begins its text, and `report` gets
 /// nothing before the whole solution is out and flushed.
+///
+/// Here the answer is in memory, the ports of the week's files are made as at the head of the
+/// crate, and `sol` and `report` are targets:
+///
+/// ```
+/// let mut answer = MemorySource::new(answer, pace);
+/// run_decode(
+///     alloc, choice, &mut sce, &mut his, &mut week, &mut fix, &mut answer, sol, report,
+/// )
+/// ```
 pub fn run_decode<S: Source, H: Source, K: Source, F: Source, A: Source, W: Target, R: Target>(
     alloc: Global,
     choice: Choice,

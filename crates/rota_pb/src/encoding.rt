@@ -41,6 +41,13 @@ fn send_model<W: Target>(instance: &Instance, out: &mut W) -> Result<(), PortFau
 ///
 /// Takes no memory. The only error is `Write`, where the writer failed: what went out then begins the
 /// text.
+///
+/// Here the tables of the week are read, and `opb` is a target:
+///
+/// ```
+/// let instance = Instance::join(scenario, history, week, early)?;
+/// encode(&instance, opb)
+/// ```
 pub fn encode<W: Target>(instance: &Instance, out: &mut W) -> Result<(), Fault>
     ensures { (send (writer_of W.Target out.old out.new) (opb_text (model_of (week_of instance.now)))).ends result }
 {
@@ -62,6 +69,8 @@ pub fn encode<W: Target>(instance: &Instance, out: &mut W) -> Result<(), Fault>
 /// of the week, before the held cells; `Read` where a reader failed before it said its end; `Memory`.
 /// Readers after that file are not touched then, and the writer is not called. `Write` where the writer
 /// failed: it got a beginning of the text.
+///
+/// See the example at the head of the crate.
 pub fn run_encode<S: Source, H: Source, K: Source, F: Source, W: Target>(
     alloc: Global,
     choice: Choice,

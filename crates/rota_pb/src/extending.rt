@@ -65,6 +65,16 @@ pub fn extend<W: Target>(instance: &Instance, roster: &Roster, out: &mut W) -> R
 /// the week, before the held cells; `Breaks` with the first hard rule that the roster breaks; `Read`
 /// where a reader failed before it said its end; `Memory`. Readers after that file are not touched then,
 /// and the writer is not called. `Write` where the writer failed: it got a beginning of the text.
+///
+/// Here the solution is in memory, the ports of the week's files are made as at the head of the
+/// crate, and `out` is a target:
+///
+/// ```
+/// let mut given = MemorySource::new(solution, pace);
+/// run_extend(
+///     alloc, choice, &mut sce, &mut his, &mut week, &mut fix, &mut given, out,
+/// )
+/// ```
 pub fn run_extend<S: Source, H: Source, K: Source, F: Source, G: Source, W: Target>(
     alloc: Global,
     choice: Choice,

@@ -64,6 +64,8 @@ fn scenario_parts(alloc: Global, text: &[u8]) -> Result<ScenarioParts, Stop>
 /// the layout of `docs/formats.md`: skills, shift types and the successions that are forbidden,
 /// contracts and nurses, all numbered from 0 in the order of the file.
 ///
+/// See the example at the head of the crate.
+///
 /// # Errors
 ///
 /// `Bad` is the text's one fault: that of the first token that does not fit its place, with the

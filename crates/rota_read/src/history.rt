@@ -160,6 +160,8 @@ fn history_parts(alloc: Global, scenario: &Scenario, text: &[u8]) -> Result<Hist
 /// the layout of `docs/formats.md`: the number of the week, and a row for each nurse of the scenario,
 /// in any order. The history's rows are by nurse, numbered as in the scenario.
 ///
+/// See the example at the head of the crate.
+///
 /// # Errors
 ///
 /// `Bad` is the text's one fault: that of the first token that does not fit its place, with the

@@ -116,6 +116,13 @@ fn roster_of(
 /// shift types and skills numbered as in the instance and days from 0 for Monday. Whether they keep
 /// the rules is not asked.
 ///
+/// Here `extend` of `rota_pb` writes the answer that a solver would give for the roster:
+///
+/// ```
+/// let roster = read_solution(alloc, &instance, text)?;
+/// extend(&instance, &roster, out)
+/// ```
+///
 /// # Errors
 ///
 /// `Bad` is the text's one fault: that of the first token that does not fit its place, with the

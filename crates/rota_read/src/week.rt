@@ -113,6 +113,15 @@ fn week_parts(alloc: Global, scenario: &Scenario, text: &[u8]) -> Result<WeekPar
 /// names asks for nobody. Rows of requests may be equal: each counts, and one for `Any` counts for
 /// every shift type.
 ///
+/// Here the three files of a week are read, and joined:
+///
+/// ```
+/// let scenario = read_scenario(alloc, scenario)?;
+/// let history = read_history(alloc, &scenario, history)?;
+/// let week = read_week(alloc, &scenario, week)?;
+/// Ok(Instance::join(scenario, history, week, false)?)
+/// ```
+///
 /// # Errors
 ///
 /// `Bad` is the text's one fault: that of the first token that does not fit its place, with the

@@ -40,6 +40,19 @@ impl Answer {
     /// Takes the next piece of the text, of any length. It answers the first fault that is judged in the
     /// text so far: of a word of a `v` line once a blank or the line's end follows it, of an `s` or `o`
     /// line at its end.
+    ///
+    /// Here a number is too large, and cut in two; its fault is answered from then on:
+    ///
+    /// ```
+    /// let mut answer = Answer::new(rt.alloc(), 8)?;
+    /// let fault = Err(AnswerFault::Range);
+    /// let fed = [
+    ///     answer.feed(b"v x"),
+    ///     answer.feed(b"9 "),
+    ///     answer.feed(b"s SATISFIABLE\n"),
+    /// ];
+    /// assert!(rt; fed == [Ok(()), fault, fault]);
+    /// ```
     pub fn feed(&mut self, piece: &[u8]) -> Result<(), AnswerFault>
         ensures leads { (variables : ℕ) → (text : List ℕ) → LeadsTo variables text self.old
             → LeadsTo variables (text ++ piece.now) self.new }
@@ -58,6 +71,8 @@ impl Answer {
 
     /// Judges what is left of the text, and gives what the whole of it says, or its fault. A text without
     /// an `s` line has `Statuses`.
+    ///
+    /// See the example at the head of the crate.
     pub fn finish(self) -> Result<Solved, AnswerFault>
         ensures outcome { (variables : ℕ) → (text : List ℕ) → LeadsTo variables text self
             → outcome variables text ≡ result }
