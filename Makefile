@@ -72,7 +72,7 @@ install:
 	install -m 644 docs/completions/inrc2pb.bash "$(SHARE)/bash-completion/completions/inrc2pb"
 	install -m 644 docs/completions/_inrc2pb "$(SHARE)/zsh/site-functions/_inrc2pb"
 	install -m 644 docs/completions/inrc2pb.fish "$(SHARE)/fish/vendor_completions.d/inrc2pb.fish"
-	install -m 644 README.md CHANGELOG.md "$(PAGES)"
+	install -m 644 README.md CHANGELOG.md CONTRIBUTING.md "$(PAGES)"
 	install -m 644 docs/*.md docs/*.svg "$(PAGES)/docs"
 	install -m 644 bench/README.md bench/*.svg "$(PAGES)/bench"
 
