@@ -143,7 +143,7 @@ quotes_code() {
     local blocks number code
     blocks=$(grep -c '^```rust$' "$1") || return
     begins_case "the code in $1"
-    code=$(cat crates/*/src/*.rt)
+    code=$(cat crates/*/src/*.rt crates/*/src/*/*.rt)
     for number in $(seq "$blocks"); do
         [[ $'\n'$code$'\n' == *$'\n'"$(quote "$1" "$number")"$'\n'* ]] || complain "in no crate: $(quote "$1" "$number")"
     done

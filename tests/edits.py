@@ -72,22 +72,29 @@ def functions(path, module, exports, is_open):
     return found
 
 
-def exported(crate):
-    """The names and the modules that the crate's root file makes public."""
-    root = next((path for path in (f"{crate}/src/lib.rt", f"{crate}/src/main.rt") if os.path.exists(path)), None)
-    text = open(root, encoding="utf-8").read() if root else ""
+def exported(path):
+    """The names and the modules that a module's file makes public."""
+    text = open(path, encoding="utf-8").read() if os.path.exists(path) else ""
     uses = [re.findall(r"\w+", use) for use in re.findall(r"^pub use ([^;]*);", text, re.M)]
     names = {name for use in uses for name in use} | {f"{use[0]}::{name}" for use in uses for name in use[1:]}
     return names, re.findall(r"^pub mod (\w+);", text, re.M)
 
 
+def seen_of(crate, place, names, modules):
+    """Those of a file's names that its folder hands on, and the crate's root."""
+    told, _ = exported(f"{crate}/src/{place[0]}.rt")
+    return {name for name in told if place[0] in modules or f"{place[0]}::{name.split('::')[-1]}" in names}
+
+
 def surface(crate):
     """The functions of each source file of the crate."""
-    names, modules = exported(crate)
+    root = next((path for path in (f"{crate}/src/lib.rt", f"{crate}/src/main.rt") if os.path.exists(path)), "")
+    names, modules = exported(root)
     tables = {}
     for path in sorted(glob.glob(f"{crate}/src/**/*.rt", recursive=True)):
         place = os.path.relpath(path, f"{crate}/src").removesuffix(".rt").split("/")
-        tables[path] = functions(path, place[0] if len(place) == 1 else "", names, place[0] in modules)
+        seen = names if len(place) == 1 else seen_of(crate, place, names, modules)
+        tables[path] = functions(path, place[-1], seen, place[0] in modules and len(place) == 1)
     return tables
 
 

@@ -3,7 +3,7 @@ use Rattle.rota_items.proofs.LogicWords.{◌≡◌, ℕ, ◌+◌, ◌≤◌, min
 use Rattle.rota_items.proofs.ModelWords.{Term, LinearRow}
 use Rattle.rota_items.specs.Counting.{counted, counts_of, greatest, greatest_count, is_constraint, no_counts, variables_in}
 use Rattle.rota_items.specs.Events.{start_row, close_row, term_events, row_events, events}
-use Rattle.rota_items.specs.declared.counting.Counts.{Counts}
+use Rattle.rota_items.specs.declared.counting.counter.Counts.{Counts}
 use Rattle.rota_items.specs.declared.part.Part.{Part}
 use Rattle.rota_items.specs.declared.part.Part.TheVariants.{Objective, Hard, Soft}
 

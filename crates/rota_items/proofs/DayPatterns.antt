@@ -9,10 +9,10 @@ use Rattle.rota_items.specs.ItemValues.{property_of, is_plain_of, days_of, patte
 use Rattle.rota_core.specs.Lists.{only_if}
 use Rattle.rota_items.specs.RunItems.{is_plain, day_terms}
 use Rattle.rota_items.specs.RunPatterns.{PatternDay, with_property, without_property, days_with}
-use Rattle.rota_items.specs.declared.soft_item.DayPattern.{DayPattern}
-use Rattle.rota_items.specs.declared.soft_item.RunCharge.{RunCharge}
-use Rattle.rota_items.specs.declared.soft_item.DayProperty.{DayProperty}
-use Rattle.rota_items.specs.declared.soft_item.DayProperty.TheVariants.{Shift, Work, Off}
+use Rattle.rota_items.specs.declared.items.soft_item.DayPattern.{DayPattern}
+use Rattle.rota_items.specs.declared.items.soft_item.RunCharge.{RunCharge}
+use Rattle.rota_items.specs.declared.items.soft_item.DayProperty.{DayProperty}
+use Rattle.rota_items.specs.declared.items.soft_item.DayProperty.TheVariants.{Shift, Work, Off}
 
 -- ---- plain sums
 

@@ -7,8 +7,8 @@ use Rattle.std.proofs.lemmas.Bool.Decides.{leb_tells}
 use Rattle.std.proofs.Math.Nat.{one-mul, zero-mul}
 use Rattle.rota_core.specs.declared.rule.Rule.TheVariants.{Unit as UnitRule}
 use Rattle.rota_items.specs.declared.part.Part.TheVariants.{Hard}
-use Rattle.rota_items.specs.declared.tallies.RowSums.{RowSums}
-use Rattle.rota_items.specs.declared.tallies.Tally.{Tally}
+use Rattle.rota_items.specs.declared.judge.tallies.RowSums.{RowSums}
+use Rattle.rota_items.specs.declared.judge.tallies.Tally.{Tally}
 use Rattle.rota_items.specs.Counting.{greatest_count}
 use Rattle.rota_items.specs.Events.{row_events, events}
 use Rattle.rota_items.specs.Judging.{Subject, assigned, extended, assignment_in, capped, closed, constraint_closed, lacking_in, tallied, true_slacks, with_cost}

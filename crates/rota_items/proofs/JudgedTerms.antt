@@ -2,8 +2,8 @@
 use Rattle.rota_items.proofs.LogicWords.{◌≡◌, ℕ, ◌+◌, ◌^◌, ◌<◌, Bool, true, false, ◌&&◌, not, List, [], ◌∷◌, ◌++◌, refl, ap, ◌∙◌, arith, w64, ℤ, pos, negsuc, ◌+ℤ◌, nat_abs, nat_lt, if◌then◌else◌, fold, lt-ltb, le-ltb, ints, fold-append, sum_by-cons}
 use Rattle.rota_items.proofs.ModelWords.{Week, unit_number, first_slack, Term, value_of, LinearRow, set_of}
 use Rattle.std.specs.Int.{saturate_signed}
-use Rattle.rota_items.specs.declared.tallies.RowSums.{RowSums}
-use Rattle.rota_items.specs.declared.tallies.Tally.{Tally}
+use Rattle.rota_items.specs.declared.judge.tallies.RowSums.{RowSums}
+use Rattle.rota_items.specs.declared.judge.tallies.Tally.{Tally}
 use Rattle.rota_items.specs.Events.{close_row, row_events, start_row, term_events}
 use Rattle.rota_items.specs.Judging.{Subject, assignment_in, assigned, extended, closed, counts_for, no_sums, tallied}
 use Rattle.rota_items.proofs.Extension.{extension-below}

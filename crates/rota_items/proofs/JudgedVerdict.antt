@@ -3,7 +3,7 @@ use Rattle.rota_items.proofs.LogicWords.{◌≡◌, ℕ, ◌+◌, ◌-◌, ◌*�
 use Rattle.rota_items.proofs.ModelWords.{soft_rules, Week, Rule, unit_number, weighted_shortages, IsWithinLimits, value_of, objective_rows, cell_terms_of_rule, charged, constant, constant_of_rule, items_of_rule, objective_terms, rows_of}
 use Rattle.rota_core.specs.InstanceTables.{InstanceTables, IsInstance, week_of}
 use Rattle.rota_core.specs.declared.rule.Rule.TheVariants.{S4}
-use Rattle.rota_items.specs.declared.tallies.Tally.{Tally}
+use Rattle.rota_items.specs.declared.judge.tallies.Tally.{Tally}
 use Rattle.rota_items.specs.Events.{Event, events}
 use Rattle.rota_items.specs.Judging.{Subject, Judging, assignment_in, roster_in, capped, counts_for, fresh, greatest_sum, judged, no_tally, tallied, WasDriven, with_constants, with_cost}
 use Rattle.rota_items.specs.rules.ShiftOffRequests.Cost.{request_cost}

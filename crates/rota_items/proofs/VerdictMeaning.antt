@@ -5,7 +5,7 @@ use Rattle.std.proofs.Common.{sum}
 use Rattle.std.specs.Prelude.{slice_index_or, IsSomeAnd}
 use Rattle.std.specs.Option.{option_or}
 use Rattle.rota_core.specs.declared.rule.Rule.TheVariants.{H1, H2, H3, H4, H5}
-use Rattle.rota_items.specs.declared.verdicts.Verdict.{Verdict}
+use Rattle.rota_items.specs.declared.judge.verdicts.Verdict.{Verdict}
 use Rattle.rota_items.specs.Judging.{Subject, SettlesModel, assigned, assignment_in, extended, roster_in}
 use Rattle.rota_items.specs.Verdicts.{CostsTheRules, Extends, IsMet, Judges, JudgesTheRules}
 use Rattle.rota_items.specs.FirstUnmet.{NamesFirstBroken, first_unmet, rule_of_part}

@@ -11,7 +11,7 @@ use Rattle.rota_items.specs.Variables.{cell_number}
 use Rattle.rota_items.specs.Items.{Item, numbered}
 use Rattle.rota_items.specs.ItemTakes.{TakesItems}
 use Rattle.rota_items.specs.ItemTaking.{numbered_list}
-use Rattle.rota_items.specs.declared.item_takers.ItemTaker.{Ghosts}
+use Rattle.rota_items.specs.declared.items.item_takers.ItemTaker.{Ghosts}
 
 pub items_join : (week : Week) → Joins (numbered_list week)
 unfolding numbered_list

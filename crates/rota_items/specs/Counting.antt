@@ -1,7 +1,7 @@
 -- What a counter makes of the events of rows, and what it is to find in them.
 use Rattle.std.specs.Prelude.{ℕ, ◌+◌, min, max, Bool, true, false, List, [], ◌∷◌, map, length}
 use Rattle.std.specs.List.{count_by, flat_map}
-use Rattle.rota_items.specs.declared.counting.Counts.{Counts}
+use Rattle.rota_items.specs.declared.counting.counter.Counts.{Counts}
 use Rattle.rota_items.specs.declared.part.Part.{Part}
 use Rattle.rota_items.specs.declared.part.Part.TheVariants.{Objective, Hard, Soft}
 use Rattle.rota_items.specs.Events.{Event, start_row, term, close_row}

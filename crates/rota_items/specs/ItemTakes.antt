@@ -5,7 +5,7 @@ use Rattle.rota_core.specs.Week.{Week}
 use Rattle.rota_items.specs.Items.{Item}
 use Rattle.rota_items.specs.ItemTaking.{numbered_list}
 use Rattle.rota_items.specs.Takes.{TookAll, TakesAll}
-use Rattle.rota_items.specs.declared.item_takers.ItemTaker.{Ghosts}
+use Rattle.rota_items.specs.declared.items.item_takers.ItemTaker.{Ghosts}
 
 module _ {Self Fault : Type 0} (T : Ghosts Self Fault) where
   -- the taker took these items

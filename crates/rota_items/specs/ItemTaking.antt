@@ -5,7 +5,7 @@ use Rattle.rota_core.specs.Week.{Week}
 use Rattle.rota_items.specs.Variables.{cell_number}
 use Rattle.rota_items.specs.Items.{Item, numbered}
 use Rattle.rota_items.specs.ItemValues.{item_of}
-use Rattle.rota_items.specs.declared.soft_item.SoftItem.{SoftItem}
+use Rattle.rota_items.specs.declared.items.soft_item.SoftItem.{SoftItem}
 
 -- the item, with the numbers of its variables
 abbrev pub numbered_item : Week → SoftItem → Item ℕ

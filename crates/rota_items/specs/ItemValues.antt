@@ -9,14 +9,14 @@ use Rattle.rota_items.specs.Linear.{Term, times}
 use Rattle.rota_core.specs.Lists.{only_if}
 use Rattle.rota_items.specs.RunItems.{Property, Present, Absent, Runs, day_terms, pattern_item}
 use Rattle.rota_items.specs.RunPatterns.{PatternDay, Pattern, without_property, days_with}
-use Rattle.rota_items.specs.declared.soft_item.RunCharge.{RunCharge}
-use Rattle.rota_items.specs.declared.soft_item.DayPattern.{DayPattern}
-use Rattle.rota_items.specs.declared.soft_item.ItemSum.{ItemSum}
-use Rattle.rota_items.specs.declared.soft_item.ItemSum.TheVariants.{Demand, Days, Total}
-use Rattle.rota_items.specs.declared.soft_item.NurseRuns.{NurseRuns}
-use Rattle.rota_items.specs.declared.soft_item.DayProperty.{DayProperty}
-use Rattle.rota_items.specs.declared.soft_item.DayProperty.TheVariants.{Shift, Work, Off}
-use Rattle.rota_items.specs.declared.soft_item.SoftItem.{SoftItem}
+use Rattle.rota_items.specs.declared.items.soft_item.RunCharge.{RunCharge}
+use Rattle.rota_items.specs.declared.items.soft_item.DayPattern.{DayPattern}
+use Rattle.rota_items.specs.declared.items.soft_item.ItemSum.{ItemSum}
+use Rattle.rota_items.specs.declared.items.soft_item.ItemSum.TheVariants.{Demand, Days, Total}
+use Rattle.rota_items.specs.declared.items.soft_item.NurseRuns.{NurseRuns}
+use Rattle.rota_items.specs.declared.items.soft_item.DayProperty.{DayProperty}
+use Rattle.rota_items.specs.declared.items.soft_item.DayProperty.TheVariants.{Shift, Work, Off}
+use Rattle.rota_items.specs.declared.items.soft_item.SoftItem.{SoftItem}
 
 -- the property, of a nurse's days
 abbrev pub property_of : Week → ℕ → DayProperty → Property Cell

@@ -1,6 +1,6 @@
 -- What a judge's fields stand for.
-use Rattle.rota_items.specs.declared.subjects.Subject.{Subject as Given}
-use Rattle.rota_items.specs.declared.subjects.Subject.TheVariants.{Assigned, Extended}
+use Rattle.rota_items.specs.declared.judge.subjects.Subject.{Subject as Given}
+use Rattle.rota_items.specs.declared.judge.subjects.Subject.TheVariants.{Assigned, Extended}
 use Rattle.rota_items.specs.Judging.{Subject, assigned, extended}
 
 abbrev pub subject_of : Given → Subject

@@ -12,9 +12,9 @@ use Rattle.rota_core.specs.Roster.{Roster}
 use Rattle.rota_core.specs.Rules.{soft_rules}
 use Rattle.rota_items.specs.declared.part.Part.{Part}
 use Rattle.rota_items.specs.declared.part.Part.TheVariants.{Objective, Hard, Soft}
-use Rattle.rota_items.specs.declared.tallies.RowSums.{RowSums}
-use Rattle.rota_items.specs.declared.tallies.Tally.{Tally}
-use Rattle.rota_items.specs.declared.verdicts.Verdict.{Verdict}
+use Rattle.rota_items.specs.declared.judge.tallies.RowSums.{RowSums}
+use Rattle.rota_items.specs.declared.judge.tallies.Tally.{Tally}
+use Rattle.rota_items.specs.declared.judge.verdicts.Verdict.{Verdict}
 use Rattle.rota_items.specs.Variables.{unit_number, truth_of, roster_of}
 use Rattle.rota_items.specs.Counting.{greatest_count}
 use Rattle.rota_items.specs.Events.{Event, start_row, term, close_row, events}

@@ -5,7 +5,7 @@ ghost use Rattle.rota_items.specs.Takes.{Takes};
 ghost use Rattle.rota_items.specs.WeekModel.{rows_of};
 
 use crate::hard::give_hard_rows;
-use crate::item_rows::give_item_rows;
+use crate::items::item_rows::give_item_rows;
 use crate::takers::Taker;
 use rota_core::Instance;
 

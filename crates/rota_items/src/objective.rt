@@ -7,10 +7,10 @@ ghost use Rattle.rota_items.specs.WeekModel.{constant_terms, objective_terms};
 ghost use Rattle.rota_items.specs.Objective.{objective_rows};
 ghost use Rattle.rota_items.specs.Takes.{Takes};
 
+use crate::items::slack_weights::give_slack_weights;
 use crate::limits::within_limits;
 use crate::part::Part;
 use crate::rules::{constant, give_cell_terms};
-use crate::slack_weights::give_slack_weights;
 use crate::takers::Taker;
 use crate::variables::unit_var;
 use rota_core::Instance;

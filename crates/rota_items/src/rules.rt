@@ -13,12 +13,16 @@ ghost use Rattle.rota_items.specs.RuleCharges.{constant_of_assignments, constant
 mod complete_weekends;
 mod consecutive_assignments;
 mod consecutive_days_off;
+// Which totals count in the week.
+mod counted_totals;
 mod optimal_coverage;
 mod shift_off_requests;
 mod total_assignments;
+// The items of a nurse's weekend, which two rules charge.
+mod weekend_walk;
 mod worked_weekends;
 
-use crate::item_takers::RunTaker;
+use crate::items::item_takers::RunTaker;
 use crate::takers::Taker;
 use rota_core::{Instance, Rule};
 

@@ -11,7 +11,7 @@ use Rattle.rota_items.specs.Penalty.{penalty}
 use Rattle.rota_items.specs.Verdicts.{IsMet}
 use Rattle.rota_items.specs.Variables.{truth_of, roster_of}
 use Rattle.rota_items.specs.WeekModel.{model_of}
-use Rattle.rota_items.specs.declared.verdicts.Verdict.{Verdict}
+use Rattle.rota_items.specs.declared.judge.verdicts.Verdict.{Verdict}
 use Rattle.solver_text.specs.declared.outcome.Solved.{Solved}
 use Rattle.rota_pb.specs.Decoded.{FindsRoster, IsDecoded}
 use Rattle.rota_items.proofs.AlikeRosters.{keeps-alike}

@@ -14,8 +14,8 @@ use Rattle.rota_items.specs.Linear.{Term, times}
 use Rattle.rota_items.specs.LinearRow.{LinearRow}
 use Rattle.rota_items.specs.Slacks.{item_row, item_rows, slack_count, slack_variables, is_slack_needed}
 use Rattle.rota_items.specs.WeekModel.{assignment_of, model_of}
-use Rattle.rota_items.specs.declared.tallies.RowSums.{RowSums}
-use Rattle.rota_items.specs.declared.tallies.Tally.{Tally}
+use Rattle.rota_items.specs.declared.judge.tallies.RowSums.{RowSums}
+use Rattle.rota_items.specs.declared.judge.tallies.Tally.{Tally}
 use Rattle.rota_items.proofs.ItemLaw.{needed-first, needed-after}
 use Rattle.rota_items.proofs.JudgedItems.{IsFit, at_slacks, item-lacks, item-spread, shortage-extended, slacks-counted}
 use Rattle.rota_items.proofs.JudgedRows.{IsHardRow}

@@ -5,9 +5,9 @@ ghost use Rattle.rota_core.specs.InstanceTables.{week_of};
 ghost use Rattle.rota_items.specs.ItemTakes.{TakesItems};
 ghost use Rattle.rota_items.specs.rules.CompleteWeekends.Items.{complete_weekends_of};
 
-use crate::item_takers::ItemTaker;
-use crate::soft_item::{DayProperty, RunCharge};
-use crate::weekend_walk::walk_weekend;
+use crate::items::item_takers::ItemTaker;
+use crate::items::soft_item::{DayProperty, RunCharge};
+use crate::rules::weekend_walk::walk_weekend;
 use rota_core::{Instance, Rule};
 
 // What a weekend of one day costs.

@@ -5,10 +5,10 @@ ghost use Rattle.rota_items.specs.CountedTotals.{greatest_totals_count};
 ghost use Rattle.rota_items.specs.ItemTakes.{TakesItems};
 ghost use Rattle.rota_items.specs.rules.WorkedWeekends.Items.{weekend_constant_of, weekends_above, worked_weekends_of};
 
-use crate::counted_totals::{excess_before_counts, greatest_totals_count};
-use crate::item_takers::ItemTaker;
-use crate::soft_item::{DayProperty, RunCharge};
-use crate::weekend_walk::walk_weekend;
+use crate::items::item_takers::ItemTaker;
+use crate::items::soft_item::{DayProperty, RunCharge};
+use crate::rules::counted_totals::{excess_before_counts, greatest_totals_count};
+use crate::rules::weekend_walk::walk_weekend;
 use rota_core::{Instance, Rule};
 
 // What a worked weekend above the greatest number costs.

@@ -1,0 +1,20 @@
+use Rattle.std.proofs.Common.{refl, subst, sym}
+use Rattle.rota_core.specs.InstanceTables.{week_of}
+use Rattle.rota_items.specs.Judging.{WasDriven}
+use Rattle.rota_items.proofs.JudgedVerdict.{driven-judges}
+use Rattle.rota_items.proofs.VerdictMeaning.{either-judged, settles_model}
+use Rattle.rota_items.proofs.judge.judging.Judge.verdict.Goals as goal
+
+pub returns-clause-judges : goal.returns-clause-judges
+returns-clause-judges c =
+    rw (← c.self.view_is)
+    (driven-judges _ c.within_limits.ensures (subst WasDriven (sym c.self.view_is) c.requires.driven) _ _ c.saturating_add.ensures
+    (rw (c.charge_constants.ensures, c.charge.ensures, c.saturating_sub-requests.ensures, c.at_unit.ensures, ← c.self.view_is) refl))
+
+pub returns-clause-rules : goal.returns-clause-rules
+returns-clause-rules c =
+    either-judged (week_of c.args.self.now.instance) c.args.self.now.subject _ (returns-clause-judges c)
+
+pub returns-clause-model : goal.returns-clause-model
+returns-clause-model c =
+    settles_model (week_of c.args.self.now.instance) c.args.self.now.subject _ (returns-clause-judges c)

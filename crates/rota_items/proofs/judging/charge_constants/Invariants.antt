@@ -1,7 +1,0 @@
-use Rattle.std.specs.Prelude.{◌≡◌, take}
-use Rattle.rota_core.specs.InstanceTables.{week_of}
-use Rattle.rota_items.specs.Judging.{with_constants}
-use Rattle.rota_items.proofs.judging.charge_constants.Given as goal
-
-abbrev pub invariant-loop-rule : goal.invariant-loop-rule
-invariant-loop-rule l = l.costs ≡ with_constants (week_of l.fn.instance) (take l.rule-index l.rule-items) l.fn.costs

@@ -1,0 +1,5 @@
+use Rattle.rota_items.proofs.RisingTerms.{rises-constraints}
+use Rattle.rota_items.proofs.laws.model_laws.constraints_have_rising_terms.Goals as goal
+
+pub returns : goal.returns
+returns c = rises-constraints

@@ -1,5 +1,0 @@
-use Rattle.rota_items.proofs.RisingTerms.{rises-constraints}
-use Rattle.rota_items.proofs.model_laws.constraints_have_rising_terms.Goals as goal
-
-pub returns : goal.returns
-returns c = rises-constraints

@@ -1,6 +1,0 @@
-use Rattle.std.proofs.Common.{arith, refl}
-use Rattle.rota_items.proofs.SumsBelow.{sum_below-zero}
-use Rattle.rota_items.proofs.rule_laws.constant_is_sum_of_its_parts.Goals as goal
-
-pub returns : goal.returns
-returns c = λ week. grind (arith, sum_below-zero week.nurses)

@@ -1,8 +1,0 @@
-use Rattle.std.proofs.lemmas.List.Elements.{All-from_recursion}
-use Rattle.rota_items.proofs.SoftRules.AllItems.{HasEnough, enough-items}
-use Rattle.rota_items.specs.Charges.{soft_items}
-use Rattle.rota_items.proofs.rule_laws.no_item_lacks_more_than_its_slacks.Goals as goal
-
-pub returns : goal.returns
-returns c = λ week roster keeps.
-    All-from_recursion (HasEnough roster) (soft_items week) (enough-items week roster keeps)

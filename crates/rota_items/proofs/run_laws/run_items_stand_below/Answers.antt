@@ -1,5 +1,0 @@
-use Rattle.rota_items.proofs.TermsHold.{run_items-below}
-use Rattle.rota_items.proofs.run_laws.run_items_stand_below.Goals as goal
-
-pub returns : goal.returns
-returns c = run_items-below

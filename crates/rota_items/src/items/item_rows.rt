@@ -1,0 +1,104 @@
+//! The rows of items, handed to a taker of rows.
+ghost use Rattle.std.specs.Prelude.{◌≡◌, ◌+◌, ◌^◌, ◌<◌};
+ghost use Rattle.rota_core.specs.InstanceTables.{week_of};
+ghost use Rattle.rota_items.specs.Events.{events};
+ghost use Rattle.rota_items.specs.ItemRows.{row_of_item};
+ghost use Rattle.rota_items.specs.ItemTaking.{numbered_item};
+ghost use Rattle.rota_items.specs.ItemValues.{IsSumOf};
+ghost use Rattle.rota_items.specs.Slacks.{item_rows};
+ghost use Rattle.rota_items.specs.Takes.{Takes};
+ghost use Rattle.rota_items.specs.Variables.{first_slack};
+ghost use Rattle.rota_items.specs.WeekModel.{numbered_items};
+
+use crate::items::item_sums::give_sum;
+use crate::items::item_takers::{ItemTaker, RunTaker};
+use crate::items::soft_item::{NurseRuns, SoftItem};
+use crate::limits::within_limits;
+use crate::part::Part;
+use crate::rules::walk_soft_items;
+use crate::runs::run_walk::walk_runs;
+use crate::sums::give_range;
+use crate::takers::Taker;
+use crate::variables::unit_var;
+use rota_core::Instance;
+
+// The row of an item: its terms, and its slacks from the first on.
+fn give_item_row<T: Taker>(
+    instance: &Instance,
+    taker: &mut T,
+    first: u32,
+    item: SoftItem,
+) -> Result<(), T::Fault>
+    requires sum_in { IsSumOf (week_of instance.now) item.sum }
+    requires slacks_fit { first + item.slacks < 2 ^ 32 }
+    ensures { Takes T.Taker (row_of_item (numbered_item (week_of instance.now) item) first)
+        taker.old taker.new result }
+{
+    taker.start_row(Part::Soft(item.rule, u64::from(item.weight)))?;
+    give_sum(instance, taker, item.sum)?;
+    give_range(taker, 1, first, item.slacks)?;
+    taker.close_row(item.degree)
+}
+
+// Hands a taker of rows the row of each item, whose slacks follow those of the item before.
+#[derive(Drop)]
+struct ItemRows<'t, T: Taker> {
+    taker: &'t mut T,
+    next: u32,
+}
+
+impl<'t, T: Taker> ItemTaker for ItemRows<'t, T> {
+    type Fault = T::Fault;
+
+    ghost use Rattle.rota_items.specs.ItemRows.{Handing, StopsAt, row_of_item, with_item};
+
+    ghost Value = { Handing T.Value };
+
+    ghost value = { λ rows. record { name = rows.taker.ghost_name; value = T.value rows.taker.now; next = rows.next } };
+
+    ghost step = { with_item T.step row_of_item };
+
+    ghost left = { λ before item rows. StopsAt T.Taker row_of_item before item rows.taker.ghost_name rows.taker.now };
+
+    fn item(&mut self, instance: &Instance, item: SoftItem) -> Result<(), T::Fault> {
+        let item = item.within_numbers(self.next);
+        give_item_row(instance, self.taker, self.next, item)?;
+        self.next += item.slacks;
+        Ok(())
+    }
+}
+
+impl<'t, T: Taker> RunTaker for ItemRows<'t, T> {
+    fn runs(&mut self, instance: &Instance, runs: NurseRuns) -> Result<(), T::Fault> {
+        walk_runs(instance, self, runs)
+    }
+}
+
+// Hands on the rows of all items of the instance's week.
+fn give_rows<T: Taker>(instance: &Instance, rows: &mut ItemRows<'_, T>) -> Result<(), T::Fault>
+    requires next { rows.old.next ≡ first_slack (week_of instance.now) }
+    ensures same_taker { rows.new.taker.ghost_name ≡ rows.old.taker.ghost_name }
+    ensures takes { let week = week_of instance.now in
+        Takes T.Taker (events (item_rows (first_slack week) (numbered_items week)))
+        rows.old.taker.now rows.new.taker.now result }
+{
+    within_limits(instance);
+    walk_soft_items(instance, rows)
+}
+
+/// Hands the taker the row of each item of the soft rules, in the order of the rules.
+///
+/// A row has the item's terms by rising variable, then its slacks, each with 1. The slacks of all
+/// items follow one another from the one after the unit variable on.
+pub fn give_item_rows<T: Taker>(instance: &Instance, taker: &mut T) -> Result<(), T::Fault>
+    ensures { let week = week_of instance.now in
+        Takes T.Taker (events (item_rows (first_slack week) (numbered_items week)))
+        taker.old taker.new result }
+{
+    within_limits(instance);
+    let mut rows = ItemRows {
+        taker,
+        next: unit_var(instance) + 1,
+    };
+    give_rows(instance, &mut rows)
+}

@@ -1,0 +1,198 @@
+//! The taker that evaluates.
+ghost use Rattle.std.specs.Prelude.{◌≡◌, if◌then◌else◌, length};
+ghost use Rattle.rota_core.specs.InstanceTables.{week_of};
+ghost use Rattle.rota_core.specs.RosterTables.{HasShapeOf};
+ghost use Rattle.rota_core.specs.Rules.{soft_rules};
+ghost use Rattle.rota_items.specs.Variables.{unit_number};
+ghost use Rattle.rota_items.specs.Judging.{SettlesModel, WasDriven, assigned, assignment_in, counts_for, extended, fresh, judged, lacking, open_slacks, roster_in, with_constants};
+ghost use Rattle.rota_items.specs.Charges.{constant};
+ghost use Rattle.rota_items.specs.Verdicts.{Judges, JudgesTheRules};
+ghost use Rattle.rota_items.specs.WeekModel.{model_of};
+
+use crate::counting::counts;
+use crate::judge::subjects::Subject;
+use crate::judge::tallies::{RowSums, Tally, charge, positive_part};
+use crate::judge::verdicts::Verdict;
+use crate::limits::within_limits;
+use crate::part::Part;
+use crate::rules::{constant, constant_of_rule};
+use crate::takers::Taker;
+use crate::variables::unit_var;
+use rota_core::{Bits, Instance, Roster, Rule, SOFT_RULES};
+use std::convert::Infallible;
+use std::marker::Model;
+
+/// A taker that evaluates the rows of an instance's model.
+///
+/// It never fails: a sum that would not fit stays at the greatest number, which no instance reaches. A
+/// variable that the model does not have is false.
+#[derive(Drop)]
+pub struct Judge<'a> {
+    instance: &'a Instance,
+    subject: Subject<'a>,
+    unit: u32,
+    last: u32,
+    tally: Tally,
+}
+
+impl<'a> Model for Judge<'a> {
+    ghost use Rattle.rota_core.specs.InstanceTables.{week_of};
+    ghost use Rattle.rota_items.specs.Judging.{Judging, IsSetUp};
+    ghost use Rattle.rota_items.specs.Judged.{subject_of};
+
+    ghost Value = { Judging };
+
+    ghost view = { λ j. record {
+      instance = j.instance.now;
+      subject = subject_of j.subject;
+      tally = j.tally;
+    } };
+
+    ghost invariant = { λ j. IsSetUp (week_of j.instance.now) (subject_of j.subject) j.unit j.last };
+}
+
+impl<'a> Judge<'a> {
+    /// The judge of the assignment that makes variable i + 1 true where bit i is true.
+    pub fn of_bits(instance: &'a Instance, bits: &'a Bits) -> Judge<'a>
+        requires { length bits.now ≡ (model_of (week_of instance.now)).variables }
+        ensures { result ≡ fresh instance.now (assigned bits.now) }
+    {
+        Judge {
+            instance,
+            subject: Subject::Assigned(bits),
+            unit: unit_var(instance),
+            last: bits.len(),
+            tally: Tally::new(),
+        }
+    }
+
+    /// The judge of the roster's extension: the variables of its cells, the unit variable, and of each
+    /// constraint of a soft rule the first slacks, as many as it lacks on the roster.
+    ///
+    /// See the example at the head of the crate.
+    pub fn of_roster(instance: &'a Instance, roster: &'a Roster) -> Judge<'a>
+        requires { HasShapeOf (week_of instance.now) roster.now }
+        ensures { result ≡ fresh instance.now (extended roster.now) }
+    {
+        Judge {
+            instance,
+            subject: Subject::Extended(roster),
+            unit: unit_var(instance),
+            last: counts(instance).variables,
+            tally: Tally::new(),
+        }
+    }
+
+    /// How many slacks of the open row count, each of which stands there with 1: of a roster's extension
+    /// all that were taken.
+    pub fn open_slacks(&self) -> u64
+        ensures { result ≡ open_slacks self.now }
+    {
+        positive_part(self.tally.sums.slacks)
+    }
+
+    /// What the terms of the open row other than those at slacks lack of the degree.
+    pub fn lacking(&self, degree: i64) -> u64
+        ensures { result ≡ lacking self.now degree }
+    {
+        self.tally.sums.lacking(degree)
+    }
+
+    /// What the judge found, after `drive_objective` and then `drive_constraints` of its instance: the first
+    /// constraint that is not satisfied, the objective's value, and what each soft rule is charged. Where the
+    /// unit variable is true and the roster breaks one of H1 to H5, the constraint is of the first that it
+    /// breaks. Where the roster keeps H1 to H4, the costs are those of the rules and sum up to the penalty;
+    /// where it keeps H1, those of S2 and S3 are.
+    pub fn verdict(&self) -> Verdict
+        requires driven { WasDriven self.now }
+        ensures judges { let week = week_of self.now.instance in let subject = self.now.subject in
+            Judges week (assignment_in week subject) (roster_in week subject) result }
+        ensures rules { let week = week_of self.now.instance in let subject = self.now.subject in
+            JudgesTheRules week (assignment_in week subject) (roster_in week subject) result }
+        ensures model { SettlesModel (week_of self.now.instance) self.now.subject result }
+    {
+        within_limits(self.instance);
+        let tally = self.tally;
+        let requests = tally.requests_and_constant.saturating_sub(self.at_unit());
+        let mut costs = tally.shortages;
+        charge(&mut costs, Rule::S4, requests);
+        charge_constants(&mut costs, self.instance);
+        Verdict {
+            unmet: tally.unmet,
+            objective: tally.requests_and_constant.saturating_add(tally.slacks),
+            costs,
+        }
+    }
+
+    // What the objective gives at the unit variable.
+    fn at_unit(&self) -> u64
+        ensures { let week = week_of self.now.instance in
+            result ≡ (if counts_for week self.now.subject (unit_number week) then constant week else 0) }
+    {
+        if self.counts(self.unit) {
+            constant(self.instance)
+        } else {
+            0
+        }
+    }
+
+    // Whether a term at the variable counts.
+    fn counts(&self, variable: u32) -> bool
+        ensures { result ≡ counts_for (week_of self.now.instance) self.now.subject variable }
+    {
+        if variable == 0 || self.last < variable {
+            return false;
+        }
+        match self.subject {
+            Subject::Assigned(bits) => bits.get(variable - 1),
+            Subject::Extended(roster) => self.unit <= variable || roster.has_place(variable - 1),
+        }
+    }
+}
+
+impl<'a> Taker for Judge<'a> {
+    ghost use Rattle.rota_items.specs.Judging.{Judging};
+
+    type Fault = Infallible;
+
+    ghost Value = { Judging };
+
+    ghost value = { λ judge. judge };
+
+    ghost step = { judged };
+
+    ghost left = { λ _ _ _. ⊥ };
+
+    fn start_row(&mut self, part: Part) -> Result<(), Infallible> {
+        self.tally.part = part;
+        self.tally.sums = RowSums::new();
+        Ok(())
+    }
+
+    fn term(&mut self, coefficient: i64, variable: u32) -> Result<(), Infallible> {
+        if !self.counts(variable) {
+            return Ok(());
+        }
+        let sums = &mut self.tally.sums;
+        if self.unit < variable {
+            sums.slacks = sums.slacks.saturating_add(coefficient);
+        } else {
+            sums.others = sums.others.saturating_add(coefficient);
+        }
+        Ok(())
+    }
+
+    fn close_row(&mut self, degree: i64) -> Result<(), Infallible> {
+        self.tally.close(self.subject, degree);
+        Ok(())
+    }
+}
+
+// Charges each soft rule what no roster can avoid of it.
+fn charge_constants(costs: &mut [u64; SOFT_RULES], instance: &Instance)
+    ensures { costs.new ≡ with_constants (week_of instance.now) soft_rules costs.old }
+{
+    for rule in Rule::SOFT {
+        charge(costs, rule, constant_of_rule(instance, rule));
+    }
+}

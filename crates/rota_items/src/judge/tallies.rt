@@ -1,0 +1,127 @@
+//! What a judge adds up, row by row.
+ghost use Rattle.std.specs.Prelude.{◌≡◌, ◌<◌, ◌^◌};
+ghost use Rattle.rota_items.specs.Items.{positive_part};
+ghost use Rattle.rota_items.specs.Judged.{subject_of};
+ghost use Rattle.rota_items.specs.Judging.{closed, constraint_closed, lacking_in, no_sums, no_tally, objective_closed, with_cost};
+
+use crate::judge::subjects::Subject;
+use crate::part::Part;
+use crate::rules::soft_place;
+use rota_core::{Rule, SOFT_RULES};
+
+/// The sums of the terms of a row that count: those at slacks, and the others.
+#[derive(Clone, Copy, PartialEq, Eq, Debug)]
+pub struct RowSums {
+    pub others: i64,
+    pub slacks: i64,
+}
+
+impl RowSums {
+    /// No term yet.
+    pub fn new() -> RowSums
+        ensures { result ≡ no_sums }
+    {
+        RowSums {
+            others: 0,
+            slacks: 0,
+        }
+    }
+
+    /// What the terms other than those at slacks lack of the degree.
+    pub fn lacking(self, degree: i64) -> u64
+        ensures { result ≡ lacking_in self degree }
+    {
+        positive_part(degree.saturating_sub(self.others))
+    }
+}
+
+/// What stands of the open row, and of the rows before it.
+#[derive(Clone, Copy, PartialEq, Eq, Debug)]
+pub struct Tally {
+    pub part: Part,
+    pub sums: RowSums,
+    /// The rows that were closed, other than the objective.
+    pub constraints: u32,
+    /// The first of them that is not satisfied: its number, and its rule.
+    pub unmet: Option<(u32, Rule)>,
+    /// What the objective's row gives but for its slacks: requests, and the constant.
+    pub requests_and_constant: u64,
+    /// The weights of the slacks that are true.
+    pub slacks: u64,
+    /// The weighted shortages of the soft rules.
+    pub shortages: [u64; SOFT_RULES],
+}
+
+impl Tally {
+    /// No row yet.
+    pub fn new() -> Tally
+        ensures { result ≡ no_tally }
+    {
+        Tally {
+            part: Part::Objective,
+            sums: RowSums::new(),
+            constraints: 0,
+            unmet: None,
+            requests_and_constant: 0,
+            slacks: 0,
+            shortages: [0; SOFT_RULES],
+        }
+    }
+
+    /// Closes the open row.
+    pub fn close(&mut self, subject: Subject<'_>, degree: i64)
+        ensures { self.new ≡ closed (subject_of subject.entry) self.old self.old.part degree }
+    {
+        match self.part {
+            Part::Objective => self.close_objective(),
+            Part::Hard(rule) => self.close_constraint(subject, rule, 0, degree),
+            Part::Soft(rule, weight) => self.close_constraint(subject, rule, weight, degree),
+        }
+    }
+
+    // Its slacks are charged where their own rows are closed.
+    fn close_objective(&mut self)
+        ensures { self.new ≡ objective_closed self.old }
+    {
+        let value = positive_part(self.sums.others);
+        self.requests_and_constant = self.requests_and_constant.saturating_add(value);
+    }
+
+    // One constraint more, which may be the first that is unmet. What it lacks is charged to its rule,
+    // and what is true of its slacks to the objective.
+    fn close_constraint(&mut self, subject: Subject<'_>, rule: Rule, weight: u64, degree: i64)
+        ensures { self.new ≡ constraint_closed (subject_of subject.entry) self.old rule weight degree }
+    {
+        let lacks = self.sums.lacking(degree);
+        let slacks = subject.true_slacks(self.sums, lacks);
+        self.constraints = self.constraints.saturating_add(1);
+        let here = if lacks <= slacks {
+            None
+        } else {
+            Some((self.constraints, rule))
+        };
+        self.unmet = self.unmet.or(here);
+        self.slacks = self.slacks.saturating_add(weight.saturating_mul(slacks));
+        charge(&mut self.shortages, rule, weight.saturating_mul(lacks));
+    }
+}
+
+/// The number, or 0 where it is negative.
+pub fn positive_part(number: i64) -> u64
+    ensures value { result ≡ positive_part number }
+    ensures small { result < 2 ^ 63 }
+{
+    if number < 0 {
+        return 0;
+    }
+    number as u64
+}
+
+/// Charges a soft rule this much more.
+pub fn charge(costs: &mut [u64; SOFT_RULES], rule: Rule, more: u64)
+    ensures { costs.new ≡ with_cost rule more costs.old }
+{
+    if let Some(place) = soft_place(rule) {
+        costs[place] = costs[place].saturating_add(more);
+    }
+}

@@ -1,0 +1,114 @@
+//! The patterns of days that charge a nurse's runs, as items.
+ghost use Rattle.std.specs.Prelude.{◌≡◌, ◌<◌, ◌≤◌, pos, ◌-ℤ◌, [], ◌∷◌, count_by};
+ghost use Rattle.rota_core.specs.Week.{Week};
+ghost use Rattle.rota_items.specs.ItemValues.{AreInWeek, IsInWeek, charged_items, days_of, is_plain_of, item_of, pattern_of, patterns_given};
+ghost use Rattle.rota_items.specs.RunPatterns.{closed_patterns_at, edge_patterns_on, windows_on};
+
+use crate::items::soft_item::{DayPattern, DayProperty, ItemSum, RunCharge, SoftItem};
+use rota_core::Span;
+
+// How many of the pattern's days have a sum that must be 1, and not 0.
+fn plain_days(property: DayProperty, pattern: DayPattern) -> u8
+    requires days_in { IsInWeek pattern }
+    ensures small { result ≤ 7 }
+    ensures count { result ≡ count_by (λ day. is_plain_of property day.has) (days_of pattern) }
+{
+    match property {
+        DayProperty::Shift(_) => pattern.end - pattern.first,
+        DayProperty::Work => pattern.end - pattern.first,
+        DayProperty::Off => u8::from(pattern.off_before) + u8::from(pattern.off_after),
+    }
+}
+
+// The degree of a pattern's item: with all of its days as the pattern says one slack is missing.
+fn pattern_degree(property: DayProperty, pattern: DayPattern) -> i64
+    requires days_in { IsInWeek pattern }
+    ensures { result ≡ pos 1 -ℤ pos (count_by (λ day. is_plain_of property day.has) (days_of pattern)) }
+{
+    1 - i64::from(plain_days(property, pattern))
+}
+
+/// The item that charges the pattern's days.
+pub fn pattern_item(charge: RunCharge, pattern: DayPattern) -> SoftItem
+    requires days_in { IsInWeek pattern }
+    ensures item { (week : Week) → item_of week result ∷ [] ≡ charged_items week charge (pattern_of pattern ∷ []) }
+    ensures sum { result.sum ≡ ItemSum.Days charge.nurse charge.property pattern }
+{
+    SoftItem {
+        rule: charge.rule,
+        weight: u32::from(charge.weight) * u32::from(pattern.units),
+        slacks: 1,
+        sum: ItemSum::Days {
+            nurse: charge.nurse,
+            property: charge.property,
+            pattern,
+        },
+        degree: pattern_degree(charge.property, pattern),
+    }
+}
+
+/// The window of days that ends on a day, one longer than the greatest length, or cut at Monday, where
+/// a run can be too long there.
+#[tactic(auto, unfolding(rota_core::specs::Lists::only_if))]
+pub fn window_on(history: u16, limits: Span, day: u8) -> Option<DayPattern>
+    requires { day < 7 }
+    ensures days_in { AreInWeek result }
+    ensures pattern { patterns_given result ≡ windows_on history limits day }
+{
+    let longest = u32::from(history) + u32::from(day) + 1;
+    if longest <= u32::from(limits.max) {
+        return None;
+    }
+    let first = u16::from(day).saturating_sub(limits.max) as u8;
+    Some(DayPattern {
+        first,
+        end: day + 1,
+        off_before: false,
+        off_after: false,
+        units: 1,
+    })
+}
+
+/// A run of `count` days that begins after Monday and ends before a day, where the least length is
+/// greater.
+#[tactic(auto, unfolding(rota_core::specs::Lists::only_if))]
+pub fn closed_before(minimum: u16, day: u8, count: u8) -> Option<DayPattern>
+    requires day_in { day < 7 }
+    requires count_in { count < day }
+    ensures days_in { AreInWeek result }
+    ensures pattern { patterns_given result ≡ closed_patterns_at minimum day count }
+{
+    if count == 0 || minimum <= u16::from(count) {
+        return None;
+    }
+    Some(DayPattern {
+        first: day - count,
+        end: day,
+        off_before: true,
+        off_after: true,
+        units: minimum - u16::from(count),
+    })
+}
+
+/// A run that fills the week up to a day, and ends before it, where the least length is greater.
+#[tactic(auto, unfolding(rota_core::specs::Lists::only_if))]
+pub fn edge_before(history: u16, minimum: u16, day: u8) -> Option<DayPattern>
+    requires { day < 7 }
+    ensures days_in { AreInWeek result }
+    ensures pattern { patterns_given result ≡ edge_patterns_on history minimum day }
+{
+    let length = u32::from(history) + u32::from(day);
+    if length == 0 || u32::from(minimum) <= length {
+        return None;
+    }
+    let units = minimum
+        .saturating_sub(history)
+        .saturating_sub(u16::from(day));
+    Some(DayPattern {
+        first: 0,
+        end: day,
+        off_before: false,
+        off_after: true,
+        units,
+    })
+}
