@@ -1,5 +1,5 @@
 //! The line on standard error that tells why a job failed.
-ghost use Rattle.std.specs.Prelude.{◌≡◌};
+ghost use Rattle.std.specs.Prelude.{◌≡◌, Some};
 ghost use Rattle.inrc2pb.specs.FaultLines.{fault_line};
 
 use rota_pb::Fault;
@@ -21,7 +21,7 @@ impl<'a> FaultLine<'a> {
 }
 
 impl fmt::Display for FaultLine<'_> {
-    ghost output = { λ line. fault_line line.fault.now };
+    ghost output = { λ line. Some (fault_line line.fault.now) };
 
     fn fmt<W: fmt::Write>(&self, f: &mut fmt::Formatter<W>) -> fmt::Result {
         write!(f, "inrc2pb: {}", self.fault)

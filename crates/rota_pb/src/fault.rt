@@ -1,5 +1,5 @@
 //! Why a run fails, and the status that a program exits with.
-ghost use Rattle.std.specs.Prelude.{◌≡◌};
+ghost use Rattle.std.specs.Prelude.{◌≡◌, Some};
 ghost use Rattle.rota_pb.specs.Statuses.{exit_status};
 ghost use Rattle.rota_pb.specs.FaultTexts.{fault_text};
 ghost use Rattle.rota_pb.specs.Faults.{fault_of_file};
@@ -61,7 +61,7 @@ impl From<AllocError> for Fault {
 }
 
 impl fmt::Display for Fault {
-    ghost output = { fault_text };
+    ghost output = { λ fault. Some (fault_text fault) };
 
     fn fmt<W: fmt::Write>(&self, f: &mut fmt::Formatter<W>) -> fmt::Result {
         match self {
@@ -69,7 +69,7 @@ impl fmt::Display for Fault {
             Fault::Memory => f.write_str("out of memory"),
             Fault::Write => f.write_str("write failed"),
             Fault::Read => f.write_str("read failed"),
-            Fault::Answer(answer) => write!(f, "answer: {answer}"),
+            Fault::Answer(answer) => write!(f, "answer: {}", answer.text()),
             Fault::NoRoster(status) => write!(f, "solver found no roster: {}", status.words()),
             Fault::Unmet(number) => write!(f, "constraint {number} is not satisfied"),
             Fault::Breaks(rule) => write!(f, "roster breaks {rule}"),

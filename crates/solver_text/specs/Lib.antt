@@ -2,6 +2,7 @@ pub mod Answers
 pub mod AnswerText
 pub mod AnswerWriter
 pub mod AnswerLaws
+pub mod FaultTexts
 pub mod Lines
 pub mod LineStates
 pub mod States

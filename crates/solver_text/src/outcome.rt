@@ -38,25 +38,38 @@ impl Status {
 
 /// Why a text is no answer.
 #[derive(Clone, Copy, Debug, PartialEq, Eq, Error)]
+#[error("{}", self.text())]
 pub enum AnswerFault {
     /// No `s` line, or a second one.
-    #[error("no status line or a second one")]
     Statuses,
     /// An `s` line that names no status.
-    #[error("unknown status")]
     StatusText,
     /// A word of a `v` line that is no literal.
-    #[error("bad literal")]
     Literal,
     /// A literal of variable 0, or of one above the number of variables.
-    #[error("variable out of range")]
     Range,
     /// A literal whose variable had the other value before.
-    #[error("variable with both values")]
     BothValues,
     /// An `o` line without one number of at most 18 digits.
-    #[error("bad o value")]
     Objective,
+}
+
+impl AnswerFault {
+    ghost use Rattle.solver_text.specs.FaultTexts.{answer_fault_text};
+
+    /// What the fault says, in words.
+    pub fn text(self) -> &'static str
+        ensures { result.now ≡ answer_fault_text self }
+    {
+        match self {
+            AnswerFault::Statuses => "no status line or a second one",
+            AnswerFault::StatusText => "unknown status",
+            AnswerFault::Literal => "bad literal",
+            AnswerFault::Range => "variable out of range",
+            AnswerFault::BothValues => "variable with both values",
+            AnswerFault::Objective => "bad o value",
+        }
+    }
 }
 
 /// What a whole answer says.
