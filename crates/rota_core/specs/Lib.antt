@@ -16,6 +16,7 @@ pub mod RosterTables
 pub mod RuleNames
 pub mod Rules
 pub mod ScenarioTables
+pub mod StdPorts
 pub mod Week
 pub mod WeekTables
 pub mod Words

@@ -1,8 +1,26 @@
 //! The standard library's readers and writers as ports. They tell no bytes.
-ghost use Rattle.std.specs.Prelude.{◌≡◌, false, None};
+ghost use Rattle.std.specs.Prelude.{◌≡◌, ◌<◌, ◌≤◌, ◌||◌, None, true, false, length, is_err, IfOk, IsErr, IsOk, Ok, MatchResult};
+ghost use Rattle.std.specs.Io.KnownBytes.{Keeps, ReadConsumes, WriteAppends};
+ghost use Rattle.rota_core.specs.Ports.{LeavesAfterRead, SendsOnWrite, says_end};
+ghost use Rattle.rota_core.specs.StdPorts.{IsUnasked};
 
 use crate::ports::{PortFault, Source, Target};
+use std::io;
 use std::io::{Read, Write};
+
+// What a port answers where std's call answered this: its value, or its failure, which is for good.
+fn hand_on<T: Copy>(failed: &mut bool, told: io::Result<T>) -> Result<T, PortFault>
+    ensures exact { MatchResult told (λ value. result ≡ Ok value) (λ _. IsErr result) }
+    ensures failure { failed.new ≡ (failed.old || is_err told) }
+{
+    match told {
+        Ok(value) => Ok(value),
+        Err(_) => {
+            *failed = true;
+            Err(PortFault)
+        }
+    }
+}
 
 /// A reader as a source. After the first error every call is an error, and the reader is not
 /// called again; nor is it called for an empty buffer.
@@ -15,10 +33,13 @@ pub struct FromRead<R> {
 }
 
 impl<R: Read> FromRead<R> {
+    ghost use Rattle.rota_core.specs.StdPorts.{inner_reader};
+
     /// The reader as a source. It has not failed yet, nor said its end.
     pub fn new(reader: R) -> FromRead<R>
         ensures sound { ⟦<FromRead<R> as Source>⟧.has_failed result ≡ false }
         ensures unended { ⟦<FromRead<R> as Source>⟧.has_ended result ≡ false }
+        ensures reader { inner_reader result ≡ reader }
     {
         FromRead {
             reader,
@@ -29,29 +50,34 @@ impl<R: Read> FromRead<R> {
 }
 
 impl<R: Read> Source for FromRead<R> {
+    ghost use Rattle.rota_core.specs.StdPorts.{is_ended_reader, is_failed_reader, inner_reader};
+
     ghost left = { λ _. None };
 
     ghost has_failed = { λ s. s.failed };
 
     ghost has_ended = { λ s. s.ended };
 
-    fn read(&mut self, buffer: &mut [u8]) -> Result<usize, PortFault> {
+    /// As the reader's own read does, where it is asked: it is not after a failure, nor for an empty buffer.
+    fn read(&mut self, buffer: &mut [u8]) -> Result<usize, PortFault>
+        ensures bound { IfOk result (λ n. n ≤ length buffer.new) }
+        ensures silent { LeavesAfterRead None result buffer.new None }
+        ensures empty { length buffer.old ≡ 0 → is_failed_reader self.old ≡ false → IsOk result }
+        ensures failure { is_failed_reader self.new ≡ (is_failed_reader self.old || is_err result) }
+        ensures for_good { is_failed_reader self.old ≡ true → IsErr result }
+        ensures end { is_ended_reader self.new ≡ (is_ended_reader self.old || says_end result buffer.new) }
+        ensures passed_on { ReadConsumes (R.remaining (inner_reader self.old)) (R.remaining (inner_reader self.new)) result buffer.new }
+        ensures unasked { IsUnasked (is_failed_reader self.old) buffer.old → self.new ≡ self.old }
+    {
         if self.failed {
             return Err(PortFault);
         }
         if buffer.is_empty() {
             return Ok(0);
         }
-        match self.reader.read(buffer) {
-            Ok(count) => {
-                self.ended = self.ended || count == 0;
-                Ok(count)
-            }
-            Err(_) => {
-                self.failed = true;
-                Err(PortFault)
-            }
-        }
+        let count = hand_on(&mut self.failed, self.reader.read(buffer))?;
+        self.ended = self.ended || count == 0;
+        Ok(count)
     }
 }
 
@@ -64,9 +90,12 @@ pub struct ToWrite<W> {
 }
 
 impl<W: Write> ToWrite<W> {
+    ghost use Rattle.rota_core.specs.StdPorts.{inner_writer};
+
     /// The writer as a target. It has not failed yet.
     pub fn new(writer: W) -> ToWrite<W>
-        ensures { ⟦<ToWrite<W> as Target>⟧.has_failed result ≡ false }
+        ensures sound { ⟦<ToWrite<W> as Target>⟧.has_failed result ≡ false }
+        ensures writer { inner_writer result ≡ writer }
     {
         ToWrite {
             writer,
@@ -76,38 +105,49 @@ impl<W: Write> ToWrite<W> {
 }
 
 impl<W: Write> Target for ToWrite<W> {
+    ghost use Rattle.rota_core.specs.StdPorts.{is_failed_writer, inner_writer};
+
     ghost sent = { λ _. None };
 
     ghost flushed = { λ _. None };
 
     ghost has_failed = { λ t. t.failed };
 
-    fn write(&mut self, piece: &[u8]) -> Result<usize, PortFault> {
+    /// As the writer's own write does, where it is asked: it is not after a failure, nor for an empty piece.
+    fn write(&mut self, piece: &[u8]) -> Result<usize, PortFault>
+        ensures bound { IfOk result (λ n. n ≤ length piece.now) }
+        ensures progress { IfOk result (λ n. 0 < length piece.now → 0 < n) }
+        ensures silent { SendsOnWrite None result piece.now None }
+        ensures empty { length piece.now ≡ 0 → is_failed_writer self.old ≡ false → IsOk result }
+        ensures failure { is_failed_writer self.new ≡ (is_failed_writer self.old || is_err result) }
+        ensures for_good { is_failed_writer self.old ≡ true → IsErr result }
+        ensures passed_on { WriteAppends (W.contents (inner_writer self.old)) (W.contents (inner_writer self.new)) result piece.now }
+        ensures unasked { IsUnasked (is_failed_writer self.old) piece.now → self.new ≡ self.old }
+    {
         if self.failed {
             return Err(PortFault);
         }
         if piece.is_empty() {
             return Ok(0);
         }
-        match self.writer.write(piece) {
-            Ok(count) if count > 0 => Ok(count),
-            _ => {
-                self.failed = true;
-                Err(PortFault)
-            }
-        }
-    }
-
-    fn flush(&mut self) -> Result<(), PortFault> {
+        let taken = hand_on(&mut self.failed, self.writer.write(piece))?;
+        self.failed = taken == 0;
         if self.failed {
             return Err(PortFault);
         }
-        match self.writer.flush() {
-            Ok(()) => Ok(()),
-            Err(_) => {
-                self.failed = true;
-                Err(PortFault)
-            }
+        Ok(taken)
+    }
+
+    /// As the writer's own flush does, where it is asked: it is not after a failure.
+    fn flush(&mut self) -> Result<(), PortFault>
+        ensures failure { is_failed_writer self.new ≡ (is_failed_writer self.old || is_err result) }
+        ensures for_good { is_failed_writer self.old ≡ true → IsErr result }
+        ensures passed_on { Keeps (W.contents (inner_writer self.old)) (W.contents (inner_writer self.new)) }
+        ensures unasked { is_failed_writer self.old ≡ true → self.new ≡ self.old }
+    {
+        if self.failed {
+            return Err(PortFault);
         }
+        hand_on(&mut self.failed, self.writer.flush())
     }
 }
