@@ -105,6 +105,10 @@ refuses_answers() {
     (printf c; head -c 10000000 /dev/zero | tr '\0' x) > "$room/stdin"
     in=$room/stdin
     refuses_answer 1 'answer: no status line or a second one'
+    printf '\ns SATISFIABLE\nv x8\n' >> "$room/stdin"
+    in=/dev/null run 'ten million bytes before the answer' 0 plain_report nothing decode "${week[@]}" --answer stdin --sol solution
+    holds solution nobody
+    rm "$room/solution"
     for text in UNSATISFIABLE UNKNOWN UNSUPPORTED; do refuses_each 5 "solver found no roster: $text" "s $text"; done
     refuses_each 5 'solver found no roster: UNKNOWN' $'s UNKNOWN\nv x8'
     refuses_each 6 'constraint 1 is not satisfied' 's SATISFIABLE' $'s OPTIMUM FOUND\nv x1' $'s OPTIMUM FOUND\nv -x8'

@@ -6,7 +6,7 @@
 # Needs bash and the usual tools of a shell.
 . "$(dirname "$0")/kit.sh"
 
-line version "inrc2pb $(sed -n 's/^const VERSION: &str = "\(.*\)";$/\1/p' crates/inrc2pb/src/command.rt)"
+line version "inrc2pb $(sed -n 's/^## //p' CHANGELOG.md | head -n 1)"
 
 # The help that was shown last ends with an example of the command and where more is said.
 ends_with_example() {
@@ -66,7 +66,7 @@ takes_no_other_words() {
     misused 'an unknown option' "unexpected argument '--random' found" encode "${week[@]}" --random 1
     misused 'an option of decode' "unexpected argument '--sol' found" encode --sol a
     misused 'a word too many' "unexpected argument 'week.txt' found" encode "${week[@]}" week.txt
-    run 'a word that is not text' 2 nothing text encode --sce $'\377' --his history.txt --week week.txt
+    misused 'a word that is not text' 'an argument is not text' encode --sce $'\377' --his history.txt --week week.txt
     err=/dev/full run 'a refusal that cannot be written' 2 nothing nothing solve
 }
 
@@ -75,9 +75,12 @@ takes_words() {
     local path
     run 'options in another order' 0 nothing nothing encode --week=week.txt --opb 'a b' --sce scenario.txt --his history.txt
     holds 'a b' model
-    for path in '=x' ' s ' 'ä'; do
+    for path in '=x' ' s ' 'ä' -; do
         cp "$room/history.txt" "$room/$path"
         run "the path '$path'" 0 model nothing encode --sce=scenario.txt --his "$path" --week=week.txt
+        run "the path '$path' as output" 0 nothing nothing encode "${week[@]}" --opb "$path"
+        holds "$path" model
+        rm "$room/$path"
     done
     refuses 'a path of no letters' 3 'read failed' encode --sce=scenario.txt --his '' --week=week.txt
 }

@@ -72,6 +72,9 @@ fills_devices() {
         [ $? = 3 ] || complain 'another status'
         holds err write_failed
         begins cut.opb
+        (cd "$room" && trap '' XFSZ && ulimit -f $limit && exec "$program" encode "${five[@]}" > cut.opb 2> err)
+        [ $? = 3 ] || complain 'another status on standard output'
+        begins cut.opb
         rm -f "$room/cut.opb"
     done
     begins_case 'a pipe that is closed early'
@@ -131,6 +134,9 @@ writes_over_inputs() {
     cp "$room/kept" "$room/both.txt"
     refuses 'an older file where the answer has a fault' 1 'answer: no status line or a second one' decode "${week[@]}" --answer both.txt --sol both.txt
     holds both.txt kept
+    ln -s both.txt "$room/link"
+    run 'a link as output' 0 nothing nothing encode "${week[@]}" --opb link
+    holds both.txt model
 }
 
 # refuses_nobody WHAT STATUS FAULT WORD..: the same as `refuses`, without the rights of root.

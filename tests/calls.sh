@@ -1,0 +1,102 @@
+#!/usr/bin/env bash
+# Has each call told by which the program opens, reads and writes. Each file is opened once, for one use, in the order of
+# the checks, and read to its end and no further; an output is opened at its first write, and gets a write for each full
+# buffer and one for the rest; after a call that failed none goes to the same file.
+#
+#   tests/calls.sh [llvm | rattle | PROGRAM]
+#
+# Needs bash, the usual tools of a shell, and a C compiler: $CC, else cc, else the clang of Rattle's kit.
+. "$(dirname "$0")/kit.sh"
+
+kit_clang() { echo "$(dirname "$(realpath "$(command -v rt)")")/../toolchain/bin/clang"; }
+"${CC:-$(command -v cc || kit_clang)}" -O1 -shared -fPIC -o "$room/told.so" tests/told_calls.c || exit 2
+
+cp examples/n005w4/*.txt examples/n005w4/week0.opb examples/n005w4/answers/sat4j.txt "$room"
+five=(--sce Sc-n005w4.txt --his H0-n005w4-0.txt --week WD-n005w4-0.txt)
+
+# calls WHAT STATUS WORD..: runs the program, and keeps its calls.
+calls() {
+    local ended
+    begins_case "$1"
+    (cd "$room" && LD_PRELOAD=$room/told.so exec "$program" "${@:3}" < "$in" > "$out" 2> "$err" 9> calls)
+    ended=$?
+    [ $ended = "$2" ] || complain "status $ended, not $2"
+}
+
+# opens FILE..: they are opened to be read.
+opens() { printf 'open %s read\n' "$@"; }
+
+# reads FILE [NAME]: it is read to its end, under this name.
+reads() {
+    local rest
+    rest=$(stat -c %s "$room/$1")
+    for ((; rest > 4096; rest -= 4096)); do echo "read ${2:-$1} 4096"; done
+    [ "$rest" = 0 ] || echo "read ${2:-$1} $rest"
+    echo "read ${2:-$1} 0"
+}
+
+# opens_week and reads_week WORD..: the files of the week, and others that are opened and read behind them.
+opens_week() { opens Sc-n005w4.txt H0-n005w4-0.txt WD-n005w4-0.txt "$@"; }
+reads_week() { for file in Sc-n005w4.txt H0-n005w4-0.txt WD-n005w4-0.txt "$@"; do reads "$file"; done; }
+
+# The calls are those of standard input; of writes that follow one another to one file only the first is there, without
+# its number of bytes.
+are() {
+    cat > "$room/wanted"
+    sed -E 's/^(write .*) [0-9]+$/\1/' "$room/calls" | uniq > "$room/told"
+    cmp -s "$room/told" "$room/wanted" || complain "other calls: $(diff "$room/told" "$room/wanted" | head -n 5)"
+}
+
+# fills NAME FILE: these bytes went there in as few writes as full buffers and a rest are.
+fills() {
+    local size
+    size=$(stat -c %s "$room/$2")
+    awk -v wanted="write $1" -v size="$size" '
+        index($0, wanted " ") == 1 { sent += $NF; if (writes++ && last < 4080) short = 1; last = $NF }
+        END { exit sent != size || short || writes != int((size + 4095) / 4096) }' "$room/calls" || complain "other writes to $1"
+}
+
+does_jobs() {
+    calls 'a model to a file' 0 encode "${five[@]}" --opb made
+    { opens_week; reads_week; printf '%s\n' 'open made write' 'write made'; } | are
+    fills made week0.opb
+    calls 'a model to standard output' 0 encode "${five[@]}"
+    { opens_week; reads_week; echo 'write output'; } | are
+    fills output week0.opb
+    calls 'an answer in a file' 0 decode "${five[@]}" --answer sat4j.txt --sol roster
+    { opens_week sat4j.txt; reads_week sat4j.txt; printf '%s\n' 'open roster write' 'write roster' 'write output'; } | are
+    fills roster roster
+    in=$room/sat4j.txt calls 'an answer on standard input' 0 decode "${five[@]}" --sol again
+    { opens_week; reads_week; reads sat4j.txt input; printf '%s\n' 'open again write' 'write again' 'write output'; } | are
+    calls 'a roster, and cells that are held' 0 extend "${five[@]}" --fix roster --from again
+    { opens_week roster again; reads_week roster again; echo 'write output'; } | are
+    fills output out
+}
+
+fails() {
+    calls 'no such scenario' 3 encode --sce missing --his H0-n005w4-0.txt --week WD-n005w4-0.txt --opb unmade
+    { opens missing; echo 'write errors'; } | are
+    calls 'no such answer' 3 decode "${five[@]}" --answer missing --sol unmade
+    { opens_week missing; echo 'write errors'; } | are
+    calls 'a folder as history' 3 encode --sce Sc-n005w4.txt --his . --week WD-n005w4-0.txt --opb unmade
+    { opens Sc-n005w4.txt . WD-n005w4-0.txt; reads Sc-n005w4.txt; printf '%s\n' 'read . -1' 'write errors'; } | are
+    calls 'an answer without a status' 1 decode "${five[@]}" --answer nothing --sol unmade
+    { opens_week nothing; reads_week nothing; echo 'write errors'; } | are
+    is_missing unmade
+    calls 'an output in no folder' 3 encode "${five[@]}" --opb missing/made
+    { opens_week; reads_week; printf '%s\n' 'open missing/made write' 'write errors'; } | are
+    calls 'a full device' 3 encode "${five[@]}" --opb /dev/full
+    { opens_week; reads_week; printf '%s\n' 'open /dev/full write' 'write /dev/full -1' 'write errors'; } | are
+    calls 'a solution to a full device' 3 decode "${five[@]}" --answer sat4j.txt --sol /dev/full
+    { opens_week sat4j.txt; reads_week sat4j.txt; printf '%s\n' 'open /dev/full write' 'write /dev/full -1' 'write errors'; } | are
+    out=/dev/full calls 'a full standard output' 3 encode "${five[@]}"
+    { opens_week; reads_week; printf '%s\n' 'write output -1' 'write errors'; } | are
+}
+
+does_jobs
+fails
+calls 'help' 0 --help
+echo 'write output' | are
+calls 'words that are refused' 2 encode
+echo 'write errors' | are
+finish

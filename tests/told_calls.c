@@ -1,0 +1,78 @@
+/* Loaded before the C library, it tells each file that is opened, each read and each write, a line each on the file
+   descriptor 9: what was done, the path, and for what it was opened or how many bytes were moved, -1 where it failed.
+   Rattle's programs open by openat, relative to where they run. It needs no headers. */
+typedef unsigned long size;
+
+extern int __open(const char *path, int flags, ...);
+extern long __read(int file, void *bytes, size count);
+extern long __write(int file, const void *bytes, size count);
+
+enum { FILES = 32, LONGEST = 100, TOLD = 9 };
+
+static char paths[FILES][LONGEST] = {"input", "output", "errors"};
+
+/* Puts the text behind the first `used` bytes of the line, and answers how many there are now. */
+static int put(char *line, int used, const char *text)
+{
+    while (*text && used < 2 * LONGEST)
+        line[used++] = *text++;
+    return used;
+}
+
+static void tell(const char *what, const char *path, const char *how)
+{
+    char line[2 * LONGEST + 1];
+    int used = put(line, 0, what);
+    used = put(line, used, " ");
+    used = put(line, used, path);
+    used = put(line, used, " ");
+    used = put(line, used, how);
+    line[used++] = '\n';
+    __write(TOLD, line, used);
+}
+
+static long told_count(const char *what, int file, long count)
+{
+    char digits[24];
+    int at = sizeof digits - 1;
+    long rest = count < 0 ? 1 : count;
+    digits[at] = 0;
+    do
+        digits[--at] = '0' + rest % 10;
+    while (rest /= 10);
+    if (count < 0)
+        digits[--at] = '-';
+    tell(what, file < FILES ? paths[file] : "?", digits + at);
+    return count;
+}
+
+static int told_open(const char *path, int flags, int mode)
+{
+    static const char *const uses[] = {"read", "write", "both", "?"};
+    int file = __open(path, flags, mode);
+    tell("open", path, uses[flags & 3]);
+    if (file >= 0 && file < FILES)
+        paths[file][put(paths[file], 0, path) % LONGEST] = 0;
+    return file;
+}
+
+int open(const char *path, int flags, int mode)
+{
+    return told_open(path, flags, mode);
+}
+
+int openat(int folder, const char *path, int flags, int mode)
+{
+    (void)folder;
+    return told_open(path, flags, mode);
+}
+
+long read(int file, void *bytes, size count)
+{
+    return told_count("read", file, __read(file, bytes, count));
+}
+
+long write(int file, const void *bytes, size count)
+{
+    return told_count("write", file, __write(file, bytes, count));
+}
