@@ -150,7 +150,7 @@ fn decoding_ends_where_the_report_fails(rt: HostRuntime) {
 }
 
 // The job with another text in place of the input of this number.
-fn with_input(job: Job, place: usize, text: &'static [u8]) -> Job {
+fn with_input(job: Job<'static>, place: usize, text: &'static [u8]) -> Job<'static> {
     let mut inputs = job.inputs;
     if let Some(own) = inputs.get_mut(place) {
         *own = text;
@@ -163,10 +163,10 @@ fn bad(kind: Kind, file: FileName, line: u32) -> Fault {
 }
 
 // A job with an input that is at fault, the number of a later reader, and the fault.
-type Faulty = (Job, usize, Fault);
+type Faulty = (Job<'static>, usize, Fault);
 
 // The scenario is at fault.
-fn with_faulty_scenario(job: Job, reader: usize) -> Faulty {
+fn with_faulty_scenario(job: Job<'static>, reader: usize) -> Faulty {
     let fault = bad(Kind::OtherWord, FileName::Scenario, 1);
     (with_input(job, 0, b"SCENA"), reader, fault)
 }
@@ -183,7 +183,7 @@ fn with_faulty_week() -> Faulty {
 }
 
 // The held cells are at fault.
-fn with_faulty_cells(job: Job) -> Faulty {
+fn with_faulty_cells(job: Job<'static>) -> Faulty {
     let fault = bad(Kind::OtherWord, FileName::Fixed, 2);
     (with_input(job, 3, b"SOLUTION 0 s1\nASSIGN"), 4, fault)
 }

@@ -83,9 +83,9 @@ fn sent_to(target: &MemoryTarget, text: &[u8]) -> Sent {
     }
 }
 
-// What the job's run answers. It uses the second target only where it has two outputs. Where the job has no held
-// cells, their reader would fail at its first call.
-fn outcome(
+/// What the job's run answers. It uses the second target only where it has two outputs. Where the job has no held
+/// cells, their reader would fail at its first call.
+pub fn outcome(
     alloc: Global,
     job: &Job,
     readers: [Pace; 5],
@@ -93,7 +93,7 @@ fn outcome(
     second: &mut MemoryTarget,
 ) -> Result<(), Fault> {
     let choice = Choice {
-        early: false,
+        early: job.early,
         fixed: !job.inputs[3].is_empty(),
     };
     let mut sce = MemorySource::new(job.inputs[0], readers[0]);

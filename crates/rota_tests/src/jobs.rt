@@ -11,15 +11,17 @@ pub enum Kind {
 /// A run's inputs in the order in which it reads them, and its outputs in the order in which it writes them;
 /// an input or output that it does not have is empty.
 #[derive(Clone, Copy)]
-pub struct Job {
+pub struct Job<'a> {
     pub kind: Kind,
+    /// What exceeds a total is charged in each week.
+    pub early: bool,
     /// The scenario, the history, the week, the held cells, and the answer or the given roster.
-    pub inputs: [&'static [u8]; 5],
+    pub inputs: [&'a [u8]; 5],
     /// The model, or the solution and its report, or the answer.
-    pub outputs: [&'static [u8]; 2],
+    pub outputs: [&'a [u8]; 2],
 }
 
-const SCENARIO: &[u8] = b"SCENARIO = s1
+pub const SCENARIO: &[u8] = b"SCENARIO = s1
 WEEKS = 2
 SKILLS = 1
 Nurse
@@ -48,29 +50,30 @@ NURSES = 1
 Ann Full 1 Nurse
 ";
 
-const HISTORY: &[u8] = b"HISTORY
+pub const HISTORY: &[u8] = b"HISTORY
 0 s1
 NURSE_HISTORY
 Ann 0 0 None 0 0 0
 ";
 
-const WEEK: &[u8] = b"WEEK_DATA
+pub const WEEK: &[u8] = b"WEEK_DATA
 s1
 REQUIREMENTS
 SHIFT_OFF_REQUESTS = 0
 ";
 
 // One assignment, on Monday.
-const MONDAY: &[u8] = b"SOLUTION
+pub const MONDAY: &[u8] = b"SOLUTION
 0 s1
 
 ASSIGNMENTS = 1
 Ann Mon Day Nurse
 ";
 
-pub fn encoding() -> Job {
+pub fn encoding() -> Job<'static> {
     Job {
         kind: Kind::Encode,
+        early: false,
         inputs: [SCENARIO, HISTORY, WEEK, b"", b""],
         outputs: [
             b"* #variable= 8 #constraint= 8
@@ -89,9 +92,10 @@ pub fn encoding() -> Job {
 }
 
 /// The answer has lines that say nothing of variables, and each line ends with CR LF.
-pub fn decoding() -> Job {
+pub fn decoding() -> Job<'static> {
     Job {
         kind: Kind::Decode,
+        early: false,
         inputs: [
             SCENARIO,
             HISTORY,
@@ -117,9 +121,10 @@ last o 5
     }
 }
 
-pub fn extending() -> Job {
+pub fn extending() -> Job<'static> {
     Job {
         kind: Kind::Extend,
+        early: false,
         inputs: [CLOSED, HISTORY, WEEK, b"", MONDAY],
         outputs: [
             b"o 15
@@ -134,16 +139,17 @@ v -x11 -x12 -x13 -x14 -x15
 
 // The same with Wednesday's assignment, which is held.
 
-const WEDNESDAY: &[u8] = b"SOLUTION
+pub const WEDNESDAY: &[u8] = b"SOLUTION
 0 s1
 
 ASSIGNMENTS = 1
 Ann Wed Day Nurse
 ";
 
-pub fn holding() -> Job {
+pub fn holding() -> Job<'static> {
     Job {
         kind: Kind::Encode,
+        early: false,
         inputs: [SCENARIO, HISTORY, WEEK, WEDNESDAY, b""],
         outputs: [
             b"* #variable= 8 #constraint= 9
@@ -162,9 +168,10 @@ pub fn holding() -> Job {
     }
 }
 
-pub fn decoding_held() -> Job {
+pub fn decoding_held() -> Job<'static> {
     Job {
         kind: Kind::Decode,
+        early: false,
         inputs: [
             SCENARIO,
             HISTORY,
@@ -189,9 +196,10 @@ S7 0
     }
 }
 
-pub fn extending_held() -> Job {
+pub fn extending_held() -> Job<'static> {
     Job {
         kind: Kind::Extend,
+        early: false,
         inputs: [CLOSED, HISTORY, WEEK, WEDNESDAY, WEDNESDAY],
         outputs: [
             b"o 15
@@ -205,7 +213,7 @@ v x11 -x12 -x13 -x14 -x15
 }
 
 /// One job of each kind, without and with held cells.
-pub fn jobs() -> [Job; 6] {
+pub fn jobs() -> [Job<'static>; 6] {
     [
         encoding(),
         decoding(),

@@ -1,6 +1,9 @@
 //! Tests of whole runs, over memory: encoding, decoding and extending.
 #![tactic(auto)]
 
+// What a row of a table changes in the texts of its base.
+#[cfg(test)]
+mod changes;
 // The example with which `rota_pb` opens.
 #[cfg(test)]
 mod examples;
@@ -22,3 +25,23 @@ mod performed_jobs;
 // Want of memory in the middle of a run.
 #[cfg(test)]
 mod refused_memory;
+// Small weeks and their models.
+#[cfg(test)]
+mod small_weeks;
+// Tables of worked rows: what each changes, and how the run then ends.
+#[cfg(test)]
+mod tables;
+// Small weeks: what each changes in that of one nurse.
+#[cfg(test)]
+mod weeks;
+// Weeks whose models were written out by hand.
+#[cfg(test)]
+mod worked_weeks;
+// Answers to small weeks, and rosters of them.
+#[cfg(test)]
+mod decoded_answers;
+#[cfg(test)]
+mod extended_rosters;
+// Files with a fault.
+#[cfg(test)]
+mod file_faults;

@@ -10,7 +10,7 @@ use std::process::Abort;
 use std::test::Fail;
 
 // Where a job's texts are: the scenario, the history, the week, the held cells, and the answer or the roster.
-fn files_of(texts: &jobs::Job) -> [MemoryFile<'static>; 5] {
+fn files_of(texts: &jobs::Job<'static>) -> [MemoryFile<'static>; 5] {
     let [scenario, history, week, held, last] = texts.inputs;
     [
         file("scenario", scenario),

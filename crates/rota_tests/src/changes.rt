@@ -1,0 +1,145 @@
+//! What a row of a table changes in the texts of its base.
+use crate::jobs::{Job, Kind};
+use std::alloc::{AllocError, Global};
+
+/// A file of a run.
+#[derive(Clone, Copy, PartialEq, Eq, Debug)]
+pub enum File {
+    Sce,
+    His,
+    Week,
+    /// The held cells.
+    Fix,
+    /// The answer, or the given roster.
+    Last,
+}
+
+/// What is changed in a text. Lines are numbered from 1.
+#[derive(Clone, Copy)]
+pub enum Edit<'a> {
+    /// It is this one.
+    Is(&'a [u8]),
+    /// The line is this one; past the last line, one more.
+    Line(usize, &'a [u8]),
+    /// This stands in place of the line and of all that follows.
+    Ends(usize, &'a [u8]),
+    /// It is this many bytes long: cut, or with blanks at its end.
+    Sized(usize),
+}
+
+/// The changes of a row, one after the other.
+pub type Changes<'a> = &'a [(File, Edit<'a>)];
+
+/// The texts of a table, which a row changes.
+#[derive(Clone, Copy)]
+pub struct Base<'a> {
+    pub kind: Kind,
+    pub early: bool,
+    /// The scenario, the history, the week, the held cells, and the answer or the given roster.
+    pub inputs: [&'a [u8]; 5],
+}
+
+/// The texts of a row.
+#[derive(Drop)]
+pub struct Texts {
+    pub sce: Vec<u8>,
+    pub his: Vec<u8>,
+    pub week: Vec<u8>,
+    pub fix: Vec<u8>,
+    pub last: Vec<u8>,
+}
+
+impl Texts {
+    /// The job of these texts.
+    pub fn job(&self, base: &Base) -> Job<'_> {
+        Job {
+            kind: base.kind,
+            early: base.early,
+            inputs: [&self.sce, &self.his, &self.week, &self.fix, &self.last],
+            outputs: [b"", b""],
+        }
+    }
+}
+
+// The text with another line.
+fn with_line(
+    alloc: Global,
+    text: &[u8],
+    number: usize,
+    line: &[u8],
+) -> Result<Vec<u8>, AllocError> {
+    let mut made = Vec::new(alloc);
+    let mut at = 1_usize;
+    for old in text.split_inclusive(|byte| *byte == b'\n') {
+        if at == number {
+            made.extend_from_slice(line)?;
+            made.push(b'\n')?;
+        } else {
+            made.extend_from_slice(old)?;
+        }
+        at = at.saturating_add(1);
+    }
+    if at == number {
+        made.extend_from_slice(line)?;
+    }
+    Ok(made)
+}
+
+// The text before the line of this number, and this end.
+fn ending_with(
+    alloc: Global,
+    text: &[u8],
+    number: usize,
+    end: &[u8],
+) -> Result<Vec<u8>, AllocError> {
+    let mut made = Vec::new(alloc);
+    for old in text
+        .split_inclusive(|byte| *byte == b'\n')
+        .take(number.saturating_sub(1))
+    {
+        made.extend_from_slice(old)?;
+    }
+    made.extend_from_slice(end)?;
+    Ok(made)
+}
+
+fn edited(alloc: Global, text: &[u8], edit: Edit) -> Result<Vec<u8>, AllocError> {
+    match edit {
+        Edit::Is(other) => Vec::from_slice(alloc, other),
+        Edit::Line(number, line) => with_line(alloc, text, number, line),
+        Edit::Ends(number, end) => ending_with(alloc, text, number, end),
+        Edit::Sized(length) => {
+            let mut made = Vec::from_slice(alloc, text)?;
+            made.resize(length, b' ')?;
+            Ok(made)
+        }
+    }
+}
+
+// The text of this file with the changes.
+fn changed(
+    alloc: Global,
+    base: &[u8],
+    changes: Changes,
+    file: File,
+) -> Result<Vec<u8>, AllocError> {
+    let mut text = Vec::from_slice(alloc, base)?;
+    for (of, edit) in changes {
+        if *of == file {
+            text = edited(alloc, &text, *edit)?;
+        }
+    }
+    Ok(text)
+}
+
+/// The texts of the base with the changes.
+pub fn texts_of(alloc: Global, base: &Base, changes: Changes) -> Result<Texts, AllocError> {
+    let [sce, his, week, fix, last] = base.inputs;
+    Ok(Texts {
+        sce: changed(alloc, sce, changes, File::Sce)?,
+        his: changed(alloc, his, changes, File::His)?,
+        week: changed(alloc, week, changes, File::Week)?,
+        fix: changed(alloc, fix, changes, File::Fix)?,
+        last: changed(alloc, last, changes, File::Last)?,
+    })
+}
