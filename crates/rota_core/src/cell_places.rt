@@ -6,7 +6,7 @@ use crate::instance::Instance;
 use crate::values::Cell;
 
 impl Instance {
-    ghost use Rattle.rota_core.specs.InstanceTables.{week_of};
+    ghost use Rattle.rota_core.specs.InstanceTables.{IsInstance, week_of};
     ghost use Rattle.rota_core.specs.Roster.{InWeek};
 
     /// The place of the cell: ((n * 7 + d) * S + s) * K + k for nurse n, day d, shift type s and skill
@@ -15,8 +15,8 @@ impl Instance {
         requires { InWeek (week_of self.now) cell }
         ensures place { let week = week_of self.now in result ≡ cell_place week.shifts week.skills cell }
         ensures below { let week = week_of self.now in result < place_count week.nurses week.shifts week.skills }
+        ensures limits { IsInstance self.now }
     {
-        let _nurses = self.nurses();
         place_of_cell(self.shifts(), self.skills(), cell)
     }
 
@@ -26,13 +26,13 @@ impl Instance {
         ensures in_week { InWeek (week_of self.now) result }
         ensures place { let week = week_of self.now in cell_place week.shifts week.skills result ≡ place }
     {
-        let _nurses = self.nurses();
         cell_of_place(self.shifts(), self.skills(), place)
     }
 
     /// The number of the cells: of each nurse, day, shift type and skill there is one.
     pub fn places(&self) -> u32
-        ensures { let week = week_of self.now in result ≡ place_count week.nurses week.shifts week.skills }
+        ensures count { let week = week_of self.now in result ≡ place_count week.nurses week.shifts week.skills }
+        ensures limits { IsInstance self.now }
     {
         count_of_places(self.nurses(), self.shifts(), self.skills())
     }

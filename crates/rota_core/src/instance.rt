@@ -1,6 +1,6 @@
 //! An instance: one week of a rostering problem, with what the weeks before left.
 
-ghost use Rattle.std.specs.Prelude.{◌≡◌, ◌<◌, ◌≤◌, ◌↔◌, None, IfOk, IfErr, IsErr, All, length, slice_get};
+ghost use Rattle.std.specs.Prelude.{◌≡◌, ◌<◌, ◌≤◌, ◌↔◌, None, IfOk, IfErr, IfSome, IsErr, All, length, slice_get};
 ghost use Rattle.rota_core.specs.Names.{place_of};
 ghost use Rattle.rota_core.specs.ScenarioTables.{Within};
 
@@ -116,6 +116,7 @@ impl Instance {
     pub fn shifts(&self) -> u8
         ensures count { result ≡ (week_of self.now).shifts }
         ensures within { Within 16 result }
+        ensures limits { IsInstance self.now }
     {
         self.scenario.shifts()
     }
@@ -190,10 +191,11 @@ impl Instance {
         self.scenario.contract(nurse)
     }
 
-    /// What the weeks before left of the nurse.
+    /// What the weeks before left of the nurse. Her last shift type is one of the week's.
     pub fn past(&self, nurse: u16) -> Past
         requires { nurse < (week_of self.now).nurses }
-        ensures { result ≡ (week_of self.now).past nurse }
+        ensures past { result ≡ (week_of self.now).past nurse }
+        ensures last_in { IfSome result.last (λ shift. shift < (week_of self.now).shifts) }
     {
         self.history.past[usize::from(nurse)]
     }

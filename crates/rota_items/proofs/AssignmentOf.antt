@@ -22,7 +22,7 @@ assignment_of-cell week roster one inside =
 pub assignment_of-unit : (week : Week) (roster : Roster) → assignment_of week roster (unit_number week) ≡ true
 assignment_of-unit week roster = rw (eq-eqb (unit_number week) (unit_number week) refl) refl
 
--- the truth values of a roster's cells stand by their places
+-- the truth values of a roster's cells are by their places
 pub place-assigned : (week : Week) (tables : RosterTables) (place v : ℕ) → HasShapeOf week tables → v ≡ place + 1 →
     v < unit_number week → slice_index_or tables.cells place false ≡ assignment_of week (set_of tables) v
 place-assigned week tables place v shape next below =

@@ -1,7 +1,8 @@
 -- What a counter makes of a list of rows.
 use Rattle.rota_items.proofs.LogicWords.{◌≡◌, ℕ, ◌+◌, ◌≤◌, min, max, Bool, true, cond, List, [], ◌∷◌, ◌++◌, map, length, refl, ap, ◌∙◌, arith, fold-append, sum_by-cons, AllByRecursion, fold, count_by}
 use Rattle.rota_items.proofs.ModelWords.{Term, LinearRow}
-use Rattle.rota_items.specs.Counting.{counted, counts_of, greatest, greatest_count, is_constraint, no_counts, variables_in}
+use Rattle.rota_items.specs.Counting.{counted, counts_of, greatest, is_constraint, no_counts, variables_in}
+use Rattle.rota_items.specs.Limits.{greatest_count}
 use Rattle.rota_items.specs.Events.{start_row, close_row, term_events, row_events, events}
 use Rattle.rota_items.specs.declared.counting.counter.Counts.{Counts}
 use Rattle.rota_items.specs.declared.part.Part.{Part}

@@ -74,7 +74,7 @@ module _ (week : Week) (assignment : ℕ → Bool) (roster : Roster)
       sum_by-same _ (λ (item : Item Cell). item.weight * shortage roster item) (soft_items week)
       (each-item week _ (λ rule item soft sound. ap (λ n. item.weight * n) (shortage-of_item item sound.terms.in_week)))
 
--- ---- the items' variables stand below the slacks
+-- ---- the items' variables are below the slacks
 
 module _ (week : Week) where
   abbrev Below : Term ℕ → Type 0

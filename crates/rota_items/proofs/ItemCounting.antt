@@ -1,5 +1,5 @@
 -- What a counter makes of a list of items.
-use Rattle.std.proofs.Common.{◌≡◌, ℕ, ◌+◌, ◌^◌, ◌<◌, List, [], ◌∷◌, ◌++◌, map, length, sym, ap, ◌∙◌, arith, length-append}
+use Rattle.std.proofs.Common.{◌≡◌, ℕ, ◌+◌, ◌<◌, List, [], ◌∷◌, ◌++◌, map, length, sym, ap, ◌∙◌, arith, length-append}
 use Rattle.std.specs.List.{fold}
 use Rattle.std.proofs.lemmas.List.{length-map}
 use Rattle.rota_core.specs.InstanceTables.{InstanceTables, IsInstance, week_of}
@@ -12,13 +12,14 @@ use Rattle.rota_items.proofs.SlackBound.{items-few, variables_fit}
 use Rattle.rota_items.specs.Charges.{soft_items}
 use Rattle.rota_items.specs.ItemCounting.{ItemNumbers, sum_within, with_one}
 use Rattle.rota_items.specs.Items.{Item, numbered}
+use Rattle.rota_items.specs.Limits.{word_limit}
 use Rattle.rota_items.specs.ItemTaking.{numbered_list}
 use Rattle.rota_items.specs.RunItems.{Runs, pattern_item, run_items}
 use Rattle.rota_items.specs.RunPatterns.{patterns, windows}
 use Rattle.rota_items.specs.Slacks.{slack_count}
 use Rattle.rota_items.specs.Variables.{cell_number}
 
-sum_within-none : (n : ℕ) → n < 2 ^ 32 → n ≡ sum_within n 0
+sum_within-none : (n : ℕ) → n < word_limit → n ≡ sum_within n 0
 sum_within-none n below = omega arith
 
 sum_within-more : (n a b : ℕ) → sum_within (sum_within n a) b ≡ sum_within n (a + b)
@@ -29,8 +30,8 @@ one-more item items = omega arith
 
 -- both numbers fit
 pub record AreWithin (counts : ItemNumbers) : Type 0 where
-  pub items : counts.items < 2 ^ 32
-  pub slacks : counts.slacks < 2 ^ 32
+  pub items : counts.items < word_limit
+  pub slacks : counts.slacks < word_limit
 
 within-one : (counts : ItemNumbers) (item : Item ℕ) → AreWithin (with_one counts item)
 within-one counts item = record { items = omega arith; slacks = omega arith }

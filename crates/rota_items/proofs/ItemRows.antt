@@ -1,5 +1,5 @@
 -- What a taker of rows takes by the items that are handed on to it.
-use Rattle.std.proofs.Common.{◌≡◌, ℕ, ◌+◌, ◌^◌, ◌<◌, List, [], ◌∷◌, ◌++◌, Result, Ok, Err, refl, sym, ap, subst, ◌∙◌, arith, append_assoc}
+use Rattle.std.proofs.Common.{◌≡◌, ℕ, ◌+◌, ◌<◌, List, [], ◌∷◌, ◌++◌, Result, Ok, Err, refl, sym, ap, subst, ◌∙◌, arith, append_assoc}
 use Rattle.std.specs.List.{fold}
 use Rattle.std.proofs.lemmas.List.Sums.{fold-append}
 use Rattle.std.proofs.lemmas.Result.{MatchResult-weaker}
@@ -12,6 +12,7 @@ use Rattle.rota_items.specs.Charges.{soft_items}
 use Rattle.rota_items.specs.Events.{Event, events, term_events}
 use Rattle.rota_items.specs.ItemRows.{Handing, StopsAt, row_of_item, slacks_within, weights_of_item, with_item, within_numbers}
 use Rattle.rota_items.specs.Items.{Item}
+use Rattle.rota_items.specs.Limits.{word_limit}
 use Rattle.rota_items.specs.Slacks.{item_rows, slack_count, slack_weights}
 use Rattle.rota_items.specs.Takes.{Took, Refused, Takes, TookAll, RefusedOne, TakesAll}
 use Rattle.rota_items.specs.Variables.{cell_number, first_slack}
@@ -20,7 +21,7 @@ use Rattle.rota_items.specs.declared.takers.Taker.{Ghosts}
 
 -- the slacks of the items have numbers of variables, from this one on
 abbrev pub SlacksFit : ℕ → List (Item ℕ) → Type 0
-SlacksFit first items = first + slack_count items < 2 ^ 32
+SlacksFit first items = first + slack_count items < word_limit
 
 -- the events of a list are those of each item, whose slacks follow one another
 pub record GivesEach (events_of : Item ℕ → ℕ → List Event) (all : ℕ → List (Item ℕ) → List Event) : Type 0 where
@@ -45,10 +46,10 @@ pub gives_weights : GivesEach weights_of_item all_weights
 gives_weights = record { none = λ first. no_terms; more = λ first item items. term_events-append _ _ }
 
 -- where its slacks fit, an item is handed on as it is
-slacks-all : (first slacks : ℕ) → first + slacks < 2 ^ 32 → slacks_within first slacks ≡ slacks
+slacks-all : (first slacks : ℕ) → first + slacks < word_limit → slacks_within first slacks ≡ slacks
 slacks-all first slacks fit = omega arith
 
-item-all : (first : ℕ) (item : Item ℕ) → first + item.slacks < 2 ^ 32 → within_numbers first item ≡ item
+item-all : (first : ℕ) (item : Item ℕ) → first + item.slacks < word_limit → within_numbers first item ≡ item
 item-all first item fit = ap (λ (n : ℕ). record item { slacks = n }) (slacks-all first item.slacks fit)
 
 module _ {events_of : Item ℕ → ℕ → List Event} {all : ℕ → List (Item ℕ) → List Event} (each : GivesEach events_of all) where
@@ -71,7 +72,7 @@ module _ {events_of : Item ℕ → ℕ → List Event} {all : ℕ → List (Item
       next = handing.next + slack_count items;
     }
 
-    after-one : (handing : Handing V) (item : Item ℕ) → handing.next + item.slacks < 2 ^ 32 →
+    after-one : (handing : Handing V) (item : Item ℕ) → handing.next + item.slacks < word_limit →
         with_item step events_of handing item ≡ record handing {
           value = fold step handing.value (events_of item handing.next);
           next = handing.next + item.slacks;
@@ -88,7 +89,7 @@ module _ {events_of : Item ℕ → ℕ → List Event} {all : ℕ → List (Item
         λ i. record handing { value = fold step handing.value (sym (each.none handing.next) i); next = same i }
     after-all (item ∷ items) handing fit =
         let counted = slack_count-cons item items in
-        let here : handing.next + item.slacks < 2 ^ 32 = omega (arith, counted) in
+        let here : handing.next + item.slacks < word_limit = omega (arith, counted) in
         let next : Handing V = record handing {
           value = fold step handing.value (events_of item handing.next);
           next = handing.next + item.slacks;
@@ -126,7 +127,7 @@ module _ {events_of : Item ℕ → ℕ → List Event} {all : ℕ → List (Item
           let first = next_of old in
           let counted : slack_count items ≡ slack_count taken + (item.slacks + slack_count rest) =
           ap slack_count refused.are ∙ slack_count-append taken (item ∷ rest) ∙ ap (λ n. slack_count taken + n) (slack_count-cons item rest) in
-          let here : first + slack_count taken + item.slacks < 2 ^ 32 = omega (arith, counted, fit) in
+          let here : first + slack_count taken + item.slacks < word_limit = omega (arith, counted, fit) in
           let before : SlacksFit first taken = omega (arith, counted, fit) in
           let stops : StopsAt T events_of (after T.step (handing_of old) taken) item (name_of new) (taker_of new) =
           subst (λ h. StopsAt T events_of h item (name_of new) (taker_of new)) (after-all T.step taken (handing_of old) before) refused.leaves in

@@ -15,7 +15,8 @@ use Rattle.rota_items.proofs.JudgedRows.{Comes, IsJudged, covers, positive-satur
 use Rattle.rota_items.proofs.JudgedTerms.{AtSlacks, Before, others-of, slacks-of, sums_of}
 use Rattle.std.proofs.lemmas.List.FromFn.{length-range_with_len as length-range}
 use Rattle.rota_items.proofs.PatternItems.{value_of-append}
-use Rattle.rota_items.proofs.SmallSums.{half_limit, positive_part-parts, shortage-least, signed_limit, spread}
+use Rattle.rota_items.proofs.SmallSums.{positive_part-parts, shortage-least, spread}
+use Rattle.rota_items.specs.Limits.{half_limit, signed_limit}
 use Rattle.rota_items.proofs.TermsHold.{value_of-agree}
 use Rattle.rota_items.proofs.UnitTerms.{spread-units, units-times}
 

@@ -24,7 +24,8 @@ use Rattle.rota_items.proofs.ListSums.{sum_by-each-same, sum_by-flat_map, sum_by
 use Rattle.rota_items.proofs.ObjectiveBound.{objective-below}
 use Rattle.rota_items.proofs.RuleSizes.{each-small}
 use Rattle.rota_items.proofs.SlackBound.{rows-below, variables-below}
-use Rattle.rota_items.proofs.SmallSums.{half_limit, signed_limit, spread}
+use Rattle.rota_items.proofs.SmallSums.{spread}
+use Rattle.rota_items.specs.Limits.{half_limit, signed_limit}
 use Rattle.rota_items.proofs.SoftRules.AllItems.{in-cell_terms}
 use Rattle.rota_items.proofs.SoftRules.EachRule.{cell_terms-are, each-item, sound-rule}
 use Rattle.rota_items.proofs.SoftRules.ShiftOffRequests.{value_of-request_terms}
@@ -175,7 +176,7 @@ module _ (week : Week) (subject : Subject) (limits : IsWithinLimits week) where
       }) (soft_items week) (each-item week (λ item. OnTerms (InWeek week) item.terms) (λ _ _ _ sound. sound.terms.in_week))
       (each-small week limits FitsIn (λ rule item small. omega (arith, small.terms, small.slacks, slacks-few rule, small.degree))))
 
-  -- ---- the judge finds what stands there
+  -- ---- the judge finds what is there
 
   pub few : given week subject + paid week subject ≤ most_objective
   few = omega (arith, ints, objective-judged week subject, objective-below week (assignment_in week subject) limits)

@@ -9,14 +9,14 @@ use Rattle.rota_core.specs.declared.rule.Rule.TheVariants.{Unit as UnitRule}
 use Rattle.rota_items.specs.declared.part.Part.TheVariants.{Hard}
 use Rattle.rota_items.specs.declared.judge.tallies.RowSums.{RowSums}
 use Rattle.rota_items.specs.declared.judge.tallies.Tally.{Tally}
-use Rattle.rota_items.specs.Counting.{greatest_count}
+use Rattle.rota_items.specs.Limits.{greatest_count, half_limit, signed_limit}
 use Rattle.rota_items.specs.Events.{row_events, events}
 use Rattle.rota_items.specs.Judging.{Subject, assigned, extended, assignment_in, capped, closed, constraint_closed, lacking_in, tallied, true_slacks, with_cost}
 use Rattle.rota_items.specs.Verdicts.{soft_place}
 use Rattle.rota_items.specs.FirstUnmet.{first_unmet, later, rule_of_part}
 use Rattle.rota_items.proofs.FirstUnmet.{Named, later-later}
 use Rattle.rota_items.proofs.JudgedTerms.{Before, opened, others-before, row-tallied, slacks-before, sums_of}
-use Rattle.rota_items.proofs.SmallSums.{half_limit, positive_part-parts, signed_limit, spread}
+use Rattle.rota_items.proofs.SmallSums.{positive_part-parts, spread}
 
 -- ---- what a rule is charged, in sums that stay at the greatest number
 

@@ -8,7 +8,8 @@ use Rattle.rota_items.specs.Events.{close_row, row_events, start_row, term_event
 use Rattle.rota_items.specs.Judging.{Subject, assignment_in, assigned, extended, closed, counts_for, no_sums, tallied}
 use Rattle.rota_items.proofs.Extension.{extension-below}
 use Rattle.rota_items.proofs.PatternItems.{value_of-append}
-use Rattle.rota_items.proofs.SmallSums.{chosen-small, signed_limit, spread}
+use Rattle.rota_items.proofs.SmallSums.{chosen-small, spread}
+use Rattle.rota_items.specs.Limits.{signed_limit}
 use Rattle.rota_items.proofs.TermsHold.{OnTerms, value_of-agree}
 
 abbrev chosen : Bool → ℤ → ℤ

@@ -5,7 +5,8 @@ use Rattle.rota_core.specs.InstanceTables.{InstanceTables, IsInstance, week_of}
 use Rattle.rota_core.specs.declared.rule.Rule.TheVariants.{S4}
 use Rattle.rota_items.specs.declared.judge.tallies.Tally.{Tally}
 use Rattle.rota_items.specs.Events.{Event, events}
-use Rattle.rota_items.specs.Judging.{Subject, Judging, assignment_in, roster_in, capped, counts_for, fresh, greatest_sum, judged, no_tally, tallied, WasDriven, with_constants, with_cost}
+use Rattle.rota_items.specs.Judging.{Subject, Judging, assignment_in, roster_in, capped, counts_for, fresh, judged, no_tally, tallied, WasDriven, with_constants, with_cost}
+use Rattle.rota_items.specs.Limits.{greatest_sum}
 use Rattle.rota_items.specs.rules.ShiftOffRequests.Cost.{request_cost}
 use Rattle.rota_items.specs.Verdicts.{Judges}
 use Rattle.rota_items.proofs.InstanceLimits.{instance-within_limits}
@@ -54,7 +55,7 @@ module _ (week : Week) (within : IsWithinLimits week) where
       (λ rule. omega (arith, sums rule, sum_by-cons (λ other. same other rule * constant_of_rule week other) own rules))
 
 module _ (week : Week) (within : IsWithinLimits week) (subject : Subject) where
-  -- requests are all that stands in the objective at cells
+  -- requests are all that is in the objective at cells
   abbrev requests : ℕ
   requests = request_cost week (roster_in week subject)
 

@@ -2,7 +2,7 @@
 use Rattle.std.proofs.Common.{◌≡◌, ℕ, suc, ◌+◌, ◌<◌, ◌≤◌, List, [], ◌∷◌, get_or, take, length, length-append, arith}
 use Rattle.std.proofs.Math.Seq.{take-suc}
 use Rattle.std.proofs.lemmas.List.{append-nil, take_all}
-use Rattle.std.proofs.lemmas.List.Concat.{flat_map-append}
+use Rattle.std.proofs.lemmas.List.Concat.{flat_map-append, length-flat_map}
 use Rattle.std.proofs.lemmas.Grind.{take_at_read}
 use Rattle.std.proofs.lemmas.List.Sums.{sum_by-cons, sum_by-append}
 use Rattle.std.specs.List.{flat_map, sum_by}
@@ -32,3 +32,13 @@ module _ {X : Type 0} (xs : List X) where
 
   pub sum-all : (g : X → ℕ) (i sum : ℕ) → length xs ≤ i → sum ≡ sum_by g (take i xs) → sum ≡ sum_by g xs
   sum-all g i sum all is = rw (take_all i xs all) at is
+
+  pub lengths-more : {A : Type 0} (f : X → List A) (i : ℕ) (other : X) (sum one : ℕ) → i < length xs →
+      sum ≡ length (flat_map f (take i xs)) → one ≡ length (f (get_or xs i other)) → sum + one ≡ length (flat_map f (take (i + 1) xs))
+  lengths-more f i other sum one below before here =
+      omega (
+        arith,
+        length-flat_map f (take i xs),
+        length-flat_map f (take (i + 1) xs),
+        sum-more (λ x. length (f x)) i other sum one below (omega (arith, before, length-flat_map f (take i xs))) here,
+      )

@@ -1,5 +1,5 @@
 -- How large the penalty, the constant and the shortages are.
-use Rattle.rota_items.proofs.LogicWords.{ℕ, ◌*◌, ◌^◌, ◌<◌, ◌≤◌, arith}
+use Rattle.rota_items.proofs.LogicWords.{ℕ, ◌*◌, ◌<◌, ◌≤◌, arith}
 use Rattle.rota_items.proofs.ModelWords.{Roster, soft_rules, Week, Rule, shortage, weighted_shortages, IsWithinLimits, constant, constant_of_rule, items_of_rule, penalty, rule_cost}
 use Rattle.std.proofs.lemmas.List.Sums.{sum_by-le-sum_by}
 use Rattle.std.proofs.lemmas.Nat.{mul-le}
@@ -8,7 +8,7 @@ use Rattle.rota_items.proofs.RuleSizes.{small-nurse_rule, small-rule}
 use Rattle.rota_items.proofs.SlackBound.{items-le}
 use Rattle.rota_items.proofs.SmallSums.{shortage-least}
 use Rattle.rota_items.specs.Charges.{nurse_constant}
-use Rattle.rota_items.specs.Bounds.{most_constant, most_constant_of_rule, most_cost, most_items, most_items_of_any, most_shortage, most_weight}
+use Rattle.rota_items.specs.Bounds.{most_constant, most_constant_of_rule, most_cost, most_items, most_items_of_any, most_shortage, most_weight, penalty_limit}
 
 items-of_any : (rule : Rule) → most_items rule ≤ most_items_of_any
 items-of_any S1 = omega arith
@@ -45,6 +45,6 @@ module _ (week : Week) (limits : IsWithinLimits week) where
             (omega (arith, shortage-least roster item, small.degree, small.terms))),
       )
 
-pub penalty-below : (week : Week) (roster : Roster) → IsWithinLimits week → penalty week roster < 2 ^ 55
+pub penalty-below : (week : Week) (roster : Roster) → IsWithinLimits week → penalty week roster < penalty_limit
 penalty-below week roster limits =
     omega (arith, sum_by-le-sum_by (rule_cost week roster) (λ _. most_cost) soft_rules (cost-few week limits roster))

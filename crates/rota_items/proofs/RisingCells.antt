@@ -1,4 +1,4 @@
--- The cells of sums, and the terms of patterns, stand by rising number.
+-- The cells of sums, and the terms of patterns, are by rising number.
 use Rattle.rota_items.proofs.LogicWords.{◌≡◌, ℕ, ◌+◌, ◌*◌, ◌<◌, ◌≤◌, List, [], ◌∷◌, map, length, refl, subst, arith, ℤ, range_with_len, flat_map}
 use Rattle.rota_items.proofs.ModelWords.{cell, Week, Cell, on_cells, work_cells, nurse_cells, demand_cells, skill_cells, cell_number, unit_number, Term, times, numbered_terms}
 use Rattle.std.proofs.lemmas.Nat.{mul-add-lt}

@@ -1,4 +1,4 @@
--- The terms of the model stand by rising variable number.
+-- The terms of the model are by rising variable number.
 use Rattle.rota_items.proofs.LogicWords.{◌≡◌, ℕ, zero, suc, ◌+◌, ◌≤◌, List, [], ◌∷◌, ◌++◌, arith, ℤ, pos, nat_lt, All, AllByRecursion, range_with_len, All-from_recursion, sum_by-cons}
 use Rattle.rota_items.proofs.ModelWords.{Week, unit_number, first_slack, slack_count, constant_terms, cell_terms, constant, Item, Term, Constraint, times, linear_constraint, slack_weights, soft_items, cell_number, numbered_terms, objective_terms, numbered_items, model_of}
 use Rattle.rota_items.proofs.ItemEventLists.{slack_count-numbered}

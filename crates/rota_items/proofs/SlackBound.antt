@@ -1,5 +1,5 @@
 -- How many slacks the items of a week have, and how many rows its model has.
-use Rattle.rota_items.proofs.LogicWords.{◌≡◌, ℕ, ◌+◌, ◌*◌, ◌^◌, ◌<◌, ◌≤◌, List, [], ◌∷◌, length, refl, arith, sum_by, length-append, length-map, All-from_recursion, sum_by-le}
+use Rattle.rota_items.proofs.LogicWords.{◌≡◌, ℕ, ◌+◌, ◌*◌, ◌<◌, ◌≤◌, List, [], ◌∷◌, length, refl, arith, sum_by, length-append, length-map, All-from_recursion, sum_by-le}
 use Rattle.rota_items.proofs.ModelWords.{Week, Rule, Cell, cell_number, first_slack, rule_rows, Item, numbered, IsWithinLimits, linear_constraint, item_rows, slack_count, soft_rules, items_of_rule, soft_items, hard_rows, numbered_items, numbered_row, rows_of, model_of}
 use Rattle.std.proofs.lemmas.List.Concat.{length-flat_map}
 use Rattle.std.proofs.lemmas.List.Sums.{sum_by-le-sum_by}
@@ -12,7 +12,7 @@ use Rattle.rota_items.proofs.RowSizes.{rule_rows-few}
 use Rattle.rota_items.proofs.RuleSizes.{small-rule}
 use Rattle.rota_items.specs.Bounds.{count_limit, most_cells, most_items, most_slacks}
 use Rattle.rota_items.specs.Variables.{cell_count}
-use Rattle.rota_items.specs.Limits.{most_nurses}
+use Rattle.rota_items.specs.Limits.{most_nurses, word_limit}
 
 pub length-item_rows : (first : ℕ) (items : List (Item ℕ)) → length (item_rows first items) ≡ length items
 length-item_rows first [] = refl
@@ -67,7 +67,7 @@ module _ (week : Week) (limits : IsWithinLimits week) where
   pub slack_end-below : first_slack week + slack_count (soft_items week) < count_limit
   slack_end-below = omega (arith, cells-few, slacks-few)
 
-  pub variables_fit : first_slack week + slack_count (soft_items week) < 2 ^ 32
+  pub variables_fit : first_slack week + slack_count (soft_items week) < word_limit
   variables_fit = omega (arith, slack_end-below)
 
   pub variables-below : (model_of week).variables < count_limit

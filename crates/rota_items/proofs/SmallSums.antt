@@ -1,14 +1,7 @@
 -- Sums that do not reach the greatest number.
-use Rattle.rota_items.proofs.LogicWords.{◌≡◌, ℕ, ◌+◌, ◌-◌, ◌^◌, ◌≤◌, Bool, true, false, List, [], ◌∷◌, arith, ℤ, pos, negsuc, ◌+ℤ◌, nat_abs, if◌then◌else◌, sum_by, ints, sum_by-cons}
+use Rattle.rota_items.proofs.LogicWords.{◌≡◌, ℕ, ◌+◌, ◌-◌, ◌≤◌, Bool, true, false, List, [], ◌∷◌, arith, ℤ, pos, negsuc, ◌+ℤ◌, nat_abs, if◌then◌else◌, sum_by, ints, sum_by-cons}
 use Rattle.rota_items.proofs.ModelWords.{Item, positive_part, shortage, Term, value_of}
 use borrow.Author.Differences.{up, down}
-
--- what a signed sum of 64 bits holds, and half of it
-abbrev pub signed_limit : ℕ
-signed_limit = 2 ^ 63
-
-abbrev pub half_limit : ℕ
-half_limit = 2 ^ 62
 
 -- the sum of the coefficients without their signs
 abbrev pub spread : {X : Type 0} → List (Term X) → ℕ

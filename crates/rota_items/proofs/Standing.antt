@@ -1,4 +1,4 @@
--- A variable stands in some constraint exactly where it is one of the model's.
+-- A variable is in some constraint exactly where it is one of the model's.
 use Rattle.rota_items.proofs.LogicWords.{◌≡◌, ◌↔◌, ℕ, zero, suc, ◌+◌, ◌<◌, ◌≤◌, Bool, true, false, inl, inr, List, [], ◌∷◌, map, sym, ◌∙◌, arith, ℤ, pos, negsuc, ◌==◌, AllByRecursion, AllByRecursion-at, AllByRecursion-back, list_any, range_with_len, recursion_from_All, All-from_recursion, subst, cases_Bool, eqb-true, true≢false, sum_by-cons}
 use Rattle.rota_items.proofs.ModelWords.{cell, Week, Cell, on_cells, work_cells, cell_number, cell_of_number, unit_number, first_slack, rule_rows, Item, Term, Constraint, times, LinearRow, linear_constraint, item_rows, slack_count, slack_variables, soft_items, hard_rows, numbered_row, numbered_terms, numbered_items, rows_of, model_of}
 use Rattle.std.specs.Prelude.{slice_index_or}
@@ -67,7 +67,7 @@ module _ (v : ℕ) where
       ]
 
 module _ (week : Week) (v : ℕ) where
-  -- the cell of its number stands in the row of its nurse's day
+  -- the cell of its number is in the row of its nurse's day
   cell-other : 0 < v → v < unit_number week → AllByRecursion (Lacks v) (map (numbered_row week) (rule_rows week)) → ⊥
   cell-other some below all =
       let c : Cell = cell_of_number week v in
@@ -99,7 +99,7 @@ module _ (week : Week) (v : ℕ) where
             ]
       ]
 
--- ---- no other variable stands in one
+-- ---- no other variable is in one
 
 -- what follows from an element that passes
 from-passing : {X : Type 0} (p : X → Bool) (P : X → Type 0) (Q : Type 0) → ((x : X) → P x → p x ≡ true → Q) → (xs : List X) →

@@ -17,7 +17,7 @@ pub on-times : {X : Type 0} (P : X → Type 0) (coefficient : ℤ) (variables : 
 on-times P coefficient [] all = tt
 on-times P coefficient (v ∷ vs) all = (all.0, on-times P coefficient vs all.1)
 
--- two assignments that agree where the terms stand
+-- two assignments that agree where the terms are
 pub value_of-agree : {X : Type 0} (one other : X → Bool) (P : X → Type 0) (terms : List (Term X)) →
     ((x : X) → P x → one x ≡ other x) → OnTerms P terms → value_of one terms ≡ value_of other terms
 value_of-agree one other P [] agree all = refl

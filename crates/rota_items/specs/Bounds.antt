@@ -91,6 +91,9 @@ most_cost_of_nurse = heaviest * (most_cells_of_nurse * most_number)
 abbrev pub most_cost : ℕ
 most_cost = most_nurses * most_cost_of_nurse
 
+abbrev pub penalty_limit : ℕ
+penalty_limit = 2 ^ 55
+
 -- the objective's greatest coefficient: an item's weight, or the constant
 abbrev pub most_coefficient : ℕ
 most_coefficient = max most_weight most_constant

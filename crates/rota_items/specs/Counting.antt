@@ -5,11 +5,9 @@ use Rattle.rota_items.specs.declared.counting.counter.Counts.{Counts}
 use Rattle.rota_items.specs.declared.part.Part.{Part}
 use Rattle.rota_items.specs.declared.part.Part.TheVariants.{Objective, Hard, Soft}
 use Rattle.rota_items.specs.Events.{Event, start_row, term, close_row}
+use Rattle.rota_items.specs.Limits.{greatest_count}
 use Rattle.rota_items.specs.Linear.{Term, Model}
 use Rattle.rota_items.specs.LinearRow.{LinearRow}
-
-abbrev pub greatest_count : ℕ
-greatest_count = 4294967295
 
 abbrev pub no_counts : Counts
 no_counts = record { variables = 0; constraints = 0 }

@@ -10,6 +10,6 @@ item_constraint item first = linear_constraint (item_row item first)
 abbrev pub item_constraints : ℕ → List (Item ℕ) → List Constraint
 item_constraints first items = map linear_constraint (item_rows first items)
 
--- each variable of the items' terms stands below this number
+-- each variable of the items' terms is below this number
 abbrev pub StandBelow : ℕ → List (Item ℕ) → Type 0
 StandBelow first items = All (λ item. All (λ (term : Term ℕ). term.1 < first) item.terms) items

@@ -1,6 +1,7 @@
 -- What a counter of items and slacks stands for.
-use Rattle.std.specs.Prelude.{ℕ, ◌+◌, ◌-◌, ◌^◌, min}
+use Rattle.std.specs.Prelude.{ℕ, ◌+◌, min}
 use Rattle.rota_items.specs.Items.{Item}
+use Rattle.rota_items.specs.Limits.{greatest_count}
 
 pub record ItemNumbers : Type 0 where
   pub items : ℕ
@@ -8,7 +9,7 @@ pub record ItemNumbers : Type 0 where
 
 -- the sum, or the greatest number that fits
 abbrev pub sum_within : ℕ → ℕ → ℕ
-sum_within count more = min (count + more) (2 ^ 32 - 1)
+sum_within count more = min (count + more) greatest_count
 
 -- one item more, and its slacks
 abbrev pub with_one : ItemNumbers → Item ℕ → ItemNumbers

@@ -1,8 +1,9 @@
 -- What hands items on to a taker of rows: their rows, or the weights of their slacks.
-use Rattle.std.specs.Prelude.{◌≡◌, ℕ, ◌+◌, ◌-◌, ◌^◌, min, pos, List}
+use Rattle.std.specs.Prelude.{◌≡◌, ℕ, ◌+◌, ◌-◌, min, pos, List}
 use Rattle.std.specs.List.{fold}
 use Rattle.rota_items.specs.Events.{Event, row_events, term_events}
 use Rattle.rota_items.specs.Items.{Item}
+use Rattle.rota_items.specs.Limits.{greatest_count}
 use Rattle.rota_items.specs.Linear.{times}
 use Rattle.rota_items.specs.Slacks.{item_row, slack_variables}
 use Rattle.rota_items.specs.Takes.{Refused}
@@ -18,7 +19,7 @@ weights_of_item item first = term_events (times (pos item.weight) (slack_variabl
 
 -- as many of these slacks as there are numbers for, from this one on
 abbrev pub slacks_within : ℕ → ℕ → ℕ
-slacks_within first slacks = min slacks (2 ^ 32 - 1 - first)
+slacks_within first slacks = min slacks (greatest_count - first)
 
 abbrev pub within_numbers : ℕ → Item ℕ → Item ℕ
 within_numbers first item = record item { slacks = slacks_within first item.slacks }

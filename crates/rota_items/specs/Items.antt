@@ -19,7 +19,7 @@ positive_part (negsuc n) = 0
 abbrev pub shortage : {X : Type 0} → (X → Bool) → Item X → ℕ
 shortage assignment item = positive_part (item.degree -ℤ value_of assignment item.terms)
 
--- the item with a number for each of what its terms stand at
+-- the item with a number for each of what its terms are at
 abbrev pub numbered : {X : Type 0} → (X → ℕ) → Item X → Item ℕ
 numbered {X} number item = record {
   rule = item.rule;

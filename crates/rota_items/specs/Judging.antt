@@ -16,7 +16,7 @@ use Rattle.rota_items.specs.declared.judge.tallies.RowSums.{RowSums}
 use Rattle.rota_items.specs.declared.judge.tallies.Tally.{Tally}
 use Rattle.rota_items.specs.declared.judge.verdicts.Verdict.{Verdict}
 use Rattle.rota_items.specs.Variables.{unit_number, truth_of, roster_of}
-use Rattle.rota_items.specs.Counting.{greatest_count}
+use Rattle.rota_items.specs.Limits.{greatest_count, greatest_sum}
 use Rattle.rota_items.specs.Events.{Event, start_row, term, close_row, events}
 use Rattle.rota_items.specs.Items.{positive_part}
 use Rattle.rota_items.specs.Objective.{objective_rows}
@@ -61,9 +61,6 @@ plus x y = saturate_signed w64 (x +ℤ y)
 
 abbrev pub minus : ℤ → ℤ → ℤ
 minus x y = saturate_signed w64 (x -ℤ y)
-
-abbrev pub greatest_sum : ℕ
-greatest_sum = 18446744073709551615
 
 abbrev pub capped : ℕ → ℕ
 capped n = min n greatest_sum

@@ -1,5 +1,5 @@
--- The limits of a week's numbers.
-use Rattle.std.specs.Prelude.{ℕ, ◌≤◌}
+-- The limits of a week's numbers, and of a machine's.
+use Rattle.std.specs.Prelude.{ℕ, ◌-◌, ◌^◌, ◌≤◌}
 use Rattle.rota_core.specs.Week.{Week}
 
 abbrev pub most_nurses : ℕ
@@ -31,3 +31,23 @@ pub record IsWithinLimits (week : Week) : Type 0 where
   pub assignments : (n : ℕ) → (week.past n).assignments ≤ most_number
   pub weekends : (n : ℕ) → (week.past n).weekends ≤ most_number
   pub requests : (n d s : ℕ) → week.requests n d s ≤ most_number
+
+-- ---- how far a machine counts
+
+-- how many numbers a word of 32 bits has: those of variables, slacks and rows
+abbrev pub word_limit : ℕ
+word_limit = 2 ^ 32
+
+abbrev pub greatest_count : ℕ
+greatest_count = word_limit - 1
+
+-- what a signed sum of 64 bits holds, and half of it
+abbrev pub signed_limit : ℕ
+signed_limit = 2 ^ 63
+
+abbrev pub half_limit : ℕ
+half_limit = 2 ^ 62
+
+-- the greatest sum without a sign
+abbrev pub greatest_sum : ℕ
+greatest_sum = 2 ^ 64 - 1

@@ -1,7 +1,7 @@
 -- Linear constraints over truth values, and what they mean: the linear format of the Pseudo-Boolean Competition.
 use Rattle.std.specs.Prelude.{ℕ, ℤ, pos, ◌+ℤ◌, ◌≤ℤ◌, Bool, if◌then◌else◌, List, [], ◌∷◌, map, All}
 
--- a coefficient and what it stands at: a cell, or a variable's number
+-- a coefficient and what it is at: a cell, or a variable's number
 abbrev pub Term : Type 0 → Type 0
 Term X = ℤ × X
 

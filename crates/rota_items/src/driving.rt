@@ -18,13 +18,13 @@ use rota_core::Instance;
 /// no forbidden succession (H3); for each nurse and skill that she lacks none of the cells that need
 /// it (H4); each held cell (H5).
 ///
-/// A row of a soft rule has slacks, each with 1, whose weight stands in the objective; a slack that is
+/// A row of a soft rule has slacks, each with 1, whose weight is in the objective; a slack that is
 /// true makes up for one that is missing. The soft rules follow one another in their order, each with
 /// the rows that can be broken at all: first the optimal numbers for each day, shift type and skill,
 /// then, rule by rule, those of each nurse. `docs/model.md` lists them. Requests have no row: the
 /// objective has them at their cells.
 ///
-/// The rules but H5 are those of the problem description of INRC-II. Terms stand by rising variable number,
+/// The rules but H5 are those of the problem description of INRC-II. Terms are by rising variable number,
 /// and the slacks of the rows follow one another from the one after the unit variable on. A taker's
 /// fault is answered at once, and nothing more is handed to it.
 ///

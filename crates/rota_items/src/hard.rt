@@ -1,6 +1,6 @@
 //! The rows of the hard rules: a file for each rule, and here what goes over them.
 ghost use Rattle.std.specs.Prelude.{◌≡◌, ◌≤◌, ◌*◌, [], ◌∷◌, length};
-ghost use Rattle.rota_core.specs.InstanceTables.{week_of};
+ghost use Rattle.rota_core.specs.InstanceTables.{IsInstance, week_of};
 ghost use Rattle.rota_core.specs.Rules.{hard_rules};
 ghost use Rattle.rota_items.specs.Bounds.{most_cells};
 ghost use Rattle.rota_items.specs.CellEvents.{cell_row_events};
@@ -21,7 +21,6 @@ use crate::hard::minimum::{count_h2, give_h2};
 use crate::hard::one_cell::{count_h1, give_h1};
 use crate::hard::skills::{count_h4, give_h4};
 use crate::hard::succession::{count_h3, give_h3};
-use crate::limits::within_limits;
 use crate::part::Part;
 use crate::takers::Taker;
 use crate::variables::unit_var;
@@ -88,10 +87,10 @@ fn count_rows_of(instance: &Instance, rule: Rule) -> u32
 
 /// The number of rows of the hard rules.
 pub fn count_rule_rows(instance: &Instance) -> u32
+    requires limits { IsInstance instance.now }
     ensures few { result ≤ length hard_rules * most_cells }
     ensures number { result ≡ length (rule_rows (week_of instance.now)) }
 {
-    within_limits(instance);
     let mut rows = 0;
     for rule in Rule::HARD {
         rows += count_rows_of(instance, rule);

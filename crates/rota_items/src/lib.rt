@@ -17,8 +17,8 @@
 
 // The rows: what each stands for, what takes them event by event, the numbers of their variables, their
 // sums of cells, and the rows of the hard rules.
+mod days;
 mod hard;
-mod limits;
 mod part;
 mod sums;
 mod takers;

@@ -8,7 +8,6 @@ ghost use Rattle.rota_items.specs.Objective.{objective_rows};
 ghost use Rattle.rota_items.specs.Takes.{Takes};
 
 use crate::items::slack_weights::give_slack_weights;
-use crate::limits::within_limits;
 use crate::part::Part;
 use crate::rules::{constant, give_cell_terms};
 use crate::takers::Taker;
@@ -52,12 +51,12 @@ fn give_constant<T: Taker>(instance: &Instance, taker: &mut T) -> Result<(), T::
     ensures { Takes T.Taker (term_events (constant_terms (week_of instance.now)))
         taker.old taker.new result }
 {
-    within_limits(instance);
     let constant = constant(instance);
     if constant == 0 {
         return Ok(());
     }
-    taker.term(constant as i64, unit_var(instance))
+    let unit = unit_var(instance);
+    taker.term(constant as i64, unit)
 }
 
 // The terms of the objective, by rising variable.
@@ -79,7 +78,7 @@ fn has_term(instance: &Instance) -> bool
 
 /// Hands the taker the objective, as one row, or nothing where it has no term.
 ///
-/// Its terms stand by rising variable: for each request row that a cell matches 10 at the cell; what
+/// Its terms are by rising variable: for each request row that a cell matches 10 at the cell; what
 /// no roster can avoid, at the unit variable; and each slack with the weight of its item. The weights
 /// are those of INRC-II. A taker's fault is answered at once, and nothing more is handed to it.
 pub fn drive_objective<T: Taker>(instance: &Instance, taker: &mut T) -> Result<(), T::Fault>

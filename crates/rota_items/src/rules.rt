@@ -1,6 +1,6 @@
 //! The soft rules, a room each: what a rule's room does, by the rule.
 ghost use Rattle.std.specs.Prelude.{◌≡◌, ◌<◌, ◌≤◌, IfSome, [], ◌∷◌, length};
-ghost use Rattle.rota_core.specs.InstanceTables.{week_of};
+ghost use Rattle.rota_core.specs.InstanceTables.{IsInstance, week_of};
 ghost use Rattle.rota_core.specs.Lists.{each_below};
 ghost use Rattle.rota_core.specs.Rules.{soft_rules};
 ghost use Rattle.rota_items.specs.CellEvents.{cell_term_events};
@@ -137,7 +137,8 @@ fn nurse_constant(instance: &Instance, rule: Rule, nurse: u16) -> u64
 /// What no roster of the week can avoid of a rule: the sum of the nurses' parts.
 #[tactic(auto, using(crate::proofs::ListLengths::counting))]
 pub fn constant_of_rule(instance: &Instance, rule: Rule) -> u64
-    ensures { result ≡ constant_of_rule (week_of instance.now) rule }
+    ensures sum { result ≡ constant_of_rule (week_of instance.now) rule }
+    ensures limits { IsInstance instance.now }
 {
     let mut sum = 0;
     for nurse in 0..instance.nurses() {
@@ -150,7 +151,6 @@ pub fn constant_of_rule(instance: &Instance, rule: Rule) -> u64
 pub fn constant(instance: &Instance) -> u64
     ensures { result ≡ constant (week_of instance.now) }
 {
-    crate::limits::within_limits(instance);
     let mut sum = 0;
     for rule in Rule::SOFT {
         sum += constant_of_rule(instance, rule);

@@ -1,5 +1,5 @@
 //! Sums of cells, term by term.
-ghost use Rattle.std.specs.Prelude.{◌≡◌, ◌+◌, ◌^◌, ◌<◌, [], ◌∷◌};
+ghost use Rattle.std.specs.Prelude.{◌≡◌, ◌+◌, ◌<◌, [], ◌∷◌};
 ghost use Rattle.std.specs.List.{range_with_len};
 ghost use Rattle.rota_core.specs.InstanceTables.{week_of};
 ghost use Rattle.rota_core.specs.Roster.{InWeek};
@@ -8,6 +8,7 @@ ghost use Rattle.rota_items.specs.Cells.{demand_cells, nurse_cells, on_cells, sk
 ghost use Rattle.rota_items.specs.Events.{term_events};
 ghost use Rattle.rota_items.specs.Linear.{times};
 ghost use Rattle.rota_items.specs.Takes.{Takes};
+ghost use Rattle.rota_items.specs.Limits.{word_limit};
 
 use crate::takers::Taker;
 use crate::variables::{cell_var, first_var_on};
@@ -38,7 +39,7 @@ pub fn give_range<T: Taker>(
     first: u32,
     count: u32,
 ) -> Result<(), T::Fault>
-    requires { first + count < 2 ^ 32 }
+    requires { first + count < word_limit }
     ensures { Takes T.Taker (term_events (times coefficient (range_with_len first count)))
         taker.old taker.new result }
 {

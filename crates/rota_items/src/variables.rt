@@ -1,11 +1,12 @@
 //! The numbers of a model's variables: those of the cells from 1 on, then the unit variable, then the
 //! slacks.
-ghost use Rattle.std.specs.Prelude.{◌≡◌, ◌<◌, ◌≤◌, ◌⊎◌, ◌↔◌, ◌^◌, IfSome, IsNone};
-ghost use Rattle.rota_core.specs.InstanceTables.{week_of};
+ghost use Rattle.std.specs.Prelude.{◌≡◌, ◌+◌, ◌<◌, ◌≤◌, ◌⊎◌, ◌↔◌, IfSome, IsNone};
+ghost use Rattle.rota_core.specs.InstanceTables.{IsInstance, week_of};
 ghost use Rattle.rota_core.specs.Roster.{InWeek, cell};
 ghost use Rattle.rota_items.specs.Variables.{cell_number, unit_number};
+ghost use Rattle.rota_items.specs.Bounds.{most_cells_of_nurse};
+ghost use Rattle.rota_items.specs.Limits.{word_limit};
 
-use crate::limits::within_limits;
 use rota_core::{Cell, Instance};
 
 /// The variable of a cell: ((n * 7 + d) * S + s) * K + k + 1 for nurse n, day d, shift type s and
@@ -14,7 +15,6 @@ pub fn cell_var(instance: &Instance, cell: Cell) -> u32
     requires { InWeek (week_of instance.now) cell }
     ensures { result ≡ cell_number (week_of instance.now) cell }
 {
-    within_limits(instance);
     instance.place(cell) + 1
 }
 
@@ -24,7 +24,7 @@ pub fn first_var_on(instance: &Instance, nurse: u16, day: u8, shift: u8) -> u32
     requires nurse_in { nurse < (week_of instance.now).nurses }
     requires day_in { day < 7 }
     ensures number { result ≡ cell_number (week_of instance.now) (cell nurse day shift 0) }
-    ensures small { result ≤ 2 ^ 31 }
+    ensures numbers_follow { result + most_cells_of_nurse < word_limit }
 {
     let day_place = u32::from(nurse) * 7 + u32::from(day);
     let shift_place = day_place * u32::from(instance.shifts()) + u32::from(shift);
@@ -33,9 +33,9 @@ pub fn first_var_on(instance: &Instance, nurse: u16, day: u8, shift: u8) -> u32
 
 /// The variable that is true in every solution: it follows those of the cells.
 pub fn unit_var(instance: &Instance) -> u32
-    ensures { result ≡ unit_number (week_of instance.now) }
+    ensures number { result ≡ unit_number (week_of instance.now) }
+    ensures limits { IsInstance instance.now }
 {
-    within_limits(instance);
     instance.places() + 1
 }
 
@@ -45,7 +45,6 @@ pub fn var_cell(instance: &Instance, variable: u32) -> Option<Cell>
     ensures number { IfSome result (λ cell. cell_number (week_of instance.now) cell ≡ variable) }
     ensures none { IsNone result ↔ ((variable ≡ 0) ⊎ (unit_number (week_of instance.now) ≤ variable)) }
 {
-    within_limits(instance);
     if variable == 0 || variable >= unit_var(instance) {
         return None;
     }

@@ -90,7 +90,7 @@ module _ (week : Week) where
   abbrev requests_on : ℕ → ℕ → List (Term Cell)
   requests_on n d = each_below week.shifts (request_terms_on week n d)
 
-  -- the terms between these numbers stand there from the one to the other, as those of a day and those of a shift type do
+  -- the terms between these numbers are there from the one to the other, as those of a day and those of a shift type do
   block : (first from end up_to : ℕ) (terms : List (Term Cell)) → first ≤ from → end ≤ up_to →
       RisesWithin (at week) from end terms → RisesWithin (at week) first up_to terms
   block first from end up_to terms before after rises =

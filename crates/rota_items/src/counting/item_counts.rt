@@ -1,13 +1,12 @@
 //! How many items there are, and how many slacks they have.
 ghost use Rattle.std.specs.Prelude.{◌≡◌, length};
-ghost use Rattle.rota_core.specs.InstanceTables.{week_of};
+ghost use Rattle.rota_core.specs.InstanceTables.{IsInstance, week_of};
 ghost use Rattle.rota_items.specs.Slacks.{slack_count};
 ghost use Rattle.rota_items.specs.Charges.{soft_items};
 
 use crate::counting::run_counts::{patterns_of, windows_of};
 use crate::items::item_takers::{ItemTaker, RunTaker};
 use crate::items::soft_item::{NurseRuns, SoftItem};
-use crate::limits::within_limits;
 use crate::rules::walk_soft_items;
 use rota_core::Instance;
 use std::convert::Infallible;
@@ -51,10 +50,10 @@ impl RunTaker for ItemCounts {
 
 /// The numbers of the soft rules' items and slacks.
 pub fn count_soft_items(instance: &Instance) -> ItemCounts
+    requires limits { IsInstance instance.now }
     ensures items { result.items ≡ length (soft_items (week_of instance.now)) }
     ensures slacks { result.slacks ≡ slack_count (soft_items (week_of instance.now)) }
 {
-    within_limits(instance);
     let mut counts = ItemCounts {
         items: 0,
         slacks: 0,

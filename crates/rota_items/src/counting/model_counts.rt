@@ -6,7 +6,6 @@ ghost use Rattle.rota_items.specs.WeekModel.{model_of};
 use crate::counting::counter::Counts;
 use crate::counting::item_counts::count_soft_items;
 use crate::hard::count_rule_rows;
-use crate::limits::within_limits;
 use crate::variables::unit_var;
 use rota_core::Instance;
 
@@ -28,10 +27,10 @@ pub fn counts(instance: &Instance) -> Counts
     ensures variables { result.variables ≡ (model_of (week_of instance.now)).variables }
     ensures constraints { result.constraints ≡ length (model_of (week_of instance.now)).constraints }
 {
-    within_limits(instance);
+    let unit = unit_var(instance);
     let soft = count_soft_items(instance);
     Counts {
-        variables: unit_var(instance) + soft.slacks,
+        variables: unit + soft.slacks,
         constraints: 1 + count_rule_rows(instance) + soft.items,
     }
 }

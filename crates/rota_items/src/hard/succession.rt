@@ -6,7 +6,6 @@ ghost use Rattle.rota_items.specs.Limits.{most_shifts};
 ghost use Rattle.rota_items.specs.Takes.{Takes};
 ghost use Rattle.rota_items.specs.hard.Succession.{h3_monday_rows, h3_monday_rows_at, h3_rows, h3_rows_at, h3_rows_between, h3_rows_of, is_forbidden_after};
 
-use crate::limits::within_limits;
 use crate::part::Part;
 use crate::sums::{Sign, give_on};
 use crate::takers::Taker;
@@ -19,7 +18,6 @@ fn forbidden_on_monday(instance: &Instance, nurse: u16, shift: u8) -> bool
     ensures { let week = week_of instance.now in
         result ≡ is_forbidden_after week (week.past nurse).last shift }
 {
-    within_limits(instance);
     match instance.past(nurse).last {
         None => false,
         Some(last) => instance.forbidden(last, shift),

@@ -1,6 +1,6 @@
 //! The rows of items, handed to a taker of rows.
-ghost use Rattle.std.specs.Prelude.{◌≡◌, ◌+◌, ◌^◌, ◌<◌};
-ghost use Rattle.rota_core.specs.InstanceTables.{week_of};
+ghost use Rattle.std.specs.Prelude.{◌≡◌, ◌+◌, ◌<◌};
+ghost use Rattle.rota_core.specs.InstanceTables.{IsInstance, week_of};
 ghost use Rattle.rota_items.specs.Events.{events};
 ghost use Rattle.rota_items.specs.ItemRows.{row_of_item};
 ghost use Rattle.rota_items.specs.ItemTaking.{numbered_item};
@@ -9,11 +9,11 @@ ghost use Rattle.rota_items.specs.Slacks.{item_rows};
 ghost use Rattle.rota_items.specs.Takes.{Takes};
 ghost use Rattle.rota_items.specs.Variables.{first_slack};
 ghost use Rattle.rota_items.specs.WeekModel.{numbered_items};
+ghost use Rattle.rota_items.specs.Limits.{word_limit};
 
 use crate::items::item_sums::give_sum;
 use crate::items::item_takers::{ItemTaker, RunTaker};
 use crate::items::soft_item::{NurseRuns, SoftItem};
-use crate::limits::within_limits;
 use crate::part::Part;
 use crate::rules::walk_soft_items;
 use crate::runs::run_walk::walk_runs;
@@ -30,7 +30,7 @@ fn give_item_row<T: Taker>(
     item: SoftItem,
 ) -> Result<(), T::Fault>
     requires sum_in { IsSumOf (week_of instance.now) item.sum }
-    requires slacks_fit { first + item.slacks < 2 ^ 32 }
+    requires slacks_fit { first + item.slacks < word_limit }
     ensures { Takes T.Taker (row_of_item (numbered_item (week_of instance.now) item) first)
         taker.old taker.new result }
 {
@@ -76,13 +76,13 @@ impl<'t, T: Taker> RunTaker for ItemRows<'t, T> {
 
 // Hands on the rows of all items of the instance's week.
 fn give_rows<T: Taker>(instance: &Instance, rows: &mut ItemRows<'_, T>) -> Result<(), T::Fault>
+    requires limits { IsInstance instance.now }
     requires next { rows.old.next ≡ first_slack (week_of instance.now) }
     ensures same_taker { rows.new.taker.ghost_name ≡ rows.old.taker.ghost_name }
     ensures takes { let week = week_of instance.now in
         Takes T.Taker (events (item_rows (first_slack week) (numbered_items week)))
         rows.old.taker.now rows.new.taker.now result }
 {
-    within_limits(instance);
     walk_soft_items(instance, rows)
 }
 
@@ -95,7 +95,6 @@ pub fn give_item_rows<T: Taker>(instance: &Instance, taker: &mut T) -> Result<()
         Takes T.Taker (events (item_rows (first_slack week) (numbered_items week)))
         taker.old taker.new result }
 {
-    within_limits(instance);
     let mut rows = ItemRows {
         taker,
         next: unit_var(instance) + 1,

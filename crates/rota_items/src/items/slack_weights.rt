@@ -1,6 +1,6 @@
 //! The weights of items' slacks, handed to a taker of rows as terms of the objective.
 ghost use Rattle.std.specs.Prelude.{◌≡◌};
-ghost use Rattle.rota_core.specs.InstanceTables.{week_of};
+ghost use Rattle.rota_core.specs.InstanceTables.{IsInstance, week_of};
 ghost use Rattle.rota_items.specs.Events.{term_events};
 ghost use Rattle.rota_items.specs.Slacks.{slack_weights};
 ghost use Rattle.rota_items.specs.Takes.{Takes};
@@ -9,7 +9,6 @@ ghost use Rattle.rota_items.specs.WeekModel.{numbered_items};
 
 use crate::items::item_takers::{ItemTaker, RunTaker};
 use crate::items::soft_item::{NurseRuns, SoftItem};
-use crate::limits::within_limits;
 use crate::rules::walk_soft_items;
 use crate::runs::run_walk::walk_runs;
 use crate::sums::give_range;
@@ -56,13 +55,13 @@ fn give_weights<T: Taker>(
     instance: &Instance,
     weights: &mut SlackWeights<'_, T>,
 ) -> Result<(), T::Fault>
+    requires limits { IsInstance instance.now }
     requires next { weights.old.next ≡ first_slack (week_of instance.now) }
     ensures same_taker { weights.new.taker.ghost_name ≡ weights.old.taker.ghost_name }
     ensures takes { let week = week_of instance.now in
         Takes T.Taker (term_events (slack_weights (first_slack week) (numbered_items week)))
         weights.old.taker.now weights.new.taker.now result }
 {
-    within_limits(instance);
     walk_soft_items(instance, weights)
 }
 
@@ -73,7 +72,6 @@ pub fn give_slack_weights<T: Taker>(instance: &Instance, taker: &mut T) -> Resul
         Takes T.Taker (term_events (slack_weights (first_slack week) (numbered_items week)))
         taker.old taker.new result }
 {
-    within_limits(instance);
     let mut weights = SlackWeights {
         taker,
         next: unit_var(instance) + 1,

@@ -1,6 +1,7 @@
 //! The items of the soft rules as values: what a walk over them hands to a taker.
-ghost use Rattle.std.specs.Prelude.{◌≡◌, ◌+◌, ◌^◌, ◌<◌};
+ghost use Rattle.std.specs.Prelude.{◌≡◌, ◌+◌, ◌<◌};
 ghost use Rattle.rota_items.specs.ItemRows.{slacks_within};
+ghost use Rattle.rota_items.specs.Limits.{word_limit};
 
 use crate::sums::Sign;
 use rota_core::{Rule, Span};
@@ -63,7 +64,7 @@ impl SoftItem {
     /// The item with as many of its slacks as there are numbers for, from the first on. A week's model
     /// has numbers for all.
     pub fn within_numbers(self, first: u32) -> SoftItem
-        ensures slacks_fit { first + result.slacks < 2 ^ 32 }
+        ensures slacks_fit { first + result.slacks < word_limit }
         ensures item { result ≡ record self { slacks = slacks_within first self.slacks } }
     {
         SoftItem {

@@ -13,7 +13,6 @@ use crate::counting::counts;
 use crate::judge::subjects::Subject;
 use crate::judge::tallies::{RowSums, Tally, charge, positive_part};
 use crate::judge::verdicts::Verdict;
-use crate::limits::within_limits;
 use crate::part::Part;
 use crate::rules::{constant, constant_of_rule};
 use crate::takers::Taker;
@@ -36,7 +35,7 @@ pub struct Judge<'a> {
 }
 
 impl<'a> Model for Judge<'a> {
-    ghost use Rattle.rota_core.specs.InstanceTables.{week_of};
+    ghost use Rattle.rota_core.specs.InstanceTables.{IsInstance, week_of};
     ghost use Rattle.rota_items.specs.Judging.{Judging, IsSetUp};
     ghost use Rattle.rota_items.specs.Judged.{subject_of};
 
@@ -48,7 +47,8 @@ impl<'a> Model for Judge<'a> {
       tally = j.tally;
     } };
 
-    ghost invariant = { λ j. IsSetUp (week_of j.instance.now) (subject_of j.subject) j.unit j.last };
+    ghost invariant = { λ j.
+        IsInstance j.instance.now × IsSetUp (week_of j.instance.now) (subject_of j.subject) j.unit j.last };
 }
 
 impl<'a> Judge<'a> {
@@ -83,7 +83,7 @@ impl<'a> Judge<'a> {
         }
     }
 
-    /// How many slacks of the open row count, each of which stands there with 1: of a roster's extension
+    /// How many slacks of the open row count, each of which is there with 1: of a roster's extension
     /// all that were taken.
     pub fn open_slacks(&self) -> u64
         ensures { result ≡ open_slacks self.now }
@@ -111,7 +111,6 @@ impl<'a> Judge<'a> {
             JudgesTheRules week (assignment_in week subject) (roster_in week subject) result }
         ensures model { SettlesModel (week_of self.now.instance) self.now.subject result }
     {
-        within_limits(self.instance);
         let tally = self.tally;
         let requests = tally.requests_and_constant.saturating_sub(self.at_unit());
         let mut costs = tally.shortages;

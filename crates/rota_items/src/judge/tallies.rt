@@ -1,8 +1,9 @@
 //! What a judge adds up, row by row.
-ghost use Rattle.std.specs.Prelude.{◌≡◌, ◌<◌, ◌^◌};
+ghost use Rattle.std.specs.Prelude.{◌≡◌, ◌<◌};
 ghost use Rattle.rota_items.specs.Items.{positive_part};
 ghost use Rattle.rota_items.specs.Judged.{subject_of};
 ghost use Rattle.rota_items.specs.Judging.{closed, constraint_closed, lacking_in, no_sums, no_tally, objective_closed, with_cost};
+ghost use Rattle.rota_items.specs.Limits.{signed_limit};
 
 use crate::judge::subjects::Subject;
 use crate::part::Part;
@@ -35,7 +36,7 @@ impl RowSums {
     }
 }
 
-/// What stands of the open row, and of the rows before it.
+/// What is known of the open row, and of the rows before it.
 #[derive(Clone, Copy, PartialEq, Eq, Debug)]
 pub struct Tally {
     pub part: Part,
@@ -109,7 +110,7 @@ impl Tally {
 /// The number, or 0 where it is negative.
 pub fn positive_part(number: i64) -> u64
     ensures value { result ≡ positive_part number }
-    ensures small { result < 2 ^ 63 }
+    ensures small { result < signed_limit }
 {
     if number < 0 {
         return 0;

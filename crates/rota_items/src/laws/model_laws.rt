@@ -88,12 +88,12 @@ pub fn cells_and_variables_are_inverse()
         (cell_of_number week (cell_number week cell) ≡ cell) }
 {}
 
-/// The variables of each constraint rise, so that each stands once.
+/// The variables of each constraint rise, so that each is there once.
 pub fn constraints_have_rising_terms()
     ensures { (week : Week) → All HasRisingTerms (model_of week).constraints }
 {}
 
-/// The variables of the objective rise, so that each stands once.
+/// The variables of the objective rise, so that each is there once.
 pub fn objective_has_rising_terms()
     ensures { (week : Week) → RisesFrom 1 (model_of week).objective }
 {}
@@ -105,7 +105,7 @@ pub fn objective_is_small()
         objective_value assignment (model_of week) ≤ℤ pos most_objective }
 {}
 
-/// A variable stands in some constraint exactly where it is one of the numbers from 1 to the number of
+/// A variable is in some constraint exactly where it is one of the numbers from 1 to the number of
 /// variables.
 pub fn variables_are_those_of_the_constraints()
     ensures { (week : Week) (v : ℕ) →

@@ -1,6 +1,6 @@
 //! What the model charges is what the soft rules cost, on rosters that keep the hard rules of the
 //! competition.
-ghost use Rattle.std.specs.Prelude.{◌≡◌, ℕ, ◌+◌, ◌≤◌, ◌<◌, ◌^◌, pos, All};
+ghost use Rattle.std.specs.Prelude.{◌≡◌, ℕ, ◌+◌, ◌≤◌, ◌<◌, pos, All};
 ghost use Rattle.rota_core.specs.declared.rule.Rule.{Rule};
 ghost use Rattle.rota_core.specs.Week.{Week};
 ghost use Rattle.rota_core.specs.Roster.{Roster};
@@ -23,6 +23,7 @@ ghost use Rattle.rota_items.specs.rules.TotalAssignments.Cost.{assignment_cost};
 ghost use Rattle.rota_items.specs.rules.WorkedWeekends.Cost.{worked_weekend_cost};
 ghost use Rattle.rota_items.specs.RunItemParts.{AtMostOneADay};
 ghost use Rattle.rota_items.specs.Limits.{IsWithinLimits};
+ghost use Rattle.rota_items.specs.Bounds.{penalty_limit};
 
 /// On a roster with one cell a day at most one cell of a nurse's day is on a shift type, and at most one
 /// is on any: the runs on shift types, of working days and of days off are of days with one variable that
@@ -128,5 +129,5 @@ pub fn no_item_lacks_more_than_its_slacks()
 pub fn penalty_is_small()
     ensures { (week : Week) (roster : Roster) →
         IsWithinLimits week →
-        penalty week roster < 2 ^ 55 }
+        penalty week roster < penalty_limit }
 {}

@@ -1,8 +1,8 @@
 //! How large the numbers of a week's model are, and what its coefficients are.
-ghost use Rattle.std.specs.Prelude.{ℕ, ◌<◌, ◌^◌, pos, ◌<ℤ◌, ◌≤ℤ◌, Bool, All, length};
+ghost use Rattle.std.specs.Prelude.{ℕ, ◌<◌, pos, ◌<ℤ◌, ◌≤ℤ◌, Bool, All, length};
 ghost use Rattle.rota_core.specs.InstanceTables.{InstanceTables, IsInstance, week_of};
 ghost use Rattle.rota_core.specs.Week.{Week};
-ghost use Rattle.rota_items.specs.Bounds.{most_coefficient};
+ghost use Rattle.rota_items.specs.Bounds.{count_limit, most_coefficient};
 ghost use Rattle.rota_items.specs.Coefficients.{HasUnitCoefficients};
 ghost use Rattle.rota_items.specs.Limits.{IsWithinLimits};
 ghost use Rattle.rota_items.specs.Linear.{Term, objective_value};
@@ -15,12 +15,12 @@ pub fn instances_are_within_limits()
 
 /// Within the limits the number of variables has at most 8 digits.
 pub fn variables_are_few()
-    ensures { (week : Week) → IsWithinLimits week → (model_of week).variables < 2 ^ 25 }
+    ensures { (week : Week) → IsWithinLimits week → (model_of week).variables < count_limit }
 {}
 
 /// Within the limits the number of constraints has at most 8 digits.
 pub fn constraints_are_few()
-    ensures { (week : Week) → IsWithinLimits week → length (model_of week).constraints < 2 ^ 25 }
+    ensures { (week : Week) → IsWithinLimits week → length (model_of week).constraints < count_limit }
 {}
 
 /// Each coefficient of a constraint is 1 or -1.

@@ -19,7 +19,7 @@ pub fn greatest_totals_count(instance: &Instance) -> bool
     instance.last_week() || instance.early()
 }
 
-/// Whether what stood above the greatest totals before the week counts: in the last week, unless the weeks
+/// Whether what was above the greatest totals before the week counts: in the last week, unless the weeks
 /// before have paid for it.
 pub fn excess_before_counts(instance: &Instance) -> bool
     ensures { result ≡ excess_before_counts (week_of instance.now) }

@@ -5,9 +5,9 @@ ghost use Rattle.rota_items.specs.ItemTakes.{TakesItems};
 ghost use Rattle.rota_items.specs.ItemValues.{IsSumOf, item_of};
 ghost use Rattle.rota_items.specs.rules.OptimalCoverage.Items.{optimum_item, optimum_items, optimum_items_at};
 
+use crate::days::DAYS;
 use crate::items::item_takers::ItemTaker;
 use crate::items::soft_item::{ItemSum, SoftItem};
-use crate::limits::DAYS;
 use rota_core::{Instance, Rule};
 
 // What a missing nurse costs.

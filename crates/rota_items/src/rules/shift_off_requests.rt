@@ -6,7 +6,7 @@ ghost use Rattle.rota_items.specs.CellEvents.{cell_term_events};
 ghost use Rattle.rota_items.specs.Takes.{Takes};
 ghost use Rattle.rota_items.specs.rules.ShiftOffRequests.Terms.{request_terms, request_terms_on};
 
-use crate::limits::DAYS;
+use crate::days::DAYS;
 use crate::sums::give_range;
 use crate::takers::Taker;
 use crate::variables::first_var_on;

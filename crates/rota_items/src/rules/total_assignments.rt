@@ -6,9 +6,9 @@ ghost use Rattle.rota_items.specs.ItemTakes.{TakesItems};
 ghost use Rattle.rota_items.specs.ItemValues.{IsSumOf, item_of};
 ghost use Rattle.rota_items.specs.rules.TotalAssignments.Items.{assignment_constant_of, assignments_above, greatest_total_item, greatest_totals_of, least_total_item, least_totals_of, still_allowed, still_wanted, totals_of, wanted_beyond_days};
 
+use crate::days::DAYS;
 use crate::items::item_takers::ItemTaker;
 use crate::items::soft_item::{ItemSum, SoftItem};
-use crate::limits::DAYS;
 use crate::rules::counted_totals::{
     excess_before_counts, greatest_totals_count, least_totals_count,
 };

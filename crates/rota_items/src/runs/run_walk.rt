@@ -7,9 +7,9 @@ ghost use Rattle.rota_items.specs.ItemValues.{AreInWeek, IsChargeOf, charged_ite
 ghost use Rattle.rota_items.specs.RunItemParts.{pattern_items_on, window_items_on};
 ghost use Rattle.rota_items.specs.RunItems.{run_items};
 
+use crate::days::DAYS;
 use crate::items::item_takers::ItemTaker;
 use crate::items::soft_item::{DayPattern, NurseRuns, RunCharge};
-use crate::limits::DAYS;
 use crate::runs::run_patterns::{closed_before, edge_before, pattern_item, window_on};
 use rota_core::Instance;
 

@@ -9,9 +9,9 @@ pub returns-in_err-term : goal.returns-in_err-term
 returns-in_err-term g c =
     exits _ _ _ _ c.from_residual-in_err-term.ensures.0
     (row_refused_at_terms g.T.Taker _ _ _ _ c.in_ok-start_row.ensures
-    (term_refused g.T.Taker _ _ _ _ (rw c.unit_var.ensures at c.in_err-term.ensures)))
+    (term_refused g.T.Taker _ _ _ _ (rw c.unit_var.ensures.number at c.in_err-term.ensures)))
 
 pub returns : goal.returns
 returns g c =
     row_closed g.T.Taker _ _ _ _ _ _ c.in_ok-start_row.ensures
-    (term_taken g.T.Taker _ _ _ _ (rw c.unit_var.ensures at c.in_ok-term.ensures)) c.close_row.ensures
+    (term_taken g.T.Taker _ _ _ _ (rw c.unit_var.ensures.number at c.in_ok-term.ensures)) c.close_row.ensures

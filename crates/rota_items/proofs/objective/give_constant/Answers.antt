@@ -1,10 +1,11 @@
 use Rattle.std.proofs.lemmas.Int.{to_z_pos}
 use Rattle.rota_core.proofs.Loops.{only_if-fails, only_if-holds}
-use Rattle.rota_items.proofs.Common.{◌≡◌, ◌^◌, ◌<◌, pos, nat_lt, true, false, ap, ◌∙◌, w64, arith, week_of}
+use Rattle.rota_items.proofs.Common.{◌≡◌, ◌<◌, pos, nat_lt, true, false, ap, ◌∙◌, w64, arith, week_of}
 use Rattle.rota_items.proofs.InstanceLimits.{instance-within_limits}
 use Rattle.rota_items.proofs.PenaltyBound.{constant-few}
 use Rattle.rota_items.proofs.Taking.{nothing, numbers_join, term_takes}
 use Rattle.rota_items.specs.Charges.{constant}
+use Rattle.rota_items.specs.Limits.{signed_limit}
 use Rattle.rota_items.proofs.objective.give_constant.Goals as goal
 
 pub returns-then-constant-eq0 : goal.returns-then-constant-eq0
@@ -15,13 +16,13 @@ returns-then-constant-eq0 g c =
 pub overflow_cast-constant : goal.overflow_cast-constant
 overflow_cast-constant g c =
     let week = week_of c.args.instance.now in
-    omega (arith, c.constant-constant.ensures, constant-few week (instance-within_limits c.args.instance.now c.within_limits.ensures))
+    omega (arith, c.constant-constant.ensures, constant-few week (instance-within_limits c.args.instance.now c.unit_var-unit.ensures.limits))
 
 pub returns : goal.returns
 returns g c =
     let week = week_of c.args.instance.now in
-    let fits : c.constant-constant.result < 2 ^ 63 =
-    omega (arith, c.constant-constant.ensures, constant-few week (instance-within_limits c.args.instance.now c.within_limits.ensures)) in
+    let fits : c.constant-constant.result < signed_limit =
+    omega (arith, c.constant-constant.ensures, constant-few week (instance-within_limits c.args.instance.now c.unit_var-unit.ensures.limits)) in
     let exact = to_z_pos w64 c.constant-constant.result fits ∙ ap pos c.constant-constant.ensures in
     let some : nat_lt 0 (constant week) ≡ true = grind (arith, c.constant-constant.ensures) in
-    rw (only_if-holds _ _ some) (term_takes g.T.Taker _ _ _ _ _ (rw (exact, c.unit_var.ensures) at c.term.ensures))
+    rw (only_if-holds _ _ some) (term_takes g.T.Taker _ _ _ _ _ (rw (exact, c.unit_var-unit.ensures.number) at c.term.ensures))

@@ -18,13 +18,13 @@ overflow_add-sum c =
     omega (
       arith,
       c.loop-rule.invariant.few,
-      few_of _ (instance-within_limits c.args.instance.now c.within_limits.ensures) _ _ c.constant_of_rule-sum.ensures,
+      few_of _ (instance-within_limits c.args.instance.now c.constant_of_rule-sum.ensures.limits) _ _ c.constant_of_rule-sum.ensures.sum,
     )
 
 pub loop-rule-preserved : goal.loop-rule-preserved
 loop-rule-preserved c =
-    let few = few_of _ (instance-within_limits c.args.instance.now c.within_limits.ensures) _ _ c.constant_of_rule-sum.ensures in record {
-      number = sum-more soft_rules (constant_of_rule (week_of c.args.instance.now)) _ _ _ _ (omega arith) c.loop-rule.invariant.number c.constant_of_rule-sum.ensures;
+    let few = few_of _ (instance-within_limits c.args.instance.now c.constant_of_rule-sum.ensures.limits) _ _ c.constant_of_rule-sum.ensures.sum in record {
+      number = sum-more soft_rules (constant_of_rule (week_of c.args.instance.now)) _ _ _ _ (omega arith) c.loop-rule.invariant.number c.constant_of_rule-sum.ensures.sum;
       few = omega (arith, c.loop-rule.invariant.few, few);
     }
 

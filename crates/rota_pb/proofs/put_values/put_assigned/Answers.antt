@@ -22,8 +22,8 @@ pub returns-in_err-literal-clause-takes : goal.returns-in_err-literal-clause-tak
 returns-in_err-literal-clause-takes g c =
     let week = week_of c.args.instance.now in
     values_exit _ c.loop-place.place (unit_number week) _ (λ place. assignment_of week (set_of c.args.roster.now) (place + 1)) _ _
-    c.from_residual.ensures.0 (omega (arith, c.places-place-end.ensures)) c.loop-place.invariant.literals
-    (c.has_place.ensures ∙ place-assigned week c.args.roster.now c.loop-place.place (c.loop-place.place + 1) c.requires.shape refl (omega (arith, c.places-place-end.ensures)))
+    c.from_residual.ensures.0 (omega (arith, c.places-place-end.ensures.count)) c.loop-place.invariant.literals
+    (c.has_place.ensures ∙ place-assigned week c.args.roster.now c.loop-place.place (c.loop-place.place + 1) c.requires.shape refl (omega (arith, c.places-place-end.ensures.count)))
     c.loop-place.invariant.takes c.in_err-literal.ensures.takes
 
 pub loop-place-preserved : goal.loop-place-preserved
@@ -32,7 +32,7 @@ loop-place-preserved g c =
     record {
       takes =
           values_more _ c.loop-place.place _ (λ place. assignment_of week (set_of c.args.roster.now) (place + 1)) _ c.loop-place.invariant.literals
-          (c.has_place.ensures ∙ place-assigned week c.args.roster.now c.loop-place.place (c.loop-place.place + 1) c.requires.shape refl (omega (arith, c.places-place-end.ensures)))
+          (c.has_place.ensures ∙ place-assigned week c.args.roster.now c.loop-place.place (c.loop-place.place + 1) c.requires.shape refl (omega (arith, c.places-place-end.ensures.count)))
           c.loop-place.invariant.takes c.in_ok-literal.ensures.takes;
       literals =
           c.in_ok-literal.ensures.literals ∙ ap (λ (m : ℕ). min (m + 1) (2 ^ 32 - 1)) c.loop-place.invariant.literals ∙
@@ -44,14 +44,14 @@ pub returns-clause-takes : goal.returns-clause-takes
 returns-clause-takes g c =
     let week = week_of c.args.instance.now in
     let roster = set_of c.args.roster.now in
-    let all : unit_number week ≡ c.loop-place.place + 1 = omega (arith, c.places-place-end.ensures) in
+    let all : unit_number week ≡ c.loop-place.place + 1 = omega (arith, c.places-place-end.ensures.count) in
     puts_same (ap (λ (n : ℕ). values_text (literals_of c.args.writer.now) n (λ place. assignment_of week roster (place + 1))) all)
     (values_more _ c.loop-place.place _ (λ place. assignment_of week roster (place + 1)) _ c.loop-place.invariant.literals
     (sym (ap (assignment_of week roster) (sym all) ∙ assignment_of-unit week roster)) c.loop-place.invariant.takes c.literal-2.ensures.takes)
 
 pub returns-clause-literals : goal.returns-clause-literals
 returns-clause-literals g c =
-    let all : unit_number (week_of c.args.instance.now) ≡ c.loop-place.place + 1 = omega (arith, c.places-place-end.ensures) in
+    let all : unit_number (week_of c.args.instance.now) ≡ c.loop-place.place + 1 = omega (arith, c.places-place-end.ensures.count) in
     let count : literals_of c.literal-2.new.self ≡ literals_after (literals_of c.args.writer.now) (unit_number (week_of c.args.instance.now)) =
     c.literal-2.ensures.literals ∙ ap (λ (m : ℕ). min (m + 1) (2 ^ 32 - 1)) c.loop-place.invariant.literals ∙
     sym (literals_after-more _ c.loop-place.place) ∙ ap (literals_after _) (sym all) in
@@ -59,4 +59,4 @@ returns-clause-literals g c =
 
 pub has_place-requires : goal.has_place-requires
 has_place-requires g c =
-    let shape = c.requires.shape in rw (shape.same_nurses, shape.same_shifts, shape.same_skills) (omega (arith, c.places-place-end.ensures))
+    let shape = c.requires.shape in rw (shape.same_nurses, shape.same_shifts, shape.same_skills) (omega (arith, c.places-place-end.ensures.count))

@@ -16,8 +16,8 @@ overflow_add-result c =
     let week = week_of c.args.instance.now in
     omega (
       arith,
-      variables_fit week (instance-within_limits c.args.instance.now c.within_limits.ensures),
-      c.unit_var.ensures,
+      variables_fit week (instance-within_limits c.args.instance.now c.unit_var-unit.ensures.limits),
+      c.unit_var-unit.ensures.number,
       c.count_soft_items-soft.ensures.slacks,
     )
 
@@ -26,7 +26,7 @@ overflow_add-result-3 c =
     let week = week_of c.args.instance.now in
     omega (
       arith,
-      rows-below week (instance-within_limits c.args.instance.now c.within_limits.ensures),
+      rows-below week (instance-within_limits c.args.instance.now c.unit_var-unit.ensures.limits),
       length-append (hard_rows week) (item_rows (first_slack week) (numbered_items week)),
       length-map (rule_rows week) (numbered_row week),
       length-item_rows (first_slack week) (numbered_items week),

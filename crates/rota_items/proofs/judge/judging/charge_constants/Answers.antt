@@ -20,4 +20,4 @@ with_next week rules i other charged start before after below number is next =
 pub loop-rule-preserved : goal.loop-rule-preserved
 loop-rule-preserved c =
     with_next (week_of c.args.instance.now) soft_rules c.loop-rule.rule-index _ c.constant_of_rule.result c.args.costs.now
-    c.loop-rule.costs c.charge.new.costs (omega arith) c.constant_of_rule.ensures c.loop-rule.invariant c.charge.ensures
+    c.loop-rule.costs c.charge.new.costs (omega arith) c.constant_of_rule.ensures.sum c.loop-rule.invariant c.charge.ensures

@@ -13,6 +13,6 @@ returns g c =
     let week = week_of w.instance.now in
     let exact : to_z w64 (of_z w64 c.from.result) ≡ pos (request_weight * week.requests w.nurse w.day w.shift) =
     to_z-of_z w64 c.from.result (search rules) ∙ c.from.ensures ∙
-    ap (λ (n : ℕ). pos (10 * n)) (c.from-weight.ensures ∙ c.requests-requests.ensures) in
+    ap (λ (n : ℕ). pos (request_weight * n)) (c.from-weight.ensures ∙ c.requests-requests.ensures) in
     rw (requests-range week w.nurse w.day w.shift (omega arith))
     (rw (exact, c.first_var_on-first.ensures.number, c.from-2.ensures, c.skills.ensures.count) at c.give_range.ensures)

@@ -14,8 +14,8 @@ returns-else-self-variable-2 c =
     own : c.has_place.result ≡ counts_for (week_of c.self.inside.instance.now) (subject_of c.self.inside.subject) c.args.variable
     own =
         let week = week_of c.self.inside.instance.now in
-        let below : c.args.variable < unit_number week = rw (← c.self.invariant.unit_is) c.if-self-variable-2.false in
-        let fits = rw c.in-Extended.is at c.self.invariant.fits in
+        let below : c.args.variable < unit_number week = rw (← c.self.invariant.1.unit_is) c.if-self-variable-2.false in
+        let fits = rw c.in-Extended.is at c.self.invariant.1.fits in
         rw (c.in-Extended.is, le-ltb (unit_number week) c.args.variable (omega (arith, below)))
         (c.has_place.ensures ∙
         place-assigned week c.in-Extended.roster.now _ c.args.variable fits (omega (arith, c.if-variable-eq0.false)) below)

@@ -8,7 +8,7 @@ use Rattle.rota_items.proofs.judge.judging.Judge.verdict.Goals as goal
 pub returns-clause-judges : goal.returns-clause-judges
 returns-clause-judges c =
     rw (← c.self.view_is)
-    (driven-judges _ c.within_limits.ensures (subst WasDriven (sym c.self.view_is) c.requires.driven) _ _ c.saturating_add.ensures
+    (driven-judges _ c.self.invariant.0 (subst WasDriven (sym c.self.view_is) c.requires.driven) _ _ c.saturating_add.ensures
     (rw (c.charge_constants.ensures, c.charge.ensures, c.saturating_sub-requests.ensures, c.at_unit.ensures, ← c.self.view_is) refl))
 
 pub returns-clause-rules : goal.returns-clause-rules
