@@ -1,5 +1,5 @@
 -- What weeks that follow one another are charged sums up to what is above in the end, less what was at the start.
-use Rattle.std.proofs.Common.{◌≡◌, ℕ, ◌+◌, true, List, [], ◌∷◌, refl, arith}
+use Rattle.std.proofs.Common.{◌≡◌, ℕ, ◌+◌, true, List, [], ◌∷◌, arith}
 use Rattle.std.specs.List.{sum, sum_by}
 use Rattle.std.proofs.lemmas.List.Sums.{sum_by-cons}
 use Rattle.rota_items.specs.CountedTotals.{charged_excess}

@@ -1,14 +1,12 @@
--- The slacks of items and the events of rows and terms, one list after another.
+-- The slacks of items and the events of terms, one list after another.
 use Rattle.std.proofs.Common.{◌≡◌, ℕ, ◌+◌, List, ◌∷◌, ◌++◌, map}
 use Rattle.std.proofs.lemmas.List.{map-append}
-use Rattle.std.proofs.lemmas.List.Concat.{flat_map-append}
 use Rattle.std.proofs.lemmas.List.Sums.{sum_by-cons, sum_by-append}
 use Rattle.rota_core.specs.declared.values.Cell.{Cell}
 use Rattle.rota_items.proofs.ListSums.{sum_by-map}
-use Rattle.rota_items.specs.Events.{term, row_events, term_events, events}
+use Rattle.rota_items.specs.Events.{term, term_events}
 use Rattle.rota_items.specs.Items.{Item, numbered}
 use Rattle.rota_items.specs.Linear.{Term}
-use Rattle.rota_items.specs.LinearRow.{LinearRow}
 use Rattle.rota_items.specs.Slacks.{slack_count}
 
 -- ---- how many slacks
@@ -25,10 +23,6 @@ pub slack_count-numbered : (number : Cell → ℕ) (items : List (Item Cell)) �
 slack_count-numbered number items = sum_by-map (λ (item : Item ℕ). item.slacks) (numbered number) items
 
 -- ---- rows and terms
-
-pub events-append : (xs ys : List (LinearRow ℕ)) → events (xs ++ ys) ≡ events xs ++ events ys
-unfolding events
-events-append xs ys = flat_map-append row_events xs ys
 
 pub term_events-append : (xs ys : List (Term ℕ)) → term_events (xs ++ ys) ≡ term_events xs ++ term_events ys
 unfolding term_events

@@ -1,5 +1,5 @@
 -- What a judge makes of the rows of items.
-use Rattle.rota_items.proofs.LogicWords.{◌≡◌, ℕ, zero, suc, ◌+◌, ◌*◌, ◌^◌, ◌<◌, ◌≤◌, Bool, List, [], ◌∷◌, refl, sym, ap, ◌∙◌, arith, min, ltb, w64, ℤ, pos, nat_abs, ◌-ℤ◌, int_le, nat_le, AllByRecursion, count_by, count_by-le-length, length-map, range_with_len, sum_by, fold, fold-append, lt-ltb, le-leb, ints, sum_by-append, sum_by-cons}
+use Rattle.rota_items.proofs.LogicWords.{◌≡◌, ℕ, zero, suc, ◌+◌, ◌*◌, ◌<◌, ◌≤◌, Bool, List, [], ◌∷◌, refl, sym, ap, ◌∙◌, arith, min, ltb, w64, ℤ, pos, nat_abs, ◌-ℤ◌, int_le, nat_le, AllByRecursion, count_by, count_by-le-length, length-map, range_with_len, sum_by, fold, fold-append, lt-ltb, le-leb, ints, sum_by-append, sum_by-cons}
 use Rattle.rota_items.proofs.ModelWords.{set_of, Week, Rule, unit_number, Item, positive_part, shortage, Term, value_of, times, LinearRow, item_row, item_rows, slack_count, slack_variables, slack_weights, assignment_of, extension_of, model_of}
 use Rattle.std.specs.Int.{saturate_signed}
 use Rattle.std.proofs.lemmas.Bool.Decides.{nat_tests}

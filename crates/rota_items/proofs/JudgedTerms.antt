@@ -1,5 +1,5 @@
 -- What a judge makes of the terms of a row.
-use Rattle.rota_items.proofs.LogicWords.{◌≡◌, ℕ, ◌+◌, ◌^◌, ◌<◌, Bool, true, false, ◌&&◌, not, List, [], ◌∷◌, ◌++◌, refl, ap, ◌∙◌, arith, w64, ℤ, pos, negsuc, ◌+ℤ◌, nat_abs, nat_lt, if◌then◌else◌, fold, lt-ltb, le-ltb, ints, fold-append, sum_by-cons}
+use Rattle.rota_items.proofs.LogicWords.{◌≡◌, ℕ, ◌+◌, ◌<◌, Bool, true, false, ◌&&◌, not, List, [], ◌∷◌, ◌++◌, refl, ap, ◌∙◌, arith, w64, ℤ, pos, negsuc, ◌+ℤ◌, nat_abs, nat_lt, if◌then◌else◌, fold, lt-ltb, le-ltb, ints, fold-append, sum_by-cons}
 use Rattle.rota_items.proofs.ModelWords.{Week, unit_number, first_slack, Term, value_of, LinearRow, set_of}
 use Rattle.std.specs.Int.{saturate_signed}
 use Rattle.rota_items.specs.declared.judge.tallies.RowSums.{RowSums}

@@ -1,5 +1,5 @@
 -- How large the numbers of the soft rules are in a week within the limits: their items, their constant and their cost.
-use Rattle.rota_items.proofs.LogicWords.{◌≡◌, ℕ, ◌+◌, ◌-◌, ◌*◌, ◌≤◌, Bool, ◌&&◌, ◌||◌, cond, [], ◌∷◌, length, refl, arith, pos, negsuc, ◌-ℤ◌, nat_lt, nat_le, AllByRecursion, count_by-le-length, length-append, ints, AllByRecursion-append, AllByRecursion-each_below, AllByRecursion-only_if, length-only_if, true, false}
+use Rattle.rota_items.proofs.LogicWords.{◌≡◌, ℕ, ◌+◌, ◌-◌, ◌*◌, ◌≤◌, Bool, ◌&&◌, ◌||◌, cond, length, refl, arith, pos, negsuc, ◌-ℤ◌, nat_lt, nat_le, AllByRecursion, count_by-le-length, length-append, ints, AllByRecursion-append, AllByRecursion-each_below, AllByRecursion-only_if, length-only_if, true, false}
 use Rattle.rota_items.proofs.ModelWords.{Roster, Week, Rule, Cell, Item, is_on, is_off, works, nurses_at, cell, nurse_cells, demand_cells, IsWithinLimits, positive_part, constant_of_rule, items_of_rule, rule_cost, soft_items, soft_rules}
 use Rattle.std.proofs.lemmas.List.Sums.{sum_by-le-sum_by}
 use Rattle.rota_core.specs.Below.{sum_below}

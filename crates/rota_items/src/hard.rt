@@ -1,8 +1,6 @@
 //! The rows of the hard rules: a file for each rule, and here what goes over them.
-ghost use Rattle.std.specs.Prelude.{◌≡◌, ◌≤◌, ◌*◌, [], ◌∷◌, length};
+ghost use Rattle.std.specs.Prelude.{◌≡◌, [], ◌∷◌, length};
 ghost use Rattle.rota_core.specs.InstanceTables.{IsInstance, week_of};
-ghost use Rattle.rota_core.specs.Rules.{hard_rules};
-ghost use Rattle.rota_items.specs.Bounds.{most_cells};
 ghost use Rattle.rota_items.specs.CellEvents.{cell_row_events};
 ghost use Rattle.rota_items.specs.Variables.{unit_number};
 ghost use Rattle.rota_items.specs.Events.{events};
@@ -88,7 +86,6 @@ fn count_rows_of(instance: &Instance, rule: Rule) -> u32
 /// The number of rows of the hard rules.
 pub fn count_rule_rows(instance: &Instance) -> u32
     requires limits { IsInstance instance.now }
-    ensures few { result ≤ length hard_rules * most_cells }
     ensures number { result ≡ length (rule_rows (week_of instance.now)) }
 {
     let mut rows = 0;

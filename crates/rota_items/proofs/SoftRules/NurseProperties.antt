@@ -1,5 +1,5 @@
 -- The items of patterns of a nurse's days are sound.
-use Rattle.rota_items.proofs.LogicWords.{ℕ, ◌+◌, ◌*◌, ◌<◌, ◌≤◌, List, ◌++◌, refl, arith, count_by, AllByRecursion}
+use Rattle.rota_items.proofs.LogicWords.{ℕ, ◌+◌, ◌<◌, ◌≤◌, List, ◌++◌, refl, arith, count_by, AllByRecursion}
 use Rattle.rota_items.proofs.ModelWords.{KeepsOneCell, Roster, InWeek, Week, Rule, Cell, cell_number, on_cells, work_cells, Item}
 use Rattle.std.proofs.lemmas.Nat.{mul-le}
 use Rattle.rota_core.proofs.RisesWithin.{RisesWithin}

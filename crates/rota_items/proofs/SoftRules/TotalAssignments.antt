@@ -1,6 +1,6 @@
 -- The items of the totals and their part of the constant charge the assignments outside the limits.
 use Rattle.rota_items.proofs.LogicWords.{◌≡◌, ℕ, ◌+◌, ◌-◌, ◌*◌, ◌<◌, ◌≤◌, Bool, ◌&&◌, true, cond, refl, ap, ◌∙◌, arith, min, ℤ, pos, negsuc, ◌-ℤ◌, nat_lt, count_by, ltb-true, sum_by-append, AllByRecursion-append, AllByRecursion-only_if}
-use Rattle.rota_items.proofs.ModelWords.{KeepsCompetitionRules, KeepsOneCell, Roster, InWeek, cell, Week, nurse_cells, work_cells, positive_part, shortage, times, value_of}
+use Rattle.rota_items.proofs.ModelWords.{KeepsCompetitionRules, KeepsOneCell, Roster, InWeek, Week, nurse_cells, work_cells, positive_part, shortage, times, value_of}
 use Rattle.std.proofs.lemmas.Bool.{and_parts}
 use Rattle.rota_core.specs.declared.rule.Rule.TheVariants.{S6}
 use Rattle.rota_items.proofs.AlikeRosters.{count_below-alike, same_cell}

@@ -1,6 +1,6 @@
 -- The items of worked weekends and their part of the constant charge the weekends above the greatest number.
-use Rattle.rota_items.proofs.LogicWords.{ℕ, Bool, false, refl, arith, ◌-◌, ◌&&◌, nat_le}
-use Rattle.rota_items.proofs.ModelWords.{works, Week}
+use Rattle.rota_items.proofs.LogicWords.{ℕ, Bool, false, refl, arith, ◌&&◌, nat_le}
+use Rattle.rota_items.proofs.ModelWords.{Week}
 use Rattle.rota_core.specs.declared.rule.Rule.TheVariants.{S7}
 use Rattle.rota_items.proofs.AlikeRosters.{works-alike}
 use Rattle.rota_items.proofs.SoftRules.Sound.{IsNurseRuleSound}

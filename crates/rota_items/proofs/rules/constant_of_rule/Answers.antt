@@ -1,4 +1,4 @@
-use Rattle.rota_items.proofs.Common.{◌≡◌, ℕ, ◌≤◌, arith, week_of}
+use Rattle.rota_items.proofs.Common.{◌≡◌, ℕ, ◌≤◌, arith}
 use Rattle.rota_core.specs.Week.{Week}
 use Rattle.rota_core.specs.declared.rule.Rule.{Rule}
 use Rattle.rota_items.proofs.InstanceLimits.{instance-within_limits}

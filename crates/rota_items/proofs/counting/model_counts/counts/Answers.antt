@@ -21,6 +21,17 @@ overflow_add-result c =
       c.count_soft_items-soft.ensures.slacks,
     )
 
+pub overflow_add-result-2 : goal.overflow_add-result-2
+overflow_add-result-2 c =
+    let week = week_of c.args.instance.now in
+    omega (
+      arith,
+      rows-below week (instance-within_limits c.args.instance.now c.unit_var-unit.ensures.limits),
+      length-append (hard_rows week) (item_rows (first_slack week) (numbered_items week)),
+      length-map (rule_rows week) (numbered_row week),
+      c.count_rule_rows.ensures.number,
+    )
+
 pub overflow_add-result-3 : goal.overflow_add-result-3
 overflow_add-result-3 c =
     let week = week_of c.args.instance.now in
