@@ -138,20 +138,26 @@ installs() {
     cp "$program" "$room/copy/out/inrc2pb"
 }
 
-# Code that a page shows is a run of lines of a crate's source, which is proved.
+# Code that a page shows is a run of lines of a crate's source or proofs, which are proved.
 quotes_code() {
-    local blocks number code
-    blocks=$(grep -c '^```rust$' "$1") || return
-    begins_case "the code in $1"
-    code=$(cat crates/*/src/*.rt crates/*/src/*/*.rt)
-    for number in $(seq "$blocks"); do
-        [[ $'\n'$code$'\n' == *$'\n'"$(quote "$1" "$number")"$'\n'* ]] || complain "in no crate: $(quote "$1" "$number")"
+    local kind blocks number code
+    for kind in rust antt; do
+        blocks=$(grep -c "^\`\`\`$kind\$" "$1") || continue
+        begins_case "the $kind in $1"
+        case $kind in
+            rust) code=$(cat crates/*/src/*.rt) ;;
+            antt) code=$(find crates/*/proofs -name '*.antt' -exec cat {} +) ;;
+        esac
+        for number in $(seq "$blocks"); do
+            [[ $'\n'$code$'\n' == *$'\n'"$(quote "$1" "$kind" "$number")"$'\n'* ]] ||
+                complain "in no crate: $(quote "$1" "$kind" "$number")"
+        done
     done
 }
 
-# quote PAGE NUMBER: this block of code of the page.
+# quote PAGE KIND NUMBER: this block of code of the page.
 quote() {
-    awk -v wanted="$2" '/^```/ { inside = $0 == "```rust"; number += inside; next } inside && number == wanted' "$1"
+    awk -v wanted="$3" -v first="\`\`\`$2" '/^```/ { inside = $0 == first; number += inside; next } inside && number == wanted' "$1"
 }
 
 # The example with which a library opens is the text of a test, line for line.

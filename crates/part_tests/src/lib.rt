@@ -19,6 +19,8 @@ mod memory_ports;
 // Rows of tiny models, put event by event, and targets that fail.
 #[cfg(test)]
 mod model_texts;
+// A week whose rows come from elsewhere than a file.
+mod own_week;
 // Want of memory while tables, rosters and answers are made.
 #[cfg(test)]
 mod refused_tables;
