@@ -19,6 +19,8 @@ mod memory_ports;
 // Rows of tiny models, put event by event, and targets that fail.
 #[cfg(test)]
 mod model_texts;
+// A source of bytes of one's own.
+mod own_source;
 // A week whose rows come from elsewhere than a file.
 mod own_week;
 // Want of memory while tables, rosters and answers are made.
