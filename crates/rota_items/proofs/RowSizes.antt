@@ -14,14 +14,18 @@ use Rattle.rota_items.specs.hard.Succession.{h3_monday_rows, h3_rows_between, h3
 
 module _ (week : Week) (limits : IsWithinLimits week) where
   -- those of a nurse for Monday, and from each day to the next
+  pub monday-few : (n : ℕ) → length (h3_monday_rows week n) ≤ most_shifts * 1
+  monday-few n = length-at_most most_shifts limits.shifts _ (λ t. length-only_if _ _)
+
+  pub between-few : (n d : ℕ) → length (h3_rows_between week n d) ≤ most_shifts * (most_shifts * 1)
+  between-few n d =
+      length-at_most most_shifts limits.shifts _ (λ s. length-at_most most_shifts limits.shifts _ (λ t. length-only_if _ _))
+
   pub nurse-few : (n : ℕ) → length (h3_rows_of week n) ≤ most_cells_of_nurse
   nurse-few n =
-      let monday : length (h3_monday_rows week n) ≤ most_shifts * 1 =
-      length-at_most most_shifts limits.shifts _ (λ t. length-only_if _ _) in
       let later : length (each_below 6 (h3_rows_between week n)) ≤ 6 * (most_shifts * (most_shifts * 1)) =
-      length-at_most 6 (omega arith) _ (λ d. length-at_most most_shifts limits.shifts _ (λ s.
-      length-at_most most_shifts limits.shifts _ (λ t. length-only_if _ _))) in
-      omega (arith, length-append (h3_monday_rows week n) (each_below 6 (h3_rows_between week n)), monday, later)
+      length-at_most 6 (omega arith) _ (between-few n) in
+      omega (arith, length-append (h3_monday_rows week n) (each_below 6 (h3_rows_between week n)), monday-few n, later)
 
   pub cells-few : length (cells_of week week.is_held) ≤ most_cells
   unfolding cells_of

@@ -71,6 +71,7 @@ pub fn give_hard_rows<T: Taker>(instance: &Instance, taker: &mut T) -> Result<()
 
 // The number of the rule's rows, 0 where it is no hard rule.
 fn count_rows_of(instance: &Instance, rule: Rule) -> u32
+    requires limits { IsInstance instance.now }
     ensures { let week = week_of instance.now in result ≡ length (rows_of_hard_rule week rule) }
 {
     match rule {

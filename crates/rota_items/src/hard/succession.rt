@@ -1,8 +1,7 @@
 //! H3: no shift type after one that it may not follow.
-ghost use Rattle.std.specs.Prelude.{◌≡◌, ◌<◌, ◌≤◌, ◌+◌, ◌*◌, ℕ, length};
-ghost use Rattle.rota_core.specs.InstanceTables.{week_of};
+ghost use Rattle.std.specs.Prelude.{◌≡◌, ◌<◌, ◌+◌, ℕ, length};
+ghost use Rattle.rota_core.specs.InstanceTables.{IsInstance, week_of};
 ghost use Rattle.rota_items.specs.CellEvents.{cell_row_events};
-ghost use Rattle.rota_items.specs.Limits.{most_shifts};
 ghost use Rattle.rota_items.specs.Takes.{Takes};
 ghost use Rattle.rota_items.specs.hard.Succession.{h3_monday_rows, h3_monday_rows_at, h3_rows, h3_rows_at, h3_rows_between, h3_rows_of, is_forbidden_after};
 
@@ -139,8 +138,7 @@ pub fn give_h3<T: Taker>(instance: &Instance, taker: &mut T) -> Result<(), T::Fa
 // The number of forbidden successions, from any day to the next.
 #[tactic(auto, using(crate::proofs::ListLengths::counting), unfolding(rota_core::specs::Lists::only_if))]
 fn count_successions(instance: &Instance) -> u32
-    ensures few { result ≤ most_shifts * most_shifts }
-    ensures number { (n d : ℕ) → result ≡ length (h3_rows_between (week_of instance.now) n d) }
+    ensures { (n d : ℕ) → result ≡ length (h3_rows_between (week_of instance.now) n d) }
 {
     let mut pairs = 0;
     for first in 0..instance.shifts() {
@@ -155,8 +153,7 @@ fn count_successions(instance: &Instance) -> u32
 #[tactic(auto, using(crate::proofs::ListLengths::counting), unfolding(rota_core::specs::Lists::only_if))]
 fn count_h3_monday(instance: &Instance, nurse: u16) -> u32
     requires { nurse < (week_of instance.now).nurses }
-    ensures few { result ≤ most_shifts }
-    ensures number { result ≡ length (h3_monday_rows (week_of instance.now) nurse) }
+    ensures { result ≡ length (h3_monday_rows (week_of instance.now) nurse) }
 {
     let mut rows = 0;
     for shift in 0..instance.shifts() {
@@ -168,6 +165,7 @@ fn count_h3_monday(instance: &Instance, nurse: u16) -> u32
 /// The number of rows of H3.
 #[tactic(auto, using(crate::proofs::ListLengths::counting))]
 pub fn count_h3(instance: &Instance) -> u32
+    requires limits { IsInstance instance.now }
     ensures { result ≡ length (h3_rows (week_of instance.now)) }
 {
     let in_week = 6 * count_successions(instance);
