@@ -6,8 +6,8 @@
 #
 # A refused run of the program ends as `out of memory` with nothing written. The one exception are growths ahead of need,
 # by std's `collect` and in clap's suggestions: such a run goes on without the room, and ends just as a run with ample
-# memory does. A test passes each time; one of a table says in its first line that memory ran out, and without a refusal
-# what it finds: a reader, a roster, truth values or an answer is made whole, or answers so.
+# memory does. A test passes each time, and says in its first line that memory ran out, whatever fault stands later in the
+# files; without a refusal, what it finds: a run, a reader, a roster, truth values or an answer.
 #
 # Takes the tests of `rota_tests` and `part_tests` beside the program, as LLVM builds them. Needs bash, the usual tools of a
 # shell, and a C compiler: $CC, else cc, else the clang of Rattle's kit.
@@ -76,25 +76,43 @@ sweep_program() {
     [ "$go_on" = some ] || [ $((went_on - before)) = "$go_on" ] || complain "$((went_on - before)) refusals went on, not $go_on"
 }
 
-# Of a test, and of one whose first line tells what it met.
-passes() { [ $ended = 0 ]; }
+# Of a test, whose first line tells what it met.
 tells() {
     local wanted=$found
     [ "$1" = whole ] || wanted='out of memory'
     [ $ended = 0 ] && [ "$(head -n 1 "$room/out")" = "$wanted" ]
 }
 
-# test_of NAME: sweeps a test of whole runs. table NAME FOUND: sweeps a test of a table, which finds this.
-test_of() {
-    begins_case "$1"
-    sweep passes "$PWD/$whole_runs" "$1"
+# Of a test of many runs: the line of one of them says that memory ran out, and each other one what that run finds.
+tells_one() {
+    local out_of_memory=1
+    [ "$1" != whole ] || out_of_memory=0
+    [ $ended = 0 ] && awk -v wanted=$out_of_memory '
+        NR == FNR { found[NR] = $0; rows = NR; next }
+        FNR > rows || $0 == found[FNR] { next }
+        { others += $0 == "out of memory" ? 1 : 2 }
+        END { exit FNR < rows || others + 0 != wanted }' "$room/found" "$room/out"
 }
-table() {
-    begins_case "refused_tables::$1"
-    found=$2
+
+# sweeps_test PROGRAM NAME FOUND: sweeps a test of this program, which finds this.
+sweeps_test() {
+    begins_case "$2"
+    found=$3
     swept=$((swept + 1))
-    sweep tells "$PWD/$tables" "refused_tables::$1"
+    sweep tells "$1" "$2"
 }
+table() { sweeps_test "$PWD/$tables" "refused_tables::$1" "$2"; }
+
+# sweeps_runs LINE..: sweeps the test of many runs, of which each finds this.
+sweeps_runs() {
+    printf '%s\n' "$@" > "$room/found"
+    begins_case 'refused_memory::runs'
+    swept=$((swept + 1))
+    sweep tells_one "$PWD/$whole_runs" refused_memory::runs
+}
+
+# number_of PROGRAM MODULE: how many tests it has there.
+number_of() { "$1" --list | grep -c "^$2::.*: test$"; }
 
 cp examples/n005w4/*.txt examples/n005w4/week0.opb examples/n005w4/answers/sat4j.txt "$room"
 five=(--sce Sc-n005w4.txt --his H0-n005w4-0.txt --week WD-n005w4-0.txt)
@@ -126,10 +144,19 @@ refuse $number "$program" decode "${five[@]}" --answer long_answer --sol made
 [ ! -s "$room/refused" ] || complain 'it makes more'
 
 if [ -z "$ending" ]; then
-    test_of refused_memory::encoding_wants_memory_before_the_first_write
-    test_of refused_memory::decoding_wants_memory_before_the_first_write
-    test_of refused_memory::extending_wants_memory_before_the_first_write
     swept=0
+    # The runs that are whole, and those with a fault at the end of a file.
+    sweeps_runs 'done' 'done' 'done' \
+        'scenario line 12: unknown name' \
+        'history line 5: text after the end' \
+        'week line 5: text after the end' \
+        'history: week not below WEEKS' \
+        'fix line 5: unknown name' \
+        'solution line 5: unknown name' \
+        'roster breaks H5' \
+        'answer: variable out of range' \
+        'constraint 9 is not satisfied'
+    sweeps_test "$PWD/$whole_runs" refused_memory::readers '2 cells'
     table scenario_read '(2, 1)'
     table history_read 1
     table week_read 7
@@ -138,8 +165,8 @@ if [ -z "$ending" ]; then
     table new_bits '(65, false)'
     table new_answer 'an answer'
     table whole_answer 'Ok(Said { status: Optimum, last_o: Some(5), values: [true, false, false, false, false, false, false, true] })'
-    begins_case 'all tables'
-    [ $swept = "$($tables --list | grep -c '^refused_tables::.*: test$')" ] || complain 'one is not swept'
+    begins_case 'all tests of refused memory'
+    [ $swept = $(($(number_of $whole_runs refused_memory) + $(number_of $tables refused_tables))) ] || complain 'one is not swept'
 fi
 echo "$script: $refusals refusals, of which $went_on went on without the room"
 finish

@@ -61,53 +61,33 @@ impl Texts {
     }
 }
 
-// The text with another line.
+// The text up to a line, and what stands there in its place; then the rest, where it goes on.
 fn with_line(
     alloc: Global,
     text: &[u8],
-    number: usize,
-    line: &[u8],
+    edit: (usize, &[u8], bool),
 ) -> Result<Vec<u8>, AllocError> {
+    let (number, line, goes_on) = edit;
+    let before = number.saturating_sub(1);
     let mut made = Vec::new(alloc);
-    let mut at = 1_usize;
-    for old in text.split_inclusive(|byte| *byte == b'\n') {
-        if at == number {
-            made.extend_from_slice(line)?;
-            made.push(b'\n')?;
-        } else {
-            made.extend_from_slice(old)?;
-        }
-        at = at.saturating_add(1);
-    }
-    if at == number {
-        made.extend_from_slice(line)?;
-    }
-    Ok(made)
-}
-
-// The text before the line of this number, and this end.
-fn ending_with(
-    alloc: Global,
-    text: &[u8],
-    number: usize,
-    end: &[u8],
-) -> Result<Vec<u8>, AllocError> {
-    let mut made = Vec::new(alloc);
-    for old in text
-        .split_inclusive(|byte| *byte == b'\n')
-        .take(number.saturating_sub(1))
-    {
+    for old in text.split_inclusive(|byte| *byte == b'\n').take(before) {
         made.extend_from_slice(old)?;
     }
-    made.extend_from_slice(end)?;
+    made.extend_from_slice(line)?;
+    if goes_on {
+        made.push(b'\n')?;
+        for old in text.split_inclusive(|byte| *byte == b'\n').skip(number) {
+            made.extend_from_slice(old)?;
+        }
+    }
     Ok(made)
 }
 
 fn edited(alloc: Global, text: &[u8], edit: Edit) -> Result<Vec<u8>, AllocError> {
     match edit {
         Edit::Is(other) => Vec::from_slice(alloc, other),
-        Edit::Line(number, line) => with_line(alloc, text, number, line),
-        Edit::Ends(number, end) => ending_with(alloc, text, number, end),
+        Edit::Line(number, line) => with_line(alloc, text, (number, line, true)),
+        Edit::Ends(number, end) => with_line(alloc, text, (number, end, false)),
         Edit::Sized(length) => {
             let mut made = Vec::from_slice(alloc, text)?;
             made.resize(length, b' ')?;

@@ -1,6 +1,6 @@
 //! Answers of solvers to small weeks: the solution and the report, or the fault.
 use crate::changes::Edit::{Ends, Is, Line};
-use crate::changes::File::{Fix, His, Last, Sce};
+use crate::changes::File::{Fix, His, Last, Sce, Week};
 use crate::changes::{Base, texts_of};
 use crate::jobs::{self, HISTORY, MONDAY, SCENARIO, WEDNESDAY, WEEK};
 use crate::tables::Wanted::{Bad, Decodes, Fails};
@@ -12,7 +12,8 @@ use solver_text::AnswerFault::{BothValues, Literal, Objective, Range, StatusText
 use solver_text::Status;
 use std::test::Fail;
 
-const DECODING: Base = Base {
+/// The week of one nurse, of which an answer is decoded.
+pub const DECODING: Base = Base {
     kind: jobs::Kind::Decode,
     early: false,
     inputs: [SCENARIO, HISTORY, WEEK, b"", b""],
@@ -112,6 +113,9 @@ const IN_ORDER: &[Row] = rows! {
         Fails(Unmet(9));
     "the unit variable is false": [Sce Line(6, b"Day (1,0)"), Last Is(b"s SATISFIABLE\nv x1\n")] =>
         Fails(Unmet(1));
+    "nobody where one is needed":
+        [Week Line(3, b"REQUIREMENTS\nDay Nurse (1,3) (0,0) (0,0) (0,0) (0,0) (0,0) (0,0)"), Last Is(b"s SATISFIABLE\nv x8\n")] =>
+        Fails(Unmet(9));
     "Wednesday held, and off": [Fix Is(WEDNESDAY), Last Is(b"s SATISFIABLE\nv x8\n")] => Fails(Unmet(9));
     "an empty scenario": [Sce Is(b""), Last Is(b"v x9\n")] => Bad(Kind::Ended, FileName::Scenario, 1);
     "a late week": [His Line(2, b"2 s1"), Last Is(b"v x9\n")] => Bad(Kind::LateWeek, FileName::History, 0);

@@ -5,7 +5,7 @@ use crate::changes::{Base, texts_of};
 use crate::jobs::{self, HISTORY, MONDAY, SCENARIO, WEDNESDAY, WEEK};
 use crate::tables::Wanted::{Bad, Fails, Writes};
 use crate::tables::{Row, check, of, rows};
-use crate::weeks::{ALL_DAYS, NOBODY, TWELVE};
+use crate::weeks::{ALL_DAYS, NOBODY, OPTIMUM, TWELVE};
 use rota_core::{FileName, Kind, Rule};
 use rota_pb::Fault::Breaks;
 use std::test::Fail;
@@ -37,6 +37,7 @@ const EXTENDED: &[Row] = rows! {
     "nobody where one is needed":
         [Week Line(3, b"REQUIREMENTS\nDay Nurse (0,0) (1,1) (0,0) (0,0) (0,0) (0,0) (0,0)"), Last Is(MONDAY)] =>
         Fails(Breaks(Rule::H2));
+    "nobody where the first day needs one": OPTIMUM => Fails(Breaks(Rule::H2));
     "a day after a day":
         [Sce Line(8, b"Day 1 Day"), Last Is(b"SOLUTION 0 s1 ASSIGNMENTS = 2 Ann Mon Day Nurse Ann Tue Day Nurse")] =>
         Fails(Breaks(Rule::H3));

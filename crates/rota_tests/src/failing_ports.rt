@@ -1,4 +1,6 @@
 //! A port of a run that fails at each of its calls in turn.
+use crate::changes::texts_of;
+use crate::decoded_answers::DECODING;
 use crate::job_runs::{
     Ended, NOTHING, PIECE, Paces, Sent, by_bytes, done, end_of, even, refused, whole,
 };
@@ -8,10 +10,10 @@ use crate::jobs::{
 use rota_core::{FileFault, FileName, Kind, MemorySource, Pace, ToWrite};
 use rota_pb::{Choice, Fault, run_encode, status_of};
 use solver_text::AnswerFault;
-use std::alloc::Global;
-use std::io;
-use std::io::Write;
+use std::alloc::{AllocError, Global};
+use std::io::{self, Write};
 use std::process::Abort;
+use std::test::Fail;
 
 // No port fails.
 fn all_even() -> Paces {
@@ -59,8 +61,7 @@ fn calls_to_the_end(text: &[u8]) -> u64 {
     text.len().div_ceil(PIECE) as u64 + 1
 }
 
-// The run ends where the reader fails, and calls no target: one that is called answers `Write`. Where the
-// reader answers all its calls, the run is whole.
+// The run ends where the reader fails, with no target called, whose answer is `Write`; where none fails, it is whole.
 fn check_reader(rt: &impl Abort, alloc: Global, job: &Job, reader: usize, text: &[u8]) {
     let calls = calls_to_the_end(text);
     for good_calls in 0..calls {
@@ -105,8 +106,7 @@ fn cut_after(bytes: usize) -> Sent {
     Sent { bytes, ..NOTHING }
 }
 
-// A target that fails leaves what went out before. Where the flush after the last byte fails, all bytes are out.
-// With one call more, which is the one flush, the run is whole.
+// What went out before a failure is out. The flush is the last call; where it is good too, the run is whole.
 fn check_first_target(rt: &impl Abort, alloc: Global, job: &Job) {
     let calls = job.outputs[0].len().saturating_add(1);
     for good_calls in 0..calls {
@@ -165,7 +165,6 @@ fn bad(kind: Kind, file: FileName, line: u32) -> Fault {
 // A job with an input that is at fault, the number of a later reader, and the fault.
 type Faulty = (Job<'static>, usize, Fault);
 
-// The scenario is at fault.
 fn with_faulty_scenario(job: Job<'static>, reader: usize) -> Faulty {
     let fault = bad(Kind::OtherWord, FileName::Scenario, 1);
     (with_input(job, 0, b"SCENA"), reader, fault)
@@ -182,7 +181,6 @@ fn with_faulty_week() -> Faulty {
     (with_input(holding(), 2, b"WEEK_DATA s1\n("), 3, fault)
 }
 
-// The held cells are at fault.
 fn with_faulty_cells(job: Job<'static>) -> Faulty {
     let fault = bad(Kind::OtherWord, FileName::Fixed, 2);
     (with_input(job, 3, b"SOLUTION 0 s1\nASSIGN"), 4, fault)
@@ -223,6 +221,42 @@ fn answer_fails_after_some_bytes(rt: HostRuntime) {
         let end = end_of(rt.alloc(), &job, &paces);
         check_end(&rt, end, refused(fault), "reader", 4);
     }
+}
+
+// The run on this answer, of which one piece of 4096 bytes is read before a read fails.
+fn end_of_one_piece(alloc: Global, answer: Vec<u8>) -> Result<Ended, AllocError> {
+    let mut texts = texts_of(alloc, &DECODING, &[])?;
+    texts.last = answer;
+    let paces = with_reader(4, Pace::new(4096, Some(1)), even());
+    Ok(end_of(alloc, &texts.job(&DECODING), &paces))
+}
+
+// A fault that the last byte of the piece shows is judged before the next read fails. A byte less shows none.
+#[test]
+fn answer_of_one_piece_fails(rt: HostRuntime) -> Result<(), Fail> {
+    let mut answer = Vec::from_slice(rt.alloc(), b"c")?;
+    answer.resize(4090, b' ')?;
+    answer.extend_from_slice(b"\nv x9")?;
+    let shorter = Vec::from_slice(rt.alloc(), &answer)?;
+    answer.push(b' ')?;
+    assert_eq!(rt; answer.len(), 4096);
+    let judged = refused(Fault::Answer(AnswerFault::Range));
+    check_end(
+        &rt,
+        end_of_one_piece(rt.alloc(), answer)?,
+        judged,
+        "reader",
+        4,
+    );
+    let unread = refused(Fault::Read);
+    check_end(
+        &rt,
+        end_of_one_piece(rt.alloc(), shorter)?,
+        unread,
+        "reader",
+        4,
+    );
+    Ok(())
 }
 
 // A writer that takes nothing of any piece.

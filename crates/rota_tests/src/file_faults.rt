@@ -11,15 +11,15 @@ use std::alloc::{AllocError, Global};
 use std::process::Abort;
 use std::test::Fail;
 
-// The week that no row changes.
-const BASE: Base = Base {
+/// The week that no row changes.
+pub const BASE: Base = Base {
     kind: jobs::Kind::Extend,
     early: false,
     inputs: [SCENARIO, HISTORY, WEEK, WEDNESDAY, MONDAY],
 };
 
-// Two nurses, two shift types, a requirement and requests.
-const TWO_NURSES: Base = Base {
+/// Two nurses, two shift types, a requirement and requests.
+pub const TWO_NURSES: Base = Base {
     kind: jobs::Kind::Extend,
     early: false,
     inputs: [
@@ -176,18 +176,24 @@ const SOLUTIONS: &[(&[u8], Kind, u32)] = &[
     ),
 ];
 
-// The first fault of the files, which are read in their order.
-fn read_all(alloc: Global, texts: &Texts) -> Result<(Instance, u32), FileFault> {
+/// What the files of the week spell, with no cell held.
+pub fn read_tables(alloc: Global, texts: &Texts, early: bool) -> Result<Instance, FileFault> {
     let scenario = read_scenario(alloc, &texts.sce)?;
     let history = read_history(alloc, &scenario, &texts.his)?;
     let week = read_week(alloc, &scenario, &texts.week)?;
-    let instance = Instance::join(scenario, history, week, false)?;
+    Instance::join(scenario, history, week, early)
+}
+
+/// What the files spell, with how many cells are held and given, or their first fault in the order of a run's checks.
+pub fn read_all(alloc: Global, texts: &Texts) -> Result<(Instance, u32), FileFault> {
+    let instance = read_tables(alloc, texts, false)?;
     let held = read_fixed(alloc, &instance, &texts.fix)?.count();
     let given = read_solution(alloc, &instance, &texts.last)?.count();
     Ok((instance, held.saturating_add(given)))
 }
 
-fn name_of(file: File) -> FileName {
+/// How a fault names the file.
+pub fn name_of(file: File) -> FileName {
     match file {
         Sce => FileName::Scenario,
         His => FileName::History,

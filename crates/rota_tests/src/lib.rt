@@ -42,6 +42,12 @@ mod worked_weeks;
 mod decoded_answers;
 #[cfg(test)]
 mod extended_rosters;
+// What rosters cost.
+#[cfg(test)]
+mod charges;
 // Files with a fault.
 #[cfg(test)]
 mod file_faults;
+// Files without a fault.
+#[cfg(test)]
+mod good_files;

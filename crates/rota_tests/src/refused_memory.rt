@@ -1,32 +1,71 @@
-//! Want of memory in the middle of a run. With ample memory the run is whole; `tests/refused_memory.sh` and
-//! `rt try --test --fail-alloc N` refuse one allocation.
-use crate::job_runs::{Paces, done, end_of, even, refused};
-use crate::jobs::{Job, decoding_held, extending_held, holding};
-use rota_pb::Fault;
-use std::alloc::Global;
-use std::process::Abort;
+//! Want of memory in the middle of a run. The test prints how each row ended; `tests/refused_memory.sh` refuses each
+//! allocation in turn, and asks for want of memory, whatever fault stands later in the files of the row.
+use crate::changes::Edit::{Ends, Is, Line};
+use crate::changes::File::{Fix, His, Last, Sce, Week};
+use crate::changes::{Base, Changes, texts_of};
+use crate::file_faults::{BASE, read_all};
+use crate::jobs::{Job, Kind, decoding_held, extending_held, holding};
+use crate::tables::{End, end_of, of};
+use std::alloc::{AllocError, Global};
+use std::io;
 
-// Where memory is refused, no target is called.
-fn check_job(rt: &impl Abort, alloc: Global, job: &Job) {
-    let paces = Paces {
-        readers: [even(); 5],
-        targets: [even(); 2],
+// Weeks with held cells, and what changes in their files: with a fault at the end of each.
+const ROWS: &[(Kind, Changes)] = &[
+    (Kind::Extend, of!([Sce Ends(12, b"Ann Full 1 Nur")])),
+    (Kind::Extend, of!([His Line(5, b"more")])),
+    (Kind::Extend, of!([Week Line(5, b"more")])),
+    (Kind::Extend, of!([His Line(2, b"2 s1")])),
+    (Kind::Encode, of!([Fix Ends(5, b"Ann Wed Day Nur")])),
+    (Kind::Extend, of!([Last Ends(5, b"Ann Mon Day Nur")])),
+    (Kind::Extend, of!([])),
+    (Kind::Decode, of!([Last Is(b"s SATISFIABLE\nv x9")])),
+    (Kind::Decode, of!([Last Is(b"s SATISFIABLE\nv x8")])),
+];
+
+// Prints what the run of the job found. It writes its outputs whole, or nothing.
+fn print_end(rt: &impl Print, job: &Job, end: Result<End, AllocError>) -> io::Result<()> {
+    let Ok(end) = end else {
+        return println!(rt; "out of memory");
     };
-    let end = end_of(alloc, job, &paces);
-    assert!(rt; end == done(job) || end == refused(Fault::Memory));
+    let [first, second] = job.outputs;
+    let (sent, also_sent) = (end.first.bytes(), end.second.bytes());
+    match end.outcome {
+        Ok(()) if sent == first && also_sent == second => println!(rt; "done"),
+        Err(fault) if sent.is_empty() && also_sent.is_empty() => println!(rt; "{fault}"),
+        _ => println!(rt; "other bytes"),
+    }
+}
+
+fn run_changed(rt: &impl Print, alloc: Global, kind: Kind, changes: Changes) -> io::Result<()> {
+    let base = Base { kind, ..BASE };
+    match texts_of(alloc, &base, changes) {
+        Ok(texts) => {
+            let job = texts.job(&base);
+            print_end(rt, &job, end_of(alloc, &job))
+        }
+        Err(_) => println!(rt; "out of memory"),
+    }
 }
 
 #[test]
-fn encoding_wants_memory_before_the_first_write(rt: HostRuntime) {
-    check_job(&rt, rt.alloc(), &holding());
+fn runs(rt: HostRuntime) -> io::Result<()> {
+    for job in [holding(), decoding_held(), extending_held()] {
+        print_end(&rt, &job, end_of(rt.alloc(), &job))?;
+    }
+    for (kind, changes) in ROWS {
+        run_changed(&rt, rt.alloc(), *kind, changes)?;
+    }
+    Ok(())
 }
 
+// The readers of the held cells and of the other files by themselves.
 #[test]
-fn decoding_wants_memory_before_the_first_write(rt: HostRuntime) {
-    check_job(&rt, rt.alloc(), &decoding_held());
-}
-
-#[test]
-fn extending_wants_memory_before_the_first_write(rt: HostRuntime) {
-    check_job(&rt, rt.alloc(), &extending_held());
+fn readers(rt: HostRuntime) -> io::Result<()> {
+    let Ok(texts) = texts_of(rt.alloc(), &BASE, &[]) else {
+        return println!(rt; "out of memory");
+    };
+    match read_all(rt.alloc(), &texts) {
+        Ok((_, cells)) => println!(rt; "{cells} cells"),
+        Err(fault) => println!(rt; "{fault}"),
+    }
 }

@@ -48,7 +48,7 @@ const TWELVE_ROW: &[u8] =
     b"-1 x1 -1 x2 -1 x3 -1 x4 -1 x5 -1 x6 -1 x7 +1 x9 +1 x10 +1 x11 +1 x12 >= -3 ;
 ";
 
-const TOTALS_AND_REQUESTS: &[Row] = rows! {
+pub const TOTALS_AND_REQUESTS: &[Row] = rows! {
     "requests on one cell": REQUESTS =>
         Writes(&[b"* #variable= 15 #constraint= 8
 min: +30 x1 +10 x2 ;
@@ -83,7 +83,7 @@ min: +30 x9 +30 x10 ;
 };
 
 // What exceeds a total is charged in each week.
-const EARLY: &[Row] = rows! {
+pub const EARLY: &[Row] = rows! {
     "above the totals": ABOVE => Writes(&[ABOVE_HEAD, ONE_CELL, ABOVE_ROWS]);
     "above the totals before the last week": ABOVE_BEFORE => Writes(&[ABOVE_HEAD, ONE_CELL, ABOVE_ROWS]);
     "below the least total": BELOW => Writes(&[BELOW_HEAD, ONE_CELL, BELOW_ROWS]);
@@ -99,7 +99,7 @@ const EARLY: &[Row] = rows! {
 };
 
 // Cells that are held.
-const HELD: &[Row] = rows! {
+pub const HELD: &[Row] = rows! {
     "no cell held": [Fix Is(b"SOLUTION 0 s1 ASSIGNMENTS = 0")] => PLAIN;
     "Wednesday held": [Fix Is(WEDNESDAY)] => HOLDING;
     "no empty line": [Fix Is(b"SOLUTION\n0 s1\nASSIGNMENTS = 1\nAnn Wed Day Nurse\n")] => HOLDING;

@@ -7,7 +7,7 @@ use crate::weeks::{
 };
 use std::test::Fail;
 
-const HARD_RULES: &[Row] = rows! {
+pub const HARD_RULES: &[Row] = rows! {
     "one nurse one shift": [] =>
         Writes(&[b"* #variable= 8 #constraint= 8
 ", ONE_CELL]);
@@ -35,7 +35,7 @@ const HARD_RULES: &[Row] = rows! {
 ", TWO_CELLS]);
 };
 
-const RUNS: &[Row] = rows! {
+pub const RUNS: &[Row] = rows! {
     "long run in the history": LONG_RUN =>
         Writes(&[b"* #variable= 15 #constraint= 15
 min: +30 x9 +30 x10 +30 x11 +30 x12 +30 x13 +30 x14 +30 x15 ;
