@@ -23,6 +23,9 @@ mod model_texts;
 mod own_source;
 // A week whose rows come from elsewhere than a file.
 mod own_week;
+// How often the ports of a run are called.
+#[cfg(test)]
+mod port_calls;
 // Want of memory while tables, rosters and answers are made.
 #[cfg(test)]
 mod refused_tables;
@@ -35,6 +38,9 @@ mod std_ports;
 // Rosters, truth values and names.
 #[cfg(test)]
 mod tables;
+// How often a target is called.
+#[cfg(test)]
+mod target_calls;
 // The files of small weeks.
 #[cfg(test)]
 mod week_files;

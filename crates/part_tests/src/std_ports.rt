@@ -71,10 +71,29 @@ impl Write for Scripted<'_> {
     }
 }
 
-const KINDS: [ErrorKind; 3] = [
+// What std's readers and writers may fail with.
+const KINDS: [ErrorKind; 21] = [
     ErrorKind::Interrupted,
     ErrorKind::WouldBlock,
+    ErrorKind::TimedOut,
+    ErrorKind::WriteZero,
+    ErrorKind::UnexpectedEof,
+    ErrorKind::BrokenPipe,
+    ErrorKind::ConnectionReset,
+    ErrorKind::ConnectionAborted,
+    ErrorKind::NotConnected,
+    ErrorKind::StorageFull,
+    ErrorKind::QuotaExceeded,
+    ErrorKind::FileTooLarge,
+    ErrorKind::IsADirectory,
+    ErrorKind::NotFound,
+    ErrorKind::PermissionDenied,
+    ErrorKind::InvalidInput,
+    ErrorKind::InvalidData,
+    ErrorKind::Unsupported,
+    ErrorKind::OutOfMemory,
     ErrorKind::Other,
+    ErrorKind::Uncategorized,
 ];
 
 // A short read is passed on. After an error, `Interrupted` too, the reader is not called again.

@@ -1,0 +1,232 @@
+//! How often the ports of a run are called: a reader until it says its end, a target for its text and to flush it, and
+//! none again after a call that failed.
+ghost use Rattle.std.specs.Prelude.{None};
+
+use crate::target_calls::{Calls, Counted};
+use crate::week_files::{instance_of, one_nurse_one_shift};
+use rota_core::{Instance, PortFault, Roster, Source};
+use rota_pb::{Choice, Fault, encode, extend, run_decode, write_solution};
+use solver_text::AnswerFault;
+use std::alloc::Global;
+use std::process::Abort;
+use std::test::Fail;
+
+// A source of a text that fails after this many calls. Its calls are counted, also those after the failure.
+#[derive(Drop)]
+struct CountedSource<'a> {
+    rest: &'a [u8],
+    good_calls: u32,
+    calls: u32,
+    failed: bool,
+    ended: bool,
+}
+
+impl Source for CountedSource<'_> {
+    ghost left = { λ _. None };
+
+    ghost has_failed = { λ s. s.failed };
+
+    ghost has_ended = { λ s. s.ended };
+
+    fn read(&mut self, buffer: &mut [u8]) -> Result<usize, PortFault> {
+        self.calls = self.calls.saturating_add(1);
+        if self.failed {
+            return Err(PortFault);
+        }
+        if buffer.is_empty() {
+            return Ok(0);
+        }
+        if self.good_calls == 0 {
+            self.failed = true;
+            return Err(PortFault);
+        }
+        self.good_calls -= 1;
+        let rest = self.rest;
+        let count = rest.len().min(buffer.len());
+        let (piece, after) = rest.split_at(count);
+        buffer[..count].copy_from_slice(piece);
+        self.rest = after;
+        self.ended = self.ended || count == 0;
+        Ok(count)
+    }
+}
+
+fn source(text: &[u8], good_calls: u32) -> CountedSource<'_> {
+    CountedSource {
+        rest: text,
+        good_calls,
+        calls: 0,
+        failed: false,
+        ended: false,
+    }
+}
+
+// What a run answered, and how often its ports were called: the readers of the scenario, the history, the week, the held
+// cells and the answer, and the targets of the solution and of the report.
+#[derive(Clone, Copy, PartialEq, Eq, Debug)]
+struct Ended {
+    outcome: Result<(), Fault>,
+    reads: [u32; 5],
+    solution: Calls,
+    report: Calls,
+}
+
+// What `decode` does with this answer where its ports have so many good calls, in that order.
+fn decoded(alloc: Global, answer: &[u8], good_calls: [u32; 7]) -> Ended {
+    let choice = Choice {
+        early: false,
+        fixed: true,
+    };
+    let files = one_nurse_one_shift();
+    let mut sce = source(files.scenario, good_calls[0]);
+    let mut his = source(files.history, good_calls[1]);
+    let mut week = source(files.week, good_calls[2]);
+    let mut fix = source(b"SOLUTION\n0 s1\n\nASSIGNMENTS = 0\n", good_calls[3]);
+    let mut answer = source(answer, good_calls[4]);
+    let mut solution = Counted::new(good_calls[5]);
+    let mut report = Counted::new(good_calls[6]);
+    let outcome = run_decode(
+        alloc,
+        choice,
+        &mut sce,
+        &mut his,
+        &mut week,
+        &mut fix,
+        &mut answer,
+        &mut solution,
+        &mut report,
+    );
+    Ended {
+        outcome,
+        reads: [sce.calls, his.calls, week.calls, fix.calls, answer.calls],
+        solution: solution.calls,
+        report: report.calls,
+    }
+}
+
+// With this many good calls a port that needs two is called so often.
+fn calls_of_two(good_calls: u32) -> u32 {
+    2.min(good_calls.saturating_add(1))
+}
+
+// With this many good calls a target of one buffer is called so often.
+fn calls_of_target(good_calls: u32) -> Calls {
+    Calls {
+        writes: 1,
+        flushes: u32::from(good_calls > 0),
+    }
+}
+
+// How often it is called where it is.
+fn calls_where(is_called: bool, good_calls: u32) -> Calls {
+    if is_called {
+        calls_of_target(good_calls)
+    } else {
+        Calls {
+            writes: 0,
+            flushes: 0,
+        }
+    }
+}
+
+// One of the ports has so many good calls, and the others have the two that they need. Those before it are called twice,
+// and those behind it only where it has both.
+fn check_port(rt: &impl Abort, alloc: Global, port: usize, good_calls: u32) {
+    let mut all = [2; 7];
+    if let Some(own) = all.get_mut(port) {
+        *own = good_calls;
+    }
+    let ended = decoded(alloc, b"s SATISFIABLE\nv x8\n", all);
+    let is_whole = good_calls == 2;
+    let fault = if port < 5 { Fault::Read } else { Fault::Write };
+    let outcome = if is_whole { Ok(()) } else { Err(fault) };
+    assert_eq!(rt; ended.outcome, outcome, "port {port}");
+    for (reader, reads) in ended.reads.iter().enumerate() {
+        let is_called = is_whole || reader <= port;
+        let wanted = if is_called {
+            calls_of_two(all[reader])
+        } else {
+            0
+        };
+        assert_eq!(rt; *reads, wanted, "reader {reader}, port {port}");
+    }
+    let solution = calls_where(is_whole || port >= 5, all[5]);
+    assert_eq!(rt; ended.solution, solution, "port {port}");
+    let report = calls_where(is_whole || port >= 6, all[6]);
+    assert_eq!(rt; ended.report, report, "port {port}");
+}
+
+// Each port in turn has none, one or both of its calls.
+#[test]
+fn ports_of_a_run_are_called_twice(rt: HostRuntime) {
+    for case in 0..21 {
+        check_port(&rt, rt.alloc(), case / 3, (case % 3) as u32);
+    }
+}
+
+// What `decode` says of an answer with a number beyond the variables' that is judged at this byte, where the second read
+// fails.
+fn fault_at(alloc: Global, byte: usize) -> Result<(), Fault> {
+    let mut answer = [b' '; 6000];
+    answer[0] = b'v';
+    if 3 <= byte && byte <= 6000 {
+        answer[byte - 3] = b'x';
+        answer[byte - 2] = b'9';
+        answer[byte - 1] = b'\n';
+    }
+    let mut good_calls = [2; 7];
+    good_calls[4] = 1;
+    decoded(alloc, &answer, good_calls).outcome
+}
+
+// An answer is read 4096 bytes at a time, and a whole piece is judged before the next read.
+#[test]
+fn whole_piece_is_judged_before_the_next_read(rt: HostRuntime) {
+    assert_eq!(rt;
+        fault_at(rt.alloc(), 4096),
+        Err(Fault::Answer(AnswerFault::Range))
+    );
+    assert_eq!(rt; fault_at(rt.alloc(), 4097), Err(Fault::Read));
+}
+
+// The empty roster to a target: its extension, or its solution file.
+fn write_nobody(
+    alloc: Global,
+    instance: &Instance,
+    extends: bool,
+    out: &mut Counted,
+) -> Result<(), Fault> {
+    let roster = Roster::new(alloc, instance)?;
+    if extends {
+        extend(instance, &roster, out)
+    } else {
+        write_solution(instance, &roster, out)
+    }
+}
+
+// One of three texts of the week to a target.
+fn write_text(
+    alloc: Global,
+    instance: &Instance,
+    text: u32,
+    out: &mut Counted,
+) -> Result<(), Fault> {
+    match text {
+        0 => encode(instance, out),
+        _ => write_nobody(alloc, instance, text == 1, out),
+    }
+}
+
+// A model, an answer and a solution go out in one write each, are flushed once, and nothing goes out after a failure.
+#[test]
+fn texts_go_out_once(rt: HostRuntime) -> Result<(), Fail> {
+    let instance = instance_of(rt.alloc(), &one_nurse_one_shift())?;
+    for case in 0..9 {
+        let (text, good_calls) = (case / 3, case % 3);
+        let mut out = Counted::new(good_calls);
+        let outcome = write_text(rt.alloc(), &instance, text, &mut out);
+        assert_eq!(rt; outcome.is_ok(), good_calls == 2);
+        assert_eq!(rt; out.calls, calls_of_target(good_calls), "text {text}");
+    }
+    Ok(())
+}

@@ -1,0 +1,145 @@
+//! How often a target is called: once for each full buffer and for each piece that is longer than one, once for the rest,
+//! and once to flush it. After a call that failed it is not called again.
+ghost use Rattle.std.specs.Prelude.{None};
+
+use opb_text::Sink;
+use rota_core::{PortFault, Target};
+use std::process::Abort;
+
+/// How often a target was called, failed calls too.
+#[derive(Clone, Copy, PartialEq, Eq, Debug)]
+pub struct Calls {
+    pub writes: u32,
+    pub flushes: u32,
+}
+
+/// A target that takes whole pieces, and fails after this many calls. Its calls are counted, also those after the failure.
+#[derive(Drop)]
+pub struct Counted {
+    pub calls: Calls,
+    pub good_calls: u32,
+    pub failed: bool,
+}
+
+impl Counted {
+    /// A target that was not called yet.
+    pub fn new(good_calls: u32) -> Counted {
+        Counted {
+            calls: Calls {
+                writes: 0,
+                flushes: 0,
+            },
+            good_calls,
+            failed: false,
+        }
+    }
+}
+
+impl Target for Counted {
+    ghost sent = { λ _. None };
+
+    ghost flushed = { λ _. None };
+
+    ghost has_failed = { λ t. t.failed };
+
+    fn write(&mut self, piece: &[u8]) -> Result<usize, PortFault> {
+        self.calls.writes = self.calls.writes.saturating_add(1);
+        if self.failed {
+            return Err(PortFault);
+        }
+        if piece.is_empty() {
+            return Ok(0);
+        }
+        if self.good_calls == 0 {
+            self.failed = true;
+            return Err(PortFault);
+        }
+        self.good_calls -= 1;
+        Ok(piece.len())
+    }
+
+    fn flush(&mut self) -> Result<(), PortFault> {
+        self.calls.flushes = self.calls.flushes.saturating_add(1);
+        if self.failed || self.good_calls == 0 {
+            self.failed = true;
+            return Err(PortFault);
+        }
+        self.good_calls -= 1;
+        Ok(())
+    }
+}
+
+// 256 of them fill a buffer.
+const LINE: &[u8] = b"fifteen letters\n";
+
+// Puts a thousand lines, which is three buffers and a part of one.
+fn put_lines<W: Target>(sink: &mut Sink<W>) -> Result<(), PortFault> {
+    for _ in 0..1000 {
+        sink.put(LINE)?;
+    }
+    sink.finish()
+}
+
+// Puts a line, pieces that are longer than a buffer, and a line.
+fn put_long_pieces<W: Target>(sink: &mut Sink<W>) -> Result<(), PortFault> {
+    sink.put(LINE)?;
+    sink.put(&[b' '; 5000])?;
+    sink.put(&[b' '; 9000])?;
+    sink.put(LINE)?;
+    sink.finish()
+}
+
+// Puts more, and finishes again, whatever comes of it.
+fn go_on<W: Target>(sink: &mut Sink<W>) -> [Result<(), PortFault>; 4] {
+    [
+        put_lines(sink),
+        put_long_pieces(sink),
+        sink.number_between(LINE, 7, LINE),
+        sink.finish(),
+    ]
+}
+
+// What comes of the lines at a target with this many good calls, or of the long pieces, and the target's calls. Where it
+// fails, the sink is called again.
+fn calls_with(good_calls: u32, long_pieces: bool) -> (Result<(), PortFault>, Calls) {
+    let mut target = Counted::new(good_calls);
+    let mut sink = Sink::new(&mut target);
+    let outcome = if long_pieces {
+        put_long_pieces(&mut sink)
+    } else {
+        put_lines(&mut sink)
+    };
+    if outcome.is_err() {
+        let _refused = go_on(&mut sink);
+    }
+    (outcome, target.calls)
+}
+
+// Four writes and a flush are wanted. With fewer good calls the target is called once more than it has of them.
+fn check_calls(rt: &impl Abort, long_pieces: bool) {
+    for good_calls in 0..5 {
+        let (outcome, calls) = calls_with(good_calls, long_pieces);
+        assert_eq!(rt; outcome, Err(PortFault));
+        assert_eq!(rt;
+            calls.writes,
+            4.min(good_calls + 1),
+            "{good_calls} good calls"
+        );
+        assert_eq!(rt;
+            calls.flushes,
+            u32::from(good_calls == 4),
+            "{good_calls} good calls"
+        );
+    }
+    let whole = Calls {
+        writes: 4,
+        flushes: 1,
+    };
+    assert_eq!(rt; calls_with(5, long_pieces), (Ok(()), whole));
+}
+
+#[test]
+fn target_is_called_once_for_each_buffer(rt: HostRuntime) {
+    check_calls(&rt, false);
+    check_calls(&rt, true);
+}
