@@ -3,7 +3,8 @@
 # and compares what a block prints with the block of text that follows it. Checks the links between the pages, that
 # README.md has at most 900 words and shows the roster that it speaks of, that the example weeks are those of their
 # generator, that the libraries' examples are their tests and the pages' code is theirs, that `make install` puts the parts
-# in their places, and the scripts by shellcheck, where that is installed.
+# in their places, that no crate takes more lemmas of another than before, and the scripts by shellcheck, where that is
+# installed.
 #
 #   tests/documents.sh [llvm | rattle | PROGRAM]
 #
@@ -172,6 +173,14 @@ examples_are_tests() {
     done
 }
 
+# What a crate takes of another are its contracts: no more of its lemmas than it takes now.
+takes_contracts() {
+    local modules
+    begins_case 'lemma modules that a crate takes from another'
+    modules=$(tests/doors.py | cut -d ' ' -f 2,3 | sort -u | wc -l)
+    [ "$modules" -le 38 ] || complain "$modules, and 38 before: $(tests/doors.py)"
+}
+
 for page in README.md CONTRIBUTING.md CHANGELOG.md bench/README.md docs/*.md; do
     runs_blocks "$page"
     links_hold "$page"
@@ -185,6 +194,7 @@ grep -m 1 '^## ' CHANGELOG.md | grep -qx "## ${version#inrc2pb }" || complain "i
 shows_roster
 weeks_are_made
 examples_are_tests
+takes_contracts
 installs
 begins_case 'the scripts'
 ! command -v shellcheck > /dev/null || shellcheck .ci/run tests/*.sh > "$room/checked" || complain "$(head -n 20 "$room/checked")"
