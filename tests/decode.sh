@@ -8,13 +8,9 @@
 
 report optimum_report 'OPTIMUM FOUND' last=5
 report plain_report SATISFIABLE
-report last_one_report SATISFIABLE last=1
-report slack_report SATISFIABLE objective=15
 report extended_report SATISFIABLE last=15 S2=15
 printf '%s\r\n' 'c hello' 'd 1 2' 'o 5' 's OPTIMUM FOUND' 'v x1 -x2' 'v -x3 x1 -x4' 'v -x5 -x6 x8 ' > "$room/answer.txt"
 
-# A shift type that nobody should work: constraints 9 to 15 charge the seven days.
-closed_week=(--sce closed.txt --his history.txt --week week.txt)
 empty=(--sce nothing --his history.txt --week week.txt)
 
 # answer LINE..: these lines are the answer, on standard input.
@@ -67,39 +63,18 @@ decodes() {
     holds r monday
     head -c 100000 /dev/zero > "$room/solution"
     in=$room/answer.txt takes 'over a longer solution' optimum_report monday "${week[@]}"
-    answer 's SATISFIABLE' "v x8 x$(printf '%040d' 1)"
-    takes 'leading zeros' plain_report monday "${week[@]}"
-    answer 's SATISFIABLE' 'v-x8' 'v x8' 'v'
-    takes 'a line that only looks like one' plain_report nobody "${week[@]}"
-    answer $'s\tSATISFIABLE ' $'v\r' $'v\tx8\r'
-    takes 'tabs and returns' plain_report nobody "${week[@]}"
-    answer 'o 000000000000000001' 's SATISFIABLE' 'v x8'
-    takes 'an objective with leading zeros' last_one_report nobody "${week[@]}"
-    printf 's SATISFIABLE\nv x8' > "$room/stdin"
-    takes 'no end of the last line' plain_report nobody "${week[@]}"
     in=/dev/null
 }
 
-charges_slacks_and_shifts() {
-    answer 's SATISFIABLE' 'v x8 x9'
-    takes 'a slack that nothing asks for' slack_report nobody "${closed_week[@]}"
+# Of the answers whose outcome `rota_tests` looks at, one for each line that is printed.
+takes_and_refuses_answers() {
     answer 'o 15' 's SATISFIABLE' 'v x1 -x2 -x3 -x4 -x5 -x6 -x7 x8 x9 -x10' 'v -x11 -x12 -x13 -x14 -x15'
-    takes 'a shift that nobody should work' extended_report monday "${closed_week[@]}"
-    answer 's SATISFIABLE' 'v x8 x1'
-    refuses 'a slack that is missing' 6 'constraint 9 is not satisfied' decode "${closed_week[@]}" --sol unmade
-    answer 's SATISFIABLE' 'v x1'
-    refuses 'the unit variable is false' 6 'constraint 1 is not satisfied' decode "${closed_week[@]}" --sol unmade
-    in=/dev/null
-}
-
-refuses_answers() {
-    refuses_each 1 'answer: variable with both values' 'v x1 -x1' 'v -x8 x8' $'v x1\nv -x1 x1'
-    refuses_each 1 'answer: variable out of range' 'v x0' 'v x9' "v x$(printf '9%.0s' {1..40})"
-    refuses_each 1 'answer: bad literal' 'v y1' 'v ~x1' 'v x' 'v -' 'v x1-'
-    refuses_each 1 'answer: unknown status' 's OPTIMUM ' 's' 's SATISFIABLE yes'
-    refuses_each 1 'answer: bad o value' 'o 1 2' 'o' 'o -' "o $(printf '%019d' 0)"
-    refuses_each 1 'answer: no status line or a second one' \
-        'sSATISFIABLE' 'v x8' 'c' $'s UNKNOWN\ns UNKNOWN' $'s SATISFIABLE\ns SATISFIABLE\nv y1'
+    takes 'a shift that nobody should work' extended_report monday --sce closed.txt --his history.txt --week week.txt
+    refuses_each 1 'answer: variable with both values' 'v x1 -x1'
+    refuses_each 1 'answer: variable out of range' 'v x9'
+    refuses_each 1 'answer: bad literal' 'v y1'
+    refuses_each 1 'answer: unknown status' 's OPTIMUM '
+    refuses_each 1 'answer: bad o value' 'o 1 2'
     in=/dev/null
     refuses_answer 1 'answer: no status line or a second one'
     (printf c; head -c 10000000 /dev/zero | tr '\0' x) > "$room/stdin"
@@ -110,8 +85,7 @@ refuses_answers() {
     holds solution nobody
     rm "$room/solution"
     for text in UNSATISFIABLE UNKNOWN UNSUPPORTED; do refuses_each 5 "solver found no roster: $text" "s $text"; done
-    refuses_each 5 'solver found no roster: UNKNOWN' $'s UNKNOWN\nv x8'
-    refuses_each 6 'constraint 1 is not satisfied' 's SATISFIABLE' $'s OPTIMUM FOUND\nv x1' $'s OPTIMUM FOUND\nv -x8'
+    refuses_each 6 'constraint 1 is not satisfied' 's SATISFIABLE'
     in=/dev/null
 }
 
@@ -141,9 +115,8 @@ fails_to_write() {
 }
 
 takes_no_other_words
-refuses_answers
+takes_and_refuses_answers
 checks_in_order
 decodes
-charges_slacks_and_shifts
 fails_to_write
 finish

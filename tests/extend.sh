@@ -6,14 +6,8 @@
 # Needs bash and the usual tools of a shell.
 . "$(dirname "$0")/kit.sh"
 
-# No day after a day, and one nurse that is needed on Tuesday.
-changed scenario.txt not_twice.txt 8 'Day 1 Day'
-changed week.txt tuesday.txt 3 'REQUIREMENTS\nDay Nurse (0,0) (1,1) (0,0) (0,0) (0,0) (0,0) (0,0)'
 solution monday_twice 'Ann Mon Day Nurse' 'Ann Mon Day Nurse'
 solution both_shifts 'Ann Mon Early Nurse' 'Ann Mon Late Nurse'
-solution both_skills 'Ann Mon Day Nurse' 'Ann Mon Day Head'
-solution monday_and_tuesday 'Ann Mon Day Nurse' 'Ann Tue Day Nurse'
-solution unknown 'Bob Mon Day Nurse'
 cat > "$room/monday_answer" <<'END'
 o 15
 s SATISFIABLE
@@ -42,16 +36,10 @@ extends() {
     run 'the roster named first' 0 nobody_answer nothing extend --from nobody "${week[@]}"
 }
 
+# Of the rosters whose outcome `rota_tests` looks at, one for each status.
 refuses_rosters() {
     refuses_roster 'two shift types on a day' 6 'roster breaks H1' two_shifts.txt both_shifts
-    refuses_roster 'two skills on a day' 6 'roster breaks H1' two_skills.txt both_skills
-    refuses_roster 'a day after a day' 6 'roster breaks H3' not_twice.txt monday_and_tuesday
-    refuses_roster 'a skill that she lacks' 6 'roster breaks H4' no_skill.txt monday
     refuses_roster 'a row twice' 1 'solution line 6: repeated' scenario.txt monday_twice
-    refuses_roster 'an unknown nurse' 1 'solution line 5: unknown name' scenario.txt unknown
-    refuses_roster 'a roster that is cut' 1 'solution line 5: end of file' scenario.txt cut
-    refuses_roster 'another file' 1 'solution line 1: another word expected' scenario.txt week.txt
-    refuses 'nobody where one is needed' 6 'roster breaks H2' extend --sce scenario.txt --his history.txt --week tuesday.txt --from monday
     refuses 'a late week first' 1 'history: week not below WEEKS' extend --sce scenario.txt --his late.txt --week week.txt --from cut
 }
 

@@ -200,54 +200,6 @@ reports() {
     run "$1" 0 "$2" nothing "${@:3}"
 }
 
-# flags_and_files WORD..: the words before the week's files, and those that name the files to the program.
-flags_and_files() {
-    flags=()
-    while [ "${1#--}" != "$1" ]; do
-        flags+=("$1")
-        [ "$1" != --fix ] || { flags+=("$2"); shift; }
-        shift
-    done
-    files=(--sce "$1" --his "$2" --week "$3")
-}
-
-# encodes WHAT MODEL [--early] [--fix FILE] SCENARIO HISTORY WEEK: the model, and its numbers by arithmetic and by counting.
-encodes() {
-    local flags files variables constraints
-    flags_and_files "${@:3}"
-    run "$1" 0 "$2" nothing encode "${flags[@]}" "${files[@]}"
-    read -r _ _ variables _ constraints < "$room/$2"
-    reports "$1, its numbers" text "${@:3}"
-    grep '^by ' "$room/out" > "$room/counts"
-    printf "by %s $variables $constraints\n" arithmetic counting > "$room/wanted"
-    holds counts wanted
-}
-
-# costs WHAT [--early] [--fix FILE] SCENARIO HISTORY WEEK ROSTER [RULE=COST]..: the roster keeps the hard rules, and costs
-# this by the judge, and by `extend` and `decode`.
-costs() {
-    local what=$1 flags files words=() penalty
-    shift
-    while [ $# -gt 0 ] && [[ $1 != S?=* ]]; do words+=("$1"); shift; done
-    local roster=${words[-1]} file
-    penalty=$(penalty_of "$@")
-    flags_and_files "${words[@]}"
-    {
-        printf 'cells %s\nunmet none\nobjective %s\n' "$(tail -n +5 "$room/$roster" | wc -l)" "$penalty"
-        costs_of "$@"
-    } > "$room/wanted"
-    reports "$what" wanted "${words[@]}"
-    run "$what, extended" 0 text nothing extend "${flags[@]}" "${files[@]}" --from "$roster"
-    [ "$(head -n 1 "$room/out")" = "o $penalty" ] || complain "$(head -n 1 "$room/out")"
-    cp "$room/out" "$room/answer"
-    report wanted SATISFIABLE "last=$penalty" "$@"
-    run "$what, decoded" 0 wanted nothing decode "${flags[@]}" "${files[@]}" --answer answer --sol solution
-    # The rows, whatever week and form the file of the roster has.
-    for file in solution "$roster"; do tail -n +5 "$room/$file" > "$room/$file.rows" 2> /dev/null; done
-    holds solution.rows "$roster.rows"
-    rm -f "$room/solution"
-}
-
 # ---- The base: a week of one nurse, one shift type and one skill, its model, and what more than one script takes of it.
 
 cp crates/inrc2pb/data/{scenario,history,week}.txt "$room"
@@ -255,26 +207,17 @@ cp crates/inrc2pb/stdout "$room/model"
 : > "$room/nothing"
 week=(--sce scenario.txt --his history.txt --week week.txt)
 
-# The rows of the unit variable and of H1: with one cell on a day, and with two.
+# The rows of the unit variable and of H1.
 tail -n +2 "$room/model" > "$room/one_cell"
-{
-    echo '+1 x15 >= 1 ;'
-    printf -- '-1 x%d -1 x%d >= -1 ;\n' {1..14}
-} > "$room/two_cells"
 
-# A shift type that nobody should work; two shift types; a nurse without a skill, and one of two skills.
+# A shift type that nobody should work; two shift types.
 changed scenario.txt closed.txt 6 'Day (1,0)'
 changed scenario.txt two_shifts.txt 5 'SHIFT_TYPES = 2' 6 'Early (1,9) Late (1,9)' 8 'Early 0 Late 0'
-changed scenario.txt no_skill.txt 12 'Ann Full 0'
-changed scenario.txt two_skills.txt 3 'SKILLS = 2' 4 'Nurse Head' 12 'Ann Full 2 Nurse Head'
 # Ten to fifteen assignments in the two weeks.
 changed scenario.txt fifteen.txt 10 'Full (10,15) (1,9) (1,9) 9 0'
-# The last week, and one after it; twelve assignments before the week.
-changed history.txt last.txt 2 '1 s1'
+# The week after the last one; twelve assignments before the week.
 changed history.txt late.txt 2 '2 s1'
 changed history.txt twelve.txt 4 'Ann 12 0 None 0 0 0'
-# Requests: of two shift types the first one twice, and any.
-changed week.txt requests.txt 4 'SHIFT_OFF_REQUESTS = 3\nAnn Early Mon\nAnn Early Mon\nAnn Any Mon'
 
 days=(Mon Tue Wed Thu Fri Sat Sun)
 mapfile -t all_days < <(printf 'Ann %s Day Nurse\n' "${days[@]}")

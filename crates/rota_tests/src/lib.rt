@@ -4,12 +4,30 @@
 // What a row of a table changes in the texts of its base.
 #[cfg(test)]
 mod changes;
+// What rosters of small weeks cost.
+#[cfg(test)]
+mod charges;
+// The counts of small weeks' models.
+#[cfg(test)]
+mod counted_weeks;
+// Answers of solvers to small weeks.
+#[cfg(test)]
+mod decoded_answers;
 // The example with which `rota_pb` opens.
 #[cfg(test)]
 mod examples;
+// Rosters of small weeks, extended.
+#[cfg(test)]
+mod extended_rosters;
 // A port of a run that fails at each of its calls in turn.
 #[cfg(test)]
 mod failing_ports;
+// Files with a fault.
+#[cfg(test)]
+mod file_faults;
+// Files without a fault.
+#[cfg(test)]
+mod good_files;
 // Runs over memory, and what they end with.
 #[cfg(test)]
 mod job_runs;
@@ -37,17 +55,3 @@ mod weeks;
 // Weeks whose models were written out by hand.
 #[cfg(test)]
 mod worked_weeks;
-// Answers to small weeks, and rosters of them.
-#[cfg(test)]
-mod decoded_answers;
-#[cfg(test)]
-mod extended_rosters;
-// What rosters cost.
-#[cfg(test)]
-mod charges;
-// Files with a fault.
-#[cfg(test)]
-mod file_faults;
-// Files without a fault.
-#[cfg(test)]
-mod good_files;

@@ -1,0 +1,26 @@
+#!/usr/bin/env bash
+# Files with a fault: the program tells the file, the line and the fault, for each file once. What each fault is, `rota_tests`
+# looks at, over memory.
+#
+#   tests/file_tables.sh [llvm | rattle | PROGRAM]
+#
+# Needs bash and the usual tools of a shell.
+. "$(dirname "$0")/kit.sh"
+
+changed scenario.txt too_many_weeks.txt 2 'WEEKS = 53'
+changed history.txt no_number.txt 4 'Ann 0 0 None 0 none 0'
+changed week.txt another_word.txt 4 'SHIFT_OFF_REQUESTS : 0'
+solution unknown 'Bob Mon Day Nurse'
+solution twice 'Ann Wed Day Nurse' 'Ann Wed Day Nurse'
+{ cat "$room/nobody"; echo more; } > "$room/more"
+{ cat "$room/scenario.txt"; head -c 4194304 /dev/zero | tr '\0' ' '; } > "$room/too_long.txt"
+
+refuses 'a scenario' 1 'scenario line 2: out of limits' encode --sce too_many_weeks.txt --his history.txt --week week.txt
+refuses 'a scenario that is too long' 1 'scenario: out of limits' encode --sce too_long.txt --his history.txt --week week.txt
+refuses 'a history' 1 'history line 4: number expected' encode --sce scenario.txt --his no_number.txt --week week.txt
+refuses 'a week' 1 'week line 4: another word expected' encode --sce scenario.txt --his history.txt --week another_word.txt
+refuses 'held cells' 1 'fix line 6: repeated' encode "${week[@]}" --fix twice
+refuses 'a roster' 1 'solution line 5: unknown name' extend "${week[@]}" --from unknown
+refuses 'a roster with text after its end' 1 'solution line 5: text after the end' extend "${week[@]}" --from more
+refuses 'a roster that is cut' 1 'solution line 5: end of file' extend "${week[@]}" --from cut
+finish
