@@ -7,8 +7,7 @@ use Rattle.rota_pb.specs.declared.fault.Fault.TheVariants.{Read}
 use Rattle.rota_pb.specs.Decoding.{DecodeOutcome}
 use Rattle.rota_pb.specs.Encoding.{EncodeOutcome}
 use Rattle.rota_pb.specs.Extending.{ExtendOutcome}
-use Rattle.rota_pb.specs.Readers.{Reader, reader_of}
-use Rattle.rota_pb.specs.Writers.{Writer}
+use Rattle.rota_pb.specs.RunPorts.{Reader, reader_of, Writer}
 use Rattle.inrc2pb_job.specs.Jobs.{paths_of, week_paths}
 use Rattle.inrc2pb_job.specs.Opened.{AreOpen, readers_of}
 use Rattle.inrc2pb_job.specs.Opening.{OpensAll, StopsOpening}

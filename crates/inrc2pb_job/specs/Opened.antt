@@ -1,7 +1,7 @@
 -- The inputs of a job, open.
 use Rattle.std.specs.Prelude.{⊤, Bool, false, List, [], Option, Some, None, option_map, string_bytes}
 use Rattle.rota_core.specs.declared.ports.Source.{Ghosts}
-use Rattle.rota_pb.specs.Readers.{WeekReaders, reader_of, week_readers}
+use Rattle.rota_pb.specs.RunPorts.{WeekReaders, reader_of, week_readers}
 use Rattle.inrc2pb_job.specs.Jobs.{IsChoiceOf}
 use Rattle.inrc2pb_job.specs.Places.{IsNew, Path, Place}
 use Rattle.inrc2pb_job.specs.declared.fix_file.FixFile.{FixFile}

@@ -2,8 +2,7 @@
 ghost use Rattle.std.specs.Prelude.{◌≡◌, None, option_map, string_bytes};
 ghost use Rattle.inrc2pb_job.specs.JobOutcomes.{Decodes, Encodes, EncodesTo, Extends, JobOutcome, opener_of};
 ghost use Rattle.inrc2pb_job.specs.Jobs.{output_path_of};
-ghost use Rattle.rota_pb.specs.Readers.{reader_of};
-ghost use Rattle.rota_pb.specs.Writers.{writer_of};
+ghost use Rattle.rota_pb.specs.RunPorts.{reader_of, writer_of};
 
 use crate::job::{Inputs, Job};
 use crate::opened::{open, open_inputs};

@@ -1,7 +1,6 @@
 //! A run over inputs that are open.
 ghost use Rattle.inrc2pb_job.specs.JobOutcomes.{DecodesOpened, EncodesOpened, ExtendsOpened};
-ghost use Rattle.rota_pb.specs.Readers.{reader_of};
-ghost use Rattle.rota_pb.specs.Writers.{writer_of};
+ghost use Rattle.rota_pb.specs.RunPorts.{reader_of, writer_of};
 
 use crate::opened::OpenInputs;
 use rota_core::{Source, Target};

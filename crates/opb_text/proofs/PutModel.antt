@@ -6,7 +6,7 @@ use Rattle.rota_core.specs.declared.ports.PortFault.{PortFault}
 use Rattle.rota_core.specs.declared.ports.Target.{Ghosts}
 use Rattle.rota_items.specs.Events.{events}
 use Rattle.rota_items.specs.Linear.{Term, Model}
-use Rattle.rota_items.specs.LinearRow.{LinearRow, linear_constraint}
+use Rattle.rota_items.specs.ModelWords.{LinearRow, linear_constraint}
 use Rattle.rota_items.specs.Objective.{objective_rows}
 use Rattle.rota_items.specs.Takes.{Took, Refused, Takes}
 use Rattle.opb_text.specs.EventText.{events_text, opb_texts, IsConstraint}

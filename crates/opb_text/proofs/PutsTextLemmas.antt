@@ -2,11 +2,10 @@
 use Rattle.std.proofs.Common.{◌≡◌, ℕ, List, ◌++◌, Bool, true, false, ◌||◌, Ok, Err, refl, sym, ap, ◌∙◌, subst}
 use Rattle.std.specs.Prelude.{Result, is_err, MatchResult, IsErr}
 use Rattle.std.specs.Io.KnownBytes.{append_known}
-use Rattle.rota_core.specs.Ports.{Told}
+use Rattle.rota_core.specs.Ports.{Told, Begins}
 use Rattle.rota_core.specs.declared.ports.PortFault.{PortFault}
 use Rattle.rota_core.specs.declared.ports.Target.{Ghosts}
 use Rattle.opb_text.specs.declared.sink.Sink.{Sink}
-use Rattle.opb_text.specs.Begins.{Begins}
 use Rattle.opb_text.specs.Sink.{FinishesSink, PutsText, stands_for, sink_failed, sent_by, target_of}
 use Rattle.opb_text.proofs.Told.{append_known-append, Begins-longer}
 

@@ -5,7 +5,7 @@ use Rattle.std.proofs.lemmas.List.{append-nil, length-map}
 use Rattle.rota_items.specs.declared.part.Part.TheVariants.{Objective}
 use Rattle.rota_items.specs.Events.{Event, close_row, term_events, row_events, events}
 use Rattle.rota_items.specs.Linear.{Term}
-use Rattle.rota_items.specs.LinearRow.{LinearRow, linear_constraint}
+use Rattle.rota_items.specs.ModelWords.{LinearRow, linear_constraint}
 use Rattle.rota_items.specs.Objective.{objective_rows}
 use Rattle.opb_text.specs.ModelText.{term_text, terms_text, constraint_line, objective_line, first_line}
 use Rattle.opb_text.specs.EventText.{is_objective, start_text, close_text, events_text, IsConstraint, EventsSpellTheirModel}

@@ -3,12 +3,11 @@ use Rattle.std.proofs.Common.{◌≡◌, ℕ, List, [], ◌∷◌, ◌++◌, Boo
 use Rattle.std.specs.Prelude.{if◌then◌else◌, MatchResult, OnOk}
 use Rattle.std.specs.List.{fold}
 use Rattle.std.specs.Io.KnownBytes.{append_known}
-use Rattle.rota_core.specs.Ports.{Told}
+use Rattle.rota_core.specs.Ports.{Told, Begins}
 use Rattle.rota_core.specs.declared.ports.PortFault.{PortFault}
 use Rattle.rota_core.specs.declared.ports.Target.{Ghosts}
 use Rattle.rota_items.specs.Events.{Event}
 use Rattle.rota_items.specs.Takes.{Took, Refused, Takes}
-use Rattle.opb_text.specs.Begins.{Begins}
 use Rattle.opb_text.specs.Sink.{PutsText, stands_for, sent_by, sink_failed, target_of}
 use Rattle.opb_text.specs.SinkTaker.{EventTexts, FailedAt, Writing, joined_texts, sink_taker, with_event, writing_into}
 use Rattle.opb_text.specs.declared.sink.Sink.{Sink}

@@ -2,8 +2,7 @@
 use Rattle.std.proofs.Common.{◌≡◌, ℕ, List, [], ◌++◌, None, Some, refl, sym, ap, ◌∙◌, append_assoc}
 use Rattle.std.specs.Io.KnownBytes.{append_known}
 use Rattle.std.proofs.lemmas.List.{append-nil}
-use Rattle.rota_core.specs.Ports.{Told}
-use Rattle.opb_text.specs.Begins.{Begins}
+use Rattle.rota_core.specs.Ports.{Told, Begins}
 
 pub append_known-nil : (told : Told) → append_known told [] ≡ told
 append_known-nil None = refl

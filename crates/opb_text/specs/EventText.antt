@@ -5,10 +5,10 @@ use Rattle.rota_items.specs.declared.part.Part.{Part}
 use Rattle.rota_items.specs.declared.part.Part.TheVariants.{Objective, Hard, Soft}
 use Rattle.rota_items.specs.Events.{Event, start_row, term, close_row, events}
 use Rattle.rota_items.specs.Linear.{Term}
-use Rattle.rota_items.specs.LinearRow.{LinearRow, linear_constraint}
+use Rattle.rota_items.specs.ModelWords.{LinearRow, linear_constraint}
 use Rattle.rota_items.specs.Objective.{objective_rows}
 use Rattle.rota_core.specs.Numeral.{signed_numeral}
-use Rattle.opb_text.specs.ModelText.{term_text, first_line, SpellsModel}
+use Rattle.opb_text.specs.ModelText.{term_text, first_line, opb_text}
 use Rattle.opb_text.specs.SinkTaker.{EventTexts, joined_texts}
 
 abbrev pub is_objective : Part → Bool
@@ -56,6 +56,5 @@ abbrev pub EventsSpellTheirModel : Type 0
 EventsSpellTheirModel =
     (variables : ℕ) (objective : List (Term ℕ)) (rows : List (LinearRow ℕ)) (before between : Bool) →
     AllByRecursion IsConstraint rows →
-    SpellsModel
-    (first_line variables (length rows) ++ events_text before (events (objective_rows objective)) ++ events_text between (events rows))
-    (record { variables = variables; objective = objective; constraints = map linear_constraint rows })
+    first_line variables (length rows) ++ events_text before (events (objective_rows objective)) ++ events_text between (events rows) ≡
+    opb_text (record { variables = variables; objective = objective; constraints = map linear_constraint rows })

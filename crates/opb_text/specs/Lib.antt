@@ -1,6 +1,6 @@
-pub mod Begins
 pub mod EventText
 pub mod ModelText
+pub mod OneModel
 pub mod OpbTaker
 pub mod Pieces
 pub mod Sink

@@ -1,5 +1,5 @@
 -- The text of a pseudo-Boolean model in the linear format of the Pseudo-Boolean Competition.
-use Rattle.std.specs.Prelude.{◌≡◌, ℕ, ℤ, pos, negsuc, List, [], ◌∷◌, ◌++◌, length, codes}
+use Rattle.std.specs.Prelude.{ℕ, ℤ, pos, negsuc, List, [], ◌∷◌, ◌++◌, length, codes}
 use Rattle.std.specs.List.{flat_map}
 use Rattle.rota_core.specs.Numeral.{numeral, signed_numeral}
 use Rattle.rota_items.specs.Linear.{Term, Constraint, Model}
@@ -34,12 +34,3 @@ first_line variables constraints =
 abbrev pub opb_text : Model → List ℕ
 opb_text model =
     first_line model.variables (length model.constraints) ++ objective_line model.objective ++ flat_map constraint_line model.constraints
-
--- the text is that of the model
-abbrev pub SpellsModel : List ℕ → Model → Type 0
-SpellsModel text model = text ≡ opb_text model
-
--- no text is that of two models
-abbrev pub EachTextSpellsOneModel : Type 0
-EachTextSpellsOneModel =
-    (text : List ℕ) (first second : Model) → SpellsModel text first → SpellsModel text second → first ≡ second

@@ -1,10 +1,9 @@
 -- What a sink stands for, what putting a text into it does, and what finishing it does.
 use Rattle.std.specs.Prelude.{◌≡◌, ℕ, List, Bool, true, ◌||◌, Result, is_err, IsErr, MatchResult, OnOk}
 use Rattle.std.specs.Io.KnownBytes.{append_known}
-use Rattle.rota_core.specs.Ports.{Told, told_len}
+use Rattle.rota_core.specs.Ports.{Told, told_len, Begins}
 use Rattle.rota_core.specs.declared.ports.PortFault.{PortFault}
 use Rattle.rota_core.specs.declared.ports.Target.{Ghosts}
-use Rattle.opb_text.specs.Begins.{Begins}
 use Rattle.opb_text.specs.declared.sink.Sink.{Sink}
 
 module _ {W : Type 0} {target : Ghosts W} where

@@ -1,12 +1,11 @@
 -- What a taker of rows stands for that puts a text for each event into a sink.
 use Rattle.std.specs.Prelude.{◌≡◌, ℕ, Bool, true, if◌then◌else◌, Option, Some, None, List, [], ◌∷◌, ◌++◌}
 use Rattle.std.specs.Io.KnownBytes.{append_known}
-use Rattle.rota_core.specs.Ports.{Told}
+use Rattle.rota_core.specs.Ports.{Told, Begins}
 use Rattle.rota_core.specs.declared.ports.PortFault.{PortFault}
 use Rattle.rota_core.specs.declared.ports.Target.{Ghosts}
 use Rattle.rota_items.specs.Events.{Event}
 use Rattle.rota_items.specs.declared.takers.Taker.{Ghosts as TakerGhosts}
-use Rattle.opb_text.specs.Begins.{Begins}
 use Rattle.opb_text.specs.Sink.{stands_for, sent_by, sink_failed, target_name, target_of}
 use Rattle.opb_text.specs.declared.sink.Sink.{Sink}
 

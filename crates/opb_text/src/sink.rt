@@ -2,7 +2,7 @@
 ghost use Rattle.std.specs.Prelude.{◌||◌, is_err, ◌≡◌, true, false, [], ◌++◌, OnOk, OnErr, IsErr};
 ghost use Rattle.rota_core.specs.Numeral.{numeral, signed_numeral};
 ghost use Rattle.std.specs.Io.KnownBytes.{append_known};
-ghost use Rattle.opb_text.specs.Begins.{Begins};
+ghost use Rattle.rota_core.specs.Ports.{Begins};
 ghost use Rattle.opb_text.specs.Pieces.{piece_text, pieces_text};
 ghost use Rattle.opb_text.specs.TermText.{unit_text};
 

@@ -1,5 +1,5 @@
 //! What the text of a model says of the model and of its rows.
-ghost use Rattle.opb_text.specs.ModelText.{EachTextSpellsOneModel};
+ghost use Rattle.opb_text.specs.OneModel.{EachTextSpellsOneModel};
 ghost use Rattle.opb_text.specs.EventText.{EventsSpellTheirModel};
 
 /// A text is that of one model at most.

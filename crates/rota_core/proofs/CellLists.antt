@@ -6,9 +6,9 @@ use Rattle.std.proofs.lemmas.Nat.{mul-add-lt, same_from_place}
 use Rattle.rota_core.specs.declared.values.Cell.{Cell}
 use Rattle.rota_core.specs.Lists.{only_if}
 use Rattle.rota_core.specs.Roster.{Roster, Has}
-use Rattle.rota_core.specs.RosterCells.{cells_of}
+use Rattle.rota_core.specs.RosterCells.{cells_of, cell_at}
 use Rattle.rota_core.specs.HardRules.{KeepsOneCell}
-use Rattle.rota_core.specs.RosterTables.{cell_at, cell_place, place_count}
+use Rattle.rota_core.specs.RosterTables.{cell_place, place_count}
 use Rattle.rota_core.specs.Week.{Week}
 use Rattle.rota_core.proofs.CellPlaces.{cell_at-in, cell_at-place, place-cell_at}
 use Rattle.rota_core.proofs.CellsByPlace.{cell_if_in, cells_of-by_place}

@@ -3,7 +3,8 @@ use Rattle.std.proofs.Common.{◌≡◌, ℕ, ◌+◌, ◌*◌, ◌/◌, ◌%◌
 use Rattle.std.proofs.lemmas.Nat.{div-mul-add, mod-mul-add, div-add-mod'}
 use Rattle.std.proofs.Math.Nat.{div-lt_iff_lt-mul, mod-lt}
 use Rattle.rota_core.specs.Roster.{InWeek, cell}
-use Rattle.rota_core.specs.RosterTables.{cell_at, cell_place, place_count}
+use Rattle.rota_core.specs.RosterTables.{cell_place, place_count}
+use Rattle.rota_core.specs.RosterCells.{cell_at}
 use Rattle.rota_core.specs.Week.{Week}
 
 -- at the place of a cell there is that cell

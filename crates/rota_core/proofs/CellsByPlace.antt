@@ -9,9 +9,9 @@ use Rattle.rota_core.specs.Bits.{true_from}
 use Rattle.rota_core.specs.Lists.{each_below, only_if}
 use Rattle.rota_core.specs.Roster.{Roster, cell}
 use Rattle.rota_core.specs.declared.values.Cell.{Cell}
-use Rattle.rota_core.specs.RosterCells.{cells_in, cells_of}
-use Rattle.rota_core.specs.RosterTables.{RosterTables, HasShapeOf, cell_at, place_count, set_of}
-use Rattle.rota_core.specs.RosterCalls.{ArePlaces, HoldsRoster}
+use Rattle.rota_core.specs.RosterCells.{cells_of, cell_at}
+use Rattle.rota_core.specs.RosterCalls.{cells_in, ArePlaces, HoldsRoster}
+use Rattle.rota_core.specs.RosterTables.{RosterTables, HasShapeOf, place_count, set_of}
 use Rattle.rota_core.specs.Week.{Week}
 use Rattle.rota_core.proofs.CellPlaces.{cell_at-place, place-cell_at}
 use Rattle.rota_core.proofs.Loops.{each_below-grid, each_below-same}

@@ -7,9 +7,9 @@ use Rattle.std.specs.Prelude.{Option}
 use Rattle.rota_core.specs.declared.values.Cell.{Cell}
 use Rattle.rota_core.specs.InstanceTables.{InstanceTables, IsInstance, set_of_held, week_of}
 use Rattle.rota_core.specs.Roster.{InWeek}
-use Rattle.rota_core.specs.RosterCells.{cells_in, cells_of}
+use Rattle.rota_core.specs.RosterCells.{cells_of}
+use Rattle.rota_core.specs.RosterCalls.{cells_in, InShape, count_of}
 use Rattle.rota_core.specs.RosterTables.{RosterTables, HasShapeOf}
-use Rattle.rota_core.specs.RosterCalls.{InShape, count_of}
 use Rattle.rota_core.proofs.CellLists.{all-cells_of}
 use Rattle.rota_core.proofs.CellsByPlace.{cells_in-is}
 use Rattle.rota_core.proofs.RosterCount.{count-cells_of, cells_of-none}

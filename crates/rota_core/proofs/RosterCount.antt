@@ -8,10 +8,10 @@ use Rattle.std.proofs.lemmas.List.Folds.{fold-map}
 use Rattle.std.proofs.lemmas.List.FromFn.{fill_by_all}
 use Rattle.std.proofs.lemmas.List.Sums.{length-filter}
 use Rattle.rota_core.specs.Bits.{true_from}
-use Rattle.rota_core.specs.RosterTables.{RosterTables, HasShapeOf, IsRoster, cell_at, set_of, place_count}
-use Rattle.rota_core.specs.RosterCalls.{count_of}
+use Rattle.rota_core.specs.RosterTables.{RosterTables, HasShapeOf, IsRoster, set_of, place_count}
+use Rattle.rota_core.specs.RosterCells.{cell_at, cells_of}
+use Rattle.rota_core.specs.RosterCalls.{cells_in, count_of}
 use Rattle.rota_core.specs.Week.{Week}
-use Rattle.rota_core.specs.RosterCells.{cells_in, cells_of}
 use Rattle.rota_core.proofs.CellLists.{all-cells_of}
 use Rattle.rota_core.proofs.CellsByPlace.{cells_in-is, cells-at_places}
 

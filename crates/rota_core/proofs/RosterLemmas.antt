@@ -3,7 +3,8 @@ use Rattle.std.proofs.Common.{◌≡◌, ℕ, ◌+◌, ◌*◌, ◌<◌, Bool, t
 use Rattle.std.proofs.lemmas.List.{get_or-take, get_or-set_same, get_or-set_other}
 use Rattle.std.proofs.lemmas.Nat.{mul-add-lt}
 use Rattle.rota_core.specs.declared.values.Cell.{Cell}
-use Rattle.rota_core.specs.RosterTables.{RosterTables, cell_at, cell_place, place_count, set_of}
+use Rattle.rota_core.specs.RosterTables.{RosterTables, cell_place, place_count, set_of}
+use Rattle.rota_core.specs.RosterCells.{cell_at}
 use Rattle.rota_core.specs.RosterCalls.{InShape, AddsCell, HoldsRoster, roster_tables}
 use Rattle.rota_core.proofs.CellPlaces.{cell_at-place}
 

@@ -1,7 +1,5 @@
 -- The days of a roster, and the rules that it must keep.
 use Rattle.std.specs.Prelude.{◌≡◌, ℕ, ◌+◌, ◌<◌, ◌≤◌, Bool, true, false, not, Some}
-use Rattle.rota_core.specs.declared.rule.Rule.{Rule}
-use Rattle.rota_core.specs.declared.rule.Rule.TheVariants.{H1, H2, H3, H4, H5}
 use Rattle.rota_core.specs.Below.{count_below, any_below}
 use Rattle.rota_core.specs.declared.values.Cell.{Cell}
 use Rattle.rota_core.specs.Week.{Week}
@@ -62,15 +60,3 @@ pub record KeepsCompetitionRules (week : Week) (roster : Roster) : Type 0 where
 pub record KeepsHardRules (week : Week) (roster : Roster) : Type 0 where
   pub of_competition : KeepsCompetitionRules week roster
   pub held : KeepsHeld week roster
-
--- the rule is the first, in their order, that the roster breaks
-abbrev pub FirstBroken : Week → Roster → Rule → Type 0
-FirstBroken week roster H1 = KeepsOneCell week roster → ⊥
-FirstBroken week roster H2 = KeepsOneCell week roster × (KeepsMinimum week roster → ⊥)
-FirstBroken week roster H3 =
-    KeepsOneCell week roster × KeepsMinimum week roster × (KeepsSuccession week roster → ⊥)
-FirstBroken week roster H4 =
-    KeepsOneCell week roster × KeepsMinimum week roster × KeepsSuccession week roster ×
-    (KeepsSkills week roster → ⊥)
-FirstBroken week roster H5 = KeepsCompetitionRules week roster × (KeepsHeld week roster → ⊥)
-FirstBroken week roster _ = ⊥

@@ -43,17 +43,10 @@ set_of_held (Some roster) = set_of roster
 
 -- what the tables say of the week
 abbrev pub week_of : InstanceTables → Week
-week_of t = record {
-  nurses = length t.scenario.nurses;
-  shifts = length t.scenario.shifts;
-  skills = length t.scenario.skills;
+week_of t = record (bare_week t.scenario) {
   is_last = t.history.week + 1 == t.scenario.weeks;
   is_early = t.is_early;
-  has_skill = (bare_week t.scenario).has_skill;
   demand = λ d s k. slice_index_or t.week.demands ((d * length t.scenario.shifts + s) * length t.scenario.skills + k) no_demand;
-  is_forbidden = (bare_week t.scenario).is_forbidden;
-  limits = (bare_week t.scenario).limits;
-  contract = (bare_week t.scenario).contract;
   past = λ n. slice_index_or t.history.past n no_past;
   requests = λ n d s. slice_index_or t.week.requests ((n * 7 + d) * length t.scenario.shifts + s) 0;
   is_held = set_of_held t.held;

@@ -5,9 +5,9 @@ pub mod HardRules
 pub mod InstanceTables
 pub mod Lists
 pub mod MemoryPorts
-pub mod Names
 pub mod Numeral
 pub mod Parts
+pub mod PortCalls
 pub mod Ports
 pub mod Roster
 pub mod RosterCalls

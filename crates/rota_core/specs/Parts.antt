@@ -1,13 +1,18 @@
 -- The tables that parts hold.
-use Rattle.std.specs.Prelude.{Bool, Option}
+use Rattle.std.specs.Prelude.{Bool, Option, ℕ, List, map}
 use Rattle.rota_core.specs.RosterTables.{RosterTables}
-use Rattle.rota_core.specs.Names.{bytes_of}
 use Rattle.rota_core.specs.ScenarioTables.{ScenarioTables}
 use Rattle.rota_core.specs.InstanceTables.{InstanceTables}
 use Rattle.rota_core.specs.WeekTables.{HistoryTables, WeekTables}
 use Rattle.rota_core.specs.declared.history.HistoryParts.{HistoryParts}
 use Rattle.rota_core.specs.declared.scenario.ScenarioParts.{ScenarioParts}
 use Rattle.rota_core.specs.declared.week.WeekParts.{WeekParts}
+use Rattle.std.specs.declared.vec.Vec.{Vec}
+use Rattle.indexmap.specs.IndexSet.{IndexSet}
+
+-- the bytes of the names
+abbrev pub bytes_of : {Z S : Type 0} → IndexSet (Vec ℕ Z) S → List (List ℕ)
+bytes_of names = map (λ name. name.items) names.keys
 
 abbrev pub scenario_of : ScenarioParts → ScenarioTables
 scenario_of parts = record {

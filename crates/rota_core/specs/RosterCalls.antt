@@ -5,6 +5,7 @@ use Rattle.rota_core.specs.declared.values.Cell.{Cell}
 use Rattle.rota_core.specs.Roster.{cell}
 use Rattle.rota_core.specs.ScenarioTables.{Within}
 use Rattle.rota_core.specs.RosterTables.{RosterTables, place_count, set_of}
+use Rattle.rota_core.specs.Lists.{each_below, only_if}
 
 -- how many cells are in the roster
 abbrev pub count_of : RosterTables → ℕ
@@ -51,3 +52,9 @@ pub record ArePlaces (shifts skills : ℕ) (places : List ℕ) : Type 0 where
   pub shifts_in : Within 16 shifts
   pub skills_in : Within 16 skills
   pub below : AllByRecursion (λ place. place < place_count 1000 shifts skills) places
+
+-- those of a roster's tables
+unfoldable pub cells_in : RosterTables → List Cell
+cells_in t =
+    each_below t.nurses (λ n. each_below 7 (λ d. each_below t.shifts (λ s. each_below t.skills (λ k.
+    only_if (set_of t (cell n d s k)) (cell n d s k)))))

@@ -1,5 +1,5 @@
 -- What a roster holds: a set of cells, within the numbers of an instance.
-use Rattle.std.specs.Prelude.{◌≡◌, ℕ, ◌+◌, ◌*◌, ◌/◌, ◌%◌, Bool, false, List, length, slice_index_or}
+use Rattle.std.specs.Prelude.{◌≡◌, ℕ, ◌+◌, ◌*◌, Bool, false, List, length, slice_index_or}
 use Rattle.rota_core.specs.declared.values.Cell.{Cell}
 use Rattle.rota_core.specs.Roster.{Roster, cell}
 use Rattle.rota_core.specs.ScenarioTables.{Within}
@@ -15,11 +15,6 @@ pub record RosterTables : Type 0 where
 -- the place of a cell, where there are these numbers of shift types and skills
 abbrev pub cell_place : ℕ → ℕ → Cell → ℕ
 cell_place shifts skills cell = ((cell.nurse * 7 + cell.day) * shifts + cell.shift) * skills + cell.skill
-
--- the cell at a place
-abbrev pub cell_at : ℕ → ℕ → ℕ → Cell
-cell_at shifts skills place =
-    cell (place / skills / shifts / 7) (place / skills / shifts % 7) (place / skills % shifts) (place % skills)
 
 -- the number of the cells, in the roster or not
 abbrev pub place_count : ℕ → ℕ → ℕ → ℕ

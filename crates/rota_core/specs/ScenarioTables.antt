@@ -4,8 +4,7 @@ use Rattle.std.specs.List.{AllByRecursion, IsDistinct}
 use Rattle.std.specs.Str.{bytes_eq}
 use Rattle.rota_core.specs.declared.values.Span.{Span}
 use Rattle.rota_core.specs.declared.values.Contract.{Contract}
-use Rattle.rota_core.specs.Names.{is_among}
-use Rattle.rota_core.specs.Words.{IsWord}
+use Rattle.rota_core.specs.Words.{is_among, IsWord}
 
 -- The rows of a scenario. Place s*S+t of `forbidden` says whether t may not follow s, and place n*K+k of `has_skill` whether nurse
 -- n has skill k, where there are S shift types and K skills.

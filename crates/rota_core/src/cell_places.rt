@@ -1,6 +1,7 @@
 //! The places of the cells, by which rosters hold them and models number them.
 ghost use Rattle.std.specs.Prelude.{◌≡◌, ◌<◌, ◌≤◌};
-ghost use Rattle.rota_core.specs.RosterTables.{cell_at, cell_place, place_count};
+ghost use Rattle.rota_core.specs.RosterTables.{cell_place, place_count};
+ghost use Rattle.rota_core.specs.RosterCells.{cell_at};
 
 use crate::instance::Instance;
 use crate::values::Cell;

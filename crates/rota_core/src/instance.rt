@@ -1,7 +1,7 @@
 //! An instance: one week of a rostering problem, with what the weeks before left.
 
 ghost use Rattle.std.specs.Prelude.{◌≡◌, ◌<◌, ◌≤◌, ◌↔◌, None, IfOk, IfErr, IfSome, IsErr, All, length, slice_get};
-ghost use Rattle.rota_core.specs.Names.{place_of};
+ghost use Rattle.rota_core.specs.Words.{place_of};
 ghost use Rattle.rota_core.specs.ScenarioTables.{Within};
 
 use crate::fault::{FileFault, FileName, Kind};

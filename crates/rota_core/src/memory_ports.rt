@@ -1,6 +1,6 @@
 //! Ports over memory, for tests.
 ghost use Rattle.std.specs.Prelude.{◌≡◌, ◌<◌, ◌≤◌, ◌+◌, ◌-◌, ◌||◌, Bool, true, false, nat_eq, Some, [], length, is_err, IfOk, IfErr, IsOk, IsErr, OnOk, MatchResult, vec_len, vec_capacity};
-ghost use Rattle.rota_core.specs.Ports.{LeavesAfterRead, SendsOnWrite, says_end};
+ghost use Rattle.rota_core.specs.PortCalls.{LeavesAfterRead, SendsOnWrite, says_end};
 
 use crate::ports::{PortFault, Source, Target};
 use std::alloc::{AllocError, Global};

@@ -1,6 +1,7 @@
 //! Where bytes come from and go to.
 ghost use Rattle.std.specs.Prelude.{◌≡◌, ℕ, ◌<◌, ◌≤◌, Bool, ◌||◌, Option, List, Some, codes, length, is_err, true, false, IsErr, IsOk, IfOk, IfErr, OnOk, MatchResult};
-ghost use Rattle.rota_core.specs.Ports.{Told, told_len, LeavesAfterRead, SendsOnWrite, says_end};
+ghost use Rattle.rota_core.specs.Ports.{Told, told_len};
+ghost use Rattle.rota_core.specs.PortCalls.{LeavesAfterRead, SendsOnWrite, says_end};
 
 use std::error::Error;
 use std::fmt;

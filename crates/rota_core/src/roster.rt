@@ -34,9 +34,8 @@ impl Model for Roster {
 
 impl Roster {
     ghost use Rattle.rota_core.specs.RosterTables.{set_of, HasShapeOf, IsRoster};
-    ghost use Rattle.rota_core.specs.RosterCalls.{count_of, InShape, AddsCell};
+    ghost use Rattle.rota_core.specs.RosterCalls.{count_of, InShape, AddsCell, cells_in};
     ghost use Rattle.rota_core.specs.Roster.{InWeek};
-    ghost use Rattle.rota_core.specs.RosterCells.{cells_in};
     ghost use Rattle.rota_core.specs.InstanceTables.{week_of};
 
     /// The roster of the instance's shape with no cell.

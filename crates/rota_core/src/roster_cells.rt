@@ -1,7 +1,7 @@
 //! The cells of a roster, one after another.
 ghost use Rattle.std.specs.Prelude.{◌≡◌, [], map};
 ghost use Rattle.std.specs.Iterator.{YieldsFirst, item_count};
-ghost use Rattle.rota_core.specs.RosterTables.{cell_at};
+ghost use Rattle.rota_core.specs.RosterCells.{cell_at};
 ghost use Rattle.rota_core.specs.RosterCalls.{ArePlaces};
 
 use crate::cell_places::cell_of_place;
@@ -20,7 +20,7 @@ pub struct Cells<'a> {
 
 impl<'a> Model for Cells<'a> {
     ghost use Rattle.std.specs.Prelude.{List, map};
-    ghost use Rattle.rota_core.specs.RosterTables.{cell_at};
+    ghost use Rattle.rota_core.specs.RosterCells.{cell_at};
     ghost use Rattle.rota_core.specs.RosterCalls.{ArePlaces, places_given};
     ghost use Rattle.rota_core.specs.declared.values.Cell.{Cell};
 

@@ -1,7 +1,7 @@
 //! A scenario: what all weeks share.
 
 ghost use Rattle.std.specs.Prelude.{◌≡◌, ◌<◌, length, slice_get};
-ghost use Rattle.rota_core.specs.Names.{place_of};
+ghost use Rattle.rota_core.specs.Words.{place_of};
 
 use crate::names::{name_at, place_of_name};
 use crate::values::{Contract, Span};

@@ -1,7 +1,7 @@
 //! The standard library's readers and writers as ports. They tell no bytes.
 ghost use Rattle.std.specs.Prelude.{◌≡◌, ◌<◌, ◌≤◌, ◌||◌, None, true, false, length, is_err, IfOk, IsErr, IsOk, Ok, MatchResult};
 ghost use Rattle.std.specs.Io.KnownBytes.{Keeps, ReadConsumes, WriteAppends};
-ghost use Rattle.rota_core.specs.Ports.{LeavesAfterRead, SendsOnWrite, says_end};
+ghost use Rattle.rota_core.specs.PortCalls.{LeavesAfterRead, SendsOnWrite, says_end};
 ghost use Rattle.rota_core.specs.StdPorts.{IsUnasked};
 
 use crate::ports::{PortFault, Source, Target};

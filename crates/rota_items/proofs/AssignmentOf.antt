@@ -6,9 +6,9 @@ use Rattle.rota_core.specs.Roster.{Roster, InWeek}
 use Rattle.rota_core.specs.RosterTables.{RosterTables, HasShapeOf, cell_place, set_of}
 use Rattle.rota_core.specs.Week.{Week}
 use Rattle.rota_core.specs.declared.values.Cell.{Cell}
-use Rattle.rota_items.specs.Variables.{cell_number, cell_of_number, unit_number}
+use Rattle.rota_items.specs.Variables.{cell_number, unit_number}
+use Rattle.rota_items.specs.WeekModel.{cell_of_number, assignment_of}
 use Rattle.rota_items.proofs.Numbers.{cell_number-below, cell_number-of, cell_of-cell_number}
-use Rattle.rota_items.specs.WeekModel.{assignment_of}
 
 pub assignment_of-cell : (week : Week) (roster : Roster) (one : Cell) → InWeek week one →
     assignment_of week roster (cell_number week one) ≡ roster one

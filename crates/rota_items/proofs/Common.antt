@@ -9,7 +9,7 @@ pub use Rattle.rota_core.specs.declared.values.Cell.{Cell}
 pub use Rattle.rota_items.specs.CellEvents.{cell_row_events, cell_term_events, coefficient_of, sum_events}
 pub use Rattle.rota_items.specs.ItemTakes.{TookItems}
 pub use Rattle.rota_items.specs.ItemValues.{charged_items, item_of, property_of, runs_of}
-pub use Rattle.rota_items.specs.Items.{Item}
+pub use Rattle.rota_items.specs.ModelWords.{Item}
 pub use Rattle.rota_items.specs.RunItems.{Runs, day_terms, run_items}
-pub use Rattle.rota_items.specs.Slacks.{slack_count}
+pub use Rattle.rota_items.specs.WeekModel.{slack_count}
 pub use Rattle.rota_items.specs.Takes.{Took}

@@ -11,7 +11,7 @@ use Rattle.rota_core.specs.declared.values.Span.{Span}
 use Rattle.rota_core.specs.Below.{sum_below}
 use Rattle.rota_items.proofs.ListSums.{sum_by-only_if}
 use Rattle.rota_items.proofs.SumsBelow.{sum_by-each-is}
-use Rattle.rota_items.specs.RunPatterns.{PatternDay, Pattern, with_property, without_property, days_with, window, windows_on, closed_pattern, closed_patterns_at, closed_patterns_on, edge_pattern, edge_patterns_on, patterns_on}
+use Rattle.rota_items.specs.RunItems.{PatternDay, Pattern, with_property, without_property, days_with, window, windows_on, closed_pattern, closed_patterns_at, closed_patterns_on, edge_pattern, edge_patterns_on, patterns_on}
 use Rattle.rota_items.specs.Runs.{run_length_before, is_over, missing_on}
 
 -- whether the day is as the pattern says

@@ -7,8 +7,7 @@ use Rattle.std.proofs.lemmas.List.Sums.{sum_by-cons, sum_by-append}
 use Rattle.rota_core.specs.Week.{Week}
 use Rattle.rota_items.specs.ItemValues.{property_of, is_plain_of, days_of, pattern_of, charged_items}
 use Rattle.rota_core.specs.Lists.{only_if}
-use Rattle.rota_items.specs.RunItems.{is_plain, day_terms}
-use Rattle.rota_items.specs.RunPatterns.{PatternDay, with_property, without_property, days_with}
+use Rattle.rota_items.specs.RunItems.{is_plain, day_terms, PatternDay, with_property, without_property, days_with}
 use Rattle.rota_items.specs.declared.items.soft_item.DayPattern.{DayPattern}
 use Rattle.rota_items.specs.declared.items.soft_item.RunCharge.{RunCharge}
 use Rattle.rota_items.specs.declared.items.soft_item.DayProperty.{DayProperty}

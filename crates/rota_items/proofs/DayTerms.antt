@@ -13,7 +13,7 @@ use Rattle.rota_items.specs.Events.{Event}
 use Rattle.rota_items.specs.Linear.{Term}
 use Rattle.rota_core.specs.Lists.{only_if}
 use Rattle.rota_items.specs.ItemValues.{days_of}
-use Rattle.rota_items.specs.RunPatterns.{PatternDay, with_property, without_property, days_with}
+use Rattle.rota_items.specs.RunItems.{PatternDay, with_property, without_property, days_with}
 use Rattle.rota_items.specs.Takes.{Took, Refused, Takes}
 use Rattle.rota_items.specs.declared.items.soft_item.DayPattern.{DayPattern}
 use Rattle.rota_items.specs.declared.takers.Taker.{Ghosts}

@@ -10,7 +10,7 @@ use Rattle.rota_core.proofs.Loops.{AllByRecursion-append, AllByRecursion-each_be
 use Rattle.rota_core.specs.Lists.{each_below}
 use Rattle.rota_items.proofs.ListLengths.{length-each_below_both}
 use Rattle.rota_items.specs.Bounds.{most_run_items}
-use Rattle.rota_items.specs.RunPatterns.{PatternDay, Pattern, with_property, without_property, window, windows_on, windows, closed_pattern, closed_patterns_at, closed_patterns_on, edge_pattern, edge_patterns_on, patterns_on, patterns}
+use Rattle.rota_items.specs.RunItems.{PatternDay, Pattern, with_property, without_property, window, windows_on, windows, closed_pattern, closed_patterns_at, closed_patterns_on, edge_pattern, edge_patterns_on, patterns_on, patterns}
 use Rattle.rota_items.specs.RunItemParts.{DaysFollow}
 
 -- ---- the days

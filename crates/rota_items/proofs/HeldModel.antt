@@ -6,7 +6,8 @@ use Rattle.std.proofs.lemmas.List.Concat.{length-flat_map}
 use Rattle.rota_core.specs.RosterCells.{cells_of}
 use Rattle.rota_core.specs.declared.rule.Rule.TheVariants.{H5}
 use Rattle.rota_core.proofs.RosterCount.{cells_of-none}
-use Rattle.rota_items.specs.hard.Held.{h5_row, h5_rows, without_held}
+use Rattle.rota_items.specs.HardRows.{h5_row, h5_rows}
+use Rattle.rota_items.specs.Standing.{without_held}
 use Rattle.rota_items.proofs.HardRules.EachRule.{rows-are}
 use Rattle.rota_items.proofs.HardRules.Held.{held}
 use Rattle.rota_items.proofs.HardRules.OneCell.{one_cell}

@@ -11,12 +11,11 @@ use Rattle.rota_items.proofs.NurseItemLists.{have_one-runs, one_slack-each}
 use Rattle.rota_items.proofs.SlackBound.{items-few, variables_fit}
 use Rattle.rota_items.specs.Charges.{soft_items}
 use Rattle.rota_items.specs.ItemCounting.{ItemNumbers, sum_within, with_one}
-use Rattle.rota_items.specs.Items.{Item, numbered}
+use Rattle.rota_items.specs.ModelWords.{Item, numbered}
 use Rattle.rota_items.specs.Limits.{word_limit}
 use Rattle.rota_items.specs.ItemTaking.{numbered_list}
-use Rattle.rota_items.specs.RunItems.{Runs, pattern_item, run_items}
-use Rattle.rota_items.specs.RunPatterns.{patterns, windows}
-use Rattle.rota_items.specs.Slacks.{slack_count}
+use Rattle.rota_items.specs.RunItems.{Runs, pattern_item, run_items, patterns, windows}
+use Rattle.rota_items.specs.WeekModel.{slack_count}
 use Rattle.rota_items.specs.Variables.{cell_number}
 
 sum_within-none : (n : ℕ) → n < word_limit → n ≡ sum_within n 0

@@ -5,9 +5,9 @@ use Rattle.std.proofs.lemmas.List.Sums.{sum_by-cons, sum_by-append}
 use Rattle.rota_core.specs.declared.values.Cell.{Cell}
 use Rattle.rota_items.proofs.ListSums.{sum_by-map}
 use Rattle.rota_items.specs.Events.{term, term_events}
-use Rattle.rota_items.specs.Items.{Item, numbered}
+use Rattle.rota_items.specs.ModelWords.{Item, numbered}
 use Rattle.rota_items.specs.Linear.{Term}
-use Rattle.rota_items.specs.Slacks.{slack_count}
+use Rattle.rota_items.specs.WeekModel.{slack_count}
 
 -- ---- how many slacks
 

@@ -6,7 +6,7 @@ use Rattle.std.proofs.lemmas.List.Elements.{All-nil, All-cons, All-head, All-tai
 use Rattle.std.proofs.Math.Nat.{mul-le-mul_left}
 use Rattle.rota_items.proofs.PatternItems.{value_of-append}
 use Rattle.rota_items.proofs.TermsHold.{value_of-agree}
-use Rattle.rota_items.specs.Slacks.{is_slack_needed, extension}
+use Rattle.rota_items.specs.WeekModel.{is_slack_needed, extension}
 
 -- variables with one coefficient give it once for each that is true
 pub value_of-weight : (assignment : ℕ → Bool) (w : ℕ) (variables : List ℕ) →

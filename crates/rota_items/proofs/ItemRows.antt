@@ -11,12 +11,11 @@ use Rattle.rota_items.proofs.Taking.{Refused-before, Refused-after}
 use Rattle.rota_items.specs.Charges.{soft_items}
 use Rattle.rota_items.specs.Events.{Event, events, term_events}
 use Rattle.rota_items.specs.ItemRows.{Handing, StopsAt, row_of_item, slacks_within, weights_of_item, with_item, within_numbers}
-use Rattle.rota_items.specs.Items.{Item}
+use Rattle.rota_items.specs.ModelWords.{Item}
 use Rattle.rota_items.specs.Limits.{word_limit}
-use Rattle.rota_items.specs.Slacks.{item_rows, slack_count, slack_weights}
+use Rattle.rota_items.specs.WeekModel.{item_rows, slack_count, slack_weights, first_slack, numbered_items}
 use Rattle.rota_items.specs.Takes.{Took, Refused, Takes, TookAll, RefusedOne, TakesAll}
-use Rattle.rota_items.specs.Variables.{cell_number, first_slack}
-use Rattle.rota_items.specs.WeekModel.{numbered_items}
+use Rattle.rota_items.specs.Variables.{cell_number}
 use Rattle.rota_items.specs.declared.takers.Taker.{Ghosts}
 
 -- the slacks of the items have numbers of variables, from this one on

@@ -9,9 +9,7 @@ use Rattle.rota_items.proofs.SmallSums.{positive_part-parts, spread}
 use Rattle.rota_items.proofs.SumsBelow.{length-at_most}
 use Rattle.rota_items.specs.Bounds.{heaviest, most_cells_of_day, most_run_items, most_slacks, most_terms, most_weight}
 use Rattle.rota_items.specs.Limits.{most_number, most_nurses, most_shifts, most_skills}
-use Rattle.rota_items.specs.RunItems.{Present, Property, Runs, day_terms, is_plain, pattern_item, run_items, variables_on}
-use Rattle.rota_items.specs.RunPatterns.{Pattern, PatternDay, patterns, windows}
-use Rattle.rota_items.specs.WeekendItems.{only_sunday, saturday, weekend_items}
+use Rattle.rota_items.specs.RunItems.{Present, Property, Runs, day_terms, is_plain, pattern_item, run_items, variables_on, Pattern, PatternDay, patterns, windows, only_sunday, saturday, weekend_items}
 
 -- an item of this rule has small numbers
 pub record IsItemSmall (rule : Rule) (item : Item Cell) : Type 0 where

@@ -5,7 +5,7 @@ use Rattle.std.specs.Int.{saturate_signed}
 use Rattle.std.proofs.lemmas.Bool.Decides.{nat_tests}
 use Rattle.rota_core.specs.RosterTables.{RosterTables}
 use Rattle.rota_items.specs.Judging.{Subject, assigned, extended, assignment_in, counts_for, lacking_in, tallied, true_slacks}
-use Rattle.rota_items.specs.Variables.{truth_of}
+use Rattle.rota_items.specs.Truths.{truth_of}
 use Rattle.rota_items.proofs.Extension.{extension-below}
 use Rattle.rota_items.proofs.ItemLaw.{IsExtension, count-front, needed-first, needed-after, value_of-item_constraint, value_of-weight}
 use Rattle.rota_items.proofs.FirstUnmet.{Named}

@@ -7,11 +7,10 @@ use Rattle.rota_core.specs.Week.{Week}
 use Rattle.rota_core.specs.declared.rule.Rule.{Rule}
 use Rattle.rota_core.specs.declared.rule.Rule.TheVariants.{S1}
 use Rattle.rota_core.specs.declared.values.Cell.{Cell}
-use Rattle.rota_items.specs.Items.{Item}
+use Rattle.rota_items.specs.ModelWords.{Item}
 use Rattle.rota_items.specs.Charges.{nurse_items, items_of_rule}
-use Rattle.rota_items.specs.RunItems.{Runs, pattern_items, run_items}
-use Rattle.rota_items.specs.RunPatterns.{Pattern, patterns, windows}
-use Rattle.rota_items.specs.Slacks.{slack_count}
+use Rattle.rota_items.specs.RunItems.{Runs, pattern_items, run_items, Pattern, patterns, windows}
+use Rattle.rota_items.specs.WeekModel.{slack_count}
 
 pub none-each_below : {A : Type 0} (n : ℕ) → [] ≡ each_below n (λ _. let none : List A = [] in none)
 unfolding each_below

@@ -13,7 +13,7 @@ use Rattle.rota_items.proofs.Taking.{nothing, terms_join}
 use Rattle.rota_items.specs.CellEvents.{cell_term_events}
 use Rattle.rota_items.specs.Events.{Event, term, term_events}
 use Rattle.rota_items.specs.Linear.{Term}
-use Rattle.rota_items.specs.LinearRow.{LinearRow}
+use Rattle.rota_items.specs.ModelWords.{LinearRow}
 use Rattle.rota_items.specs.Objective.{objective_rows}
 use Rattle.rota_items.specs.Takes.{Took}
 use Rattle.rota_items.specs.declared.part.Part.TheVariants.{Objective}

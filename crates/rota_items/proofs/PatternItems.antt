@@ -2,8 +2,8 @@
 use Rattle.rota_items.proofs.LogicWords.{◌≡◌, ℕ, ◌-◌, ◌*◌, ◌≤◌, Bool, not, cond, true, false, ◌⊎◌, inr, List, [], ◌∷◌, ◌++◌, refl, ap, ◌∙◌, arith, ℤ, pos, negsuc, ◌+ℤ◌, ◌-ℤ◌, list_any, sum_by, count_by, flat_map, AllByRecursion, sum_by-cons, ints}
 use Rattle.rota_items.proofs.ModelWords.{Item, Rule, positive_part, shortage, times, Term, value_of}
 use Rattle.rota_items.proofs.DayLaw.{matches_day, matches, units_of}
-use Rattle.rota_items.specs.RunItems.{Property, Present, Absent, variables_on, has_property, is_plain, day_terms, pattern_item}
-use Rattle.rota_items.specs.RunPatterns.{PatternDay, Pattern}
+use Rattle.rota_items.specs.RunItems.{Property, Present, Absent, variables_on, is_plain, day_terms, pattern_item, PatternDay, Pattern}
+use Rattle.rota_items.specs.RunItemParts.{has_property}
 
 pub value_of-append : {X : Type 0} (assignment : X → Bool) (xs ys : List (Term X)) →
     value_of assignment (xs ++ ys) ≡ value_of assignment xs +ℤ value_of assignment ys

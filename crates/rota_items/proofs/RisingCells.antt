@@ -5,8 +5,7 @@ use Rattle.std.proofs.lemmas.Nat.{mul-add-lt}
 use Rattle.std.proofs.Math.Nat.{mul-le-mul_right}
 use Rattle.rota_core.proofs.RisesWithin.{RisesWithin, rises-append, rises-blocks, rises-each, rises-in, rises-map}
 use Rattle.rota_core.specs.Lists.{each_below}
-use Rattle.rota_items.specs.RunItems.{Property, variables_on, day_terms}
-use Rattle.rota_items.specs.RunPatterns.{PatternDay}
+use Rattle.rota_items.specs.RunItems.{Property, variables_on, day_terms, PatternDay}
 
 module _ (week : Week) where
   -- the first number of a nurse's day

@@ -9,8 +9,7 @@ use Rattle.rota_core.specs.declared.rule.Rule.TheVariants.{H1, H2, H3, H4, H5}
 use Rattle.rota_items.proofs.SumsBelow.{length-at_most}
 use Rattle.rota_items.specs.Bounds.{most_cells, most_cells_of_nurse}
 use Rattle.rota_items.specs.Limits.{most_nurses, most_shifts, most_skills}
-use Rattle.rota_items.specs.hard.Held.{h5_row}
-use Rattle.rota_items.specs.hard.Succession.{h3_monday_rows, h3_rows_between, h3_rows_of}
+use Rattle.rota_items.specs.HardRows.{h5_row, h3_monday_rows, h3_rows_between, h3_rows_of}
 
 module _ (week : Week) (limits : IsWithinLimits week) where
   -- those of a nurse for Monday, and from each day to the next

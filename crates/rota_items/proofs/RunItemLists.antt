@@ -2,10 +2,9 @@
 use Rattle.std.proofs.Common.{◌≡◌, ℕ, zero, suc, List, ◌++◌, map, refl, ap, ◌∙◌}
 use Rattle.std.proofs.lemmas.List.{map-append}
 use Rattle.rota_core.specs.Lists.{each_below}
-use Rattle.rota_items.specs.Items.{Item}
-use Rattle.rota_items.specs.RunItems.{Runs, pattern_item, run_items}
+use Rattle.rota_items.specs.ModelWords.{Item}
+use Rattle.rota_items.specs.RunItems.{Runs, pattern_item, run_items, Pattern, closed_patterns_at, closed_patterns_on, edge_patterns_on, patterns, patterns_on, windows, windows_on}
 use Rattle.rota_items.specs.RunItemParts.{window_items_on, closed_items_at, edge_items_on, pattern_items_on}
-use Rattle.rota_items.specs.RunPatterns.{Pattern, closed_patterns_at, closed_patterns_on, edge_patterns_on, patterns, patterns_on, windows, windows_on}
 
 map-each_below : {A B : Type 0} (f : A → B) (g : ℕ → List A) (n : ℕ) → map f (each_below n g) ≡ each_below n (λ i. map f (g i))
 unfolding each_below

@@ -9,10 +9,9 @@ use Rattle.rota_items.proofs.DayLaw.{matches, units_of, units, units-windows_on,
 use Rattle.rota_items.proofs.EachPattern.{IsRunPattern, each-on, each-pattern, days-follow, on-pattern}
 use Rattle.rota_items.proofs.SumsBelow.{sum_by-each-is}
 use Rattle.rota_items.proofs.PatternItems.{AtMostOneOn, weighted-pattern_item, shortage-pattern_item}
-use Rattle.rota_items.specs.RunItems.{Runs, variables_on, has_property, pattern_item, run_items, pattern_items}
-use Rattle.rota_items.specs.RunItemParts.{day_items, AtMostOneADay, DaysFollow}
-use Rattle.rota_items.specs.RunPatterns.{Pattern, windows_on, patterns_on, windows, patterns}
-use Rattle.rota_items.specs.Runs.{week_days, is_over, missing_on, run_over, run_under, run_cost, day_cost}
+use Rattle.rota_items.specs.RunItems.{Runs, variables_on, pattern_item, run_items, pattern_items, Pattern, windows_on, patterns_on, windows, patterns}
+use Rattle.rota_items.specs.RunItemParts.{has_property, day_items, AtMostOneADay, DaysFollow, day_cost}
+use Rattle.rota_items.specs.Runs.{week_days, is_over, missing_on, run_over, run_under, run_cost}
 
 sum_by-week_days : (f : ℕ → ℕ) → sum_below 7 f ≡ sum_by f week_days
 unfolding sum_below

@@ -13,11 +13,10 @@ use Rattle.rota_items.specs.CellEvents.{cell_term_events}
 use Rattle.rota_items.specs.Variables.{cell_number}
 use Rattle.rota_items.specs.Events.{start_row, term, close_row, term_events}
 use Rattle.rota_items.specs.ItemRows.{row_of_item}
-use Rattle.rota_items.specs.Items.{Item, numbered}
-use Rattle.rota_items.specs.Linear.{Term, times}
-use Rattle.rota_items.specs.LinearRow.{LinearRow}
+use Rattle.rota_items.specs.ModelWords.{Item, numbered, times, LinearRow}
+use Rattle.rota_items.specs.Linear.{Term}
 use Rattle.rota_core.specs.Lists.{each_below}
-use Rattle.rota_items.specs.Slacks.{item_row}
+use Rattle.rota_items.specs.WeekModel.{item_row}
 use Rattle.rota_items.specs.Takes.{Took, Refused, Takes}
 use Rattle.rota_items.specs.declared.part.Part.TheVariants.{Soft}
 use Rattle.rota_items.specs.declared.takers.Taker.{Ghosts}

@@ -2,6 +2,7 @@
 use Rattle.rota_items.proofs.LogicWords.{◌≡◌, ◌↔◌, ℕ, zero, suc, ◌+◌, ◌<◌, ◌≤◌, Bool, true, false, inl, inr, List, [], ◌∷◌, map, sym, ◌∙◌, arith, ℤ, pos, negsuc, ◌==◌, AllByRecursion, AllByRecursion-at, AllByRecursion-back, list_any, range_with_len, recursion_from_All, All-from_recursion, subst, cases_Bool, eqb-true, true≢false, sum_by-cons}
 use Rattle.rota_items.proofs.ModelWords.{cell, Week, Cell, on_cells, work_cells, cell_number, cell_of_number, unit_number, first_slack, rule_rows, Item, Term, Constraint, times, LinearRow, linear_constraint, item_rows, slack_count, slack_variables, soft_items, hard_rows, numbered_row, numbered_terms, numbered_items, rows_of, model_of}
 use Rattle.std.specs.Prelude.{slice_index_or}
+use Rattle.rota_core.specs.Lists.{each_below}
 use Rattle.std.proofs.lemmas.Bool.{cases_lt, eq-eqb}
 use Rattle.std.proofs.lemmas.List.Folds.{Any-from_list_any, list_any_at}
 use Rattle.rota_core.proofs.RisesWithin.{RisesWithin}
@@ -10,7 +11,7 @@ use Rattle.rota_items.proofs.ListAll.{all-weaker}
 use Rattle.rota_items.proofs.Numbers.{cell_of_number-in, cell_number-of}
 use Rattle.rota_items.proofs.RisingTerms.{RisesTo, variable_of, rises-to_last}
 use Rattle.rota_items.proofs.TermsHold.{OnTerms}
-use Rattle.rota_items.specs.hard.OneCell.{h1_row, h1_rows, h1_rows_of}
+use Rattle.rota_items.specs.HardRows.{h1_row, h1_rows}
 use Rattle.rota_items.specs.Standing.{stands_in, StandsInSome}
 
 abbrev pub at_variable : ℕ → Term ℕ → Bool
@@ -76,7 +77,7 @@ module _ (week : Week) (v : ℕ) where
       let Q : Cell → Type 0 = λ one. IsOther v (cell_number week one) in
       let rows : AllByRecursion P (h1_rows week) = (AllByRecursion-back P (h1_rows week) _ (all-back (Lacks v) (numbered_row week) (rule_rows week) all)).0 in
       let row : P (h1_row week c.nurse c.day) =
-      (AllByRecursion-at P 7 (λ d. h1_row week c.nurse d ∷ []) (AllByRecursion-at P week.nurses (h1_rows_of week) rows c.nurse inside.nurse_in) c.day
+      (AllByRecursion-at P 7 (λ d. h1_row week c.nurse d ∷ []) (AllByRecursion-at P week.nurses (λ n. each_below 7 (λ d. h1_row week n d ∷ [])) rows c.nurse inside.nurse_in) c.day
       inside.day_in).0 in
       let cells : AllByRecursion Q (work_cells week c.nurse c.day) =
       all-back (λ (term : Term Cell). Q term.1) (λ one. (negsuc 0, one)) (work_cells week c.nurse c.day)

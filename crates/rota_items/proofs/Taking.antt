@@ -13,8 +13,8 @@ use Rattle.rota_core.proofs.Loops.{each_below-zero, each_below-more, last_or_bef
 use Rattle.rota_items.specs.CellEvents.{cell_term_events, cell_row_events, coefficient_of, sum_events}
 use Rattle.rota_items.specs.Variables.{cell_number}
 use Rattle.rota_items.specs.Events.{start_row, term, close_row, row_events, term_events, events}
-use Rattle.rota_items.specs.Linear.{Term, times}
-use Rattle.rota_items.specs.LinearRow.{LinearRow}
+use Rattle.rota_items.specs.Linear.{Term}
+use Rattle.rota_items.specs.ModelWords.{times, LinearRow}
 use Rattle.rota_core.specs.Lists.{each_below, only_if}
 use Rattle.rota_items.specs.Takes.{TookAll, RefusedOne, TakesAll, Took, Refused, Takes}
 use Rattle.rota_items.specs.WeekModel.{numbered_row, numbered_terms}

@@ -7,7 +7,7 @@ use Rattle.std.specs.List.{flat_map}
 use Rattle.rota_core.specs.Week.{Week}
 use Rattle.rota_items.specs.CellEvents.{cell_row_events}
 use Rattle.rota_items.specs.Takes.{TookAll, RefusedOne}
-use Rattle.rota_items.specs.hard.Held.{h5_row}
+use Rattle.rota_items.specs.HardRows.{h5_row}
 use Rattle.rota_items.proofs.Taking.{Joins, go_on, rows_join, stop}
 
 -- the lists of the elements before one, of it, and of those after it

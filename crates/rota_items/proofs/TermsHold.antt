@@ -2,8 +2,7 @@
 use Rattle.rota_items.proofs.LogicWords.{◌≡◌, ℕ, ◌<◌, Bool, cond, List, [], ◌∷◌, ◌++◌, refl, ap, ◌∙◌, ℤ, pos, ◌+ℤ◌, All, AllByRecursion, flat_map, All-from_recursion, recursion_from_All, AllByRecursion-append}
 use Rattle.rota_items.proofs.ModelWords.{Item, Term, times, value_of, StandBelow}
 use Rattle.rota_items.proofs.EachPattern.{OnDays, on-pattern, run_patterns-follow}
-use Rattle.rota_items.specs.RunItems.{Property, Runs, variables_on, day_terms, run_items, pattern_items}
-use Rattle.rota_items.specs.RunPatterns.{PatternDay, Pattern, windows, patterns}
+use Rattle.rota_items.specs.RunItems.{Property, Runs, variables_on, day_terms, run_items, pattern_items, PatternDay, Pattern, windows, patterns}
 use Rattle.rota_items.specs.RunItemParts.{DaysFollow}
 
 abbrev pub OnTerms : {X : Type 0} → (X → Type 0) → List (Term X) → Type 0

@@ -3,8 +3,7 @@ use Rattle.rota_items.proofs.LogicWords.{ℕ, ◌≤◌, Bool, true, false, inl,
 use Rattle.rota_items.proofs.ModelWords.{Term, times}
 use Rattle.rota_items.proofs.ListAll.{all-map}
 use Rattle.rota_items.specs.Coefficients.{IsUnit}
-use Rattle.rota_items.specs.RunItems.{Property, is_plain, variables_on, day_terms}
-use Rattle.rota_items.specs.RunPatterns.{PatternDay}
+use Rattle.rota_items.specs.RunItems.{Property, is_plain, variables_on, day_terms, PatternDay}
 use Rattle.rota_items.proofs.SmallSums.{spread}
 
 abbrev pub OnCoefficients : {X : Type 0} → (ℤ → Type 0) → List (Term X) → Type 0

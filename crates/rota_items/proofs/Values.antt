@@ -4,8 +4,8 @@ use Rattle.std.specs.Prelude.{pos, negsuc, ◌-ℤ◌}
 use Rattle.std.specs.List.{count_by}
 use Rattle.std.proofs.lemmas.Int.{ints}
 use Rattle.rota_items.proofs.PatternItems.{value_of-sum, positive_part_is}
-use Rattle.rota_items.specs.Items.{positive_part}
-use Rattle.rota_items.specs.Linear.{times, value_of}
+use Rattle.rota_items.specs.ModelWords.{positive_part, times}
+use Rattle.rota_items.specs.Linear.{value_of}
 
 pub value_of-plus : {X : Type 0} (roster : X → Bool) (cells : List X) →
     value_of roster (times (pos 1) cells) ≡ pos (count_by roster cells)

@@ -9,7 +9,7 @@ use Rattle.rota_items.specs.declared.judge.verdicts.Verdict.{Verdict}
 use Rattle.rota_items.specs.Judging.{Subject, SettlesModel, assigned, assignment_in, extended, roster_in}
 use Rattle.rota_items.specs.Verdicts.{CostsTheRules, Extends, IsMet, Judges, JudgesTheRules}
 use Rattle.rota_items.specs.FirstUnmet.{NamesFirstBroken, first_unmet, rule_of_part}
-use Rattle.rota_items.specs.Variables.{truth_of}
+use Rattle.rota_items.specs.Truths.{truth_of}
 use Rattle.rota_items.proofs.Extension.{extension-objective, extension-satisfies, extension-unit, satisfying-keeps, satisfying-objective}
 use Rattle.rota_items.proofs.FirstBroken.{names-first_broken}
 use Rattle.rota_items.proofs.FirstUnmet.{Decided, IfSome-later, Named, first_failing-append, first_failing-of, first_unmet-decides}

@@ -8,7 +8,7 @@ use Rattle.rota_core.specs.Week.{Week}
 use Rattle.rota_core.specs.declared.values.Cell.{Cell}
 use Rattle.rota_items.proofs.Taking.{Joins, Took-one, Refused-one}
 use Rattle.rota_items.specs.Variables.{cell_number}
-use Rattle.rota_items.specs.Items.{Item, numbered}
+use Rattle.rota_items.specs.ModelWords.{Item, numbered}
 use Rattle.rota_items.specs.ItemTakes.{TakesItems}
 use Rattle.rota_items.specs.ItemTaking.{numbered_list}
 use Rattle.rota_items.specs.declared.items.item_takers.ItemTaker.{Ghosts}

@@ -4,8 +4,8 @@ use Rattle.rota_core.specs.declared.values.Cell.{Cell}
 use Rattle.rota_core.specs.Week.{Week}
 use Rattle.rota_items.specs.declared.sums.Sign.{Sign}
 use Rattle.rota_items.specs.declared.sums.Sign.TheVariants.{Plus, Minus}
-use Rattle.rota_items.specs.Linear.{Term, times}
-use Rattle.rota_items.specs.LinearRow.{LinearRow}
+use Rattle.rota_items.specs.Linear.{Term}
+use Rattle.rota_items.specs.ModelWords.{times, LinearRow}
 use Rattle.rota_items.specs.Events.{Event, term_events, events}
 use Rattle.rota_items.specs.WeekModel.{numbered_terms, numbered_row}
 

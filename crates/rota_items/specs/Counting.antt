@@ -7,7 +7,7 @@ use Rattle.rota_items.specs.declared.part.Part.TheVariants.{Objective, Hard, Sof
 use Rattle.rota_items.specs.Events.{Event, start_row, term, close_row}
 use Rattle.rota_items.specs.Limits.{greatest_count}
 use Rattle.rota_items.specs.Linear.{Term, Model}
-use Rattle.rota_items.specs.LinearRow.{LinearRow}
+use Rattle.rota_items.specs.ModelWords.{LinearRow}
 
 abbrev pub no_counts : Counts
 no_counts = record { variables = 0; constraints = 0 }

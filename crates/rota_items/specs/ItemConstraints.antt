@@ -2,7 +2,7 @@
 use Rattle.std.specs.Prelude.{◌<◌}
 use Rattle.rota_items.specs.Words.{ℕ, List, map, All}
 use Rattle.rota_items.specs.ModelWords.{Term, Constraint, linear_constraint, Item}
-use Rattle.rota_items.specs.Slacks.{item_row, item_rows}
+use Rattle.rota_items.specs.WeekModel.{item_row, item_rows}
 
 abbrev pub item_constraint : Item ℕ → ℕ → Constraint
 item_constraint item first = linear_constraint (item_row item first)

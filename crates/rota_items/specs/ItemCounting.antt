@@ -1,6 +1,6 @@
 -- What a counter of items and slacks stands for.
 use Rattle.std.specs.Prelude.{ℕ, ◌+◌, min}
-use Rattle.rota_items.specs.Items.{Item}
+use Rattle.rota_items.specs.ModelWords.{Item}
 use Rattle.rota_items.specs.Limits.{greatest_count}
 
 pub record ItemNumbers : Type 0 where

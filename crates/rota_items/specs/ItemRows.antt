@@ -2,10 +2,9 @@
 use Rattle.std.specs.Prelude.{◌≡◌, ℕ, ◌+◌, ◌-◌, min, pos, List}
 use Rattle.std.specs.List.{fold}
 use Rattle.rota_items.specs.Events.{Event, row_events, term_events}
-use Rattle.rota_items.specs.Items.{Item}
+use Rattle.rota_items.specs.ModelWords.{Item, times}
 use Rattle.rota_items.specs.Limits.{greatest_count}
-use Rattle.rota_items.specs.Linear.{times}
-use Rattle.rota_items.specs.Slacks.{item_row, slack_variables}
+use Rattle.rota_items.specs.WeekModel.{item_row, slack_variables}
 use Rattle.rota_items.specs.Takes.{Refused}
 use Rattle.rota_items.specs.declared.takers.Taker.{Ghosts}
 

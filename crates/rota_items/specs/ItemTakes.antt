@@ -2,7 +2,7 @@
 use Rattle.std.specs.Prelude.{List, Result}
 use Rattle.rota_core.specs.declared.values.Cell.{Cell}
 use Rattle.rota_core.specs.Week.{Week}
-use Rattle.rota_items.specs.Items.{Item}
+use Rattle.rota_items.specs.ModelWords.{Item}
 use Rattle.rota_items.specs.ItemTaking.{numbered_list}
 use Rattle.rota_items.specs.Takes.{TookAll, TakesAll}
 use Rattle.rota_items.specs.declared.items.item_takers.ItemTaker.{Ghosts}

@@ -3,7 +3,7 @@ use Rattle.std.specs.Prelude.{ℕ, List, map}
 use Rattle.rota_core.specs.declared.values.Cell.{Cell}
 use Rattle.rota_core.specs.Week.{Week}
 use Rattle.rota_items.specs.Variables.{cell_number}
-use Rattle.rota_items.specs.Items.{Item, numbered}
+use Rattle.rota_items.specs.ModelWords.{Item, numbered}
 use Rattle.rota_items.specs.ItemValues.{item_of}
 use Rattle.rota_items.specs.declared.items.soft_item.SoftItem.{SoftItem}
 

@@ -3,12 +3,10 @@ use Rattle.std.specs.Prelude.{ℕ, ◌-◌, ◌<◌, ◌≤◌, pos, Bool, not, 
 use Rattle.rota_core.specs.declared.values.Cell.{Cell}
 use Rattle.rota_core.specs.Week.{Week}
 use Rattle.rota_items.specs.CellEvents.{coefficient_of}
-use Rattle.rota_items.specs.Cells.{on_cells, work_cells, nurse_cells, demand_cells}
-use Rattle.rota_items.specs.Items.{Item}
-use Rattle.rota_items.specs.Linear.{Term, times}
+use Rattle.rota_items.specs.ModelWords.{on_cells, work_cells, nurse_cells, demand_cells, Item, times}
+use Rattle.rota_items.specs.Linear.{Term}
 use Rattle.rota_core.specs.Lists.{only_if}
-use Rattle.rota_items.specs.RunItems.{Property, Present, Absent, Runs, day_terms, pattern_item}
-use Rattle.rota_items.specs.RunPatterns.{PatternDay, Pattern, without_property, days_with}
+use Rattle.rota_items.specs.RunItems.{Property, Present, Absent, Runs, day_terms, pattern_item, PatternDay, Pattern, without_property, days_with}
 use Rattle.rota_items.specs.declared.items.soft_item.RunCharge.{RunCharge}
 use Rattle.rota_items.specs.declared.items.soft_item.DayPattern.{DayPattern}
 use Rattle.rota_items.specs.declared.items.soft_item.ItemSum.{ItemSum}

@@ -15,10 +15,11 @@ use Rattle.rota_items.specs.declared.part.Part.TheVariants.{Objective, Hard, Sof
 use Rattle.rota_items.specs.declared.judge.tallies.RowSums.{RowSums}
 use Rattle.rota_items.specs.declared.judge.tallies.Tally.{Tally}
 use Rattle.rota_items.specs.declared.judge.verdicts.Verdict.{Verdict}
-use Rattle.rota_items.specs.Variables.{unit_number, truth_of, roster_of}
+use Rattle.rota_items.specs.Variables.{unit_number, roster_of}
+use Rattle.rota_items.specs.Truths.{truth_of}
 use Rattle.rota_items.specs.Limits.{greatest_count, greatest_sum}
 use Rattle.rota_items.specs.Events.{Event, start_row, term, close_row, events}
-use Rattle.rota_items.specs.Items.{positive_part}
+use Rattle.rota_items.specs.ModelWords.{positive_part}
 use Rattle.rota_items.specs.Objective.{objective_rows}
 use Rattle.rota_items.specs.Charges.{constant_of_rule}
 use Rattle.rota_items.specs.Verdicts.{soft_place, ExtendsOrBreaks, IsMetOrNot}

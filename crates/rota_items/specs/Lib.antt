@@ -1,6 +1,5 @@
 pub mod Bounds
 pub mod CellEvents
-pub mod Cells
 pub mod Charges
 pub mod Coefficients
 pub mod CountedTotals
@@ -15,12 +14,10 @@ pub mod ItemRows
 pub mod ItemTakes
 pub mod ItemTaking
 pub mod ItemValues
-pub mod Items
 pub mod Judged
 pub mod Judging
 pub mod Limits
 pub mod Linear
-pub mod LinearRow
 pub mod ModelWords
 pub mod Objective
 pub mod Penalty
@@ -28,16 +25,13 @@ pub mod RisingTerms
 pub mod RuleCharges
 pub mod RunItemParts
 pub mod RunItems
-pub mod RunPatterns
 pub mod Runs
-pub mod Slacks
 pub mod Standing
 pub mod Takes
+pub mod Truths
 pub mod Variables
 pub mod Verdicts
 pub mod WeekModel
-pub mod WeekendItems
 pub mod Words
 pub mod WorkedWeeks
-pub mod hard
 pub mod rules

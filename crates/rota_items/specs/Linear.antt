@@ -1,13 +1,9 @@
 -- Linear constraints over truth values, and what they mean: the linear format of the Pseudo-Boolean Competition.
-use Rattle.std.specs.Prelude.{ℕ, ℤ, pos, ◌+ℤ◌, ◌≤ℤ◌, Bool, if◌then◌else◌, List, [], ◌∷◌, map, All}
+use Rattle.std.specs.Prelude.{ℕ, ℤ, pos, ◌+ℤ◌, ◌≤ℤ◌, Bool, if◌then◌else◌, List, [], ◌∷◌, All}
 
 -- a coefficient and what it is at: a cell, or a variable's number
 abbrev pub Term : Type 0 → Type 0
 Term X = ℤ × X
-
--- the sum of these, each with this coefficient
-abbrev pub times : {X : Type 0} → ℤ → List X → List (Term X)
-times coefficient variables = map (λ v. (coefficient, v)) variables
 
 -- the sum of the coefficients of what is true
 abbrev pub value_of : {X : Type 0} → (X → Bool) → List (Term X) → ℤ

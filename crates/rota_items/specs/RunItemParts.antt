@@ -1,9 +1,9 @@
 -- The run items of a day, and what the laws on run items ask.
-use Rattle.std.specs.Prelude.{◌≤◌, ◌<◌, ◌++◌, ◌≡◌, ◌+◌}
-use Rattle.rota_items.specs.Words.{ℕ, Bool, List, map, count_by, length, range_with_len}
+use Rattle.std.specs.Prelude.{◌≤◌, ◌<◌, ◌++◌, ◌≡◌, ◌+◌, if◌then◌else◌}
+use Rattle.rota_items.specs.Words.{ℕ, Bool, List, map, count_by, length, range_with_len, Span, not, list_any}
 use Rattle.rota_items.specs.ModelWords.{Item}
-use Rattle.rota_items.specs.RunPatterns.{Pattern, closed_patterns_at, edge_patterns_on, windows_on, patterns_on}
-use Rattle.rota_items.specs.RunItems.{Property, variables_on, Runs, pattern_items}
+use Rattle.rota_items.specs.RunItems.{Pattern, closed_patterns_at, edge_patterns_on, windows_on, patterns_on, Property, variables_on, Runs, pattern_items, Present, Absent}
+use Rattle.rota_items.specs.Runs.{is_over, missing_on}
 
 -- the items of one day's window, of a closed pattern, of the edge pattern and of all patterns that end before the day
 abbrev pub window_items_on : {X : Type 0} → Runs X → ℕ → List (Item X)
@@ -33,3 +33,12 @@ pub record DaysFollow (pattern : Pattern) : Type 0 where
   pub first : ℕ
   pub days_are : map (λ day. day.day) pattern.days ≡ range_with_len first (length pattern.days)
   pub in_week : first + length pattern.days ≤ 7
+
+-- what the runs cost on a day
+abbrev pub day_cost : (ℕ → Bool) → ℕ → Span → ℕ → ℕ
+day_cost has history limits d =
+    (if is_over has history limits.max d then 1 else 0) + missing_on has history limits.min d
+
+abbrev pub has_property : {X : Type 0} → Property X → (X → Bool) → ℕ → Bool
+has_property (Present variables) assignment d = list_any assignment (variables d)
+has_property (Absent variables) assignment d = not (list_any assignment (variables d))

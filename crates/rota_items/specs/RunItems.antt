@@ -1,9 +1,70 @@
--- The items that charge a property's runs.
-use Rattle.std.specs.Prelude.{◌*◌, ◌-ℤ◌, if◌then◌else◌, ◌++◌}
-use Rattle.rota_items.specs.Words.{ℕ, pos, negsuc, Bool, not, List, map, flat_map, count_by, list_any, Rule}
-use Rattle.rota_items.specs.Words.{Span}
-use Rattle.rota_items.specs.ModelWords.{Term, times, Item}
-use Rattle.rota_items.specs.RunPatterns.{PatternDay, Pattern, windows, patterns}
+-- The windows and patterns that charge runs, as days that must have a property or must not, and their items.
+use Rattle.std.specs.Prelude.{◌+◌, ◌-◌, ◌*◌, ◌&&◌, ◌-ℤ◌, if◌then◌else◌, ◌∷◌, ◌++◌}
+use Rattle.rota_items.specs.Words.{ℕ, pos, negsuc, Bool, true, false, not, nat_le, nat_lt, List, [], map, flat_map, range_with_len}
+use Rattle.rota_items.specs.Words.{count_by, Cell, Rule, Span, Week}
+use Rattle.rota_items.specs.ModelWords.{Term, times, Item, each_below, only_if, work_cells}
+
+-- a day, and whether it must have the property
+pub record PatternDay : Type 0 where
+  pub day : ℕ
+  pub has : Bool
+
+-- the days that must all be as they say, and the units that they then cost
+pub record Pattern : Type 0 where
+  pub days : List PatternDay
+  pub units : ℕ
+
+abbrev pub with_property : ℕ → PatternDay
+with_property d = record { day = d; has = true }
+
+abbrev pub without_property : ℕ → PatternDay
+without_property d = record { day = d; has = false }
+
+-- the days from the first up to the end, which is left out, all with the property
+abbrev pub days_with : ℕ → ℕ → List PatternDay
+days_with first end = map with_property (range_with_len first (end - first))
+
+-- days with the property up to d, one more than the maximum allows: the run on d is above it
+abbrev pub window : ℕ → ℕ → Pattern
+window maximum d = record { days = days_with (d - maximum) (d + 1); units = 1 }
+
+abbrev pub windows_on : ℕ → Span → ℕ → List Pattern
+windows_on history limits d = only_if (nat_lt limits.max (history + d + 1)) (window limits.max d)
+
+-- a run of count days that begins after Monday and ends before d
+abbrev pub closed_pattern : ℕ → ℕ → ℕ → Pattern
+closed_pattern minimum d count = record {
+  days = without_property (d - count - 1) ∷ days_with (d - count) d ++ without_property d ∷ [];
+  units = minimum - count;
+}
+
+-- for a number of days from 1 that is below the minimum
+abbrev pub closed_patterns_at : ℕ → ℕ → ℕ → List Pattern
+closed_patterns_at minimum d count = only_if (nat_le 1 count && nat_lt count minimum) (closed_pattern minimum d count)
+
+-- for each that leaves room for a day before them
+abbrev pub closed_patterns_on : ℕ → ℕ → List Pattern
+closed_patterns_on minimum d = each_below d (closed_patterns_at minimum d)
+
+-- a run that begins on Monday or in the history and ends before d
+abbrev pub edge_pattern : ℕ → ℕ → ℕ → Pattern
+edge_pattern history minimum d = record {
+  days = days_with 0 d ++ without_property d ∷ [];
+  units = minimum - history - d;
+}
+
+abbrev pub edge_patterns_on : ℕ → ℕ → ℕ → List Pattern
+edge_patterns_on history minimum d =
+    only_if (nat_le 1 (history + d) && nat_lt (history + d) minimum) (edge_pattern history minimum d)
+
+abbrev pub patterns_on : ℕ → Span → ℕ → List Pattern
+patterns_on history limits d = closed_patterns_on limits.min d ++ edge_patterns_on history limits.min d
+
+abbrev pub windows : ℕ → Span → List Pattern
+windows history limits = each_below 7 (windows_on history limits)
+
+abbrev pub patterns : ℕ → Span → List Pattern
+patterns history limits = each_below 7 (patterns_on history limits)
 
 -- What a day must have: one of its variables is true, or none is. The variables are given by the day.
 pub data Property (X : Type 0) : Type 0 where
@@ -14,18 +75,13 @@ abbrev pub variables_on : {X : Type 0} → Property X → ℕ → List X
 variables_on (Present variables) d = variables d
 variables_on (Absent variables) d = variables d
 
-abbrev pub has_property : {X : Type 0} → Property X → (X → Bool) → ℕ → Bool
-has_property (Present variables) assignment d = list_any assignment (variables d)
-has_property (Absent variables) assignment d = not (list_any assignment (variables d))
-
 -- whether the day's sum must be 1, and not 0
 abbrev pub is_plain : {X : Type 0} → Property X → PatternDay → Bool
 is_plain (Present variables) day = day.has
 is_plain (Absent variables) day = not day.has
 
 abbrev pub day_terms : {X : Type 0} → Property X → PatternDay → List (Term X)
-day_terms property day =
-    times (if is_plain property day then negsuc 0 else pos 1) (variables_on property day.day)
+day_terms property day = times (if is_plain property day then negsuc 0 else pos 1) (variables_on property day.day)
 
 -- the constraint that the days are not all as the pattern says, at so much a unit
 abbrev pub pattern_item : {X : Type 0} → Rule → ℕ → Property X → Pattern → Item X
@@ -50,5 +106,17 @@ abbrev pub pattern_items : {X : Type 0} → Runs X → List Pattern → List (It
 pattern_items runs all = map (pattern_item runs.rule runs.weight runs.property) all
 
 abbrev pub run_items : {X : Type 0} → Runs X → List (Item X)
-run_items runs =
-    pattern_items runs (windows runs.history runs.limits ++ patterns runs.history runs.limits)
+run_items runs = pattern_items runs (windows runs.history runs.limits ++ patterns runs.history runs.limits)
+
+-- work on Saturday, and none on Sunday where Saturday is to be alone
+abbrev pub saturday : Bool → Pattern
+saturday alone = record { days = with_property 5 ∷ (if alone then without_property 6 ∷ [] else []); units = 1 }
+
+-- work on Sunday, and none on Saturday
+abbrev pub only_sunday : Pattern
+only_sunday = record { days = without_property 5 ∷ with_property 6 ∷ []; units = 1 }
+
+-- the items of these two, of a nurse's weekend
+abbrev pub weekend_items : Rule → ℕ → Week → ℕ → Bool → List (Item Cell)
+weekend_items rule weight week n alone =
+    map (pattern_item rule weight (Present (work_cells week n))) (saturday alone ∷ only_sunday ∷ [])

@@ -25,13 +25,7 @@ ends_run has history d = not (has d) && nat_le 1 (run_length_before has history 
 
 -- how much the run that ends before d is too short
 abbrev pub missing_on : (ℕ → Bool) → ℕ → ℕ → ℕ → ℕ
-missing_on has history minimum d =
-    (if ends_run has history d then minimum - run_length_before has history d else 0)
-
--- what the runs cost on a day
-abbrev pub day_cost : (ℕ → Bool) → ℕ → Span → ℕ → ℕ
-day_cost has history limits d =
-    (if is_over has history limits.max d then 1 else 0) + missing_on has history limits.min d
+missing_on has history minimum d = (if ends_run has history d then minimum - run_length_before has history d else 0)
 
 -- the days whose run is above the maximum
 unfoldable pub run_over : (ℕ → Bool) → ℕ → ℕ → ℕ

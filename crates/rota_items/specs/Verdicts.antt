@@ -2,9 +2,11 @@
 use Rattle.std.specs.Prelude.{◌≡◌, ◌⊎◌, ◌↔◌, ℕ, ◌≤◌, pos, Bool, true, slice_index_or, Option, map, sum, IfSome, IsSomeAnd, MatchOption}
 use Rattle.std.specs.List.{list_any, position}
 use Rattle.rota_core.specs.declared.rule.Rule.{Rule}
+use Rattle.rota_core.specs.declared.rule.Rule.TheVariants.{S2, S3}
 use Rattle.rota_core.specs.Week.{Week}
 use Rattle.rota_core.specs.Roster.{Roster}
-use Rattle.rota_core.specs.HardRules.{KeepsOneCell, KeepsCompetitionRules, KeepsHardRules, FirstBroken}
+use Rattle.rota_core.specs.HardRules.{KeepsOneCell, KeepsCompetitionRules, KeepsHardRules}
+use Rattle.rota_items.specs.FirstUnmet.{FirstBroken, first_unmet}
 use Rattle.rota_core.specs.Rules.{soft_rules}
 use Rattle.rota_core.specs.RuleNames.{is_rule}
 use Rattle.rota_items.specs.declared.judge.verdicts.Verdict.{Verdict}
@@ -12,10 +14,7 @@ use Rattle.rota_items.specs.Variables.{unit_number, roster_of}
 use Rattle.rota_items.specs.Linear.{SatisfiesModel, objective_value}
 use Rattle.rota_items.specs.RuleCharges.{charged}
 use Rattle.rota_items.specs.Penalty.{penalty, rule_cost}
-use Rattle.rota_items.specs.rules.ConsecutiveAssignments.Cost.{consecutive_assignment_cost}
-use Rattle.rota_items.specs.rules.ConsecutiveDaysOff.Cost.{consecutive_day_off_cost}
 use Rattle.rota_items.specs.WeekModel.{model_of, rows_of, extension_of}
-use Rattle.rota_items.specs.FirstUnmet.{first_unmet}
 
 -- the place of a soft rule among the soft rules, from 0
 abbrev pub soft_place : Rule → Option ℕ
@@ -39,8 +38,8 @@ pub record CostsTheRules (week : Week) (roster : Roster) (verdict : Verdict) : T
 
 -- The costs of S2 and S3 are those of the runs: on shift types and of working days, and of days off.
 pub record CostsTheRuns (week : Week) (roster : Roster) (verdict : Verdict) : Type 0 where
-  pub assignments : slice_index_or verdict.costs 1 0 ≡ consecutive_assignment_cost week roster
-  pub days_off : slice_index_or verdict.costs 2 0 ≡ consecutive_day_off_cost week roster
+  pub assignments : slice_index_or verdict.costs 1 0 ≡ rule_cost week roster S2
+  pub days_off : slice_index_or verdict.costs 2 0 ≡ rule_cost week roster S3
 
 -- no constraint is named, or one of a soft rule
 abbrev pub NamesSoftAtMost : Verdict → Type 0

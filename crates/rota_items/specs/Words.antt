@@ -3,8 +3,8 @@ pub use Rattle.std.specs.Prelude.{ℕ, Bool, not, zero, suc, nat_le, nat_lt, cou
 pub use Rattle.std.specs.List.{range_with_len, list_any}
 pub use Rattle.rota_core.specs.Below.{sum_below, count_below}
 pub use Rattle.rota_core.specs.Week.{Week}
-pub use Rattle.rota_core.specs.Roster.{Roster, cell}
-pub use Rattle.rota_core.specs.HardRules.{works, is_on, is_off, nurses_at, KeepsHardRules, FirstBroken}
+pub use Rattle.rota_core.specs.Roster.{Roster, cell, InWeek}
+pub use Rattle.rota_core.specs.HardRules.{works, is_on, is_off, nurses_at, KeepsHardRules, KeepsOneCell, KeepsMinimum, KeepsSuccession, KeepsSkills, KeepsHeld, KeepsCompetitionRules}
 pub use Rattle.rota_core.specs.Rules.{soft_rules, hard_rules}
 pub use Rattle.rota_core.specs.declared.values.Cell.{Cell}
 pub use Rattle.rota_core.specs.declared.values.Span.{Span}

@@ -2,11 +2,10 @@
 ghost use Rattle.std.specs.Prelude.{◌≡◌, ◌+◌, ◌<◌, [], ◌∷◌};
 ghost use Rattle.std.specs.List.{range_with_len};
 ghost use Rattle.rota_core.specs.InstanceTables.{week_of};
-ghost use Rattle.rota_core.specs.Roster.{InWeek};
+ghost use Rattle.rota_core.specs.Roster.{InWeek, cell};
 ghost use Rattle.rota_items.specs.CellEvents.{coefficient_of, sum_events};
-ghost use Rattle.rota_items.specs.Cells.{demand_cells, nurse_cells, on_cells, skill_cells, skill_cells_on, work_cells};
+ghost use Rattle.rota_items.specs.ModelWords.{demand_cells, each_below, nurse_cells, on_cells, skill_cells, times, work_cells};
 ghost use Rattle.rota_items.specs.Events.{term_events};
-ghost use Rattle.rota_items.specs.Linear.{times};
 ghost use Rattle.rota_items.specs.Takes.{Takes};
 ghost use Rattle.rota_items.specs.Limits.{word_limit};
 
@@ -162,7 +161,7 @@ fn give_skill_cells_on<T: Taker>(
     requires day_in { day < 7 }
     requires skill_in { skill < (week_of instance.now).skills }
     ensures { let week = week_of instance.now in
-        Takes T.Taker (sum_events week Sign.Minus (skill_cells_on week nurse skill day))
+        Takes T.Taker (sum_events week Sign.Minus (each_below week.shifts (λ s. cell nurse day s skill ∷ [])))
         taker.old taker.new result }
 {
     for shift in 0..instance.shifts() {

@@ -9,7 +9,8 @@ use Rattle.rota_items.specs.Linear.{objective_value}
 use Rattle.rota_core.specs.Rules.{soft_rules}
 use Rattle.rota_items.specs.Penalty.{penalty}
 use Rattle.rota_items.specs.Verdicts.{IsMet}
-use Rattle.rota_items.specs.Variables.{truth_of, roster_of}
+use Rattle.rota_items.specs.Variables.{roster_of}
+use Rattle.rota_items.specs.Truths.{truth_of}
 use Rattle.rota_items.specs.WeekModel.{model_of}
 use Rattle.rota_items.specs.declared.judge.verdicts.Verdict.{Verdict}
 use Rattle.solver_text.specs.declared.outcome.Solved.{Solved}

@@ -6,12 +6,11 @@ use Rattle.std.proofs.lemmas.List.Elements.{All-from_recursion, recursion_from_A
 use Rattle.rota_core.specs.Week.{Week}
 use Rattle.rota_core.specs.HardRules.{KeepsHardRules}
 use Rattle.rota_core.specs.Roster.{Roster}
-use Rattle.rota_items.specs.Variables.{first_slack, roster_of, unit_number}
+use Rattle.rota_items.specs.Variables.{roster_of, unit_number}
+use Rattle.rota_items.specs.WeekModel.{first_slack, extension_of, model_of, hard_constraints, hard_rows, numbered_items, item_rows}
 use Rattle.rota_items.specs.Linear.{Constraint, Satisfies}
-use Rattle.rota_items.specs.LinearRow.{linear_constraint}
-use Rattle.rota_items.specs.Slacks.{item_rows}
+use Rattle.rota_items.specs.ModelWords.{linear_constraint}
 use Rattle.rota_items.specs.ItemConstraints.{item_constraints}
-use Rattle.rota_items.specs.WeekModel.{extension_of, model_of, hard_constraints, hard_rows, numbered_items}
 use Rattle.rota_items.proofs.Extension.{extension-satisfies, extension-objective, extension-roster, satisfying-keeps, satisfying-objective}
 use Rattle.rota_items.proofs.FirstBroken.{first_broken}
 use Rattle.rota_items.proofs.Satisfied.{hard_constraints-hold, hard_constraints-mean}
@@ -49,11 +48,9 @@ module _ (week : Week) where
   -- the model of a week means its rules
   model-means : MeansRules week (model_of week)
   model-means = record {
-    extends = λ roster keeps. record { assignment = extension_of week roster; is_extension = is_extension roster keeps };
-    decodes = λ assignment satisfied. record {
-      keeps = satisfying-keeps week assignment satisfied;
-      penalty = satisfying-objective week assignment satisfied;
-    };
+    extends = λ roster keeps. (extension_of week roster, is_extension roster keeps);
+    decodes = λ assignment satisfied.
+        (satisfying-keeps week assignment satisfied, satisfying-objective week assignment satisfied);
     hard_rules = record { hard = hard_constraints week; soft = soft_constraints; hard_first = hard_first; satisfied = satisfied };
   }
 

@@ -6,7 +6,8 @@ use Rattle.rota_core.specs.Lists.{each_below}
 use Rattle.rota_core.specs.Week.{Week}
 use Rattle.rota_core.specs.Roster.{Roster}
 use Rattle.rota_core.specs.InstanceTables.{week_of}
-use Rattle.rota_items.specs.Variables.{cell_number, truth_of}
+use Rattle.rota_items.specs.Variables.{cell_number}
+use Rattle.rota_items.specs.Truths.{truth_of}
 use Rattle.rota_items.specs.Limits.{IsWithinLimits}
 use Rattle.rota_items.specs.Penalty.{penalty}
 use Rattle.rota_items.specs.WeekModel.{extension_of, model_of}

@@ -6,15 +6,15 @@ use Rattle.rota_core.specs.Ports.{Told}
 use Rattle.solver_text.specs.declared.answer.Answer.{Answer as AnswerState}
 use Rattle.solver_text.specs.declared.outcome.AnswerFault.{AnswerFault}
 use Rattle.solver_text.specs.declared.outcome.Solved.{Solved}
-use Rattle.solver_text.specs.Answers.{judge_all, outcome}
+use Rattle.solver_text.specs.Answers.{judge_all, outcome, fault_within}
 use Rattle.solver_text.specs.Lines.{cut}
-use Rattle.solver_text.specs.States.{LeadsTo, fault_within}
+use Rattle.solver_text.specs.States.{LeadsTo}
 use Rattle.solver_text.proofs.StayLaws.{fault-stays}
 use Rattle.rota_pb.specs.declared.fault.Fault.{Fault}
 use Rattle.rota_pb.specs.declared.fault.Fault.TheVariants.{Read, Answer}
 use Rattle.rota_pb.specs.AnswerPieces.{FailsAnswer, IsSolved}
 use Rattle.rota_pb.specs.Feeding.{HasTaken, HasTakenAll, FaultTaken, StopsTaking}
-use Rattle.rota_pb.specs.Readers.{IsEnded, Reader}
+use Rattle.rota_pb.specs.RunPorts.{IsEnded, Reader}
 use Rattle.rota_pb.proofs.WholeFiles.{told_are}
 
 pub prepend_known-append : (xs ys : List ℕ) (told : Told) → prepend_known (xs ++ ys) told ≡ prepend_known xs (prepend_known ys told)

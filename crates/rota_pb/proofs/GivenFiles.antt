@@ -4,11 +4,9 @@ use Rattle.rota_core.specs.InstanceTables.{InstanceTables}
 use Rattle.rota_core.specs.RosterTables.{RosterTables}
 use Rattle.rota_core.specs.declared.fault.FileName.TheVariants as names
 use Rattle.rota_read.specs.Files.{LONGEST}
-use Rattle.rota_read.specs.SolutionLayout.{solution}
-use Rattle.rota_read.specs.SolutionRows.{SpellsRoster}
+use Rattle.rota_read.specs.SolutionLayout.{solution, SpellsRoster}
 use Rattle.rota_pb.specs.WeekFiles.{IsRosterRead}
-use Rattle.rota_pb.specs.Readers.{Reader}
-use Rattle.rota_pb.specs.WholeRead.{IsReadUpTo}
+use Rattle.rota_pb.specs.RunPorts.{Reader, IsReadUpTo}
 use Rattle.rota_pb.proofs.WholeFiles.{is-read}
 
 -- the roster is read that its text spells

@@ -6,7 +6,7 @@ use Rattle.rota_core.specs.Week.{Week}
 use Rattle.rota_core.specs.declared.ports.PortFault.{PortFault}
 use Rattle.rota_core.specs.declared.ports.Target.{Ghosts}
 use Rattle.rota_items.specs.Events.{events}
-use Rattle.rota_items.specs.LinearRow.{linear_constraint}
+use Rattle.rota_items.specs.ModelWords.{linear_constraint}
 use Rattle.rota_items.specs.Objective.{objective_rows}
 use Rattle.rota_items.specs.Takes.{Took, Refused, Takes}
 use Rattle.rota_items.specs.WeekModel.{model_of, objective_terms, rows_of}

@@ -8,12 +8,10 @@ use Rattle.rota_core.specs.InstanceTables.{InstanceTables, week_of}
 use Rattle.rota_core.specs.RosterTables.{RosterTables, set_of}
 use Rattle.rota_items.specs.Variables.{unit_number}
 use Rattle.rota_items.specs.Events.{Event, term, close_row, term_events, row_events, events}
-use Rattle.rota_items.specs.Items.{Item, positive_part, shortage}
+use Rattle.rota_items.specs.ModelWords.{Item, positive_part, shortage, times, LinearRow}
 use Rattle.rota_items.specs.Judging.{Subject, extended, lacking_in, no_sums, tallied}
-use Rattle.rota_items.specs.Linear.{Term, times}
-use Rattle.rota_items.specs.LinearRow.{LinearRow}
-use Rattle.rota_items.specs.Slacks.{item_row, item_rows, slack_count, slack_variables, is_slack_needed}
-use Rattle.rota_items.specs.WeekModel.{assignment_of, model_of}
+use Rattle.rota_items.specs.Linear.{Term}
+use Rattle.rota_items.specs.WeekModel.{item_row, item_rows, slack_count, slack_variables, is_slack_needed, assignment_of, model_of}
 use Rattle.rota_items.specs.declared.judge.tallies.RowSums.{RowSums}
 use Rattle.rota_items.specs.declared.judge.tallies.Tally.{Tally}
 use Rattle.rota_items.proofs.ItemLaw.{needed-first, needed-after}

@@ -5,13 +5,12 @@ use Rattle.rota_core.specs.Week.{Week}
 use Rattle.rota_core.specs.Roster.{Roster}
 use Rattle.rota_core.specs.InstanceTables.{InstanceTables, week_of}
 use Rattle.rota_core.specs.RosterTables.{RosterTables, set_of}
-use Rattle.rota_items.specs.Variables.{cell_number, unit_number, first_slack}
+use Rattle.rota_items.specs.Variables.{cell_number, unit_number}
+use Rattle.rota_items.specs.WeekModel.{first_slack, assignment_of, extension_of, hard_rows, model_of, numbered_items, rows_of, item_rows, slack_count, is_slack_needed}
 use Rattle.rota_items.specs.Events.{events}
 use Rattle.rota_items.specs.Judging.{extended, fresh, no_tally}
 use Rattle.rota_items.specs.Limits.{IsWithinLimits}
-use Rattle.rota_items.specs.Slacks.{item_rows, slack_count, is_slack_needed}
 use Rattle.rota_items.specs.Charges.{soft_items}
-use Rattle.rota_items.specs.WeekModel.{assignment_of, extension_of, hard_rows, model_of, numbered_items, rows_of}
 use Rattle.rota_items.proofs.Extension.{extension-below}
 use Rattle.rota_items.proofs.ItemEventLists.{slack_count-numbered}
 use Rattle.rota_items.proofs.ItemLaw.{extension-extends}

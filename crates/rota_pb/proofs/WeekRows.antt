@@ -3,12 +3,9 @@ use Rattle.std.proofs.Common.{ℕ, ◌+◌, List, [], ◌∷◌, map, refl, ap}
 use Rattle.std.specs.List.{AllByRecursion}
 use Rattle.rota_core.specs.Week.{Week}
 use Rattle.rota_core.specs.declared.values.Cell.{Cell}
-use Rattle.rota_items.specs.Variables.{first_slack}
+use Rattle.rota_items.specs.WeekModel.{first_slack, numbered_row, hard_rows, numbered_items, rows_of, item_rows}
 use Rattle.rota_items.specs.HardRows.{rule_rows}
-use Rattle.rota_items.specs.Items.{Item}
-use Rattle.rota_items.specs.LinearRow.{LinearRow}
-use Rattle.rota_items.specs.Slacks.{item_rows}
-use Rattle.rota_items.specs.WeekModel.{numbered_row, hard_rows, numbered_items, rows_of}
+use Rattle.rota_items.specs.ModelWords.{Item, LinearRow}
 use Rattle.rota_core.proofs.Loops.{AllByRecursion-append}
 use Rattle.rota_items.proofs.HardRules.EachRule.{each-row}
 use Rattle.opb_text.specs.EventText.{IsConstraint, is_objective}

@@ -13,10 +13,9 @@ use Rattle.rota_read.specs.Files.{LONGEST, HasFault, too_long, misses_slot, goes
 use Rattle.rota_read.specs.FileAnswers.{IsFaultOf}
 use Rattle.rota_pb.specs.declared.fault.Fault.{Fault}
 use Rattle.rota_pb.specs.declared.fault.Fault.TheVariants.{Memory, Read}
-use Rattle.rota_pb.specs.Faults.{FailsCheck, fault_of_file}
-use Rattle.rota_pb.specs.Readers.{Reader}
-use Rattle.rota_pb.specs.WeekFiles.{IsRead}
-use Rattle.rota_pb.specs.WholeRead.{IsReadInPart, IsReadUpTo, StopsReading}
+use Rattle.rota_pb.specs.WeekFiles.{FailsCheck, IsRead}
+use Rattle.rota_pb.specs.RunParts.{fault_of_file, StopsReading}
+use Rattle.rota_pb.specs.RunPorts.{Reader, IsReadInPart, IsReadUpTo}
 
 some_injective : {A : Type 0} (a b : A) → ◌≡◌ {A = Option A} (Some a) (Some b) → a ≡ b
 some_injective a b same = cc
@@ -60,7 +59,7 @@ module _ {V : Type 0} (name : FileName) (layout : Layout V) (reader : Reader) (t
 
   -- why the check of a file fails whose text was read
   pub fails-check : (f : FileFault) → IsFaultOf name layout text f → FailsCheck name layout reader (fault_of_file f)
-  fails-check (refusals.Bad kind file line) is_fault = ((is_fault.0, fault-of_file (record { kind = kind; line = line }) is_fault.1), record { taken = text; read = read })
+  fails-check (refusals.Bad kind file line) is_fault = ((is_fault.0, fault-of_file (record { kind = kind; line = line }) is_fault.1), (text, read))
   fails-check refusals.Memory is_fault = in_part
 
   -- the file is read whose text spells a value

@@ -1,13 +1,11 @@
 -- A solver's answer that is read in pieces, to its end.
 use Rattle.std.specs.Prelude.{◌≡◌, ℕ, ◌-◌, ◌≤◌, ◌^◌, List, length, Some, Ok, Err}
 use Rattle.std.specs.Io.KnownBytes.{prepend_known}
+use Rattle.rota_pb.specs.Words.{Answer, Fault, Memory, Read}
 use Rattle.solver_text.specs.declared.outcome.AnswerFault.{AnswerFault}
 use Rattle.solver_text.specs.declared.outcome.Solved.{Solved}
-use Rattle.solver_text.specs.Answers.{outcome}
-use Rattle.solver_text.specs.States.{fault_within}
-use Rattle.rota_pb.specs.declared.fault.Fault.{Fault}
-use Rattle.rota_pb.specs.declared.fault.Fault.TheVariants.{Memory, Read, Answer}
-use Rattle.rota_pb.specs.Readers.{FailsBeforeEnd, IsReadToEnd, Reader}
+use Rattle.solver_text.specs.Answers.{outcome, fault_within}
+use Rattle.rota_pb.specs.RunPorts.{FailsBeforeEnd, IsReadToEnd, Reader}
 use Rattle.rota_pb.specs.Runs.{Run, read}
 
 -- an answer is read in at most 2^64 - 1 pieces, each of which has a byte

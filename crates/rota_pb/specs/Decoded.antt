@@ -1,23 +1,15 @@
 -- What an answer says of a week: its roster with what it costs, or why it has none.
 use Rattle.std.specs.Prelude.{◌≡◌, ℕ, ◌≤◌, pos, Bool, map, sum, Some}
-use Rattle.rota_core.specs.Week.{Week}
-use Rattle.rota_core.specs.declared.rule.Rule.{Rule}
-use Rattle.rota_core.specs.declared.values.Cell.{Cell}
-use Rattle.rota_core.specs.Roster.{InWeek}
-use Rattle.rota_core.specs.RosterTables.{HasShapeOf, set_of}
-use Rattle.rota_core.specs.HardRules.{KeepsHardRules}
-use Rattle.rota_items.specs.Linear.{SatisfiesModel, objective_value}
-use Rattle.rota_core.specs.Rules.{soft_rules}
-use Rattle.rota_items.specs.Penalty.{penalty, rule_cost}
+use Rattle.rota_pb.specs.Words.{Cell, Fault, HasShapeOf, InWeek, KeepsHardRules, NoRoster, objective_value, penalty, roster_of, Rule}
+use Rattle.rota_pb.specs.Words.{SatisfiesModel, set_of, soft_rules, Unmet, Week}
+use Rattle.rota_items.specs.Penalty.{rule_cost}
 use Rattle.rota_items.specs.FirstUnmet.{first_unmet}
-use Rattle.rota_items.specs.Variables.{truth_of, roster_of}
+use Rattle.rota_items.specs.Truths.{truth_of}
 use Rattle.rota_items.specs.WeekModel.{model_of, rows_of}
 use Rattle.solver_text.specs.declared.outcome.Status.{Status}
 use Rattle.solver_text.specs.declared.outcome.Status.TheVariants.{Satisfiable, Optimum}
 use Rattle.solver_text.specs.declared.outcome.Solved.{Solved}
 use Rattle.rota_pb.specs.declared.decoded.Decoded.{Decoded}
-use Rattle.rota_pb.specs.declared.fault.Fault.{Fault}
-use Rattle.rota_pb.specs.declared.fault.Fault.TheVariants.{NoRoster, Unmet}
 use Rattle.rota_pb.specs.Runs.{Run, check}
 
 -- the statuses of an answer that gives an assignment

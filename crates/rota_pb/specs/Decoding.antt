@@ -1,18 +1,14 @@
 -- What a run that decodes reads and writes.
 use Rattle.std.specs.Prelude.{ℕ, Result}
-use Rattle.rota_core.specs.InstanceTables.{InstanceTables, week_of}
-use Rattle.rota_core.specs.RosterTables.{set_of}
+use Rattle.rota_pb.specs.Words.{Choice, Fault, InstanceTables, set_of, week_of}
 use Rattle.rota_items.specs.WeekModel.{model_of}
 use Rattle.rota_read.specs.SolutionText.{solution_text}
-use Rattle.rota_pb.specs.declared.fault.Fault.{Fault}
-use Rattle.rota_pb.specs.declared.week_files.Choice.{Choice}
 use Rattle.rota_pb.specs.AnswerPieces.{read_answer}
 use Rattle.rota_pb.specs.Decoded.{find_roster}
-use Rattle.rota_pb.specs.Readers.{Reader, WeekReaders}
+use Rattle.rota_pb.specs.RunPorts.{Reader, WeekReaders, Writer}
 use Rattle.rota_pb.specs.Report.{report_text}
 use Rattle.rota_pb.specs.Runs.{Run, ◌>>=◌, ◌>>◌, send}
 use Rattle.rota_pb.specs.WeekFiles.{read_week}
-use Rattle.rota_pb.specs.Writers.{Writer}
 
 -- the number of the variables of a week's model
 abbrev pub variables_of : InstanceTables → ℕ

@@ -1,23 +1,18 @@
 -- What a run that encodes writes.
 use Rattle.std.specs.Prelude.{◌≡◌, ℕ, List, Result}
-use Rattle.rota_core.specs.InstanceTables.{week_of}
-use Rattle.rota_core.specs.Week.{Week}
-use Rattle.rota_items.specs.Linear.{Model}
-use Rattle.opb_text.specs.ModelText.{SpellsModel}
-use Rattle.rota_pb.specs.declared.fault.Fault.{Fault}
-use Rattle.rota_pb.specs.declared.week_files.Choice.{Choice}
+use Rattle.rota_pb.specs.Words.{Choice, Fault, Model, Week, week_of}
+use Rattle.opb_text.specs.ModelText.{opb_text}
 use Rattle.rota_pb.specs.ExactModel.{IsExactModel}
 use Rattle.rota_pb.specs.Meaning.{MeansRules}
-use Rattle.rota_pb.specs.Readers.{WeekReaders}
+use Rattle.rota_pb.specs.RunPorts.{WeekReaders, Writer}
 use Rattle.rota_pb.specs.Runs.{Run, ◌>>=◌, find, send}
 use Rattle.rota_pb.specs.WeekFiles.{read_week}
-use Rattle.rota_pb.specs.Writers.{Writer}
 
 -- The text spells one model. It means the rules of the week, and it is exactly the week's.
 pub record IsModelText (week : Week) (text : List ℕ) : Type 0 where
   pub model : Model
-  pub is_text : SpellsModel text model
-  pub is_only : (other : Model) → SpellsModel text other → other ≡ model
+  pub is_text : text ≡ opb_text model
+  pub is_only : (other : Model) → text ≡ opb_text other → other ≡ model
   pub means : MeansRules week model
   pub exact : IsExactModel week model
 

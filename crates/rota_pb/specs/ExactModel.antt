@@ -1,11 +1,7 @@
 -- Which model of a week it is, row by row, and which assignment extends a roster.
 use Rattle.std.specs.Prelude.{◌≡◌, ◌↔◌, ◌++◌, ℕ, Bool, true, List, All}
-use Rattle.rota_core.specs.Week.{Week}
-use Rattle.rota_core.specs.Roster.{Roster}
-use Rattle.rota_core.specs.HardRules.{KeepsHardRules}
+use Rattle.rota_pb.specs.Words.{Constraint, KeepsHardRules, Model, Roster, roster_of, Satisfies, unit_number, Week}
 use Rattle.rota_items.specs.FirstUnmet.{NamesFirstBroken, first_unmet}
-use Rattle.rota_items.specs.Linear.{Constraint, Model, Satisfies}
-use Rattle.rota_items.specs.Variables.{roster_of, unit_number}
 use Rattle.rota_items.specs.WeekModel.{extension_of, hard_constraints, hard_rows, model_of}
 use Rattle.rota_pb.specs.Meaning.{IsExtension}
 

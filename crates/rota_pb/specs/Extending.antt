@@ -7,9 +7,11 @@ use Rattle.rota_core.specs.RosterTables.{set_of}
 use Rattle.rota_core.specs.declared.values.Cell.{Cell}
 use Rattle.rota_core.specs.declared.fault.FileName.TheVariants as names
 use Rattle.rota_core.specs.Roster.{Roster, InWeek}
-use Rattle.rota_core.specs.HardRules.{KeepsHardRules, FirstBroken}
+use Rattle.rota_core.specs.HardRules.{KeepsHardRules}
+use Rattle.rota_items.specs.FirstUnmet.{FirstBroken}
 use Rattle.rota_items.specs.Penalty.{penalty}
-use Rattle.rota_items.specs.Variables.{truth_of, roster_of}
+use Rattle.rota_items.specs.Variables.{roster_of}
+use Rattle.rota_items.specs.Truths.{truth_of}
 use Rattle.rota_items.specs.WeekModel.{model_of, extension_of}
 use Rattle.solver_text.specs.declared.outcome.Status.TheVariants.{Satisfiable}
 use Rattle.solver_text.specs.Answers.{outcome}
@@ -17,10 +19,9 @@ use Rattle.solver_text.specs.AnswerText.{answer_text}
 use Rattle.rota_pb.specs.declared.fault.Fault.{Fault}
 use Rattle.rota_pb.specs.declared.fault.Fault.TheVariants.{Breaks}
 use Rattle.rota_pb.specs.declared.week_files.Choice.{Choice}
-use Rattle.rota_pb.specs.Readers.{Reader, WeekReaders}
+use Rattle.rota_pb.specs.RunPorts.{Reader, WeekReaders, Writer}
 use Rattle.rota_pb.specs.Runs.{Run, ◌>>=◌, ◌>>◌, check, send}
 use Rattle.rota_pb.specs.WeekFiles.{read_roster, read_week}
-use Rattle.rota_pb.specs.Writers.{Writer}
 
 -- the truth values of the variables from 1 to count
 abbrev pub truths_to : ℕ → (ℕ → Bool) → List Bool

@@ -1,11 +1,10 @@
 -- What the fault of a run says, in words.
 use Rattle.std.specs.Prelude.{ℕ, List, ◌++◌, codes, decimal}
+use Rattle.rota_pb.specs.Words.{Answer, Breaks, Fault, File, Memory, NoRoster, Read, Unmet, Write}
 use Rattle.rota_core.specs.FaultTexts.{file_fault_text}
 use Rattle.rota_core.specs.RuleNames.{rule_name}
 use Rattle.solver_text.specs.FaultTexts.{answer_fault_text}
 use Rattle.solver_text.specs.Status.{status_words}
-use Rattle.rota_pb.specs.declared.fault.Fault.{Fault}
-use Rattle.rota_pb.specs.declared.fault.Fault.TheVariants.{File, Memory, Write, Read, Answer, NoRoster, Unmet, Breaks}
 
 abbrev pub fault_text : Fault → List ℕ
 fault_text (File fault) = file_fault_text fault

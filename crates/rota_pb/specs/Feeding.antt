@@ -1,14 +1,13 @@
 -- What feeding an answer with a reader's pieces does.
 use Rattle.std.specs.Prelude.{◌≡◌, ℕ, ◌≤◌, List, [], length, Ok, Err}
 use Rattle.std.specs.Io.KnownBytes.{prepend_known}
-use Rattle.rota_core.specs.Ports.{Told}
+use Rattle.rota_pb.specs.Words.{Answer, Fault, Read, Told}
 use Rattle.solver_text.specs.declared.answer.Answer.{Answer as AnswerState}
 use Rattle.solver_text.specs.declared.outcome.AnswerFault.{AnswerFault}
-use Rattle.solver_text.specs.States.{LeadsTo, fault_within}
-use Rattle.rota_pb.specs.declared.fault.Fault.{Fault}
-use Rattle.rota_pb.specs.declared.fault.Fault.TheVariants.{Read, Answer}
+use Rattle.solver_text.specs.States.{LeadsTo}
+use Rattle.solver_text.specs.Answers.{fault_within}
 use Rattle.rota_pb.specs.AnswerPieces.{LacksEnd}
-use Rattle.rota_pb.specs.Readers.{IsEnded, Reader}
+use Rattle.rota_pb.specs.RunPorts.{IsEnded, Reader}
 
 -- Bytes were taken in this number of pieces, each of which had some. They lead from no text to the answer, and no fault was judged in them.
 pub record HasTaken (given left : Told) (old new : AnswerState) (pieces : ℕ) : Type 0 where

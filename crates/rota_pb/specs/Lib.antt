@@ -5,14 +5,13 @@ pub mod Encoding
 pub mod ExactModel
 pub mod Extending
 pub mod FaultTexts
-pub mod Faults
 pub mod Feeding
 pub mod Meaning
-pub mod Readers
 pub mod Report
+pub mod RunParts
+pub mod RunPorts
 pub mod Runs
 pub mod SlackTaker
 pub mod Statuses
 pub mod WeekFiles
-pub mod WholeRead
-pub mod Writers
+pub mod Words

@@ -1,9 +1,6 @@
 -- What a model of a week means: it is satisfied by what stands for a roster that keeps the hard rules, at the roster's penalty or above.
 use Rattle.std.specs.Prelude.{◌≡◌, ◌↔◌, ◌≤ℤ◌, ◌++◌, ℕ, pos, Bool, true, List, All}
-use Rattle.rota_core.specs.Week.{Week}
-use Rattle.rota_core.specs.declared.values.Cell.{Cell}
-use Rattle.rota_core.specs.Roster.{Roster, InWeek}
-use Rattle.rota_core.specs.HardRules.{KeepsHardRules}
+use Rattle.rota_items.specs.Words.{Cell, InWeek, KeepsHardRules, Roster, Week}
 use Rattle.rota_items.specs.Linear.{Constraint, Model, Satisfies, SatisfiesModel, objective_value}
 use Rattle.rota_items.specs.Penalty.{penalty}
 use Rattle.rota_items.specs.Variables.{roster_of, unit_number}
@@ -13,16 +10,6 @@ pub record IsExtension (week : Week) (model : Model) (roster : Roster) (assignme
   pub satisfies : SatisfiesModel assignment model
   pub objective : objective_value assignment model ≡ pos (penalty week roster)
   pub same_roster : (cell : Cell) → InWeek week cell → roster_of week assignment cell ≡ roster cell
-
--- the roster has such an assignment
-pub record Extends (week : Week) (model : Model) (roster : Roster) : Type 0 where
-  pub assignment : ℕ → Bool
-  pub is_extension : IsExtension week model roster assignment
-
--- the assignment's roster keeps the hard rules, and its penalty is at most the assignment's objective
-pub record Decodes (week : Week) (model : Model) (assignment : ℕ → Bool) : Type 0 where
-  pub keeps : KeepsHardRules week (roster_of week assignment)
-  pub penalty : pos (penalty week (roster_of week assignment)) ≤ℤ objective_value assignment model
 
 -- The hard constraints come first. An assignment satisfies them exactly where the unit variable is true and its roster keeps the hard
 -- rules.
@@ -36,6 +23,9 @@ pub record BeginsWithHardRules (week : Week) (model : Model) : Type 0 where
 -- What the model of a week means: every roster that keeps the hard rules extends to a satisfying assignment at its penalty, and every
 -- satisfying assignment decodes to such a roster, of penalty at most its objective.
 pub record MeansRules (week : Week) (model : Model) : Type 0 where
-  pub extends : (roster : Roster) → KeepsHardRules week roster → Extends week model roster
-  pub decodes : (assignment : ℕ → Bool) → SatisfiesModel assignment model → Decodes week model assignment
+  pub extends : (roster : Roster) → KeepsHardRules week roster →
+      (assignment : ℕ → Bool) × IsExtension week model roster assignment
+  pub decodes : (assignment : ℕ → Bool) → SatisfiesModel assignment model →
+      KeepsHardRules week (roster_of week assignment) ×
+      (pos (penalty week (roster_of week assignment)) ≤ℤ objective_value assignment model)
   pub hard_rules : BeginsWithHardRules week model

@@ -1,9 +1,9 @@
 -- The report on a decoded answer.
 use Rattle.std.specs.Prelude.{ℕ, ℤ, List, [], ◌++◌, codes, length, Option, Some, None, slice_index_or}
+use Rattle.rota_pb.specs.Words.{soft_rules}
 use Rattle.rota_core.specs.Lists.{each_below}
 use Rattle.rota_core.specs.Numeral.{numeral, signed_numeral}
 use Rattle.rota_core.specs.RuleNames.{rule_name}
-use Rattle.rota_core.specs.Rules.{soft_rules}
 use Rattle.rota_core.specs.declared.rule.Rule.TheVariants.{Unit}
 use Rattle.rota_read.specs.SolutionText.{spaced, ended}
 use Rattle.solver_text.specs.Status.{status_words}

@@ -1,9 +1,7 @@
 -- What a run does: which readers it reads, in which order, where it may stop, and what then goes to which writer.
 use Rattle.std.specs.Prelude.{◌≡◌, ℕ, Bool, true, false, List, MatchResult, Result, Ok, Err}
-use Rattle.rota_pb.specs.declared.fault.Fault.{Fault}
-use Rattle.rota_pb.specs.declared.fault.Fault.TheVariants.{Write}
-use Rattle.rota_pb.specs.Readers.{Reader}
-use Rattle.rota_pb.specs.Writers.{Writer, WritesBeginning, WritesText}
+use Rattle.rota_pb.specs.Words.{Fault, Write}
+use Rattle.rota_pb.specs.RunPorts.{Reader, Writer, WritesBeginning, WritesText}
 
 -- A run, or a step of one, finds a value or ends with a fault. `ends` says what its readers and writers then did; `untouched`, that it was
 -- not begun: they are as they were.

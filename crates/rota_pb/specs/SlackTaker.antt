@@ -7,9 +7,8 @@ use Rattle.rota_core.specs.declared.ports.Target.{Ghosts}
 use Rattle.rota_items.specs.Variables.{unit_number}
 use Rattle.rota_items.specs.Events.{Event, start_row, term, close_row}
 use Rattle.rota_items.specs.Judging.{Judging, judged, lacking, open_slacks}
-use Rattle.rota_items.specs.Slacks.{is_slack_needed, slack_count}
+use Rattle.rota_items.specs.WeekModel.{is_slack_needed, slack_count, assignment_of, numbered_items}
 use Rattle.rota_items.specs.Charges.{soft_items}
-use Rattle.rota_items.specs.WeekModel.{assignment_of, numbered_items}
 use Rattle.opb_text.specs.SinkTaker.{EventTexts}
 use Rattle.solver_text.specs.AnswerWriter.{literals_of, literal_text}
 use Rattle.solver_text.specs.declared.answer_writer.AnswerWriter.{AnswerWriter}

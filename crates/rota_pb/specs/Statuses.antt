@@ -1,8 +1,7 @@
 -- The exit status of each fault.
 use Rattle.std.specs.Prelude.{ℕ}
+use Rattle.rota_pb.specs.Words.{Answer, Breaks, Fault, File, Memory, NoRoster, Read, Unmet, Write}
 use Rattle.rota_core.specs.declared.fault.FileFault.TheVariants as refusals
-use Rattle.rota_pb.specs.declared.fault.Fault.{Fault}
-use Rattle.rota_pb.specs.declared.fault.Fault.TheVariants.{File, Memory, Write, Read, Answer, NoRoster, Unmet, Breaks}
 
 abbrev pub exit_status : Fault → ℕ
 exit_status (File (refusals.Bad kind file line)) = 1

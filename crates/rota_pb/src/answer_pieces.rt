@@ -2,7 +2,7 @@
 ghost use Rattle.std.specs.Prelude.{IfErr, OnOk};
 ghost use Rattle.rota_pb.specs.AnswerPieces.{read_answer as answer_reading};
 ghost use Rattle.rota_pb.specs.Feeding.{HasTakenAll, StopsTaking};
-ghost use Rattle.rota_pb.specs.Readers.{reader_of};
+ghost use Rattle.rota_pb.specs.RunPorts.{reader_of};
 
 use crate::fault::Fault;
 use rota_core::Source;

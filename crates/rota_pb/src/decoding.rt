@@ -1,7 +1,6 @@
 //! The run that turns a solver's answer into a solution file and a report.
 ghost use Rattle.rota_pb.specs.Decoding.{DecodeOutcome};
-ghost use Rattle.rota_pb.specs.Readers.{reader_of, week_readers};
-ghost use Rattle.rota_pb.specs.Writers.{writer_of};
+ghost use Rattle.rota_pb.specs.RunPorts.{reader_of, week_readers, writer_of};
 
 use crate::answer_pieces::read_answer;
 use crate::decoded::decode;

@@ -6,9 +6,9 @@ ghost use Rattle.opb_text.specs.ModelText.{opb_text};
 ghost use Rattle.opb_text.specs.OpbTaker.{sink_of};
 ghost use Rattle.opb_text.specs.Sink.{PutsText, sink_failed};
 ghost use Rattle.rota_pb.specs.Encoding.{EncodeOutcome};
-ghost use Rattle.rota_pb.specs.Readers.{reader_of, week_readers};
+ghost use Rattle.rota_pb.specs.RunPorts.{reader_of, week_readers, writer_of};
 ghost use Rattle.rota_pb.specs.Runs.{send};
-ghost use Rattle.rota_pb.specs.Writers.{SendsText, writer_of};
+ghost use Rattle.rota_pb.specs.RunParts.{SendsText};
 
 use crate::fault::Fault;
 use crate::week_files::{Choice, read_instance};

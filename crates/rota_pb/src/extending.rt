@@ -2,8 +2,8 @@
 ghost use Rattle.rota_core.specs.InstanceTables.{week_of};
 ghost use Rattle.rota_core.specs.RosterTables.{HasShapeOf, set_of};
 ghost use Rattle.rota_pb.specs.Extending.{ExtendOutcome, extend_roster, extension_answer};
-ghost use Rattle.rota_pb.specs.Readers.{reader_of, week_readers};
-ghost use Rattle.rota_pb.specs.Writers.{SendsText, writer_of};
+ghost use Rattle.rota_pb.specs.RunPorts.{reader_of, week_readers, writer_of};
+ghost use Rattle.rota_pb.specs.RunParts.{SendsText};
 
 use crate::driven::verdict_of;
 use crate::fault::Fault;

@@ -2,7 +2,7 @@
 ghost use Rattle.std.specs.Prelude.{◌≡◌, Some};
 ghost use Rattle.rota_pb.specs.Statuses.{exit_status};
 ghost use Rattle.rota_pb.specs.FaultTexts.{fault_text};
-ghost use Rattle.rota_pb.specs.Faults.{fault_of_file};
+ghost use Rattle.rota_pb.specs.RunParts.{fault_of_file};
 ghost use Rattle.rota_pb.specs.declared.fault.Fault.TheVariants.{Answer, Memory};
 
 use rota_core::{FileFault, Rule};

@@ -1,6 +1,6 @@
 //! Rosters that are given as files: a solution, and the cells that are held.
 ghost use Rattle.rota_core.specs.declared.fault.FileName.TheVariants as names;
-ghost use Rattle.rota_pb.specs.Readers.{reader_of};
+ghost use Rattle.rota_pb.specs.RunPorts.{reader_of};
 ghost use Rattle.rota_pb.specs.WeekFiles.{read_roster as roster_reading};
 
 use crate::fault::Fault;

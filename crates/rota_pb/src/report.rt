@@ -6,7 +6,8 @@ ghost use Rattle.solver_text.specs.Status.{status_words};
 ghost use Rattle.rota_pb.specs.Decoded.{FindsRoster};
 ghost use Rattle.rota_pb.specs.Report.{cost_lines, last_o_line, number_line, report_text};
 ghost use Rattle.rota_pb.specs.Runs.{send};
-ghost use Rattle.rota_pb.specs.Writers.{SendsText, writer_of};
+ghost use Rattle.rota_pb.specs.RunPorts.{writer_of};
+ghost use Rattle.rota_pb.specs.RunParts.{SendsText};
 
 use crate::decoded::Decoded;
 use crate::fault::Fault;

@@ -5,7 +5,7 @@ ghost use Rattle.rota_core.specs.InstanceTables.{HasNumbersOf};
 ghost use Rattle.rota_read.specs.ScenarioLayout.{scenario as scenario_layout};
 ghost use Rattle.rota_read.specs.HistoryLayout.{history as history_layout};
 ghost use Rattle.rota_read.specs.WeekLayout.{week as week_layout};
-ghost use Rattle.rota_pb.specs.Readers.{reader_of, week_readers};
+ghost use Rattle.rota_pb.specs.RunPorts.{reader_of, week_readers};
 ghost use Rattle.rota_pb.specs.WeekFiles.{join as joining, read_file, read_tables as tables_reading, read_week as week_reading};
 
 use crate::fault::Fault;

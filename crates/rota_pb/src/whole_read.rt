@@ -1,8 +1,8 @@
 //! A file read whole.
 ghost use Rattle.std.specs.Prelude.{IfOk, IfErr};
 ghost use Rattle.rota_pb.specs.declared.fault.Fault.TheVariants.{Memory, Read};
-ghost use Rattle.rota_pb.specs.Readers.{reader_of};
-ghost use Rattle.rota_pb.specs.WholeRead.{IsReadUpTo, StopsReading};
+ghost use Rattle.rota_pb.specs.RunPorts.{reader_of, IsReadUpTo};
+ghost use Rattle.rota_pb.specs.RunParts.{StopsReading};
 
 use crate::fault::Fault;
 use rota_core::Source;

@@ -5,12 +5,13 @@ ghost use Rattle.rota_core.specs.Roster.{InWeek};
 ghost use Rattle.rota_core.specs.HardRules.{KeepsOneCell};
 ghost use Rattle.rota_core.specs.RosterTables.{HasShapeOf, set_of};
 ghost use Rattle.rota_read.specs.Files.{LONGEST};
-ghost use Rattle.rota_read.specs.SolutionRows.{SpellsRoster};
+ghost use Rattle.rota_read.specs.SolutionLayout.{SpellsRoster};
 ghost use Rattle.rota_read.specs.SolutionText.{assignment_text, heading_text, rows_text, solution_text};
 ghost use Rattle.opb_text.specs.Sink.{PutsText, sink_failed};
 ghost use Rattle.rota_core.specs.RosterCells.{cells_of};
 ghost use Rattle.rota_pb.specs.Runs.{send};
-ghost use Rattle.rota_pb.specs.Writers.{SendsText, writer_of};
+ghost use Rattle.rota_pb.specs.RunPorts.{writer_of};
+ghost use Rattle.rota_pb.specs.RunParts.{SendsText};
 
 use crate::fault::Fault;
 use opb_text::{Piece, Sink};

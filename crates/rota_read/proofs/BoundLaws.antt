@@ -7,14 +7,13 @@ use Rattle.std.proofs.lemmas.Nat.{mul-add-lt}
 use Rattle.rota_core.specs.ScenarioTables.{ScenarioTables}
 use Rattle.rota_core.specs.declared.values.Demand.{Demand}
 use Rattle.rota_read.specs.declared.fault.Fault.{Fault}
-use Rattle.rota_read.specs.Tokens.{Token, Reading}
-use Rattle.rota_read.specs.Layout.{Layout}
-use Rattle.rota_read.specs.Reading.{and_then, read}
+use Rattle.rota_read.specs.Tokens.{Token}
+use Rattle.rota_read.specs.Reading.{Reading, and_then, read}
+use Rattle.rota_read.specs.Layout.{Layout, shift_or}
 use Rattle.rota_read.specs.Files.{Fills}
 use Rattle.rota_read.specs.WeekLayout.{Requirements, is_listed, requirement, requirement_of, requirement_row, after_row, repeat_until, most_rows, no_requirements, requirement_rows}
 use Rattle.rota_read.specs.WeekBound.{BoundEndsNoRows}
 use Rattle.rota_read.proofs.FileLaws.{fills-read}
-use Rattle.rota_read.specs.ShiftLayout.{shift_or}
 use Rattle.rota_read.proofs.SlotLaws.{known_name-below, known_name-free, shift_or-below}
 
 -- ---- how many pairs have no row

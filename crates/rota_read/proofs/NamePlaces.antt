@@ -5,7 +5,7 @@ use Rattle.std.specs.Str.{bytes_eq}
 use Rattle.std.proofs.lemmas.Bool.{false_from_ne_true}
 use Rattle.std.proofs.lemmas.Bool.Decides.{nat_tests}
 use Rattle.std.proofs.lemmas.Slice.Eq.{bytes_eq-Decides}
-use Rattle.rota_core.specs.Names.{place_of}
+use Rattle.rota_core.specs.Words.{place_of}
 use Rattle.rota_core.specs.ScenarioTables.{AreDistinct}
 use Rattle.rota_read.specs.SolutionText.{name_at}
 

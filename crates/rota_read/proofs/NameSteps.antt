@@ -1,13 +1,13 @@
 -- Reading a name: a word, and what it names.
 use Rattle.std.proofs.Common.{◌≡◌, ℕ, Bool, true, false, List, [], ◌∷◌, Option, Some, None, Result, Ok, Err, unwrap_or, refl, ap, if◌then◌else◌}
 use Rattle.std.specs.Option.{option_map_or}
-use Rattle.rota_core.specs.Names.{is_among, place_of}
+use Rattle.rota_core.specs.Words.{is_among, place_of}
 use Rattle.rota_core.specs.declared.fault.Kind.{Kind}
 use Rattle.rota_core.specs.declared.fault.Kind.TheVariants as kinds
 use Rattle.rota_read.specs.declared.fault.Fault.{Fault}
-use Rattle.rota_read.specs.Tokens.{Token, Reading}
+use Rattle.rota_read.specs.Tokens.{Token}
+use Rattle.rota_read.specs.Reading.{Reading, and_then, read}
 use Rattle.rota_read.specs.Layout.{any_word, is_sign_token, known_name, new_name, none_taken}
-use Rattle.rota_read.specs.Reading.{and_then, read}
 
 -- the fault of the token before
 abbrev pub refused : {V : Type 0} → Kind → Reading → Result V Fault

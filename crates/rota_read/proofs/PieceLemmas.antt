@@ -5,9 +5,8 @@ use Rattle.std.specs.List.{list_all}
 use Rattle.std.proofs.lemmas.Bool.{and_parts, or_parts, not-true}
 use Rattle.std.proofs.lemmas.Bool.Decides.{nat_tests}
 use Rattle.std.proofs.lemmas.List.{append-nil}
-use Rattle.rota_core.specs.Names.{place_of}
+use Rattle.rota_core.specs.Words.{place_of, is_blank, is_sign, is_word_byte, IsWord}
 use Rattle.rota_core.specs.Numeral.{numeral, decimal}
-use Rattle.rota_core.specs.Words.{is_blank, is_sign, is_word_byte, IsWord}
 use Rattle.rota_read.specs.Tokens.{Token, tokens_from, lengthen, line_after}
 use Rattle.rota_read.specs.Layout.{Slot, wants_exactly, wants_number, wants_word, wants_known, Layout, end, slot, ◌>>=◌, misfit, is_sign_token, exactly, number, any_word, known_name}
 use Rattle.rota_read.specs.Files.{Fills}

@@ -15,12 +15,9 @@ use Rattle.rota_core.specs.ScenarioTables.{ScenarioTables, IsShiftName, AreDisti
 use Rattle.rota_core.specs.Words.{IsWord}
 use Rattle.rota_core.proofs.Loops.{AllByRecursion-append}
 use Rattle.rota_core.proofs.RisesWithin.{RisesWithin}
-use Rattle.rota_read.specs.Days.{day_names}
+use Rattle.rota_read.specs.Layout.{day_names, setting, Layout, end, exactly, number, any_word, known_name, none_taken, repeat}
 use Rattle.rota_read.specs.Files.{Fills, LONGEST}
-use Rattle.rota_read.specs.Layout.{Layout, end, exactly, number, any_word, known_name, none_taken, repeat}
-use Rattle.rota_read.specs.ScenarioLayout.{setting}
-use Rattle.rota_read.specs.SolutionLayout.{is_same_cell, is_one_cell, assignment_row, solution_heading, solution}
-use Rattle.rota_read.specs.SolutionRows.{SpellsRoster}
+use Rattle.rota_read.specs.SolutionLayout.{is_same_cell, is_one_cell, assignment_row, solution_heading, solution, SpellsRoster}
 use Rattle.rota_read.specs.SolutionText.{name_at, spaced, ended, heading_text, assignment_text, text_of_cells, solution_text}
 use Rattle.rota_read.specs.Tokens.{tokens_from, tokens}
 use Rattle.rota_core.specs.RosterCells.{cells_of}

@@ -1,9 +1,8 @@
 -- Reading rows one after the other, as a loop does.
 use Rattle.std.proofs.Common.{◌≡◌, ℕ, suc, ◌+◌, ◌-◌, ◌<◌, ◌≤◌, Bool, Ok, refl, arith}
 use Rattle.rota_read.specs.declared.fault.Stop.{Stop}
-use Rattle.rota_read.specs.Tokens.{Reading}
+use Rattle.rota_read.specs.Reading.{Reading, and_then, read, Fails}
 use Rattle.rota_read.specs.Layout.{Layout, end, repeat}
-use Rattle.rota_read.specs.Reading.{and_then, read, Fails}
 use Rattle.rota_read.proofs.EndLemmas.{front_fails}
 use Rattle.rota_read.specs.WeekLayout.{after_row, repeat_until}
 

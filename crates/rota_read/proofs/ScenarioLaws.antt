@@ -6,14 +6,13 @@ use Rattle.std.proofs.lemmas.List.FromFn.{length-map-range_with_len}
 use Rattle.std.specs.Str.{bytes_eq}
 use Rattle.std.specs.Cmp.Lexicographic.{nat_list_eq_equiv}
 use Rattle.std.proofs.lemmas.Map.Keys.{IsDistinct-push}
-use Rattle.rota_core.specs.Words.{IsWord}
-use Rattle.rota_core.specs.Names.{is_among}
+use Rattle.rota_core.specs.Words.{IsWord, is_among}
 use Rattle.rota_core.specs.ScenarioTables.{ScenarioTables, IsScenario, Within, AreLimits, IsContract, IsShiftName, AreDistinct, reserved}
 use Rattle.rota_core.specs.declared.values.Span.{Span}
 use Rattle.rota_core.specs.declared.values.Contract.{Contract}
 use Rattle.rota_read.specs.Tokens.{Token, tokens}
-use Rattle.rota_read.specs.ScenarioLayout.{pair, setting, name_row, Shifts, shift_row, contract, Contracts, contract_row, Nurses, nurse_row, marks, heading, skills_part, shifts_part, after_shift, successions_part, contracts_part, nurses_part, scenario}
-use Rattle.rota_read.specs.Layout.{is_one_of, none_taken}
+use Rattle.rota_read.specs.ScenarioLayout.{name_row, Shifts, shift_row, contract, Contracts, contract_row, Nurses, nurse_row, marks, heading, skills_part, shifts_part, after_shift, successions_part, contracts_part, nurses_part, scenario}
+use Rattle.rota_read.specs.Layout.{pair, setting, is_one_of, none_taken}
 use Rattle.rota_read.specs.Files.{Fills, Spells}
 use Rattle.rota_read.proofs.WordLaws.{IsToken, tokens-are_tokens}
 use Rattle.rota_read.proofs.SlotLaws.{AreTokens, all_first, all_second, all_push, length_push, number-within, any_word-is_word, new_name-is_new, known_name-below, repeat-keeps}

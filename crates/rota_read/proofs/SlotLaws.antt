@@ -6,13 +6,11 @@ use Rattle.std.proofs.lemmas.Bool.Decides.{nat_tests}
 use Rattle.std.proofs.lemmas.List.{length-append}
 use Rattle.std.proofs.lemmas.List.Quantifiers.{position-Some}
 use Rattle.std.specs.Str.{bytes_eq}
-use Rattle.rota_core.specs.Words.{IsWord}
-use Rattle.rota_core.specs.Names.{is_among, place_of}
+use Rattle.rota_core.specs.Words.{IsWord, is_among, place_of}
 use Rattle.rota_core.specs.declared.fault.Kind.TheVariants as kinds
 use Rattle.rota_read.specs.Tokens.{Token}
 use Rattle.rota_core.specs.Numeral.{decimal, is_decimal}
-use Rattle.rota_read.specs.Layout.{Layout, is_sign_token, number, any_word, new_name, known_name, none_taken, repeat}
-use Rattle.rota_read.specs.ShiftLayout.{shift_at, shift_or}
+use Rattle.rota_read.specs.Layout.{Layout, is_sign_token, number, any_word, new_name, known_name, none_taken, repeat, shift_at, shift_or}
 use Rattle.rota_read.specs.Files.{Fills}
 use Rattle.rota_read.proofs.WordLaws.{IsToken}
 

@@ -4,8 +4,7 @@ use Rattle.rota_core.specs.declared.values.Past.{Past}
 use Rattle.rota_core.specs.ScenarioTables.{ScenarioTables}
 use Rattle.rota_core.specs.Week.{no_past}
 use Rattle.rota_core.specs.WeekTables.{HistoryTables}
-use Rattle.rota_read.specs.ShiftLayout.{shift_or}
-use Rattle.rota_read.specs.Layout.{Layout, end, ◌>>=◌, exactly, number, any_word, known_name, repeat}
+use Rattle.rota_read.specs.Layout.{shift_or, Layout, end, ◌>>=◌, exactly, number, any_word, known_name, repeat}
 
 -- the totals, the last shift type or `None`, and the runs
 unfoldable pub past : List (List ℕ) → Layout Past

@@ -1,13 +1,13 @@
--- A file as a list of slots, which its tokens fill in order.
-use Rattle.std.specs.Prelude.{◌==◌, ℕ, zero, suc, Bool, false, ◌&&◌, List, [], ◌∷◌, Option, Some, None, unwrap_or, nat_le, if◌then◌else◌}
+-- A file as a list of slots, which its tokens fill in order; and the slots that several files have.
+use Rattle.std.specs.Prelude.{ℕ, zero, suc, ◌==◌, nat_le, Bool, false, ◌&&◌, if◌then◌else◌}
+use Rattle.std.specs.Prelude.{List, [], ◌∷◌, Option, Some, None, unwrap_or, codes, bytes_eq}
 use Rattle.std.specs.List.{list_any}
 use Rattle.std.specs.Option.{option_map_or}
-use Rattle.rota_core.specs.Names.{is_among, place_of}
-use Rattle.std.specs.Str.{bytes_eq}
+use Rattle.rota_core.specs.Words.{is_among, place_of, is_sign}
 use Rattle.rota_core.specs.Numeral.{is_decimal, decimal}
-use Rattle.rota_core.specs.Words.{is_sign}
 use Rattle.rota_core.specs.declared.fault.Kind.{Kind}
 use Rattle.rota_core.specs.declared.fault.Kind.TheVariants as kinds
+use Rattle.rota_core.specs.declared.values.Span.{Span}
 
 -- what a token may be at one place of a file
 pub data Slot : Type 0 where
@@ -77,3 +77,34 @@ known_name names is_taken = do
 unfoldable pub repeat : {S : Type 0} → ℕ → (S → Layout S) → S → Layout S
 repeat zero row state = end state
 repeat (suc n) row state = row state >>= repeat n row
+
+-- a least and a greatest number
+unfoldable pub pair : Layout Span
+pair = do
+  _ ← exactly (codes "(")
+  min ← number 0 9999
+  _ ← exactly (codes ",")
+  max ← number 0 9999
+  _ ← exactly (codes ")")
+  end (record { min = min; max = max })
+
+-- a name, `=` and a number
+unfoldable pub setting : List ℕ → ℕ → ℕ → Layout ℕ
+setting name low high = do
+  _ ← exactly name
+  _ ← exactly (codes "=")
+  number low high
+
+-- the first name is the word, and the others are the shift types
+abbrev pub shift_at : ℕ → Option ℕ
+shift_at zero = None
+shift_at (suc shift) = Some shift
+
+-- a shift type, or none where the word stands, even if a shift type is called so
+unfoldable pub shift_or : List ℕ → List (List ℕ) → Layout (Option ℕ)
+shift_or word shifts = do
+  place ← known_name (word ∷ shifts) none_taken
+  end (shift_at place)
+
+abbrev pub day_names : List (List ℕ)
+day_names = codes "Mon" ∷ codes "Tue" ∷ codes "Wed" ∷ codes "Thu" ∷ codes "Fri" ∷ codes "Sat" ∷ codes "Sun" ∷ []

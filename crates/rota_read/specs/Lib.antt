@@ -1,4 +1,3 @@
-pub mod Days
 pub mod FileAnswers
 pub mod FileFaults
 pub mod Files
@@ -10,9 +9,7 @@ pub mod Reading
 pub mod RosterReading
 pub mod ScenarioLayout
 pub mod ScenarioRows
-pub mod ShiftLayout
 pub mod SolutionLayout
-pub mod SolutionRows
 pub mod SolutionText
 pub mod Tokens
 pub mod WeekBound

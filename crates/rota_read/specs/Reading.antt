@@ -5,13 +5,18 @@ use Rattle.rota_core.specs.declared.fault.Kind.TheVariants as kinds
 use Rattle.rota_read.specs.declared.fault.Fault.{Fault}
 use Rattle.rota_read.specs.declared.fault.Stop.{Stop}
 use Rattle.rota_read.specs.declared.fault.Stop.TheVariants as stops
-use Rattle.rota_read.specs.Tokens.{Token, Reading, tokens}
+use Rattle.rota_read.specs.Tokens.{Token, tokens}
 use Rattle.rota_read.specs.Layout.{Slot, Layout, end, slot, ◌>>=◌, misfit}
 use Rattle.rota_read.specs.Files.{LONGEST}
 
 abbrev pub and_then : {A B : Type 0} → Result A Fault → (A → Result B Fault) → Result B Fault
 and_then (Ok a) f = f a
 and_then (Err e) f = Err e
+
+-- what is left to read: the tokens, and the line of the one before them
+pub record Reading : Type 0 where
+  pub last : ℕ
+  pub rest : List Token
 
 -- the token that fills a slot, and what is left then
 abbrev pub fill : Slot → ℕ → List Token → Result (List ℕ × Reading) Fault

@@ -5,9 +5,8 @@ use Rattle.rota_core.specs.RosterTables.{RosterTables}
 use Rattle.rota_core.specs.Week.{Week}
 use Rattle.rota_read.specs.declared.fault.Fault.{Fault}
 use Rattle.rota_read.specs.declared.fault.Stop.{Stop}
-use Rattle.rota_read.specs.Tokens.{Reading}
-use Rattle.rota_read.specs.Reading.{Fails}
-use Rattle.rota_read.specs.SolutionRows.{HasCells}
+use Rattle.rota_read.specs.Reading.{Reading, Fails}
+use Rattle.rota_read.specs.SolutionLayout.{HasCells}
 
 -- What a function returned, and what it left, is a roster of the cells that reading gives, unless memory ran out.
 abbrev pub ReadsRoster : Week → Result RosterTables Stop → Reading → Result (List Cell × Reading) Fault → Type 0

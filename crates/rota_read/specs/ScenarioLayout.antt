@@ -5,24 +5,8 @@ use Rattle.std.specs.Option.{option_map_or}
 use Rattle.rota_core.specs.declared.values.Span.{Span}
 use Rattle.rota_core.specs.declared.values.Contract.{Contract}
 use Rattle.rota_core.specs.ScenarioTables.{ScenarioTables, reserved}
-use Rattle.rota_read.specs.Layout.{Layout, end, ◌>>=◌, exactly, number, any_word, new_name, known_name, is_one_of, none_taken, repeat}
-
--- a least and a greatest number
-unfoldable pub pair : Layout Span
-pair = do
-  _ ← exactly (codes "(")
-  min ← number 0 9999
-  _ ← exactly (codes ",")
-  max ← number 0 9999
-  _ ← exactly (codes ")")
-  end (record { min = min; max = max })
-
--- a name, `=` and a number
-unfoldable pub setting : List ℕ → ℕ → ℕ → Layout ℕ
-setting name low high = do
-  _ ← exactly name
-  _ ← exactly (codes "=")
-  number low high
+use Rattle.rota_read.specs.Layout.{Layout, end, ◌>>=◌, exactly, number, any_word, new_name, known_name, none_taken, repeat}
+use Rattle.rota_read.specs.Layout.{is_one_of, pair, setting}
 
 -- one more name
 unfoldable pub name_row : List (List ℕ) → Layout (List (List ℕ))

@@ -1,12 +1,14 @@
--- The slots of a solution file.
-use Rattle.std.specs.Prelude.{ℕ, ◌==◌, ◌&&◌, Bool, List, [], ◌∷◌, ◌++◌, codes}
+-- The slots of a solution file, and the roster that it spells.
+use Rattle.std.specs.Prelude.{ℕ, ◌==◌, ◌&&◌, Bool, List, [], ◌∷◌, ◌++◌, codes, ◌≡◌}
 use Rattle.std.specs.List.{list_any}
 use Rattle.rota_core.specs.declared.values.Cell.{Cell}
-use Rattle.rota_core.specs.Roster.{cell}
+use Rattle.rota_core.specs.Roster.{cell, InWeek}
 use Rattle.rota_core.specs.ScenarioTables.{ScenarioTables}
-use Rattle.rota_read.specs.Days.{day_names}
-use Rattle.rota_read.specs.Layout.{Layout, end, ◌>>=◌, exactly, number, any_word, known_name, none_taken, repeat}
-use Rattle.rota_read.specs.ScenarioLayout.{setting}
+use Rattle.rota_read.specs.Layout.{day_names, setting, Layout, end, ◌>>=◌, exactly, number, any_word, known_name, none_taken, repeat}
+use Rattle.rota_core.specs.InstanceTables.{InstanceTables, week_of}
+use Rattle.rota_core.specs.RosterTables.{RosterTables, HasShapeOf, set_of}
+use Rattle.rota_core.specs.Week.{Week}
+use Rattle.rota_read.specs.Files.{Spells}
 
 abbrev pub is_same_cell : Cell → Cell → Bool
 is_same_cell one other = one.nurse == other.nurse && one.day == other.day && one.shift == other.shift && one.skill == other.skill
@@ -37,3 +39,14 @@ unfoldable pub solution : ScenarioTables → Layout (List Cell)
 solution tables = do
   count ← solution_heading
   repeat count (assignment_row tables) []
+
+-- the roster is one of the week's shape, and its cells are these
+pub record HasCells (week : Week) (roster : RosterTables) (cells : List Cell) : Type 0 where
+  pub shape : HasShapeOf week roster
+  pub set : (one : Cell) → InWeek week one → set_of roster one ≡ is_one_cell cells one
+
+-- the text spells the assignments of the roster
+pub record SpellsRoster (tables : InstanceTables) (text : List ℕ) (roster : RosterTables) : Type 0 where
+  pub rows : List Cell
+  pub spelled : Spells (solution tables.scenario) text rows
+  pub cells : HasCells (week_of tables) roster rows

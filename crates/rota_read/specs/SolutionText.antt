@@ -9,9 +9,9 @@ use Rattle.rota_core.specs.RosterCells.{cells_of}
 use Rattle.rota_core.specs.HardRules.{KeepsOneCell}
 use Rattle.rota_core.specs.RosterTables.{RosterTables, HasShapeOf, set_of}
 use Rattle.rota_core.specs.ScenarioTables.{ScenarioTables}
-use Rattle.rota_read.specs.Days.{day_names}
+use Rattle.rota_read.specs.Layout.{day_names}
 use Rattle.rota_read.specs.Files.{LONGEST}
-use Rattle.rota_read.specs.SolutionRows.{SpellsRoster}
+use Rattle.rota_read.specs.SolutionLayout.{SpellsRoster}
 
 abbrev pub name_at : List (List ℕ) → ℕ → List ℕ
 name_at names place = unwrap_or (slice_get names place) []

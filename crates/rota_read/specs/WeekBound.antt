@@ -1,8 +1,7 @@
 -- The bound on the rows of requirements ends no rows.
 use Rattle.std.specs.Prelude.{◌≡◌, ℕ, ◌+◌}
 use Rattle.rota_core.specs.ScenarioTables.{ScenarioTables}
-use Rattle.rota_read.specs.Tokens.{Reading}
-use Rattle.rota_read.specs.Reading.{read}
+use Rattle.rota_read.specs.Reading.{Reading, read}
 use Rattle.rota_read.specs.WeekLayout.{repeat_until, most_rows, requirement_row, no_requirements, requirement_rows}
 
 -- With any greater bound the same rows, or the same fault, are read from every text.

@@ -7,10 +7,7 @@ use Rattle.rota_core.specs.ScenarioTables.{ScenarioTables}
 use Rattle.rota_core.specs.Week.{no_demand}
 use Rattle.rota_core.specs.WeekTables.{WeekTables}
 use Rattle.rota_read.specs.declared.week.RequestRow.{RequestRow}
-use Rattle.rota_read.specs.Layout.{Layout, end, ◌>>=◌, exactly, number, any_word, known_name, none_taken, repeat}
-use Rattle.rota_read.specs.Days.{day_names}
-use Rattle.rota_read.specs.ScenarioLayout.{pair}
-use Rattle.rota_read.specs.ShiftLayout.{shift_or}
+use Rattle.rota_read.specs.Layout.{Layout, end, ◌>>=◌, exactly, number, any_word, known_name, none_taken, repeat, day_names, pair, shift_or}
 
 -- a minimum and an optimal number
 unfoldable pub demand : Layout Demand

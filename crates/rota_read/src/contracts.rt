@@ -1,7 +1,7 @@
 //! Reads the contracts of a scenario file.
 
 ghost use Rattle.std.specs.Prelude.{◌≡◌, ◌≤◌, ◌+◌, length, OnOk};
-ghost use Rattle.rota_core.specs.Names.{bytes_of};
+ghost use Rattle.rota_core.specs.Parts.{bytes_of};
 ghost use Rattle.rota_read.specs.Layout.{repeat};
 ghost use Rattle.rota_read.specs.Reading.{read, Reads};
 ghost use Rattle.rota_read.specs.ScenarioLayout.{contract, contract_row, contracts_part};

@@ -1,9 +1,8 @@
 //! Reads days.
 
 ghost use Rattle.std.specs.Prelude.{◌≡◌, ◌<◌, IfOk};
-ghost use Rattle.rota_core.specs.Names.{place_of};
-ghost use Rattle.rota_read.specs.Days.{day_names};
-ghost use Rattle.rota_read.specs.Layout.{known_name, none_taken};
+ghost use Rattle.rota_core.specs.Words.{place_of};
+ghost use Rattle.rota_read.specs.Layout.{day_names, known_name, none_taken};
 ghost use Rattle.rota_read.specs.Reading.{read, Reads};
 ghost use Rattle.rota_read.specs.SolutionText.{name_at};
 

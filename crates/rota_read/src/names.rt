@@ -3,11 +3,11 @@
 ghost use Rattle.std.specs.Prelude.{◌≡◌, true, false, ◌<◌, ◌++◌, IfOk, MatchResult, length};
 ghost use Rattle.std.specs.Option.{ForSome};
 ghost use Rattle.rota_core.specs.declared.fault.Kind.TheVariants.{Repeated};
-ghost use Rattle.rota_core.specs.Names.{bytes_of, is_among};
+ghost use Rattle.rota_core.specs.Words.{is_among};
+ghost use Rattle.rota_core.specs.Parts.{bytes_of};
 ghost use Rattle.rota_core.specs.ScenarioTables.{reserved};
-ghost use Rattle.rota_read.specs.Layout.{new_name, known_name, none_taken, is_one_of};
+ghost use Rattle.rota_read.specs.Layout.{new_name, known_name, none_taken, is_one_of, shift_or};
 ghost use Rattle.rota_read.specs.Reading.{read, Reads};
-ghost use Rattle.rota_read.specs.ShiftLayout.{shift_or};
 
 use crate::cursor::Cursor;
 use crate::fault::{Fault, Stop};
@@ -111,7 +111,7 @@ impl<'a> Cursor<'a> {
     }
 
     /// The number of a shift type, or `None` where the word stands.
-    #[tactic(auto, using(crate::proofs::NameSteps::known_by_word), unfolding(crate::specs::ShiftLayout::shift_or, crate::specs::Reading::read))]
+    #[tactic(auto, using(crate::proofs::NameSteps::known_by_word), unfolding(crate::specs::Layout::shift_or, crate::specs::Reading::read))]
     pub fn shift_or(&mut self, word: &[u8], scenario: &Scenario) -> Result<Option<u8>, Stop>
         ensures read { Reads (λ s. s) result self.new (read (shift_or word.now scenario.now.shifts) self.old) }
         ensures below { IfOk result (λ s. ForSome s (λ n. n < length scenario.now.shifts)) }

@@ -1,7 +1,7 @@
 //! Reads the nurses of a scenario file.
 
 ghost use Rattle.std.specs.Prelude.{◌≡◌, ◌≤◌, length};
-ghost use Rattle.rota_core.specs.Names.{bytes_of};
+ghost use Rattle.rota_core.specs.Parts.{bytes_of};
 ghost use Rattle.rota_read.specs.Layout.{repeat, known_name, none_taken};
 ghost use Rattle.rota_read.specs.Reading.{read, Reads};
 ghost use Rattle.rota_read.specs.ScenarioLayout.{nurse_row, nurses_part};

@@ -1,8 +1,7 @@
 //! Reads a scenario file.
 
 ghost use Rattle.std.specs.Prelude.{◌≡◌, ◌≤◌, [], IfOk};
-ghost use Rattle.rota_core.specs.Names.{bytes_of};
-ghost use Rattle.rota_core.specs.Parts.{scenario_of};
+ghost use Rattle.rota_core.specs.Parts.{bytes_of, scenario_of};
 ghost use Rattle.rota_read.specs.Reading.{read, Reads};
 ghost use Rattle.rota_read.specs.ScenarioRows.{tables_of, IsEmpty};
 ghost use Rattle.rota_read.specs.ScenarioLayout.{heading, skills_part, scenario};

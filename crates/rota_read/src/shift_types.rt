@@ -1,7 +1,7 @@
 //! Reads the shift types and the forbidden successions of a scenario file.
 
 ghost use Rattle.std.specs.Prelude.{◌≡◌, ◌==◌, ◌≤◌, [], position, IfOk, OnOk};
-ghost use Rattle.rota_core.specs.Names.{bytes_of};
+ghost use Rattle.rota_core.specs.Parts.{bytes_of};
 ghost use Rattle.rota_read.specs.Layout.{repeat};
 ghost use Rattle.rota_read.specs.Reading.{read, Reads};
 ghost use Rattle.rota_read.specs.ScenarioLayout.{after_shift as after, forbidden_table, shift_row, succession_row, shifts_part, successions_part};

@@ -9,9 +9,8 @@ ghost use Rattle.rota_read.specs.FileAnswers.{IsFaultOf};
 ghost use Rattle.rota_read.specs.OneMeaning.{OneMeaning};
 ghost use Rattle.rota_read.specs.Layout.{repeat};
 ghost use Rattle.rota_read.specs.Reading.{read, Reads, read_file};
-ghost use Rattle.rota_read.specs.SolutionLayout.{assignment_row, solution_heading, solution};
+ghost use Rattle.rota_read.specs.SolutionLayout.{assignment_row, solution_heading, solution, HasCells, SpellsRoster};
 ghost use Rattle.rota_read.specs.SolutionText.{EachRosterHasItsText};
-ghost use Rattle.rota_read.specs.SolutionRows.{HasCells, SpellsRoster};
 ghost use Rattle.rota_read.specs.RosterReading.{ReadsRoster, ReadsRosterFile};
 
 use crate::cursor::Cursor;

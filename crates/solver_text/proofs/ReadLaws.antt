@@ -4,9 +4,9 @@ use Rattle.std.proofs.Math.Seq.{drop-cons}
 use Rattle.std.proofs.lemmas.List.{take_all, drop_all, length-replicate}
 use Rattle.std.specs.Result.{result_err}
 use Rattle.solver_text.specs.Lines.{is_blank, is_line_feed, cut, lines}
-use Rattle.solver_text.specs.Answers.{Facts, keyword_of, and_then, at_end, outcome, judged_within, no_facts, judge_all, judgements}
+use Rattle.solver_text.specs.Answers.{Facts, keyword_of, and_then, at_end, outcome, judged_within, no_facts, judge_all, judgements, fault_within}
 use Rattle.solver_text.specs.LineStates.{LineState, MOST, line_after, skipped, start, take_byte, take_bytes, end_line}
-use Rattle.solver_text.specs.States.{facts_of, line_of, Stands, LeadsTo, fault_within, state_after, line_state_in, Moves}
+use Rattle.solver_text.specs.States.{facts_of, line_of, Stands, LeadsTo, state_after, line_state_in, Moves}
 use Rattle.solver_text.specs.declared.outcome.AnswerFault.{AnswerFault}
 use Rattle.solver_text.specs.declared.outcome.AnswerFault.TheVariants as faults
 use Rattle.solver_text.specs.declared.outcome.Status.{Status}

@@ -1,8 +1,8 @@
 -- A fault stays, whatever follows.
 use Rattle.std.proofs.Common.{◌≡◌, ℕ, ◌<◌, ◌^◌, List, ◌++◌, Result, Ok, Err, ap, ◌∙◌, arith}
-use Rattle.solver_text.specs.Answers.{Facts, and_then, at_end, judged_within}
+use Rattle.solver_text.specs.Answers.{Facts, and_then, at_end, judged_within, fault_within}
 use Rattle.solver_text.specs.LineStates.{LineState, take_bytes, end_line}
-use Rattle.solver_text.specs.States.{fault_within, state_after, line_state_in}
+use Rattle.solver_text.specs.States.{state_after, line_state_in}
 use Rattle.solver_text.specs.Lines.{lines}
 use Rattle.solver_text.specs.AnswerLaws.{FaultStays}
 use Rattle.solver_text.specs.declared.outcome.AnswerFault.{AnswerFault}

@@ -4,9 +4,8 @@ use Rattle.std.specs.List.{list_any}
 use Rattle.std.specs.Option.{option_map_or}
 use Rattle.solver_text.specs.declared.outcome.AnswerFault.{AnswerFault}
 use Rattle.solver_text.specs.declared.outcome.Solved.{Solved}
-use Rattle.solver_text.specs.Answers.{Judgement, of_status, of_objective, of_literal, literal_of, judgements, outcome}
+use Rattle.solver_text.specs.Answers.{Judgement, of_status, of_objective, of_literal, literal_of, judgements, outcome, fault_within}
 use Rattle.solver_text.specs.AnswerText.{answer_text}
-use Rattle.solver_text.specs.States.{fault_within}
 use Rattle.solver_text.specs.declared.outcome.Status.TheVariants as statuses
 
 -- A fault of a beginning is that of each longer beginning and of the whole.

@@ -50,10 +50,6 @@ pub record LeadsTo (variables : ℕ) (text : List ℕ) (answer : Answer) : Type 
   pub few : variables < 2 ^ 32
   pub stands : Stands answer (state_after variables text)
 
--- what was answered: the fault, or that there is none
-abbrev pub fault_within : ℕ → List ℕ → Result (Unit {0}) AnswerFault
-fault_within variables text = and_then (judged_within variables text) (λ facts. Ok tt)
-
 abbrev pub Gives : Result (Unit {0}) AnswerFault → Facts → Result Facts AnswerFault → Type 0
 Gives (Ok u) facts judged = judged ≡ Ok facts
 Gives (Err fault) facts judged = judged ≡ Err fault

@@ -21,9 +21,9 @@ pub struct Answer {
 }
 
 impl Answer {
-    ghost use Rattle.solver_text.specs.Answers.{outcome};
+    ghost use Rattle.solver_text.specs.Answers.{outcome, fault_within};
     ghost use Rattle.solver_text.specs.LineStates.{take_byte, take_bytes, end_word, end_line};
-    ghost use Rattle.solver_text.specs.States.{facts_of, line_of, fault_of, LeadsTo, fault_within, Gives, Moves};
+    ghost use Rattle.solver_text.specs.States.{facts_of, line_of, fault_of, LeadsTo, Gives, Moves};
 
     /// An answer of which nothing was read yet, for the variables 1 to `variables`. It fails only for want
     /// of memory.

@@ -3,7 +3,7 @@ use Rattle.rota_items.proofs.LogicWords.{◌≡◌, ℕ, ◌+◌, ◌<◌, ◌�
 use Rattle.rota_items.proofs.ModelWords.{KeepsOneCell, KeepsSuccession, is_on, InWeek, Roster, Week, Cell, cell_number, on_cells, LinearRow}
 use Rattle.rota_core.specs.declared.rule.Rule.TheVariants.{H3}
 use Rattle.rota_core.proofs.RisesWithin.{rises-append}
-use Rattle.rota_items.specs.hard.Succession.{h3_monday_row, h3_row, h3_rows, is_forbidden_after}
+use Rattle.rota_items.specs.HardRows.{h3_monday_row, h3_row, h3_rows, is_forbidden_after}
 use Rattle.rota_items.proofs.CellCounts.{on_count, count-on_cells, on_count-le, any-on_cells}
 use Rattle.rota_items.proofs.CellsIn.{in-on_cells}
 use Rattle.rota_items.proofs.HardRules.RowsAre.{Are, in-parts, in-turns, where-holds}

@@ -1,6 +1,6 @@
 -- The items of the runs on shift types and of working days charge the cost of those runs.
 use Rattle.rota_items.proofs.LogicWords.{◌≡◌, ℕ, List, arith, refl, pos, ints, sum_by-append, AllByRecursion-append, AllByRecursion-each_below}
-use Rattle.rota_items.proofs.ModelWords.{KeepsOneCell, is_on, works, Roster, Week, Cell, Item, charged}
+use Rattle.rota_items.proofs.ModelWords.{KeepsOneCell, is_on, works, Roster, Week, Cell, Item, charged, rule_cost}
 use Rattle.rota_core.specs.Lists.{each_below}
 use Rattle.rota_core.specs.declared.rule.Rule.TheVariants.{S2}
 use Rattle.rota_items.proofs.AlikeRosters.{on-alike, run_cost-alike, works-alike}
@@ -9,7 +9,7 @@ use Rattle.rota_items.proofs.SoftRules.NurseProperties.{of_nurse-on, of_nurse-wo
 use Rattle.rota_items.proofs.SoftRules.Sound.{IsItemSound, IsNurseRuleSound, charges-nurses, weighted}
 use Rattle.rota_items.proofs.SumsBelow.{sum_by-each-times, sum_below-same}
 use Rattle.rota_items.specs.RunItems.{run_items}
-use Rattle.rota_items.specs.rules.ConsecutiveAssignments.Cost.{consecutive_assignment_cost, history_on, shift_run_cost, shift_run_weight, work_run_weight}
+use Rattle.rota_items.specs.rules.ConsecutiveAssignments.Cost.{history_on, shift_run_cost, shift_run_weight, work_run_weight}
 use Rattle.rota_items.specs.rules.ConsecutiveAssignments.Items.{shift_runs, work_runs}
 
 module _ (week : Week) where
@@ -43,6 +43,6 @@ module _ (week : Week) where
   }
 
   pub charged-consecutive_assignments : (roster : Roster) → KeepsOneCell week roster →
-      charged week roster S2 ≡ pos (consecutive_assignment_cost week roster)
+      charged week roster S2 ≡ pos (rule_cost week roster S2)
   charged-consecutive_assignments roster one =
       omega (arith, ints, charges-nurses week S2 sound-consecutive_assignments roster one)

@@ -13,9 +13,8 @@ use Rattle.rota_items.proofs.RisingCells.{day_start, on-keeps, rises-pattern, ri
 use Rattle.rota_items.proofs.SoftRules.Sound.{IsItemSound}
 use Rattle.rota_items.proofs.TermsHold.{OnVariables, on-days}
 use Rattle.rota_items.proofs.UnitTerms.{units-days}
-use Rattle.rota_items.specs.RunItemParts.{AtMostOneADay, DaysFollow}
-use Rattle.rota_items.specs.RunItems.{Property, Present, Runs, has_property, pattern_item, run_items, variables_on}
-use Rattle.rota_items.specs.RunPatterns.{Pattern, windows, patterns}
+use Rattle.rota_items.specs.RunItemParts.{AtMostOneADay, DaysFollow, has_property}
+use Rattle.rota_items.specs.RunItems.{Property, Present, Runs, pattern_item, run_items, variables_on, Pattern, windows, patterns}
 
 -- the cells are those of a nurse's days, at most one a day true on a roster
 pub record IsOfNurse (week : Week) (n : ℕ) (cells : ℕ → List Cell) : Type 0 where

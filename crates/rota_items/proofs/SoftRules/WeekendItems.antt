@@ -7,10 +7,8 @@ use Rattle.rota_items.proofs.EachPattern.{on-pattern}
 use Rattle.rota_items.proofs.PatternItems.{weighted-pattern_item}
 use Rattle.rota_items.proofs.SoftRules.NurseProperties.{of_nurse-work, one-at_work, sound-pattern}
 use Rattle.rota_items.proofs.SoftRules.Sound.{IsItemSound, weighted}
-use Rattle.rota_items.specs.RunItems.{Present, pattern_item, variables_on}
+use Rattle.rota_items.specs.RunItems.{Present, pattern_item, variables_on, Pattern, PatternDay, with_property, without_property, saturday, weekend_items}
 use Rattle.rota_items.specs.RunItemParts.{DaysFollow}
-use Rattle.rota_items.specs.RunPatterns.{Pattern, PatternDay, with_property, without_property}
-use Rattle.rota_items.specs.WeekendItems.{saturday, weekend_items}
 
 abbrev weekend_pattern : List PatternDay → Pattern
 weekend_pattern days = record { days = days; units = 1 }

@@ -1,7 +1,7 @@
 //! How many items there are, and how many slacks they have.
 ghost use Rattle.std.specs.Prelude.{◌≡◌, length};
 ghost use Rattle.rota_core.specs.InstanceTables.{IsInstance, week_of};
-ghost use Rattle.rota_items.specs.Slacks.{slack_count};
+ghost use Rattle.rota_items.specs.WeekModel.{slack_count};
 ghost use Rattle.rota_items.specs.Charges.{soft_items};
 
 use crate::counting::run_counts::{patterns_of, windows_of};

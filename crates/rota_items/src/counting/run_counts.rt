@@ -1,7 +1,7 @@
 //! How many windows and patterns charge the runs of a property in a week.
 ghost use Rattle.std.specs.Prelude.{◌≡◌, ◌≤◌, ◌+◌, length};
 ghost use Rattle.rota_core.specs.Lists.{each_below};
-ghost use Rattle.rota_items.specs.RunPatterns.{closed_patterns_on, edge_patterns_on, patterns, windows};
+ghost use Rattle.rota_items.specs.RunItems.{closed_patterns_on, edge_patterns_on, patterns, windows};
 
 use crate::items::soft_item::NurseRuns;
 use rota_core::Span;

@@ -4,7 +4,7 @@ ghost use Rattle.rota_core.specs.InstanceTables.{week_of};
 ghost use Rattle.rota_core.specs.Roster.{InWeek};
 ghost use Rattle.rota_items.specs.CellEvents.{cell_row_events};
 ghost use Rattle.rota_items.specs.Takes.{Takes};
-ghost use Rattle.rota_items.specs.hard.Held.{h5_row, h5_rows};
+ghost use Rattle.rota_items.specs.HardRows.{h5_row, h5_rows};
 
 use crate::part::Part;
 use crate::sums::{Sign, give_cell};

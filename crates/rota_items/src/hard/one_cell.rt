@@ -3,7 +3,7 @@ ghost use Rattle.std.specs.Prelude.{◌≡◌, ◌<◌, ◌≤◌, length, [], �
 ghost use Rattle.rota_core.specs.InstanceTables.{week_of};
 ghost use Rattle.rota_items.specs.CellEvents.{cell_row_events};
 ghost use Rattle.rota_items.specs.Takes.{Takes};
-ghost use Rattle.rota_items.specs.hard.OneCell.{h1_row, h1_rows};
+ghost use Rattle.rota_items.specs.HardRows.{h1_row, h1_rows};
 
 use crate::part::Part;
 use crate::sums::{Sign, give_work};

@@ -3,7 +3,7 @@ ghost use Rattle.std.specs.Prelude.{◌≡◌, ◌<◌, ◌≤◌, length};
 ghost use Rattle.rota_core.specs.InstanceTables.{week_of};
 ghost use Rattle.rota_items.specs.CellEvents.{cell_row_events};
 ghost use Rattle.rota_items.specs.Takes.{Takes};
-ghost use Rattle.rota_items.specs.hard.Skills.{h4_rows, h4_rows_at};
+ghost use Rattle.rota_items.specs.HardRows.{h4_rows, h4_rows_at};
 
 use crate::part::Part;
 use crate::sums::give_skill_cells;

@@ -3,7 +3,7 @@ ghost use Rattle.std.specs.Prelude.{◌≡◌, ◌<◌, ◌+◌, ℕ, length};
 ghost use Rattle.rota_core.specs.InstanceTables.{IsInstance, week_of};
 ghost use Rattle.rota_items.specs.CellEvents.{cell_row_events};
 ghost use Rattle.rota_items.specs.Takes.{Takes};
-ghost use Rattle.rota_items.specs.hard.Succession.{h3_monday_rows, h3_monday_rows_at, h3_rows, h3_rows_at, h3_rows_between, h3_rows_of, is_forbidden_after};
+ghost use Rattle.rota_items.specs.HardRows.{h3_monday_rows, h3_monday_rows_at, h3_rows, h3_rows_at, h3_rows_between, h3_rows_of, is_forbidden_after};
 
 use crate::part::Part;
 use crate::sums::{Sign, give_on};

@@ -5,10 +5,8 @@ ghost use Rattle.rota_items.specs.Events.{events};
 ghost use Rattle.rota_items.specs.ItemRows.{row_of_item};
 ghost use Rattle.rota_items.specs.ItemTaking.{numbered_item};
 ghost use Rattle.rota_items.specs.ItemValues.{IsSumOf};
-ghost use Rattle.rota_items.specs.Slacks.{item_rows};
+ghost use Rattle.rota_items.specs.WeekModel.{item_rows, first_slack, numbered_items};
 ghost use Rattle.rota_items.specs.Takes.{Takes};
-ghost use Rattle.rota_items.specs.Variables.{first_slack};
-ghost use Rattle.rota_items.specs.WeekModel.{numbered_items};
 ghost use Rattle.rota_items.specs.Limits.{word_limit};
 
 use crate::items::item_sums::give_sum;

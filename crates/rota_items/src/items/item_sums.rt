@@ -4,8 +4,7 @@ ghost use Rattle.rota_core.specs.InstanceTables.{week_of};
 ghost use Rattle.rota_items.specs.CellEvents.{cell_term_events, coefficient_of, sum_events};
 ghost use Rattle.rota_items.specs.ItemValues.{IsInWeek, IsPropertyOf, IsSumOf, days_of, is_plain_of, property_cells, property_of, sum_terms};
 ghost use Rattle.rota_core.specs.Lists.{only_if};
-ghost use Rattle.rota_items.specs.RunItems.{day_terms};
-ghost use Rattle.rota_items.specs.RunPatterns.{days_with, without_property};
+ghost use Rattle.rota_items.specs.RunItems.{day_terms, days_with, without_property};
 ghost use Rattle.rota_items.specs.Takes.{Takes};
 
 use crate::items::soft_item::{DayPattern, DayProperty, ItemSum};

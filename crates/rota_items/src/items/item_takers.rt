@@ -1,7 +1,7 @@
 //! What takes the items of the soft rules, item by item.
 ghost use Rattle.std.specs.Prelude.{◌≡◌, ℕ, MatchResult};
 ghost use Rattle.rota_core.specs.InstanceTables.{week_of};
-ghost use Rattle.rota_items.specs.Items.{Item};
+ghost use Rattle.rota_items.specs.ModelWords.{Item};
 ghost use Rattle.rota_items.specs.ItemTaking.{numbered_item, numbered_list};
 ghost use Rattle.rota_items.specs.ItemValues.{IsChargeOf, IsSumOf, runs_of};
 ghost use Rattle.rota_items.specs.RunItems.{run_items};

@@ -2,10 +2,8 @@
 ghost use Rattle.std.specs.Prelude.{◌≡◌};
 ghost use Rattle.rota_core.specs.InstanceTables.{IsInstance, week_of};
 ghost use Rattle.rota_items.specs.Events.{term_events};
-ghost use Rattle.rota_items.specs.Slacks.{slack_weights};
+ghost use Rattle.rota_items.specs.WeekModel.{slack_weights, first_slack, numbered_items};
 ghost use Rattle.rota_items.specs.Takes.{Takes};
-ghost use Rattle.rota_items.specs.Variables.{first_slack};
-ghost use Rattle.rota_items.specs.WeekModel.{numbered_items};
 
 use crate::items::item_takers::{ItemTaker, RunTaker};
 use crate::items::soft_item::{NurseRuns, SoftItem};

@@ -1,6 +1,6 @@
 //! What a judge adds up, row by row.
 ghost use Rattle.std.specs.Prelude.{◌≡◌, ◌<◌};
-ghost use Rattle.rota_items.specs.Items.{positive_part};
+ghost use Rattle.rota_items.specs.ModelWords.{positive_part};
 ghost use Rattle.rota_items.specs.Judged.{subject_of};
 ghost use Rattle.rota_items.specs.Judging.{closed, constraint_closed, lacking_in, no_sums, no_tally, objective_closed, with_cost};
 ghost use Rattle.rota_items.specs.Limits.{signed_limit};

@@ -5,7 +5,7 @@ ghost use Rattle.rota_core.specs.Week.{Week};
 ghost use Rattle.rota_items.specs.Counting.{counted, counts_of, counts_of_model, no_counts};
 ghost use Rattle.rota_items.specs.Events.{events};
 ghost use Rattle.rota_items.specs.Limits.{IsWithinLimits};
-ghost use Rattle.rota_items.specs.LinearRow.{LinearRow};
+ghost use Rattle.rota_items.specs.ModelWords.{LinearRow};
 ghost use Rattle.rota_items.specs.Objective.{objective_rows};
 ghost use Rattle.rota_items.specs.WeekModel.{model_of, objective_terms, rows_of};
 

@@ -2,10 +2,10 @@
 ghost use Rattle.std.specs.Prelude.{◌≡◌, ◌↔◌, ℕ, pos, ◌≤◌, ◌≤ℤ◌, Bool, All, List, count_by};
 ghost use Rattle.rota_core.specs.declared.values.Cell.{Cell};
 ghost use Rattle.rota_items.specs.Linear.{Satisfies, value_of};
-ghost use Rattle.rota_items.specs.Items.{Item, numbered, shortage};
+ghost use Rattle.rota_items.specs.ModelWords.{Item, numbered, shortage};
 ghost use Rattle.rota_items.specs.RuleCharges.{weighted_shortages};
 ghost use Rattle.rota_items.specs.ItemConstraints.{StandBelow, item_constraint, item_constraints};
-ghost use Rattle.rota_items.specs.Slacks.{extension, slack_variables, slack_weights};
+ghost use Rattle.rota_items.specs.WeekModel.{extension, slack_variables, slack_weights};
 
 /// An item over cells lacks on a roster what its numbered form lacks under the assignment.
 pub fn numbered_items_lack_the_same()

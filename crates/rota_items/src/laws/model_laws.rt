@@ -8,14 +8,13 @@ ghost use Rattle.rota_core.specs.RosterCells.{cells_of};
 ghost use Rattle.rota_core.specs.HardRules.{KeepsHardRules};
 ghost use Rattle.rota_items.specs.Bounds.{most_objective};
 ghost use Rattle.rota_items.specs.Linear.{Satisfies, SatisfiesModel, objective_value};
-ghost use Rattle.rota_items.specs.Variables.{cell_number, cell_of_number, unit_number, roster_of};
+ghost use Rattle.rota_items.specs.Variables.{cell_number, unit_number, roster_of};
+ghost use Rattle.rota_items.specs.WeekModel.{cell_of_number, extension_of, hard_constraints, hard_rows, model_of};
 ghost use Rattle.rota_items.specs.Penalty.{penalty};
 ghost use Rattle.rota_items.specs.Limits.{IsWithinLimits};
 ghost use Rattle.rota_items.specs.RisingTerms.{RisesFrom, HasRisingTerms};
-ghost use Rattle.rota_items.specs.Standing.{StandsInSome};
+ghost use Rattle.rota_items.specs.Standing.{StandsInSome, without_held};
 ghost use Rattle.rota_items.specs.FirstUnmet.{NamesFirstBroken, first_unmet};
-ghost use Rattle.rota_items.specs.hard.Held.{without_held};
-ghost use Rattle.rota_items.specs.WeekModel.{extension_of, hard_constraints, hard_rows, model_of};
 
 /// An assignment satisfies the hard constraints exactly where the unit variable is true and its roster
 /// keeps the hard rules.

@@ -2,25 +2,21 @@
 //! competition.
 ghost use Rattle.std.specs.Prelude.{◌≡◌, ℕ, ◌+◌, ◌≤◌, ◌<◌, pos, All};
 ghost use Rattle.rota_core.specs.declared.rule.Rule.{Rule};
+ghost use Rattle.rota_core.specs.declared.rule.Rule.TheVariants.{S2, S3, S5, S6, S7};
 ghost use Rattle.rota_core.specs.Week.{Week};
 ghost use Rattle.rota_core.specs.Roster.{Roster};
 ghost use Rattle.rota_core.specs.HardRules.{KeepsOneCell, KeepsCompetitionRules, KeepsMinimum};
 ghost use Rattle.rota_items.specs.Linear.{value_of};
-ghost use Rattle.rota_items.specs.Items.{shortage};
+ghost use Rattle.rota_items.specs.ModelWords.{shortage};
 ghost use Rattle.rota_items.specs.RuleCharges.{weighted_shortages, charged, complete_weekend_items, consecutive_assignment_items, consecutive_day_off_items, assignment_items, constant_of_assignments, worked_weekend_items, constant_of_weekends};
 ghost use Rattle.rota_items.specs.Charges.{soft_items, constant};
 ghost use Rattle.rota_items.specs.Penalty.{penalty, rule_cost};
-ghost use Rattle.rota_items.specs.rules.CompleteWeekends.Cost.{complete_weekend_cost};
-ghost use Rattle.rota_items.specs.rules.ConsecutiveAssignments.Cost.{consecutive_assignment_cost};
 ghost use Rattle.rota_items.specs.rules.ConsecutiveAssignments.Items.{shift_runs, work_runs};
-ghost use Rattle.rota_items.specs.rules.ConsecutiveDaysOff.Cost.{consecutive_day_off_cost};
 ghost use Rattle.rota_items.specs.rules.ConsecutiveDaysOff.Items.{off_runs};
 ghost use Rattle.rota_items.specs.rules.OptimalCoverage.Cost.{optimum_cost};
 ghost use Rattle.rota_items.specs.rules.OptimalCoverage.Items.{optimum_items};
 ghost use Rattle.rota_items.specs.rules.ShiftOffRequests.Cost.{request_cost};
 ghost use Rattle.rota_items.specs.rules.ShiftOffRequests.Terms.{request_terms};
-ghost use Rattle.rota_items.specs.rules.TotalAssignments.Cost.{assignment_cost};
-ghost use Rattle.rota_items.specs.rules.WorkedWeekends.Cost.{worked_weekend_cost};
 ghost use Rattle.rota_items.specs.RunItemParts.{AtMostOneADay};
 ghost use Rattle.rota_items.specs.Limits.{IsWithinLimits};
 ghost use Rattle.rota_items.specs.Bounds.{penalty_limit};
@@ -56,7 +52,7 @@ pub fn run_items_charge_shift_and_work_runs()
     ensures { (week : Week) (roster : Roster) →
         KeepsOneCell week roster →
         weighted_shortages roster (consecutive_assignment_items week) ≡
-        consecutive_assignment_cost week roster }
+        rule_cost week roster S2 }
 {}
 
 /// S3: the items of the runs of days off charge the cost of those runs.
@@ -64,7 +60,7 @@ pub fn run_items_charge_runs_of_days_off()
     ensures { (week : Week) (roster : Roster) →
         KeepsOneCell week roster →
         weighted_shortages roster (consecutive_day_off_items week) ≡
-        consecutive_day_off_cost week roster }
+        rule_cost week roster S3 }
 {}
 
 /// S4: the terms on cells charge the request rows that are not granted.
@@ -77,7 +73,7 @@ pub fn request_terms_charge_requests()
 pub fn weekend_items_charge_broken_weekends()
     ensures { (week : Week) (roster : Roster) →
         KeepsOneCell week roster →
-        weighted_shortages roster (complete_weekend_items week) ≡ complete_weekend_cost week roster }
+        weighted_shortages roster (complete_weekend_items week) ≡ rule_cost week roster S5 }
 {}
 
 /// S6: the items of the totals and their part of the constant charge the assignments outside the
@@ -86,7 +82,7 @@ pub fn assignment_items_charge_totals()
     ensures { (week : Week) (roster : Roster) →
         KeepsOneCell week roster →
         weighted_shortages roster (assignment_items week) + constant_of_assignments week ≡
-        assignment_cost week roster }
+        rule_cost week roster S6 }
 {}
 
 /// S7: the items of worked weekends and their part of the constant charge the weekends above the
@@ -95,7 +91,7 @@ pub fn weekend_items_charge_worked_weekends()
     ensures { (week : Week) (roster : Roster) →
         KeepsOneCell week roster →
         weighted_shortages roster (worked_weekend_items week) + constant_of_weekends week ≡
-        worked_weekend_cost week roster }
+        rule_cost week roster S7 }
 {}
 
 /// The items of a rule, its part of the constant and its terms on cells charge the cost of the rule.

@@ -6,16 +6,15 @@ ghost use Rattle.rota_core.specs.HardRules.{KeepsOneCell, is_off, is_on, works};
 ghost use Rattle.rota_core.specs.Roster.{Roster};
 ghost use Rattle.rota_core.specs.Week.{Week};
 ghost use Rattle.rota_items.specs.Linear.{value_of};
-ghost use Rattle.rota_items.specs.Items.{shortage};
+ghost use Rattle.rota_items.specs.ModelWords.{shortage};
 ghost use Rattle.rota_items.specs.RuleCharges.{weighted_shortages};
-ghost use Rattle.rota_items.specs.RunItems.{Runs, variables_on, has_property, run_items};
-ghost use Rattle.rota_items.specs.RunItemParts.{AtMostOneADay, day_items, DaysFollow};
-ghost use Rattle.rota_items.specs.RunPatterns.{windows, patterns};
-ghost use Rattle.rota_items.specs.Runs.{day_cost, run_cost};
+ghost use Rattle.rota_items.specs.RunItems.{Runs, variables_on, run_items, windows, patterns};
+ghost use Rattle.rota_items.specs.RunItemParts.{has_property, AtMostOneADay, day_items, DaysFollow, day_cost};
+ghost use Rattle.rota_items.specs.Runs.{run_cost};
 ghost use Rattle.rota_items.specs.rules.ConsecutiveAssignments.Items.{shift_runs, work_runs};
 ghost use Rattle.rota_items.specs.rules.ConsecutiveDaysOff.Items.{off_runs};
 ghost use Rattle.rota_items.specs.ItemConstraints.{StandBelow};
-ghost use Rattle.rota_items.specs.Slacks.{extension, slack_weights};
+ghost use Rattle.rota_items.specs.WeekModel.{extension, slack_weights};
 
 /// The items of a property's runs charge the cost of the runs.
 pub fn run_items_charge_run_cost()

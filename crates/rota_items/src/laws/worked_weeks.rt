@@ -2,7 +2,7 @@
 ghost use Rattle.std.specs.Prelude.{◌≡◌, false, ◌||◌, ◌==◌, length};
 ghost use Rattle.rota_core.specs.Week.{no_past};
 ghost use Rattle.rota_items.specs.Penalty.{penalty};
-ghost use Rattle.rota_items.specs.RunPatterns.{patterns, windows};
+ghost use Rattle.rota_items.specs.RunItems.{patterns, windows};
 ghost use Rattle.rota_items.specs.WorkedWeeks.{CompleteWeekends, DaysOff, DemandNobodyCanMeet, FewerThanTheOptimum, HeldCells};
 ghost use Rattle.rota_items.specs.WorkedWeeks.{RequestsOnOneCell, RunFarAboveTheMaximum, SuccessionAfterTheHistory};
 ghost use Rattle.rota_items.specs.WorkedWeeks.{TotalReachedEarly, TotalsAboveInTheLastWeek};

@@ -3,7 +3,7 @@ ghost use Rattle.std.specs.Prelude.{◌≡◌, [], ◌∷◌};
 ghost use Rattle.rota_core.specs.InstanceTables.{week_of};
 ghost use Rattle.rota_items.specs.ItemTakes.{TakesItems};
 ghost use Rattle.rota_items.specs.ItemValues.{IsChargeOf, IsInWeek, charged_items, pattern_of};
-ghost use Rattle.rota_items.specs.WeekendItems.{only_sunday, saturday};
+ghost use Rattle.rota_items.specs.RunItems.{only_sunday, saturday};
 
 use crate::items::item_takers::ItemTaker;
 use crate::items::soft_item::{DayPattern, RunCharge};

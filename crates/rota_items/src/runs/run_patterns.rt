@@ -2,7 +2,7 @@
 ghost use Rattle.std.specs.Prelude.{◌≡◌, ◌<◌, ◌≤◌, pos, ◌-ℤ◌, [], ◌∷◌, count_by};
 ghost use Rattle.rota_core.specs.Week.{Week};
 ghost use Rattle.rota_items.specs.ItemValues.{AreInWeek, IsInWeek, charged_items, days_of, is_plain_of, item_of, pattern_of, patterns_given};
-ghost use Rattle.rota_items.specs.RunPatterns.{closed_patterns_at, edge_patterns_on, windows_on};
+ghost use Rattle.rota_items.specs.RunItems.{closed_patterns_at, edge_patterns_on, windows_on};
 
 use crate::items::soft_item::{DayPattern, DayProperty, ItemSum, RunCharge, SoftItem};
 use rota_core::Span;

@@ -1,6 +1,6 @@
 use Rattle.std.specs.List.{range_with_len}
 use Rattle.rota_items.specs.Events.{term_events}
-use Rattle.rota_items.specs.Linear.{times}
+use Rattle.rota_items.specs.ModelWords.{times}
 use Rattle.rota_items.proofs.Common.{Took}
 use Rattle.rota_items.proofs.sums.give_range.Given as goal
 

@@ -1,9 +1,9 @@
-use Rattle.rota_items.specs.Cells.{skill_cells_on}
-use Rattle.rota_items.proofs.Common.{week_of, sum_events, each_below, Took}
+use Rattle.rota_core.specs.Roster.{cell}
+use Rattle.rota_items.proofs.Common.{[], ◌∷◌, week_of, sum_events, each_below, Took}
 use Rattle.rota_items.specs.declared.sums.Sign.TheVariants.{Minus}
 use Rattle.rota_items.proofs.sums.give_skill_cells.Given as goal
 
 abbrev pub invariant-loop-day : goal.invariant-loop-day
 invariant-loop-day g l =
     let week = week_of l.fn.instance in
-    Took g.T.Taker (sum_events week Minus (each_below l.day (λ d. skill_cells_on week l.fn.nurse l.fn.skill d))) l.fn.taker l.taker
+    Took g.T.Taker (sum_events week Minus (each_below l.day (λ d. each_below week.shifts (λ s. cell l.fn.nurse d s l.fn.skill ∷ [])))) l.fn.taker l.taker

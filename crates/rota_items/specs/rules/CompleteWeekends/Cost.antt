@@ -1,6 +1,6 @@
 -- S5, complete weekends: nurses with complete weekends who work on only one of its days.
 use Rattle.std.specs.Prelude.{◌&&◌, ◌||◌, if◌then◌else◌}
-use Rattle.rota_items.specs.Words.{ℕ, Bool, not, sum_below, works, Roster, Week}
+use Rattle.rota_items.specs.Words.{ℕ, Bool, not, works, Roster, Week}
 
 -- for each nurse's weekend
 abbrev pub complete_weekend_weight : ℕ
@@ -15,6 +15,3 @@ complete_weekend_cost_of week roster n =
     (if (week.contract n).complete && exactly_one (works week roster n 5) (works week roster n 6)
     then complete_weekend_weight
     else 0)
-
-abbrev pub complete_weekend_cost : Week → Roster → ℕ
-complete_weekend_cost week roster = sum_below week.nurses (complete_weekend_cost_of week roster)

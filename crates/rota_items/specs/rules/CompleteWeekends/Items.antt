@@ -2,7 +2,7 @@
 use Rattle.std.specs.Prelude.{if◌then◌else◌}
 use Rattle.rota_items.specs.Words.{ℕ, true, List, [], S5, Cell, Week}
 use Rattle.rota_items.specs.ModelWords.{Item}
-use Rattle.rota_items.specs.WeekendItems.{weekend_items}
+use Rattle.rota_items.specs.RunItems.{weekend_items}
 use Rattle.rota_items.specs.rules.CompleteWeekends.Cost.{complete_weekend_weight}
 
 -- where the nurse's contract asks for complete weekends

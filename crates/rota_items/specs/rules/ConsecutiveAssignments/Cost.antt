@@ -19,19 +19,12 @@ past_on (Some last) s length = (if last == s then length else 0)
 abbrev pub history_on : Week → ℕ → ℕ → ℕ
 history_on week n s = past_on (week.past n).last s (week.past n).shift_run
 
--- the units that a nurse's runs cost: on a shift type, and of working days
+-- the units that a nurse's runs on a shift type cost
 abbrev pub shift_run_cost : Week → Roster → ℕ → ℕ → ℕ
-shift_run_cost week roster n s =
-    run_cost (is_on week roster n s) (history_on week n s) (week.limits s)
+shift_run_cost week roster n s = run_cost (is_on week roster n s) (history_on week n s) (week.limits s)
 
-abbrev pub work_run_cost : Week → Roster → ℕ → ℕ
-work_run_cost week roster n =
-    run_cost (works week roster n) (week.past n).work_run (week.contract n).work
-
--- the cost of a nurse's runs
+-- the cost of a nurse's runs: on the shift types, and of working days
 abbrev pub consecutive_assignment_cost_of : Week → Roster → ℕ → ℕ
 consecutive_assignment_cost_of week roster n =
-    shift_run_weight * sum_below week.shifts (shift_run_cost week roster n) + work_run_weight * work_run_cost week roster n
-
-abbrev pub consecutive_assignment_cost : Week → Roster → ℕ
-consecutive_assignment_cost week roster = sum_below week.nurses (consecutive_assignment_cost_of week roster)
+    shift_run_weight * sum_below week.shifts (shift_run_cost week roster n) +
+    work_run_weight * run_cost (works week roster n) (week.past n).work_run (week.contract n).work

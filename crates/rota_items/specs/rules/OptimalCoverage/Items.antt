@@ -18,11 +18,5 @@ abbrev pub optimum_items_at : Week → ℕ → ℕ → ℕ → List (Item Cell)
 optimum_items_at week d s k =
     only_if (nat_lt (week.demand d s k).minimum (week.demand d s k).optimal) (optimum_item week d s k)
 
-abbrev pub optimum_items_on : Week → ℕ → ℕ → List (Item Cell)
-optimum_items_on week d s = each_below week.skills (optimum_items_at week d s)
-
-abbrev pub optimum_items_of : Week → ℕ → List (Item Cell)
-optimum_items_of week d = each_below week.shifts (optimum_items_on week d)
-
 abbrev pub optimum_items : Week → List (Item Cell)
-optimum_items week = each_below 7 (optimum_items_of week)
+optimum_items week = each_below 7 (λ d. each_below week.shifts (λ s. each_below week.skills (optimum_items_at week d s)))

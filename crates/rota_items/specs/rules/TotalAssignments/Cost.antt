@@ -28,6 +28,3 @@ above_greatest_total week roster n =
 abbrev pub assignment_cost_of : Week → Roster → ℕ → ℕ
 assignment_cost_of week roster n =
     assignment_weight * (below_least_total week roster n + above_greatest_total week roster n)
-
-abbrev pub assignment_cost : Week → Roster → ℕ
-assignment_cost week roster = sum_below week.nurses (assignment_cost_of week roster)

@@ -31,8 +31,7 @@ greatest_total_item week n = record {
 }
 
 abbrev pub least_totals_of : Week → ℕ → List (Item Cell)
-least_totals_of week n =
-    only_if (least_totals_count week && nat_lt 0 (still_wanted week n)) (least_total_item week n)
+least_totals_of week n = only_if (least_totals_count week && nat_lt 0 (still_wanted week n)) (least_total_item week n)
 
 abbrev pub greatest_totals_of : Week → ℕ → List (Item Cell)
 greatest_totals_of week n =

@@ -1,6 +1,6 @@
 -- S7, worked weekends: those above the nurse's greatest number.
 use Rattle.std.specs.Prelude.{◌*◌, ◌||◌, if◌then◌else◌}
-use Rattle.rota_items.specs.Words.{ℕ, sum_below, works, Roster, Week}
+use Rattle.rota_items.specs.Words.{ℕ, works, Roster, Week}
 use Rattle.rota_items.specs.CountedTotals.{charged_excess}
 
 -- for each weekend above the greatest number
@@ -19,6 +19,3 @@ above_greatest_weekends week roster n =
 -- the cost of a nurse's weekends
 abbrev pub worked_weekend_cost_of : Week → Roster → ℕ → ℕ
 worked_weekend_cost_of week roster n = worked_weekend_weight * above_greatest_weekends week roster n
-
-abbrev pub worked_weekend_cost : Week → Roster → ℕ
-worked_weekend_cost week roster = sum_below week.nurses (worked_weekend_cost_of week roster)

@@ -3,7 +3,7 @@ use Rattle.std.specs.Prelude.{◌-◌, ◌*◌, ◌&&◌, if◌then◌else◌}
 use Rattle.rota_items.specs.Words.{ℕ, nat_le, false, List, [], S7, Cell, Week}
 use Rattle.rota_items.specs.ModelWords.{Item}
 use Rattle.rota_items.specs.CountedTotals.{excess_before_counts, greatest_totals_count}
-use Rattle.rota_items.specs.WeekendItems.{weekend_items}
+use Rattle.rota_items.specs.RunItems.{weekend_items}
 use Rattle.rota_items.specs.rules.WorkedWeekends.Cost.{worked_weekend_weight}
 
 -- where the nurse's history leaves room for no weekend
@@ -15,8 +15,7 @@ worked_weekends_of week n =
 
 -- a nurse's weekends above the greatest number already
 abbrev pub weekends_above : Week → ℕ → ℕ
-weekends_above week n =
-    (if excess_before_counts week then (week.past n).weekends - (week.contract n).weekends else 0)
+weekends_above week n = (if excess_before_counts week then (week.past n).weekends - (week.contract n).weekends else 0)
 
 -- what no roster can avoid, of a nurse
 abbrev pub weekend_constant_of : Week → ℕ → ℕ

@@ -2,7 +2,7 @@ use Rattle.std.proofs.Common.{◌≡◌, rules}
 use Rattle.std.specs.Prelude.{sum}
 use Rattle.rota_core.specs.InstanceTables.{week_of}
 use Rattle.rota_items.specs.Verdicts.{IsMet}
-use Rattle.rota_items.specs.Variables.{truth_of}
+use Rattle.rota_items.specs.Truths.{truth_of}
 use Rattle.rota_pb.specs.Decoded.{FindsRoster}
 use Rattle.rota_pb.proofs.DecodedAnswer.{is_decoded}
 use Rattle.rota_pb.proofs.decoded.decode.Goals as goal

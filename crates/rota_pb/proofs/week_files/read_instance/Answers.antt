@@ -18,7 +18,7 @@ pub returns-then-choice : goal.returns-then-choice
 returns-then-choice g c =
     went_on c.in_ok-instance.instance c.in_ok-instance.ensures
     (taken c.if-choice.true
-    (went_on c.in_ok-held.held c.in_ok-held.ensures (record { holds = c.hold.ensures.holds; limits = c.hold.ensures.limits })))
+    (went_on c.in_ok-held.held c.in_ok-held.ensures (c.hold.ensures.holds, c.hold.ensures.limits)))
 
 pub returns : goal.returns
 returns g c =

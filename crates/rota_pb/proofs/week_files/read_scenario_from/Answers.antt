@@ -1,7 +1,7 @@
 use Rattle.std.proofs.lemmas.Result.{err_from_is_err_and}
 use Rattle.rota_core.specs.declared.fault.FileName.TheVariants as names
 use Rattle.rota_read.specs.ScenarioLayout.{scenario}
-use Rattle.rota_pb.specs.Readers.{reader_of}
+use Rattle.rota_pb.specs.RunPorts.{reader_of}
 use Rattle.rota_pb.proofs.WholeFiles.{fails-check, is-read, stops-check}
 use Rattle.rota_pb.proofs.week_files.read_scenario_from.Goals as goal
 

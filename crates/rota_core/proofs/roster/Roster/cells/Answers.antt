@@ -1,7 +1,6 @@
 use Rattle.std.proofs.Common.{false, sym, ap, ◌∙◌}
 use Rattle.std.proofs.lemmas.List.{get_or-take}
-use Rattle.rota_core.specs.RosterCells.{cells_in}
-use Rattle.rota_core.specs.RosterCalls.{roster_tables}
+use Rattle.rota_core.specs.RosterCalls.{cells_in, roster_tables}
 use Rattle.rota_core.proofs.CellsByPlace.{cells-at_places, places-within}
 use Rattle.rota_core.proofs.roster.Roster.cells.Goals as goal
 

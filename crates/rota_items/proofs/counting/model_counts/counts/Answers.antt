@@ -2,13 +2,11 @@ use Rattle.rota_items.proofs.Common.{arith, week_of}
 use Rattle.std.proofs.lemmas.List.{length-append, length-map}
 use Rattle.rota_items.proofs.InstanceLimits.{instance-within_limits}
 use Rattle.rota_items.proofs.SlackBound.{length-item_rows, rows-below, variables_fit}
-use Rattle.rota_items.specs.Variables.{cell_number, first_slack}
+use Rattle.rota_items.specs.Variables.{cell_number}
+use Rattle.rota_items.specs.WeekModel.{first_slack, hard_rows, numbered_items, numbered_row, rows_of, item_rows}
 use Rattle.rota_items.specs.HardRows.{rule_rows}
-use Rattle.rota_items.specs.Items.{numbered}
-use Rattle.rota_items.specs.LinearRow.{linear_constraint}
-use Rattle.rota_items.specs.Slacks.{item_rows}
+use Rattle.rota_items.specs.ModelWords.{numbered, linear_constraint}
 use Rattle.rota_items.specs.Charges.{soft_items}
-use Rattle.rota_items.specs.WeekModel.{hard_rows, numbered_items, numbered_row, rows_of}
 use Rattle.rota_items.proofs.counting.model_counts.counts.Goals as goal
 
 pub overflow_add-result : goal.overflow_add-result

@@ -1,11 +1,11 @@
 use Rattle.rota_items.proofs.Common.{[], ◌∷◌, week_of, cell_row_events, each_below, Took}
-use Rattle.rota_items.specs.hard.OneCell.{h1_row, h1_rows_of}
+use Rattle.rota_items.specs.HardRows.{h1_row}
 use Rattle.rota_items.proofs.hard.one_cell.give_h1.Given as goal
 
 abbrev pub invariant-loop-nurse : goal.invariant-loop-nurse
 invariant-loop-nurse g l =
     let week = week_of l.fn.instance in
-    Took g.T.Taker (cell_row_events week (each_below l.nurse (h1_rows_of week))) l.fn.taker l.taker
+    Took g.T.Taker (cell_row_events week (each_below l.nurse (λ n. each_below 7 (λ d. h1_row week n d ∷ [])))) l.fn.taker l.taker
 
 abbrev pub invariant-loop-day : goal.invariant-loop-day
 invariant-loop-day g l =

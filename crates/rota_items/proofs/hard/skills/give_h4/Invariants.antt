@@ -1,11 +1,11 @@
-use Rattle.rota_items.specs.hard.Skills.{h4_rows_of, h4_rows_at}
+use Rattle.rota_items.specs.HardRows.{h4_rows_at}
 use Rattle.rota_items.proofs.Common.{week_of, cell_row_events, each_below, Took}
 use Rattle.rota_items.proofs.hard.skills.give_h4.Given as goal
 
 abbrev pub invariant-loop-nurse : goal.invariant-loop-nurse
 invariant-loop-nurse g l =
     let week = week_of l.fn.instance in
-    Took g.T.Taker (cell_row_events week (each_below l.nurse (h4_rows_of week))) l.fn.taker l.taker
+    Took g.T.Taker (cell_row_events week (each_below l.nurse (λ n. each_below week.skills (h4_rows_at week n)))) l.fn.taker l.taker
 
 abbrev pub invariant-loop-skill : goal.invariant-loop-skill
 invariant-loop-skill g l =

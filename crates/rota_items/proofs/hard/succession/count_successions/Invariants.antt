@@ -1,6 +1,6 @@
 use Rattle.rota_items.proofs.Common.{◌≡◌, ℕ, ◌+◌, ◌*◌, ◌≤◌, length, week_of, each_below}
 use Rattle.rota_items.specs.Limits.{most_shifts}
-use Rattle.rota_items.specs.hard.Succession.{h3_rows_at, h3_rows_after}
+use Rattle.rota_items.specs.HardRows.{h3_rows_at}
 use Rattle.rota_items.proofs.hard.succession.count_successions.Given as goal
 
 abbrev pub invariant-loop-second : goal.invariant-loop-second
@@ -10,4 +10,5 @@ invariant-loop-second l =
 
 abbrev pub invariant-loop-first : goal.invariant-loop-first
 invariant-loop-first l =
-    ((n d : ℕ) → l.pairs ≡ length (each_below l.first (h3_rows_after (week_of l.fn.instance) n d))) × (l.pairs ≤ l.first * most_shifts)
+    let week = week_of l.fn.instance in
+    ((n d : ℕ) → l.pairs ≡ length (each_below l.first (λ s. each_below week.shifts (h3_rows_at week n d s)))) × (l.pairs ≤ l.first * most_shifts)

@@ -1,11 +1,11 @@
-use Rattle.rota_items.specs.hard.Succession.{h3_rows_at, h3_rows_after}
+use Rattle.rota_items.specs.HardRows.{h3_rows_at}
 use Rattle.rota_items.proofs.Common.{each_below, week_of, cell_row_events, Took}
 use Rattle.rota_items.proofs.hard.succession.give_h3_between.Given as goal
 
 abbrev pub invariant-loop-first : goal.invariant-loop-first
 invariant-loop-first g l =
     let week = week_of l.fn.instance in
-    Took g.T.Taker (cell_row_events week (each_below l.first (h3_rows_after week l.fn.nurse l.fn.day))) l.fn.taker l.taker
+    Took g.T.Taker (cell_row_events week (each_below l.first (λ s. each_below week.shifts (h3_rows_at week l.fn.nurse l.fn.day s)))) l.fn.taker l.taker
 
 abbrev pub invariant-loop-second : goal.invariant-loop-second
 invariant-loop-second g l =

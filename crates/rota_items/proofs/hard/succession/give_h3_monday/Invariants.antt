@@ -1,4 +1,4 @@
-use Rattle.rota_items.specs.hard.Succession.{h3_monday_rows_at}
+use Rattle.rota_items.specs.HardRows.{h3_monday_rows_at}
 use Rattle.rota_items.proofs.Common.{each_below, week_of, cell_row_events, Took}
 use Rattle.rota_items.proofs.hard.succession.give_h3_monday.Given as goal
 

@@ -3,8 +3,7 @@ use Rattle.rota_core.specs.declared.values.Cell.{Cell}
 use Rattle.rota_core.specs.InstanceTables.{week_of}
 use Rattle.rota_read.specs.Layout.{repeat}
 use Rattle.rota_read.specs.Reading.{read}
-use Rattle.rota_read.specs.SolutionLayout.{assignment_row}
-use Rattle.rota_read.specs.SolutionRows.{HasCells}
+use Rattle.rota_read.specs.SolutionLayout.{assignment_row, HasCells}
 use Rattle.rota_read.proofs.cursor.Cursor.assignment_rows.Given as goal
 
 abbrev pub invariant-loop : goal.invariant-loop

@@ -1,5 +1,5 @@
 use Rattle.std.proofs.Common.{◌≡◌, ◌-◌, ◌+◌, length}
-use Rattle.rota_core.specs.Names.{bytes_of}
+use Rattle.rota_core.specs.Parts.{bytes_of}
 use Rattle.rota_read.specs.ScenarioRows.{contracts_of}
 use Rattle.rota_read.specs.Layout.{repeat}
 use Rattle.rota_read.specs.Reading.{read}
