@@ -1,4 +1,5 @@
 pub mod CommandLine
 pub mod FaultLines
+pub mod Files
 pub mod Jobs
 pub mod Stops

@@ -1,5 +1,5 @@
 -- Why the program ends where the words give no job.
-use Rattle.std.specs.Prelude.{◌≡◌, ◌⊎◌, ℕ, Bool, [], if◌then◌else◌, ⊤}
+use Rattle.std.specs.Prelude.{◌≡◌, ◌⊎◌, ℕ, Bool, true, false, [], if◌then◌else◌, ⊤}
 use Rattle.clap.specs.Words.{IsAmong, Kinds, kind_of}
 use Rattle.clap.specs.declared.error.kind.ErrorKind.{ErrorKind}
 use Rattle.clap.specs.declared.error.kind.ErrorKind.TheVariants.{DisplayHelp, DisplayVersion, OutOfMemory}
@@ -49,3 +49,10 @@ IsStatusOf unshown (stopped.Shown text) status = status ≡ status_after_text un
 IsStatusOf unshown (stopped.Words text) status = status ≡ 2
 IsStatusOf unshown (stopped.Usage text) status = status ≡ 2
 IsStatusOf unshown (stopped.Job fault) status = status ≡ exit_status fault
+
+-- a text that was asked for went out, but where the output says that one did not
+abbrev pub WasShown : Bool → Bool → Stop → Type 0
+WasShown unshown shown (stopped.Shown text) = unshown ≡ false → shown ≡ true
+WasShown unshown shown (stopped.Words text) = ⊤
+WasShown unshown shown (stopped.Usage text) = ⊤
+WasShown unshown shown (stopped.Job fault) = ⊤

@@ -1,6 +1,9 @@
 //! The ports of the program: files that the runtime opens, standard input, and the file that a job writes.
-ghost use Rattle.std.specs.Prelude.{◌≡◌, ◌<◌, ◌≤◌, None, false, length, IfOk, option_map};
+ghost use Rattle.std.specs.Prelude.{◌≡◌, ◌<◌, ◌≤◌, ◌||◌, None, true, false, length, is_err, IfErr, IfOk, IsErr, IsOk, OnOk, option_map};
+ghost use Rattle.inrc2pb.specs.Files.{IsFlushed, IsWritten, left_of};
 ghost use Rattle.inrc2pb_job.specs.Places.{untold};
+ghost use Rattle.rota_core.specs.Ports.{SendsOnWrite, told_len};
+ghost use Rattle.rota_core.specs.StdPorts.{IsUnasked};
 
 use inrc2pb_job::{Opens, Placed};
 use rota_core::{FromRead, PortFault, Target, ToWrite};
@@ -49,6 +52,8 @@ impl<'a, R: Input> StandardInput<'a, R> {
 }
 
 impl<R: Input> Read for StandardInput<'_, R> {
+    ghost remaining = { λ input. left_of R.Reader.remaining input.reader };
+
     fn read(&mut self, bytes: &mut [u8]) -> io::Result<usize> {
         let rt = self.rt;
         self.reader.get_or_insert_with(|| rt.reader()).read(bytes)
@@ -97,6 +102,8 @@ impl<'a, R: Files> FileOnFirstWrite<'a, R> {
     fn write_made(&mut self, piece: &[u8]) -> Result<usize, PortFault>
         ensures bound { IfOk result (λ n. n ≤ length piece.now) }
         ensures progress { IfOk result (λ n. 0 < length piece.now → 0 < n) }
+        ensures passed_on { IsWritten R.File.contents self.old.file self.new.file result piece.now }
+        ensures path { self.new.path ≡ self.old.path }
     {
         if self.file.is_none() {
             self.file = Some(self.make()?);
@@ -115,7 +122,19 @@ impl<R: Files> Target for FileOnFirstWrite<'_, R> {
 
     ghost has_failed = { λ file. file.failed };
 
-    fn write(&mut self, piece: &[u8]) -> Result<usize, PortFault> {
+    /// As the file's own write does; a file that cannot be made is a failed write.
+    fn write(&mut self, piece: &[u8]) -> Result<usize, PortFault>
+        ensures bound { IfOk result (λ n. n ≤ length piece.now) }
+        ensures progress { IfOk result (λ n. 0 < length piece.now → 0 < n) }
+        ensures silent { SendsOnWrite None result piece.now None }
+        ensures empty { length piece.now ≡ 0 → self.old.failed ≡ false → IsOk result }
+        ensures failure { self.new.failed ≡ (self.old.failed || is_err result) }
+        ensures for_good { self.old.failed ≡ true → IsErr result }
+        ensures passed_on { self.old.failed ≡ false →
+            IsWritten R.File.contents self.old.file self.new.file result piece.now }
+        ensures unasked { IsUnasked self.old.failed piece.now → self.new ≡ self.old }
+        ensures path { self.new.path ≡ self.old.path }
+    {
         if self.failed {
             return Err(PortFault);
         }
@@ -127,7 +146,17 @@ impl<R: Files> Target for FileOnFirstWrite<'_, R> {
         written
     }
 
-    fn flush(&mut self) -> Result<(), PortFault> {
+    /// As the file's own flush does; one that is not made has nothing to flush.
+    fn flush(&mut self) -> Result<(), PortFault>
+        ensures silent { OnOk result (None ≡ told_len None) }
+        ensures unflushed { IfErr result (λ _. told_len None ≡ None) }
+        ensures failure { self.new.failed ≡ (self.old.failed || is_err result) }
+        ensures for_good { self.old.failed ≡ true → IsErr result }
+        ensures passed_on { IsFlushed R.File.contents self.old.file self.new.file }
+        ensures unmade { self.old.file ≡ None → self.old.failed ≡ false → IsOk result }
+        ensures unasked { self.old.failed ≡ true → self.new ≡ self.old }
+        ensures path { self.new.path ≡ self.old.path }
+    {
         if self.failed {
             return Err(PortFault);
         }

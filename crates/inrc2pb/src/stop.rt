@@ -1,7 +1,7 @@
 //! Why the program ends before its work is done, and what it then says.
-ghost use Rattle.std.specs.Prelude.{◌≡◌, false, MatchResult};
+ghost use Rattle.std.specs.Prelude.{◌≡◌, false, true, IfErr, MatchResult};
 ghost use Rattle.std.specs.Process.{exit_status as code_of};
-ghost use Rattle.inrc2pb.specs.Stops.{IsStatusOf, IsStopOf, status_after_text};
+ghost use Rattle.inrc2pb.specs.Stops.{IsStatusOf, IsStopOf, WasShown, status_after_text};
 ghost use Rattle.inrc2pb.specs.declared.stop.Stop.TheVariants.{Job};
 ghost use Rattle.rota_pb.specs.Statuses.{exit_status};
 ghost use Rattle.rota_pb.specs.declared.fault.Fault.TheVariants.{Memory};
@@ -32,7 +32,8 @@ impl Stop {
     /// program exits with.
     pub fn report<S: Shows, E: Eprint>(&self, output: &mut S, errors: &E) -> u8
         requires { S.has_failed output.old ≡ false }
-        ensures { IsStatusOf (S.has_failed output.new) self.now result }
+        ensures status { IsStatusOf (S.has_failed output.new) self.now result }
+        ensures shown { WasShown (S.has_failed output.new) (S.has_shown output.new) self.now }
     {
         match self {
             Stop::Shown(text) => show(text, output, errors),
@@ -51,8 +52,9 @@ pub fn exit_code<S: Shows, E: Eprint>(
     errors: &E,
 ) -> ExitCode
     requires { S.has_failed output.old ≡ false }
-    ensures { MatchResult ended.now (λ _. code_of result ≡ 0)
+    ensures status { MatchResult ended.now (λ _. code_of result ≡ 0)
         (λ stop. IsStatusOf (S.has_failed output.new) stop (code_of result)) }
+    ensures shown { IfErr ended.now (WasShown (S.has_failed output.new) (S.has_shown output.new)) }
 {
     match ended {
         Ok(()) => ExitCode::SUCCESS,
@@ -63,7 +65,8 @@ pub fn exit_code<S: Shows, E: Eprint>(
 // Shows a text that was asked for. The answer is the status after it.
 fn show<S: Shows, E: Eprint>(text: &clap::Error, output: &mut S, errors: &E) -> u8
     requires { S.has_failed output.old ≡ false }
-    ensures { result ≡ status_after_text (S.has_failed output.new) }
+    ensures status { result ≡ status_after_text (S.has_failed output.new) }
+    ensures shown { S.has_failed output.new ≡ false → S.has_shown output.new ≡ true }
 {
     match output.show(text) {
         Ok(()) => 0,
