@@ -2,7 +2,8 @@
 ghost use Rattle.std.specs.Prelude.{◌≡◌, ◌<◌, ◌≤◌, ◌||◌, None, true, false, length, is_err, IfErr, IfOk, IsErr, IsOk, OnOk, option_map};
 ghost use Rattle.inrc2pb.specs.Files.{IsFlushed, IsWritten, left_of};
 ghost use Rattle.inrc2pb_job.specs.Places.{untold};
-ghost use Rattle.rota_core.specs.Ports.{SendsOnWrite, told_len};
+ghost use Rattle.rota_core.specs.PortCalls.{SendsOnWrite};
+ghost use Rattle.rota_core.specs.Ports.{told_len};
 ghost use Rattle.rota_core.specs.StdPorts.{IsUnasked};
 
 use inrc2pb_job::{Opens, Placed};
