@@ -39,11 +39,10 @@ reads() {
 opens_week() { opens Sc-n005w4.txt H0-n005w4-0.txt WD-n005w4-0.txt "$@"; }
 reads_week() { for file in Sc-n005w4.txt H0-n005w4-0.txt WD-n005w4-0.txt "$@"; do reads "$file"; done; }
 
-# The calls are those of standard input; of writes that follow one another to one file only the first is there, without
+# The calls are those of the file `wanted`; of writes that follow one another to one file only the first is there, without
 # its number of bytes.
 are() {
-    cat > "$room/wanted"
-    sed -E 's/^(write .*) [0-9]+$/\1/' "$room/calls" | uniq > "$room/told"
+    sed -E 's/^(write .*) [0-9]+$/\1/' "$room/calls" | awk '!/^write/ || $0 != last { print } { last = $0 }' > "$room/told"
     cmp -s "$room/told" "$room/wanted" || complain "other calls: $(diff "$room/told" "$room/wanted" | head -n 5)"
 }
 
@@ -58,45 +57,60 @@ fills() {
 
 does_jobs() {
     calls 'a model to a file' 0 encode "${five[@]}" --opb made
-    { opens_week; reads_week; printf '%s\n' 'open made write' 'write made'; } | are
+    { opens_week; reads_week; printf '%s\n' 'open made write' 'write made'; } > "$room/wanted"
+    are
     fills made week0.opb
     calls 'a model to standard output' 0 encode "${five[@]}"
-    { opens_week; reads_week; echo 'write output'; } | are
+    { opens_week; reads_week; echo 'write output'; } > "$room/wanted"
+    are
     fills output week0.opb
     calls 'an answer in a file' 0 decode "${five[@]}" --answer sat4j.txt --sol roster
-    { opens_week sat4j.txt; reads_week sat4j.txt; printf '%s\n' 'open roster write' 'write roster' 'write output'; } | are
+    { opens_week sat4j.txt; reads_week sat4j.txt; printf '%s\n' 'open roster write' 'write roster' 'write output'; } > "$room/wanted"
+    are
     fills roster roster
     in=$room/sat4j.txt calls 'an answer on standard input' 0 decode "${five[@]}" --sol again
-    { opens_week; reads_week; reads sat4j.txt input; printf '%s\n' 'open again write' 'write again' 'write output'; } | are
+    { opens_week; reads_week; reads sat4j.txt input; printf '%s\n' 'open again write' 'write again' 'write output'; } > "$room/wanted"
+    are
     calls 'a roster, and cells that are held' 0 extend "${five[@]}" --fix roster --from again
-    { opens_week roster again; reads_week roster again; echo 'write output'; } | are
+    { opens_week roster again; reads_week roster again; echo 'write output'; } > "$room/wanted"
+    are
     fills output out
 }
 
 fails() {
     calls 'no such scenario' 3 encode --sce missing --his H0-n005w4-0.txt --week WD-n005w4-0.txt --opb unmade
-    { opens missing; echo 'write errors'; } | are
+    { opens missing; echo 'write errors'; } > "$room/wanted"
+    are
     calls 'no such answer' 3 decode "${five[@]}" --answer missing --sol unmade
-    { opens_week missing; echo 'write errors'; } | are
+    { opens_week missing; echo 'write errors'; } > "$room/wanted"
+    are
     calls 'a folder as history' 3 encode --sce Sc-n005w4.txt --his . --week WD-n005w4-0.txt --opb unmade
-    { opens Sc-n005w4.txt . WD-n005w4-0.txt; reads Sc-n005w4.txt; printf '%s\n' 'read . -1' 'write errors'; } | are
+    { opens Sc-n005w4.txt . WD-n005w4-0.txt; reads Sc-n005w4.txt; printf '%s\n' 'read . -1' 'write errors'; } > "$room/wanted"
+    are
     calls 'an answer without a status' 1 decode "${five[@]}" --answer nothing --sol unmade
-    { opens_week nothing; reads_week nothing; echo 'write errors'; } | are
+    { opens_week nothing; reads_week nothing; echo 'write errors'; } > "$room/wanted"
+    are
     is_missing unmade
     calls 'an output in no folder' 3 encode "${five[@]}" --opb missing/made
-    { opens_week; reads_week; printf '%s\n' 'open missing/made write' 'write errors'; } | are
+    { opens_week; reads_week; printf '%s\n' 'open missing/made write' 'write errors'; } > "$room/wanted"
+    are
     calls 'a full device' 3 encode "${five[@]}" --opb /dev/full
-    { opens_week; reads_week; printf '%s\n' 'open /dev/full write' 'write /dev/full -1' 'write errors'; } | are
+    { opens_week; reads_week; printf '%s\n' 'open /dev/full write' 'write /dev/full -1' 'write errors'; } > "$room/wanted"
+    are
     calls 'a solution to a full device' 3 decode "${five[@]}" --answer sat4j.txt --sol /dev/full
-    { opens_week sat4j.txt; reads_week sat4j.txt; printf '%s\n' 'open /dev/full write' 'write /dev/full -1' 'write errors'; } | are
+    { opens_week sat4j.txt; reads_week sat4j.txt; printf '%s\n' 'open /dev/full write' 'write /dev/full -1' 'write errors'; } > "$room/wanted"
+    are
     out=/dev/full calls 'a full standard output' 3 encode "${five[@]}"
-    { opens_week; reads_week; printf '%s\n' 'write output -1' 'write errors'; } | are
+    { opens_week; reads_week; printf '%s\n' 'write output -1' 'write errors'; } > "$room/wanted"
+    are
 }
 
 does_jobs
 fails
 calls 'help' 0 --help
-echo 'write output' | are
+echo 'write output' > "$room/wanted"
+are
 calls 'words that are refused' 2 encode
-echo 'write errors' | are
+echo 'write errors' > "$room/wanted"
+are
 finish
