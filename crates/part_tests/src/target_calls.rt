@@ -72,9 +72,9 @@ impl Target for Counted {
 // 256 of them fill a buffer.
 const LINE: &[u8] = b"fifteen letters\n";
 
-// Puts a thousand lines, which is three buffers and a part of one.
+// Puts lines that fill four buffers to the last byte.
 fn put_lines<W: Target>(sink: &mut Sink<W>) -> Result<(), PortFault> {
-    for _ in 0..1000 {
+    for _ in 0..1024 {
         sink.put(LINE)?;
     }
     sink.finish()

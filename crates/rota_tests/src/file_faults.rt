@@ -136,45 +136,17 @@ const FAULTS_OF_TWO: &[Faulty] = faults! {
 };
 
 // The rows of a solution file, from its second line on. Held cells have the same faults, under their own name.
-const SOLUTIONS: &[(&[u8], Kind, u32)] = &[
-    (b"SOLUTION 0 s1\nASSIGNMENTS = 10000", Limit, 2),
-    (
-        b"SOLUTION 0 s1\nASSIGNMENTS = 1\nCid Mon Early Nurse",
-        Unknown,
-        3,
-    ),
-    (
-        b"SOLUTION 0 s1\nASSIGNMENTS = 1\nAnn mon Early Nurse",
-        Unknown,
-        3,
-    ),
-    (
-        b"SOLUTION 0 s1\nASSIGNMENTS = 1\nAnn Mon None Nurse",
-        Unknown,
-        3,
-    ),
-    (
-        b"SOLUTION 0 s1\nASSIGNMENTS = 1\nAnn Mon Early Head",
-        Unknown,
-        3,
-    ),
-    (
-        b"SOLUTION 0 s1\nASSIGNMENTS = 1\nAnn Mon Early =",
-        OtherWord,
-        3,
-    ),
-    (b"SOLUTION 0 s1\nASSIGNMENTS = 1\nAnn Mon Early", Ended, 3),
-    (
-        b"SOLUTION 0 s1\nASSIGNMENTS = 2\nAnn Mon Early Nurse\nAnn Mon Early\nNurse",
-        Repeated,
-        5,
-    ),
-    (
-        b"SOLUTION 0 s1\nASSIGNMENTS = 0\nAnn Mon Early Nurse",
-        Trailing,
-        3,
-    ),
-];
+const SOLUTIONS: &[Faulty] = faults! {
+    Last Is(b"SOLUTION 0 s1\nASSIGNMENTS = 10000") => Limit 2;
+    Last Is(b"SOLUTION 0 s1\nASSIGNMENTS = 1\nCid Mon Early Nurse") => Unknown 3;
+    Last Is(b"SOLUTION 0 s1\nASSIGNMENTS = 1\nAnn mon Early Nurse") => Unknown 3;
+    Last Is(b"SOLUTION 0 s1\nASSIGNMENTS = 1\nAnn Mon None Nurse") => Unknown 3;
+    Last Is(b"SOLUTION 0 s1\nASSIGNMENTS = 1\nAnn Mon Early Head") => Unknown 3;
+    Last Is(b"SOLUTION 0 s1\nASSIGNMENTS = 1\nAnn Mon Early =") => OtherWord 3;
+    Last Is(b"SOLUTION 0 s1\nASSIGNMENTS = 1\nAnn Mon Early") => Ended 3;
+    Last Is(b"SOLUTION 0 s1\nASSIGNMENTS = 2\nAnn Mon Early Nurse\nAnn Mon Early\nNurse") => Repeated 5;
+    Last Is(b"SOLUTION 0 s1\nASSIGNMENTS = 0\nAnn Mon Early Nurse") => Trailing 3;
+};
 
 /// What the files of the week spell, with no cell held.
 pub fn read_tables(alloc: Global, texts: &Texts, early: bool) -> Result<Instance, FileFault> {
@@ -231,9 +203,9 @@ fn faults_of_files(rt: HostRuntime) -> Result<(), Fail> {
 
 #[test]
 fn faults_of_solutions(rt: HostRuntime) -> Result<(), Fail> {
-    for (text, kind, line) in SOLUTIONS {
-        check_fault(&rt, rt.alloc(), &TWO_NURSES, (Fix, Is(text), *kind, *line))?;
-        check_fault(&rt, rt.alloc(), &TWO_NURSES, (Last, Is(text), *kind, *line))?;
+    for (_, edit, kind, line) in SOLUTIONS {
+        check_fault(&rt, rt.alloc(), &TWO_NURSES, (Fix, *edit, *kind, *line))?;
+        check_fault(&rt, rt.alloc(), &TWO_NURSES, (Last, *edit, *kind, *line))?;
     }
     Ok(())
 }

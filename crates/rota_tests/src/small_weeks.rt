@@ -24,62 +24,42 @@ const HOLDING: Wanted = Writes(&[
 
 // Above the totals, the constant aside; below the least one; within sight of the greatest one.
 const ABOVE_HEAD: &[u8] = b"* #variable= 17 #constraint= 11
-min: +20 x9 +20 x10 +20 x11 +20 x12 +20 x13 +20 x14 +20 x15 +30 x16 +30 x17 ;
-";
+min: +20 x9 +20 x10 +20 x11 +20 x12 +20 x13 +20 x14 +20 x15 +30 x16 +30 x17 ;\n";
 
 const ABOVE_ROWS: &[u8] =
     b"-1 x1 -1 x2 -1 x3 -1 x4 -1 x5 -1 x6 -1 x7 +1 x9 +1 x10 +1 x11 +1 x12 +1 x13 +1 x14 +1 x15 >= 0 ;
 -1 x6 +1 x16 >= 0 ;
-+1 x6 -1 x7 +1 x17 >= 0 ;
-";
++1 x6 -1 x7 +1 x17 >= 0 ;\n";
 
 const BELOW_HEAD: &[u8] = b"* #variable= 15 #constraint= 9
-min: +60 x8 +20 x9 +20 x10 +20 x11 +20 x12 +20 x13 +20 x14 +20 x15 ;
-";
+min: +60 x8 +20 x9 +20 x10 +20 x11 +20 x12 +20 x13 +20 x14 +20 x15 ;\n";
 
 const BELOW_ROWS: &[u8] =
-    b"+1 x1 +1 x2 +1 x3 +1 x4 +1 x5 +1 x6 +1 x7 +1 x9 +1 x10 +1 x11 +1 x12 +1 x13 +1 x14 +1 x15 >= 7 ;
-";
+    b"+1 x1 +1 x2 +1 x3 +1 x4 +1 x5 +1 x6 +1 x7 +1 x9 +1 x10 +1 x11 +1 x12 +1 x13 +1 x14 +1 x15 >= 7 ;\n";
 
-const TWELVE_OBJECTIVE: &[u8] = b"min: +20 x9 +20 x10 +20 x11 +20 x12 ;
-";
+const TWELVE_OBJECTIVE: &[u8] = b"min: +20 x9 +20 x10 +20 x11 +20 x12 ;\n";
 
 const TWELVE_ROW: &[u8] =
-    b"-1 x1 -1 x2 -1 x3 -1 x4 -1 x5 -1 x6 -1 x7 +1 x9 +1 x10 +1 x11 +1 x12 >= -3 ;
-";
+    b"-1 x1 -1 x2 -1 x3 -1 x4 -1 x5 -1 x6 -1 x7 +1 x9 +1 x10 +1 x11 +1 x12 >= -3 ;\n";
 
 pub const TOTALS_AND_REQUESTS: &[Row] = rows! {
-    "requests on one cell": REQUESTS =>
-        Writes(&[b"* #variable= 15 #constraint= 8
-min: +30 x1 +10 x2 ;
-", TWO_CELLS]);
-    "totals above in the last week": ABOVE =>
-        Writes(&[b"* #variable= 17 #constraint= 11
-min: +130 x8 +20 x9 +20 x10 +20 x11 +20 x12 +20 x13 +20 x14 +20 x15 +30 x16 +30 x17 ;
-", ONE_CELL, ABOVE_ROWS]);
+    "requests on one cell": REQUESTS => Writes(&[b"* #variable= 15 #constraint= 8
+min: +30 x1 +10 x2 ;\n", TWO_CELLS]);
+    "totals above in the last week": ABOVE => Writes(&[b"* #variable= 17 #constraint= 11
+min: +130 x8 +20 x9 +20 x10 +20 x11 +20 x12 +20 x13 +20 x14 +20 x15 +30 x16 +30 x17 ;\n", ONE_CELL, ABOVE_ROWS]);
     "total below in the last week": BELOW => Writes(&[BELOW_HEAD, ONE_CELL, BELOW_ROWS]);
-    "fewer than the optimum": OPTIMUM =>
-        Writes(&[b"* #variable= 10 #constraint= 10
-min: +30 x9 +30 x10 ;
-", ONE_CELL, b"+1 x1 >= 1 ;
-+1 x1 +1 x9 +1 x10 >= 3 ;
-"]);
+    "fewer than the optimum": OPTIMUM => Writes(&[b"* #variable= 10 #constraint= 10
+min: +30 x9 +30 x10 ;\n", ONE_CELL, b"+1 x1 >= 1 ;
++1 x1 +1 x9 +1 x10 >= 3 ;\n"]);
     "optimum equal to the minimum": [Week Is(b"WEEK_DATA s1 REQUIREMENTS
 Day Nurse (1,1) (0,0) (0,0) (0,0) (0,0) (0,0) (0,0) SHIFT_OFF_REQUESTS = 0")] =>
-        Writes(&[b"* #variable= 8 #constraint= 9
-", ONE_CELL, b"+1 x1 >= 1 ;
-"]);
+        Writes(&[b"* #variable= 8 #constraint= 9\n", ONE_CELL, b"+1 x1 >= 1 ;\n"]);
     "optimum below the minimum": [Week Is(b"WEEK_DATA s1 REQUIREMENTS
 Day Nurse (3,1) (0,0) (0,0) (0,0) (0,0) (0,0) (0,0) SHIFT_OFF_REQUESTS = 0")] =>
-        Writes(&[b"* #variable= 8 #constraint= 9
-", ONE_CELL, b"+1 x1 >= 3 ;
-"]);
-    "complete weekends": WEEKENDS =>
-        Writes(&[b"* #variable= 10 #constraint= 10
-min: +30 x9 +30 x10 ;
-", ONE_CELL, b"-1 x6 +1 x7 +1 x9 >= 0 ;
-+1 x6 -1 x7 +1 x10 >= 0 ;
-"]);
+        Writes(&[b"* #variable= 8 #constraint= 9\n", ONE_CELL, b"+1 x1 >= 3 ;\n"]);
+    "complete weekends": WEEKENDS => Writes(&[b"* #variable= 10 #constraint= 10
+min: +30 x9 +30 x10 ;\n", ONE_CELL, b"-1 x6 +1 x7 +1 x9 >= 0 ;
++1 x6 -1 x7 +1 x10 >= 0 ;\n"]);
 };
 
 // What exceeds a total is charged in each week.
@@ -118,8 +98,7 @@ const SPELLED: &[Row] = rows! {
     "returns, tabs and empty lines": [Sce Line(2, b"\r\n\r\nWEEKS\t=2\r")] => PLAIN;
     "signs without blanks": [Sce Line(10, b"Full( 1 , 9 )(1,9) (1,\n9) 9 0")] => PLAIN;
     "a name that is not text":
-        [Sce Line(12, b"\xff\0:; Full 1 Nurse"), His Line(4, b"\xff\0:; 0 0 None 0 0 0")] =>
-        PLAIN;
+        [Sce Line(12, b"\xff\0:; Full 1 Nurse"), His Line(4, b"\xff\0:; 0 0 None 0 0 0")] => PLAIN;
     "as long as a file may be": [Sce Sized(4194304)] => PLAIN;
 };
 
@@ -138,8 +117,9 @@ const REFUSED: &[Row] = rows! {
 };
 
 #[test]
-fn totals_and_requests(rt: HostRuntime) -> Result<(), Fail> {
+fn totals_requests_and_held_cells(rt: HostRuntime) -> Result<(), Fail> {
     check(&rt, rt.alloc(), &ENCODING, TOTALS_AND_REQUESTS)?;
+    check(&rt, rt.alloc(), &ENCODING, HELD)?;
     Ok(())
 }
 
@@ -150,12 +130,6 @@ fn excess_charged_early(rt: HostRuntime) -> Result<(), Fail> {
         ..ENCODING
     };
     check(&rt, rt.alloc(), &base, EARLY)?;
-    Ok(())
-}
-
-#[test]
-fn held_cells(rt: HostRuntime) -> Result<(), Fail> {
-    check(&rt, rt.alloc(), &ENCODING, HELD)?;
     Ok(())
 }
 

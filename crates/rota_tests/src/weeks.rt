@@ -20,8 +20,7 @@ pub const ONE_CELL: &[u8] = b"+1 x8 >= 1 ;
 -1 x4 >= -1 ;
 -1 x5 >= -1 ;
 -1 x6 >= -1 ;
--1 x7 >= -1 ;
-";
+-1 x7 >= -1 ;\n";
 
 /// The same where there are two shift types or skills.
 pub const TWO_CELLS: &[u8] = b"+1 x15 >= 1 ;
@@ -31,8 +30,7 @@ pub const TWO_CELLS: &[u8] = b"+1 x15 >= 1 ;
 -1 x7 -1 x8 >= -1 ;
 -1 x9 -1 x10 >= -1 ;
 -1 x11 -1 x12 >= -1 ;
--1 x13 -1 x14 >= -1 ;
-";
+-1 x13 -1 x14 >= -1 ;\n";
 
 pub const NO_SKILL: Changes = of!([Sce Line(12, b"Ann Full 0")]);
 
@@ -90,21 +88,8 @@ pub const WEEKENDS: Changes = of!([Sce Line(10, b"Full (1,9) (1,9) (1,9) 9 1")])
 pub const LATE: Changes = of!([His Line(2, b"2 s1")]);
 
 /// The solution files of no assignment, and of one on each day.
-pub const NOBODY: &[u8] = b"SOLUTION
-0 s1
+pub const NOBODY: &[u8] = b"SOLUTION\n0 s1\n\nASSIGNMENTS = 0\n";
 
-ASSIGNMENTS = 0
-";
-
-pub const ALL_DAYS: &[u8] = b"SOLUTION
-0 s1
-
-ASSIGNMENTS = 7
-Ann Mon Day Nurse
-Ann Tue Day Nurse
-Ann Wed Day Nurse
-Ann Thu Day Nurse
-Ann Fri Day Nurse
-Ann Sat Day Nurse
-Ann Sun Day Nurse
-";
+pub const ALL_DAYS: &[u8] = b"SOLUTION\n0 s1\n\nASSIGNMENTS = 7
+Ann Mon Day Nurse\nAnn Tue Day Nurse\nAnn Wed Day Nurse\nAnn Thu Day Nurse\nAnn Fri Day Nurse
+Ann Sat Day Nurse\nAnn Sun Day Nurse\n";
