@@ -1,13 +1,6 @@
 -- The assignment that stands for a roster.
-use Rattle.std.proofs.Common.{◌≡◌, ℕ, ◌+◌, ◌<◌, true, false, refl, ap, arith}
-use Rattle.std.specs.Prelude.{slice_index_or}
-use Rattle.std.proofs.lemmas.Bool.{lt-ltb, ne_eqb, eq-eqb}
-use Rattle.rota_core.specs.Roster.{Roster, InWeek}
-use Rattle.rota_core.specs.RosterTables.{RosterTables, HasShapeOf, cell_place, set_of}
-use Rattle.rota_core.specs.Week.{Week}
-use Rattle.rota_core.specs.declared.values.Cell.{Cell}
-use Rattle.rota_items.specs.Variables.{cell_number, unit_number}
-use Rattle.rota_items.specs.WeekModel.{cell_of_number, assignment_of}
+use Rattle.rota_items.proofs.LogicWords.{◌≡◌, ℕ, ◌+◌, ◌<◌, true, false, refl, ap, arith, slice_index_or, lt-ltb, ne_eqb, eq-eqb}
+use Rattle.rota_items.proofs.ModelWords.{Roster, InWeek, RosterTables, HasShapeOf, cell_place, set_of, Week, Cell, cell_number, unit_number, cell_of_number, assignment_of}
 use Rattle.rota_items.proofs.Numbers.{cell_number-below, cell_number-of, cell_of-cell_number}
 
 pub assignment_of-cell : (week : Week) (roster : Roster) (one : Cell) → InWeek week one →

@@ -1,11 +1,7 @@
 -- A nurse has at most one cell a day, so the sums over her day are 0 or 1.
-use Rattle.rota_items.proofs.LogicWords.{◌≡◌, ℕ, ◌<◌, ◌≤◌, Bool, true, false, cond, [], ◌∷◌, refl, ap, ◌∙◌, arith, sym, count_by, list_any, true≢false}
+use Rattle.rota_items.proofs.LogicWords.{◌≡◌, ℕ, ◌<◌, ◌≤◌, Bool, true, false, cond, [], ◌∷◌, refl, ap, ◌∙◌, arith, sym, count_by, list_any, true≢false, or-false, cond-false, false_from_ne_true, sum_below, count_below, each_below}
 use Rattle.rota_items.proofs.ModelWords.{KeepsOneCell, KeepsSkills, is_on, works, Roster, cell, Has, Week, Cell, on_cells, work_cells, skill_cells}
-use Rattle.std.proofs.Math.Bool.{or-false}
-use Rattle.std.proofs.lemmas.Bool.{cond-false, false_from_ne_true}
-use Rattle.rota_core.specs.Below.{sum_below, count_below}
-use Rattle.rota_items.proofs.SumsBelow.{sum_by-each-is, count_by-each, sum_below-one, found, list_any-each, any_below-same, sum_below-zero, term-le-sum_below, one-sum_below}
-use Rattle.rota_core.specs.Lists.{each_below}
+use Rattle.rota_items.proofs.Lists.{sum_by-each-is, count_by-each, sum_below-one, found, list_any-each, any_below-same, sum_below-zero, term-le-sum_below, one-sum_below}
 
 pub cond-le : (b : Bool) → cond b 1 0 ≤ 1
 cond-le true = omega arith

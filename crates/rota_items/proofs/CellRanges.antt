@@ -1,17 +1,11 @@
 -- The cells of a nurse's day on a shift type, of her day and of her week: their variables follow one another.
-use Rattle.rota_items.proofs.LogicWords.{◌≡◌, ℕ, zero, suc, ◌+◌, ◌*◌, ◌<◌, ◌≤◌, true, nat_lt, List, [], ◌∷◌, ◌++◌, map, length, refl, sym, ap, ◌∙◌, arith, ℤ, pos, range_with_len, map-append}
+use Rattle.rota_items.proofs.LogicWords.{◌≡◌, ℕ, ◌+◌, ◌*◌, ◌<◌, ◌≤◌, true, nat_lt, List, [], ◌∷◌, length, refl, sym, ap, ◌∙◌, arith, ℤ, pos, range_with_len, nat_tests, map-map, each_below, only_if}
 use Rattle.rota_items.proofs.ModelWords.{cell, Week, Cell, cell_number, nurse_cells, on_cells, work_cells, times, Term}
-use Rattle.std.proofs.lemmas.Bool.Decides.{nat_tests}
-use Rattle.std.proofs.lemmas.Simd.{map-map}
+use Rattle.rota_items.proofs.RuleWords.{request_terms_on, request_weight}
+use Rattle.rota_items.proofs.TakingWords.{cell_term_events, coefficient_of, sum_events, term_events, Sign}
 use Rattle.rota_core.proofs.RisesWithin.{RisesWithin, numbers-rising}
-use Rattle.rota_core.specs.Lists.{each_below, only_if}
-use Rattle.rota_items.proofs.ListLengths.{length-each-is}
+use Rattle.rota_items.proofs.Lists.{length-each-is, map-each_below}
 use Rattle.rota_items.proofs.RisingCells.{rises-on_cells, rises-work_cells, rises-nurse_cells}
-use Rattle.rota_items.specs.CellEvents.{cell_term_events, coefficient_of, sum_events}
-use Rattle.rota_items.specs.Events.{term_events}
-use Rattle.rota_items.specs.rules.ShiftOffRequests.Terms.{request_terms_on}
-use Rattle.rota_items.specs.rules.ShiftOffRequests.Cost.{request_weight}
-use Rattle.rota_items.specs.declared.sums.Sign.{Sign}
 
 module _ (week : Week) where
   abbrev first_on : ℕ → ℕ → ℕ → ℕ
@@ -63,11 +57,6 @@ module _ (week : Week) where
         (omega (arith, length-each-is 7 _ (work_cells week n) (λ d _. length-work n d))) (omega arith) (omega arith)
 
   -- ---- requests
-
-  map-each_below : {X Y : Type 0} (f : X → Y) (n : ℕ) (g : ℕ → List X) → map f (each_below n g) ≡ each_below n (λ i. map f (g i))
-  unfolding each_below
-  map-each_below f zero g = refl
-  map-each_below f (suc n) g = map-append f (each_below n g) (g n) ∙ ap (λ xs. xs ++ map f (g n)) (map-each_below f n g)
 
   pub requests-range : (n d s : ℕ) → 0 < week.requests n d s →
       cell_term_events week (request_terms_on week n d s) ≡

@@ -1,18 +1,7 @@
 -- What a day's window and patterns charge is what the run costs on that day.
-use Rattle.std.proofs.Common.{◌≡◌, ℕ, zero, suc, ◌+◌, ◌-◌, ◌<◌, Bool, ◌&&◌, not, cond, true, false, ◌⊎◌, inl, inr, List, [], ◌∷◌, ◌++◌, map, sym, ap, ◌∙◌, add-one, arith, ltb, leb}
-use Rattle.std.specs.Prelude.{nat_lt, nat_le, ◌==◌}
-use Rattle.std.specs.List.{list_all, range_with_len, sum_by}
-use Rattle.std.proofs.lemmas.List.Folds.{list_all-append}
-use Rattle.std.proofs.lemmas.List.FromFn.{map-range_with_len_more}
-use Rattle.std.proofs.lemmas.List.Sums.{sum_by-append}
-use Rattle.std.proofs.lemmas.Bool.{le-leb}
-use Rattle.std.proofs.lemmas.Bool.Decides.{nat_tests}
-use Rattle.rota_core.specs.declared.values.Span.{Span}
-use Rattle.rota_core.specs.Below.{sum_below}
-use Rattle.rota_items.proofs.ListSums.{sum_by-only_if}
-use Rattle.rota_items.proofs.SumsBelow.{sum_by-each-is}
-use Rattle.rota_items.specs.RunItems.{PatternDay, Pattern, with_property, without_property, days_with, window, windows_on, closed_pattern, closed_patterns_at, closed_patterns_on, edge_pattern, edge_patterns_on, patterns_on}
-use Rattle.rota_items.specs.Runs.{run_length_before, is_over, missing_on}
+use Rattle.rota_items.proofs.LogicWords.{◌≡◌, ℕ, zero, suc, ◌+◌, ◌-◌, ◌<◌, Bool, ◌&&◌, not, cond, true, false, ◌⊎◌, inl, inr, List, [], ◌∷◌, ◌++◌, map, sym, ap, ◌∙◌, add-one, arith, ltb, leb, nat_lt, nat_le, ◌==◌, list_all, range_with_len, sum_by, list_all-append, map-range_with_len_more, sum_by-append, le-leb, nat_tests, sum_below}
+use Rattle.rota_items.proofs.RunWords.{Span, PatternDay, Pattern, with_property, without_property, days_with, window, windows_on, closed_pattern, closed_patterns_at, closed_patterns_on, edge_pattern, edge_patterns_on, patterns_on, run_length_before, is_over, missing_on}
+use Rattle.rota_items.proofs.Lists.{sum_by-only_if, sum_by-each-is}
 
 -- whether the day is as the pattern says
 abbrev pub agrees : Bool → Bool → Bool

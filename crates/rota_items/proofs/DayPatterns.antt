@@ -1,17 +1,7 @@
 -- What the patterns of days stand for, and how many of their sums are plain.
-use Rattle.std.proofs.Common.{◌≡◌, ℕ, zero, suc, ◌+◌, ◌-◌, ◌*◌, Bool, true, false, cond, List, [], ◌∷◌, ◌++◌, map, refl, arith}
-use Rattle.std.specs.Prelude.{ℤ, pos, ◌-ℤ◌}
-use mir.Val.{bool_byte}
-use Rattle.std.specs.List.{range_with_len, count_by, flat_map}
-use Rattle.std.proofs.lemmas.List.Sums.{sum_by-cons, sum_by-append}
-use Rattle.rota_core.specs.Week.{Week}
-use Rattle.rota_items.specs.ItemValues.{property_of, is_plain_of, days_of, pattern_of, charged_items}
-use Rattle.rota_core.specs.Lists.{only_if}
-use Rattle.rota_items.specs.RunItems.{is_plain, day_terms, PatternDay, with_property, without_property, days_with}
-use Rattle.rota_items.specs.declared.items.soft_item.DayPattern.{DayPattern}
-use Rattle.rota_items.specs.declared.items.soft_item.RunCharge.{RunCharge}
-use Rattle.rota_items.specs.declared.items.soft_item.DayProperty.{DayProperty}
-use Rattle.rota_items.specs.declared.items.soft_item.DayProperty.TheVariants.{Shift, Work, Off}
+use Rattle.rota_items.proofs.LogicWords.{◌≡◌, ℕ, zero, suc, ◌+◌, ◌-◌, ◌*◌, Bool, true, false, cond, List, [], ◌∷◌, ◌++◌, map, refl, arith, ℤ, pos, ◌-ℤ◌, bool_byte, range_with_len, count_by, flat_map, sum_by-cons, sum_by-append, only_if}
+use Rattle.rota_items.proofs.ModelWords.{Week}
+use Rattle.rota_items.proofs.RunWords.{property_of, is_plain_of, days_of, pattern_of, charged_items, is_plain, day_terms, PatternDay, with_property, without_property, days_with, DayPattern, RunCharge, DayProperty, Shift, Work, Off}
 
 -- ---- plain sums
 

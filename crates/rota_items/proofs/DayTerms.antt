@@ -1,22 +1,10 @@
 -- The terms of a pattern's days, part by part.
-use Rattle.std.proofs.Common.{◌≡◌, ℕ, ◌+◌, ◌-◌, ◌≤◌, ◌<◌, List, [], ◌∷◌, ◌++◌, Result, length, map, refl, ap, ◌∙◌, arith}
-use Rattle.std.specs.List.{flat_map}
-use Rattle.std.proofs.lemmas.List.{append-nil}
-use Rattle.std.proofs.lemmas.List.Concat.{flat_map-append}
-use Rattle.std.proofs.lemmas.List.FromFn.{get_or-map-range_with_len, length-map-range_with_len, map-range_with_len_more, take-map-range_with_len}
-use Rattle.rota_core.specs.Week.{Week}
-use Rattle.rota_core.specs.declared.values.Cell.{Cell}
+use Rattle.rota_items.proofs.LogicWords.{◌≡◌, ℕ, ◌+◌, ◌-◌, ◌≤◌, ◌<◌, List, [], ◌∷◌, ◌++◌, Result, length, ap, ◌∙◌, arith, flat_map, append-nil, flat_map-append, get_or-map-range_with_len, length-map-range_with_len, map-range_with_len_more, take-map-range_with_len, only_if}
+use Rattle.rota_items.proofs.ModelWords.{Week, Cell, Term}
+use Rattle.rota_items.proofs.RunWords.{days_of, PatternDay, with_property, without_property, days_with, DayPattern}
+use Rattle.rota_items.proofs.TakingWords.{cell_term_events, Event, Took, Refused, Takes, Ghosts}
 use Rattle.rota_items.proofs.Taking.{Joins, terms_join, Takes-then, taking, nothing, both, stop, go_on}
 use Rattle.rota_items.proofs.TakingLists.{list_refused}
-use Rattle.rota_items.specs.CellEvents.{cell_term_events}
-use Rattle.rota_items.specs.Events.{Event}
-use Rattle.rota_items.specs.Linear.{Term}
-use Rattle.rota_core.specs.Lists.{only_if}
-use Rattle.rota_items.specs.ItemValues.{days_of}
-use Rattle.rota_items.specs.RunItems.{PatternDay, with_property, without_property, days_with}
-use Rattle.rota_items.specs.Takes.{Took, Refused, Takes}
-use Rattle.rota_items.specs.declared.items.soft_item.DayPattern.{DayPattern}
-use Rattle.rota_items.specs.declared.takers.Taker.{Ghosts}
 
 -- what a day that may be there needs
 pub ruleset day_taking = (taking, append-nil)

@@ -1,17 +1,9 @@
 -- What holds of each window and pattern that charges a property's runs. Their days follow one another.
-use Rattle.std.proofs.Common.{◌≡◌, ℕ, zero, suc, ◌+◌, ◌-◌, ◌<◌, ◌≤◌, List, [], ◌∷◌, ◌++◌, length, map, refl, sym, ap, ◌∙◌, true, arith, length-append}
-use Rattle.std.specs.Prelude.{nat_lt, nat_le, max, ◌&&◌}
-use Rattle.std.specs.List.{All, AllByRecursion, range_with_len}
-use Rattle.std.proofs.lemmas.List.{length-map}
-use Rattle.std.proofs.lemmas.List.Elements.{All-from_recursion, All-weaker, recursion_from_All}
-use Rattle.std.proofs.lemmas.List.FromFn.{length-range_with_len}
-use Rattle.rota_core.specs.declared.values.Span.{Span}
-use Rattle.rota_core.proofs.Loops.{AllByRecursion-append, AllByRecursion-each_below, AllByRecursion-only_if, length-each_below, length-only_if}
-use Rattle.rota_core.specs.Lists.{each_below}
-use Rattle.rota_items.proofs.ListLengths.{length-each_below_both}
-use Rattle.rota_items.specs.Bounds.{most_run_items}
-use Rattle.rota_items.specs.RunItems.{PatternDay, Pattern, with_property, without_property, window, windows_on, windows, closed_pattern, closed_patterns_at, closed_patterns_on, edge_pattern, edge_patterns_on, patterns_on, patterns}
-use Rattle.rota_items.specs.RunItemParts.{DaysFollow}
+use Rattle.rota_items.proofs.LogicWords.{◌≡◌, ℕ, zero, suc, ◌+◌, ◌-◌, ◌<◌, ◌≤◌, List, [], ◌∷◌, ◌++◌, length, map, refl, sym, ap, ◌∙◌, true, arith, length-append, nat_lt, nat_le, max, ◌&&◌, All, AllByRecursion, range_with_len, length-map, All-from_recursion, All-weaker, length-range_with_len, AllByRecursion-append, AllByRecursion-each_below, AllByRecursion-only_if, length-each_below, length-only_if, each_below}
+use Rattle.rota_items.proofs.ModelWords.{Item}
+use Rattle.rota_items.proofs.RunWords.{Span, PatternDay, Pattern, with_property, without_property, window, windows_on, windows, closed_pattern, closed_patterns_at, closed_patterns_on, edge_pattern, edge_patterns_on, patterns_on, patterns, DaysFollow, Runs, pattern_item, run_items}
+use Rattle.rota_items.proofs.RuleWords.{most_run_items}
+use Rattle.rota_items.proofs.Lists.{length-each_below_both, all-map, all-weaker}
 
 -- ---- the days
 
@@ -102,9 +94,6 @@ module _ (history : ℕ) (limits : Span) where
       All-weaker Is DaysFollow (λ _ is. is.follows) (windows history limits ++ patterns history limits)
       (All-from_recursion Is (windows history limits ++ patterns history limits) each-pattern)
 
-  pub run_patterns-follow : AllByRecursion DaysFollow (windows history limits ++ patterns history limits)
-  run_patterns-follow = recursion_from_All DaysFollow (windows history limits ++ patterns history limits) days-follow
-
   -- ---- how many
 
   pub few-run_patterns : length (windows history limits) + length (patterns history limits) ≤ most_run_items
@@ -123,6 +112,16 @@ module _ (history : ℕ) (limits : Span) where
             length-each_below d 1 (closed_patterns_at limits.min d) (λ k _. length-only_if _ _),
             length-only_if (nat_le 1 (history + d) && nat_lt (history + d) limits.min) (edge_pattern history limits.min d),
           )
+
+-- what holds of the item of each window and pattern holds of the items of the runs
+pub each-run_item : {X : Type 0} (runs : Runs X) (P : Item X → Type 0) →
+    ((pattern : Pattern) → IsRunPattern runs.limits pattern → P (pattern_item runs.rule runs.weight runs.property pattern)) →
+    AllByRecursion P (run_items runs)
+each-run_item {X} runs P each =
+    let item : Pattern → Item X = pattern_item runs.rule runs.weight runs.property in
+    let all : List Pattern = windows runs.history runs.limits ++ patterns runs.history runs.limits in
+    all-map P item all
+    (all-weaker (IsRunPattern runs.limits) (λ pattern. P (item pattern)) each all (each-pattern runs.history runs.limits))
 
 -- the closed patterns of the week and its edge patterns
 pub length-patterns : (history : ℕ) (limits : Span) →

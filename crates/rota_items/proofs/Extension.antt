@@ -1,10 +1,11 @@
 -- Rosters extend to assignments at their penalty, and satisfying assignments stand for rosters of no greater one.
 use Rattle.rota_items.proofs.LogicWords.{◌≡◌, ℕ, ◌+◌, ◌*◌, ◌<◌, ◌≤◌, Bool, true, false, cond, List, ◌++◌, refl, sym, ap, ◌∙◌, arith, pos, ◌+ℤ◌, ◌-ℤ◌, ◌≤ℤ◌, nat_lt, All, AllByRecursion, ints, lt-ltb, ltb-false, All-from_recursion, recursion_from_All}
 use Rattle.rota_items.proofs.ModelWords.{KeepsCompetitionRules, KeepsHardRules, Roster, InWeek, Week, Cell, cell_number, unit_number, first_slack, constant_terms, cell_terms, constant, penalty, soft_items, Item, positive_part, shortage, weighted_shortages, numbered, Term, Satisfies, value_of, SatisfiesModel, StandBelow, item_constraints, slack_weights, numbered_terms, numbered_items, objective_terms, roster_of, assignment_of, extension_of, model_of}
+use Rattle.rota_items.proofs.RuleWords.{request_cost}
 use Rattle.rota_items.proofs.AlikeRosters.{keeps-alike}
 use Rattle.rota_items.proofs.AssignmentOf.{assignment_of-cell, assignment_of-unit}
 use Rattle.rota_items.proofs.ItemLaw.{value_of-numbered, extension_satisfies, value_of-extension, weighted_shortages-le}
-use Rattle.rota_items.proofs.ListAll.{all-map, all-weaker}
+use Rattle.rota_items.proofs.Lists.{all-map, all-weaker, sum_by-map, sum_by-same}
 use Rattle.rota_items.proofs.ModelParts.{satisfies-parts}
 use Rattle.rota_items.proofs.Numbers.{cell_number-below}
 use Rattle.rota_items.proofs.PatternItems.{value_of-append}
@@ -12,9 +13,7 @@ use Rattle.rota_items.proofs.SoftRules.AllItems.{ItemIn, in-cell_terms}
 use Rattle.rota_items.proofs.SoftRules.EachRule.{cell_terms-are, charges-penalty, each-item}
 use Rattle.rota_items.proofs.SoftRules.ShiftOffRequests.{value_of-request_terms, value_of-only_if}
 use Rattle.rota_items.proofs.Satisfied.{hard_constraints-hold, hard_constraints-mean}
-use Rattle.rota_items.proofs.ListSums.{sum_by-map, sum_by-same}
-use Rattle.rota_items.proofs.TermsHold.{OnTerms, value_of-agree}
-use Rattle.rota_items.specs.rules.ShiftOffRequests.Cost.{request_cost}
+use Rattle.rota_items.proofs.SoundTerms.{OnTerms, value_of-agree}
 
 -- ---- the penalty in items
 

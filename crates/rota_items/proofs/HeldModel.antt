@@ -1,18 +1,14 @@
 -- Holding cells adds to the model only that each of them is true.
-use Rattle.rota_items.proofs.LogicWords.{◌≡◌, ◌↔◌, ℕ, ◌+◌, Bool, false, [], map, length, length-append, ap, arith, length-map}
-use Rattle.rota_items.proofs.ModelWords.{KeepsHeld, Roster, hard_rules, Week, first_slack, rows_of_hard_rule, rule_rows, SatisfiesModel, linear_constraint, item_rows, hard_rows, model_of, numbered_items, numbered_row, roster_of, rows_of}
-use Rattle.std.proofs.lemmas.List.{nil_from_length}
-use Rattle.std.proofs.lemmas.List.Concat.{length-flat_map}
-use Rattle.rota_core.specs.RosterCells.{cells_of}
-use Rattle.rota_core.specs.declared.rule.Rule.TheVariants.{H5}
+use Rattle.rota_items.proofs.LogicWords.{◌≡◌, ◌↔◌, ℕ, ◌+◌, Bool, false, [], map, length, ap, arith, length-map, nil_from_length, length-flat_map}
+use Rattle.rota_items.proofs.ModelWords.{KeepsHeld, Roster, hard_rules, Week, rows_of_hard_rule, rule_rows, SatisfiesModel, linear_constraint, model_of, roster_of, rows_of, cells_of, h5_row, h5_rows, without_held}
+use Rattle.rota_items.proofs.RuleWords.{H5}
+use Rattle.rota_items.proofs.SlackBound.{length-rows_of}
 use Rattle.rota_core.proofs.RosterCount.{cells_of-none}
-use Rattle.rota_items.specs.HardRows.{h5_row, h5_rows}
-use Rattle.rota_items.specs.Standing.{without_held}
 use Rattle.rota_items.proofs.HardRules.EachRule.{rows-are}
 use Rattle.rota_items.proofs.HardRules.Held.{held}
 use Rattle.rota_items.proofs.HardRules.OneCell.{one_cell}
 use Rattle.rota_items.proofs.HardRules.Sound.{AllHold, Holds, IsRowSound}
-use Rattle.rota_items.proofs.ListAll.{all-weaker}
+use Rattle.rota_items.proofs.Lists.{all-weaker}
 use Rattle.rota_items.proofs.ModelParts.{satisfies-parts}
 use Rattle.rota_items.proofs.Satisfied.{all_hold, satisfied}
 
@@ -58,20 +54,12 @@ module _ (week : Week) where
   length-with_held =
       omega (
         arith,
-        length-of week,
-        length-of (without_held week),
+        length-map (rows_of week) linear_constraint,
+        length-rows_of week,
+        length-map (rows_of (without_held week)) linear_constraint,
+        length-rows_of (without_held week),
         length-flat_map (rows_of_hard_rule week) hard_rules,
         length-flat_map (rows_of_hard_rule (without_held week)) hard_rules,
         ap length (no-held_rows week),
         length-map (cells_of week week.is_held) h5_row,
       )
-    where
-      length-of : (week : Week) →
-          length (model_of week).constraints ≡ 1 + length (rule_rows week) + length (item_rows (first_slack week) (numbered_items week))
-      length-of week =
-          omega (
-            arith,
-            length-map (rows_of week) linear_constraint,
-            length-append (hard_rows week) (item_rows (first_slack week) (numbered_items week)),
-            length-map (rule_rows week) (numbered_row week),
-          )

@@ -1,31 +1,18 @@
 -- What a counter makes of a list of items.
-use Rattle.std.proofs.Common.{◌≡◌, ℕ, ◌+◌, ◌<◌, List, [], ◌∷◌, ◌++◌, map, length, sym, ap, ◌∙◌, arith, length-append}
-use Rattle.std.specs.List.{fold}
-use Rattle.std.proofs.lemmas.List.{length-map}
-use Rattle.rota_core.specs.InstanceTables.{InstanceTables, IsInstance, week_of}
-use Rattle.rota_core.specs.Week.{Week}
-use Rattle.rota_core.specs.declared.values.Cell.{Cell}
+use Rattle.rota_items.proofs.LogicWords.{◌≡◌, ℕ, ◌+◌, ◌<◌, List, [], ◌∷◌, ◌++◌, map, length, refl, ◌∙◌, arith, length-append, fold, length-map}
+use Rattle.rota_items.proofs.ModelWords.{InstanceTables, IsInstance, week_of, Week, Cell, soft_items, Item, numbered, slack_count, cell_number}
+use Rattle.rota_items.proofs.RunWords.{Runs, pattern_item, run_items, patterns, windows}
+use Rattle.rota_items.proofs.RuleWords.{word_limit}
+use Rattle.rota_items.proofs.TakingWords.{numbered_list}
 use Rattle.rota_items.proofs.InstanceLimits.{instance-within_limits}
 use Rattle.rota_items.proofs.ItemEventLists.{slack_count-cons, slack_count-numbered}
 use Rattle.rota_items.proofs.NurseItemLists.{have_one-runs, one_slack-each}
 use Rattle.rota_items.proofs.SlackBound.{items-few, variables_fit}
-use Rattle.rota_items.specs.Charges.{soft_items}
 use Rattle.rota_items.specs.ItemCounting.{ItemNumbers, sum_within, with_one}
-use Rattle.rota_items.specs.ModelWords.{Item, numbered}
-use Rattle.rota_items.specs.Limits.{word_limit}
-use Rattle.rota_items.specs.ItemTaking.{numbered_list}
-use Rattle.rota_items.specs.RunItems.{Runs, pattern_item, run_items, patterns, windows}
-use Rattle.rota_items.specs.WeekModel.{slack_count}
-use Rattle.rota_items.specs.Variables.{cell_number}
 
-sum_within-none : (n : ℕ) → n < word_limit → n ≡ sum_within n 0
-sum_within-none n below = omega arith
-
-sum_within-more : (n a b : ℕ) → sum_within (sum_within n a) b ≡ sum_within n (a + b)
-sum_within-more n a b = omega arith
-
-one-more : (item : Item ℕ) (items : List (Item ℕ)) → 1 + length items ≡ length (item ∷ items)
-one-more item items = omega arith
+same_numbers : (a b m n : ℕ) → a ≡ b → m ≡ n →
+    ◌≡◌ {A = ItemNumbers} (record { items = a; slacks = m }) (record { items = b; slacks = n })
+same_numbers a b m n e f = rw (e, f) refl
 
 -- both numbers fit
 pub record AreWithin (counts : ItemNumbers) : Type 0 where
@@ -37,13 +24,12 @@ within-one counts item = record { items = omega arith; slacks = omega arith }
 
 pub counted-all : (items : List (Item ℕ)) (counts : ItemNumbers) → AreWithin counts →
     fold with_one counts items ≡ record { items = sum_within counts.items (length items); slacks = sum_within counts.slacks (slack_count items) }
-counted-all [] counts within = λ i. record { items = sum_within-none counts.items within.items i; slacks = sum_within-none counts.slacks within.slacks i }
+counted-all [] counts within = same_numbers _ _ _ _ (omega arith) (omega arith)
 counted-all (item ∷ items) counts within =
-    let items_are : sum_within (sum_within counts.items 1) (length items) ≡ sum_within counts.items (length (item ∷ items)) =
-    sum_within-more counts.items 1 (length items) ∙ ap (sum_within counts.items) (one-more item items) in
-    let slacks_are : sum_within (sum_within counts.slacks item.slacks) (slack_count items) ≡ sum_within counts.slacks (slack_count (item ∷ items)) =
-    sum_within-more counts.slacks item.slacks (slack_count items) ∙ ap (sum_within counts.slacks) (sym (slack_count-cons item items)) in
-    counted-all items (with_one counts item) (within-one counts item) ∙ (λ i. record { items = items_are i; slacks = slacks_are i })
+    counted-all items (with_one counts item) (within-one counts item) ∙
+    same_numbers (sum_within (sum_within counts.items 1) (length items)) (sum_within counts.items (length (item ∷ items)))
+    (sum_within (sum_within counts.slacks item.slacks) (slack_count items)) (sum_within counts.slacks (slack_count (item ∷ items)))
+    (omega arith) (omega (arith, slack_count-cons item items))
 
 -- the items of a nurse's runs, each of one slack, are as many as these windows and patterns
 pub counted-runs : (week : Week) (runs : Runs Cell) (counts : ItemNumbers) (n : ℕ) → AreWithin counts →

@@ -1,13 +1,8 @@
 -- The slacks of items and the events of terms, one list after another.
-use Rattle.std.proofs.Common.{◌≡◌, ℕ, ◌+◌, List, ◌∷◌, ◌++◌, map}
-use Rattle.std.proofs.lemmas.List.{map-append}
-use Rattle.std.proofs.lemmas.List.Sums.{sum_by-cons, sum_by-append}
-use Rattle.rota_core.specs.declared.values.Cell.{Cell}
-use Rattle.rota_items.proofs.ListSums.{sum_by-map}
-use Rattle.rota_items.specs.Events.{term, term_events}
-use Rattle.rota_items.specs.ModelWords.{Item, numbered}
-use Rattle.rota_items.specs.Linear.{Term}
-use Rattle.rota_items.specs.WeekModel.{slack_count}
+use Rattle.rota_items.proofs.LogicWords.{◌≡◌, ℕ, ◌+◌, List, ◌∷◌, ◌++◌, map, map-append, sum_by-cons, sum_by-append}
+use Rattle.rota_items.proofs.ModelWords.{Cell, Item, numbered, Term, slack_count}
+use Rattle.rota_items.proofs.TakingWords.{term, term_events}
+use Rattle.rota_items.proofs.Lists.{sum_by-map}
 
 -- ---- how many slacks
 

@@ -1,12 +1,9 @@
 -- Items and their slacks.
-use Rattle.rota_items.proofs.LogicWords.{map, ◌≡◌, ◌↔◌, ℕ, zero, suc, ◌+◌, ◌-◌, ◌*◌, ◌<◌, ◌≤◌, Bool, cond, List, [], ◌∷◌, refl, sym, ap, ◌∙◌, arith, add-zero, ltb, ℤ, pos, negsuc, ◌+ℤ◌, ◌-ℤ◌, ◌≤ℤ◌, All, count_by, range_with_len, sum_by-cons, recursion_from_All, lt-ltb, le-ltb, ints}
-use Rattle.rota_items.proofs.ModelWords.{numbered, Item, positive_part, shortage, weighted_shortages, Term, Constraint, Satisfies, value_of, times, StandBelow, slack_variables, item_constraint, item_constraints, slack_weights}
-use Rattle.std.proofs.lemmas.Bool.Decides.{nat_tests}
-use Rattle.std.proofs.lemmas.List.Elements.{All-nil, All-cons, All-head, All-tail}
-use Rattle.std.proofs.Math.Nat.{mul-le-mul_left}
+use Rattle.rota_items.proofs.LogicWords.{map, ◌≡◌, ◌↔◌, ℕ, zero, suc, ◌+◌, ◌-◌, ◌*◌, ◌<◌, ◌≤◌, Bool, cond, List, [], ◌∷◌, refl, sym, ap, ◌∙◌, arith, add-zero, ltb, pos, ◌+ℤ◌, ◌-ℤ◌, ◌≤ℤ◌, All, count_by, range_with_len, sum_by-cons, recursion_from_All, lt-ltb, le-ltb, ints, nat_tests, All-nil, All-cons, All-head, All-tail, mul-le-mul_left}
+use Rattle.rota_items.proofs.ModelWords.{numbered, Item, positive_part, shortage, weighted_shortages, Term, Constraint, Satisfies, value_of, times, StandBelow, slack_variables, item_constraint, item_constraints, slack_weights, is_slack_needed, extension}
 use Rattle.rota_items.proofs.PatternItems.{value_of-append}
-use Rattle.rota_items.proofs.TermsHold.{value_of-agree}
-use Rattle.rota_items.specs.WeekModel.{is_slack_needed, extension}
+use Rattle.rota_items.proofs.SmallSums.{positive_part-parts}
+use Rattle.rota_items.proofs.SoundTerms.{value_of-agree}
 
 -- variables with one coefficient give it once for each that is true
 pub value_of-weight : (assignment : ℕ → Bool) (w : ℕ) (variables : List ℕ) →
@@ -19,14 +16,6 @@ value_of-weight assignment w (v ∷ vs) =
       ap (λ k. w * k) (sum_by-cons (λ x. cond (assignment x) 1 0) v vs),
       value_of-weight assignment w vs,
     )
-
-pub positive_part-le : (z : ℤ) (k : ℕ) → z ≤ℤ pos k → positive_part z ≤ k
-positive_part-le (pos n) k h = omega (arith, ints)
-positive_part-le (negsuc n) k h = omega arith
-
-pub le-positive_part : (z : ℤ) (k : ℕ) → positive_part z ≤ k → z ≤ℤ pos k
-le-positive_part (pos n) k h = omega (arith, ints)
-le-positive_part (negsuc n) k h = omega (arith, ints)
 
 pub value_of-item_constraint : (assignment : ℕ → Bool) (item : Item ℕ) (first : ℕ) →
     value_of assignment (item_constraint item first).terms ≡
@@ -42,16 +31,10 @@ value_of-item_constraint assignment item first =
 pub item_law : (assignment : ℕ → Bool) (item : Item ℕ) (first : ℕ) →
     Satisfies assignment (item_constraint item first) ↔
     (shortage assignment item ≤ count_by assignment (slack_variables item first))
-item_law assignment item first = (
-  λ holds.
-      positive_part-le (item.degree -ℤ value_of assignment item.terms) (count_by assignment (slack_variables item first))
-      (omega (arith, ints, holds, value_of-item_constraint assignment item first)),
-  λ enough.
-      let within : (item.degree -ℤ value_of assignment item.terms) ≤ℤ pos (count_by assignment (slack_variables item first)) =
-      le-positive_part (item.degree -ℤ value_of assignment item.terms)
-      (count_by assignment (slack_variables item first)) enough in
-      omega (arith, ints, value_of-item_constraint assignment item first),
-)
+item_law assignment item first =
+    let parts = positive_part-parts (item.degree -ℤ value_of assignment item.terms) in
+    let value = value_of-item_constraint assignment item first in
+    (λ holds. omega (arith, ints, holds), λ enough. omega (arith, ints, enough))
 
 -- the weighted shortages are at most what the slacks cost, where the items hold
 pub weighted_shortages-le : (assignment : ℕ → Bool) (first : ℕ) (items : List (Item ℕ)) →

@@ -1,22 +1,12 @@
 -- What a taker of rows takes by the items that are handed on to it.
-use Rattle.std.proofs.Common.{◌≡◌, ℕ, ◌+◌, ◌<◌, List, [], ◌∷◌, ◌++◌, Result, Ok, Err, refl, sym, ap, subst, ◌∙◌, arith, append_assoc}
-use Rattle.std.specs.List.{fold}
-use Rattle.std.proofs.lemmas.List.Sums.{fold-append}
-use Rattle.std.proofs.lemmas.Result.{MatchResult-weaker}
-use Rattle.rota_core.specs.InstanceTables.{InstanceTables, IsInstance, week_of}
+use Rattle.rota_items.proofs.LogicWords.{◌≡◌, ℕ, ◌+◌, ◌<◌, List, [], ◌∷◌, ◌++◌, Result, Ok, Err, refl, sym, ap, subst, ◌∙◌, arith, append_assoc, fold, fold-append, MatchResult-weaker}
+use Rattle.rota_items.proofs.ModelWords.{InstanceTables, IsInstance, week_of, soft_items, Item, item_rows, slack_count, slack_weights, first_slack, numbered_items, cell_number}
+use Rattle.rota_items.proofs.RuleWords.{word_limit}
+use Rattle.rota_items.proofs.TakingWords.{Event, events, term_events, Handing, StopsAt, row_of_item, slacks_within, weights_of_item, with_item, within_numbers, Took, Refused, Takes, TookAll, RefusedOne, TakesAll, Ghosts}
 use Rattle.rota_items.proofs.InstanceLimits.{instance-within_limits}
 use Rattle.rota_items.proofs.ItemEventLists.{slack_count-cons, slack_count-append, slack_count-numbered, term_events-append}
 use Rattle.rota_items.proofs.SlackBound.{variables_fit}
 use Rattle.rota_items.proofs.Taking.{Refused-before, Refused-after}
-use Rattle.rota_items.specs.Charges.{soft_items}
-use Rattle.rota_items.specs.Events.{Event, events, term_events}
-use Rattle.rota_items.specs.ItemRows.{Handing, StopsAt, row_of_item, slacks_within, weights_of_item, with_item, within_numbers}
-use Rattle.rota_items.specs.ModelWords.{Item}
-use Rattle.rota_items.specs.Limits.{word_limit}
-use Rattle.rota_items.specs.WeekModel.{item_rows, slack_count, slack_weights, first_slack, numbered_items}
-use Rattle.rota_items.specs.Takes.{Took, Refused, Takes, TookAll, RefusedOne, TakesAll}
-use Rattle.rota_items.specs.Variables.{cell_number}
-use Rattle.rota_items.specs.declared.takers.Taker.{Ghosts}
 
 -- the slacks of the items have numbers of variables, from this one on
 abbrev pub SlacksFit : ℕ → List (Item ℕ) → Type 0

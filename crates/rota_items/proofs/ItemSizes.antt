@@ -1,15 +1,11 @@
 -- How large items are: their weights, slacks, terms and degrees.
-use Rattle.rota_items.proofs.LogicWords.{ℕ, ◌*◌, ◌≤◌, Bool, true, false, List, [], ◌∷◌, ◌++◌, length, arith, ℤ, pos, negsuc, nat_abs, if◌then◌else◌, ints, length-append, length-map, sum_by-append, sum_by-cons, AllByRecursion, flat_map}
-use Rattle.rota_items.proofs.ModelWords.{Week, Rule, Cell, Item, positive_part, Term, times, IsWithinLimits, on_cells, work_cells, nurse_cells, demand_cells}
-use Rattle.std.proofs.lemmas.Nat.{mul-le}
-use Rattle.rota_core.specs.declared.rule.Rule.TheVariants.{S1}
-use Rattle.rota_items.proofs.EachPattern.{IsRunPattern, each-pattern, few-run_patterns}
-use Rattle.rota_items.proofs.ListAll.{all-map, all-weaker}
+use Rattle.rota_items.proofs.LogicWords.{ℕ, ◌*◌, ◌≤◌, Bool, true, false, List, [], ◌∷◌, ◌++◌, length, arith, ℤ, pos, negsuc, nat_abs, if◌then◌else◌, ints, length-append, length-map, sum_by-append, sum_by-cons, AllByRecursion, flat_map, mul-le}
+use Rattle.rota_items.proofs.ModelWords.{Week, Rule, Cell, Item, positive_part, Term, times, on_cells, work_cells, nurse_cells, demand_cells}
+use Rattle.rota_items.proofs.RunWords.{Present, Property, Runs, day_terms, is_plain, pattern_item, run_items, variables_on, Pattern, PatternDay, patterns, windows, only_sunday, saturday, weekend_items}
+use Rattle.rota_items.proofs.RuleWords.{IsWithinLimits, S1, heaviest, most_cells_of_day, most_run_items, most_slacks, most_terms, most_weight, most_number, most_nurses, most_shifts, most_skills}
+use Rattle.rota_items.proofs.EachPattern.{few-run_patterns, each-run_item}
+use Rattle.rota_items.proofs.Lists.{length-at_most}
 use Rattle.rota_items.proofs.SmallSums.{positive_part-parts, spread}
-use Rattle.rota_items.proofs.SumsBelow.{length-at_most}
-use Rattle.rota_items.specs.Bounds.{heaviest, most_cells_of_day, most_run_items, most_slacks, most_terms, most_weight}
-use Rattle.rota_items.specs.Limits.{most_number, most_nurses, most_shifts, most_skills}
-use Rattle.rota_items.specs.RunItems.{Present, Property, Runs, day_terms, is_plain, pattern_item, run_items, variables_on, Pattern, PatternDay, patterns, windows, only_sunday, saturday, weekend_items}
 
 -- an item of this rule has small numbers
 pub record IsItemSmall (rule : Rule) (item : Item Cell) : Type 0 where
@@ -92,14 +88,9 @@ module _ (property : Property Cell) (few : (d : ℕ) → length (variables_on pr
 pub small-runs : (runs : Runs Cell) → ((d : ℕ) → length (variables_on runs.property d) ≤ most_cells_of_day) → runs.weight ≤ heaviest →
     runs.limits.min ≤ most_number → AllByRecursion (IsItemSmall runs.rule) (run_items runs)
 small-runs runs few light small =
-    let item : Pattern → Item Cell = pattern_item runs.rule runs.weight runs.property in
-    let all : List Pattern = windows runs.history runs.limits ++ patterns runs.history runs.limits in
-    all-map (IsItemSmall runs.rule) item all
-    (all-weaker (IsRunPattern runs.limits) (λ pattern. IsItemSmall runs.rule (item pattern))
-    (λ pattern is.
+    each-run_item runs (IsItemSmall runs.rule) (λ pattern is.
     small-pattern runs.property few runs.rule runs.weight pattern light (omega (arith, is.follows.in_week))
     (omega (arith, is.few, small)))
-    all (each-pattern runs.history runs.limits))
 
 pub few-run_items : (runs : Runs Cell) → length (run_items runs) ≤ most_run_items
 few-run_items runs =

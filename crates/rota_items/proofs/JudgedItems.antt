@@ -17,8 +17,7 @@ use Rattle.std.proofs.lemmas.List.FromFn.{length-range_with_len as length-range}
 use Rattle.rota_items.proofs.PatternItems.{value_of-append}
 use Rattle.rota_items.proofs.SmallSums.{positive_part-parts, shortage-least, spread}
 use Rattle.rota_items.specs.Limits.{half_limit, signed_limit}
-use Rattle.rota_items.proofs.TermsHold.{value_of-agree}
-use Rattle.rota_items.proofs.UnitTerms.{spread-units, units-times}
+use Rattle.rota_items.proofs.SoundTerms.{value_of-agree, spread-units, units-times}
 
 -- ---- the slacks of an item
 

@@ -1,15 +1,10 @@
 -- What a judge makes of the model of a week.
 use Rattle.rota_items.proofs.LogicWords.{◌≡◌, ℕ, ◌+◌, ◌*◌, ◌<◌, ◌≤◌, Bool, true, List, [], ◌∷◌, ◌++◌, refl, ap, ◌∙◌, cond, arith, pos, negsuc, nat_abs, if◌then◌else◌, AllByRecursion, fold, sum_by, ints, fold-append, sum_by-cons, AllByRecursion-append}
-use Rattle.rota_items.proofs.ModelWords.{Roster, InWeek, set_of, soft_rules, Week, Rule, Cell, cell_number, unit_number, first_slack, Item, numbered, positive_part, shortage, weighted_shortages, IsWithinLimits, Term, value_of, times, LinearRow, objective_rows, item_rows, slack_variables, slack_weights, cell_terms, constant, items_of_rule, soft_items, rule_rows, hard_rows, numbered_items, numbered_row, numbered_terms, objective_terms, rows_of}
+use Rattle.rota_items.proofs.ModelWords.{Roster, InWeek, set_of, soft_rules, Week, Rule, Cell, cell_number, unit_number, first_slack, Item, numbered, positive_part, shortage, weighted_shortages, Term, value_of, times, LinearRow, objective_rows, item_rows, slack_variables, slack_weights, cell_terms, constant, items_of_rule, soft_items, rule_rows, hard_rows, numbered_items, numbered_row, numbered_terms, objective_terms, rows_of, first_unmet}
+use Rattle.rota_items.proofs.RuleWords.{IsWithinLimits, most_objective, request_cost, half_limit, signed_limit}
+use Rattle.rota_items.proofs.TakingWords.{Objective, events, row_events}
+use Rattle.rota_items.proofs.JudgeWords.{RowSums, Tally, Subject, assigned, extended, assignment_in, roster_in, capped, no_sums, no_tally, tallied}
 use Rattle.rota_core.specs.declared.rule.Rule.TheVariants.{Unit as UnitRule}
-use Rattle.rota_items.specs.declared.part.Part.TheVariants.{Objective}
-use Rattle.rota_items.specs.declared.judge.tallies.RowSums.{RowSums}
-use Rattle.rota_items.specs.declared.judge.tallies.Tally.{Tally}
-use Rattle.rota_items.specs.Bounds.{most_objective}
-use Rattle.rota_items.specs.Events.{events, row_events}
-use Rattle.rota_items.specs.Judging.{Subject, assigned, extended, assignment_in, roster_in, capped, no_sums, no_tally, tallied}
-use Rattle.rota_items.specs.rules.ShiftOffRequests.Cost.{request_cost}
-use Rattle.rota_items.specs.FirstUnmet.{first_unmet}
 use Rattle.rota_items.proofs.Extension.{extension-roster, shortage-of_item, terms-below, value_of-objective, value_of-of_terms}
 use Rattle.rota_items.proofs.FirstUnmet.{later-zero}
 use Rattle.rota_items.proofs.HardRules.EachRule.{each-row}
@@ -19,20 +14,16 @@ use Rattle.rota_items.proofs.JudgedItems.{Follows, IsFit, at_slacks, charge_of, 
 use Rattle.rota_items.proofs.ItemSizes.{slacks-few}
 use Rattle.rota_items.proofs.JudgedRows.{Comes, IsHardRow, rows-come, same}
 use Rattle.rota_items.proofs.JudgedTerms.{AtSlacks, counted-before, counted_other, others-at_slacks, others-before, row-tallied}
-use Rattle.rota_items.proofs.ListAll.{all-both, all-map}
-use Rattle.rota_items.proofs.ListSums.{sum_by-each-same, sum_by-flat_map, sum_by-map}
+use Rattle.rota_items.proofs.Lists.{all-both, all-map, sum_by-each-same, sum_by-flat_map, sum_by-map}
 use Rattle.rota_items.proofs.ObjectiveBound.{objective-below}
 use Rattle.rota_items.proofs.RuleSizes.{each-small}
 use Rattle.rota_items.proofs.SlackBound.{rows-below, variables-below}
 use Rattle.rota_items.proofs.SmallSums.{spread}
-use Rattle.rota_items.specs.Limits.{half_limit, signed_limit}
 use Rattle.rota_items.proofs.SoftRules.AllItems.{in-cell_terms}
 use Rattle.rota_items.proofs.SoftRules.EachRule.{cell_terms-are, each-item, sound-rule}
 use Rattle.rota_items.proofs.SoftRules.ShiftOffRequests.{value_of-request_terms}
 use Rattle.rota_items.proofs.SoftRules.Sound.{IsItemSound}
-use Rattle.rota_items.proofs.SoundTerms.{spread-sound}
-use Rattle.rota_items.proofs.TermsHold.{OnTerms}
-use Rattle.rota_items.proofs.UnitTerms.{OnCoefficients}
+use Rattle.rota_items.proofs.SoundTerms.{spread-sound, OnTerms, OnCoefficients}
 use Rattle.rota_items.proofs.Weights.{IsPositive, coefficients-positive}
 
 -- ---- how large the rows are

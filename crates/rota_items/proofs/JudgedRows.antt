@@ -1,19 +1,10 @@
 -- What a judge makes of rows, one after the other.
-use Rattle.rota_items.proofs.LogicWords.{◌≡◌, ℕ, ◌+◌, ◌-◌, ◌*◌, ◌<◌, ◌≤◌, Bool, true, false, List, [], ◌∷◌, ◌++◌, map, length, refl, sym, ap, ◌∙◌, arith, min, w64, Option, Some, None, add-zero, inl, inr, ℤ, pos, negsuc, ◌+ℤ◌, ◌-ℤ◌, ◌==◌, int_le, nat_le, if◌then◌else◌, fold, AllByRecursion, ints, fold-append}
-use Rattle.rota_items.proofs.ModelWords.{soft_rules, Week, Rule, positive_part, LinearRow, is_satisfied}
-use Rattle.std.specs.Int.{saturate_signed}
-use Rattle.std.specs.Option.{option_or}
-use Rattle.std.proofs.lemmas.Bool.Decides.{leb_tells}
-use Rattle.std.proofs.Math.Nat.{one-mul, zero-mul}
+use Rattle.rota_items.proofs.LogicWords.{◌≡◌, ℕ, ◌+◌, ◌-◌, ◌*◌, ◌<◌, ◌≤◌, Bool, true, false, List, [], ◌∷◌, ◌++◌, map, length, refl, sym, ap, ◌∙◌, arith, min, w64, Option, Some, None, add-zero, inl, inr, ℤ, pos, negsuc, ◌+ℤ◌, ◌-ℤ◌, ◌==◌, int_le, nat_le, if◌then◌else◌, fold, AllByRecursion, ints, fold-append, saturate_signed, option_or, leb_tells, one-mul, zero-mul}
+use Rattle.rota_items.proofs.ModelWords.{soft_rules, Week, Rule, positive_part, LinearRow, is_satisfied, first_unmet, later, rule_of_part}
+use Rattle.rota_items.proofs.RuleWords.{greatest_count, half_limit, signed_limit}
+use Rattle.rota_items.proofs.TakingWords.{Hard, row_events, events}
+use Rattle.rota_items.proofs.JudgeWords.{RowSums, Tally, Subject, assigned, extended, assignment_in, capped, closed, constraint_closed, lacking_in, tallied, true_slacks, with_cost, soft_place}
 use Rattle.rota_core.specs.declared.rule.Rule.TheVariants.{Unit as UnitRule}
-use Rattle.rota_items.specs.declared.part.Part.TheVariants.{Hard}
-use Rattle.rota_items.specs.declared.judge.tallies.RowSums.{RowSums}
-use Rattle.rota_items.specs.declared.judge.tallies.Tally.{Tally}
-use Rattle.rota_items.specs.Limits.{greatest_count, half_limit, signed_limit}
-use Rattle.rota_items.specs.Events.{row_events, events}
-use Rattle.rota_items.specs.Judging.{Subject, assigned, extended, assignment_in, capped, closed, constraint_closed, lacking_in, tallied, true_slacks, with_cost}
-use Rattle.rota_items.specs.Verdicts.{soft_place}
-use Rattle.rota_items.specs.FirstUnmet.{first_unmet, later, rule_of_part}
 use Rattle.rota_items.proofs.FirstUnmet.{Named, later-later}
 use Rattle.rota_items.proofs.JudgedTerms.{Before, opened, others-before, row-tallied, slacks-before, sums_of}
 use Rattle.rota_items.proofs.SmallSums.{positive_part-parts, spread}

@@ -1,16 +1,13 @@
 -- What a judge makes of the terms of a row.
-use Rattle.rota_items.proofs.LogicWords.{◌≡◌, ℕ, ◌+◌, ◌<◌, Bool, true, false, ◌&&◌, not, List, [], ◌∷◌, ◌++◌, refl, ap, ◌∙◌, arith, w64, ℤ, pos, negsuc, ◌+ℤ◌, nat_abs, nat_lt, if◌then◌else◌, fold, lt-ltb, le-ltb, ints, fold-append, sum_by-cons}
+use Rattle.rota_items.proofs.LogicWords.{◌≡◌, ℕ, ◌+◌, ◌<◌, Bool, true, false, ◌&&◌, not, List, [], ◌∷◌, ◌++◌, refl, ap, ◌∙◌, arith, w64, ℤ, pos, negsuc, ◌+ℤ◌, nat_abs, nat_lt, if◌then◌else◌, fold, lt-ltb, le-ltb, ints, fold-append, sum_by-cons, saturate_signed}
 use Rattle.rota_items.proofs.ModelWords.{Week, unit_number, first_slack, Term, value_of, LinearRow, set_of}
-use Rattle.std.specs.Int.{saturate_signed}
-use Rattle.rota_items.specs.declared.judge.tallies.RowSums.{RowSums}
-use Rattle.rota_items.specs.declared.judge.tallies.Tally.{Tally}
-use Rattle.rota_items.specs.Events.{close_row, row_events, start_row, term_events}
-use Rattle.rota_items.specs.Judging.{Subject, assignment_in, assigned, extended, closed, counts_for, no_sums, tallied}
+use Rattle.rota_items.proofs.RuleWords.{signed_limit}
+use Rattle.rota_items.proofs.TakingWords.{close_row, row_events, start_row, term_events}
+use Rattle.rota_items.proofs.JudgeWords.{RowSums, Tally, Subject, assignment_in, assigned, extended, closed, counts_for, no_sums, tallied}
 use Rattle.rota_items.proofs.Extension.{extension-below}
 use Rattle.rota_items.proofs.PatternItems.{value_of-append}
 use Rattle.rota_items.proofs.SmallSums.{chosen-small, spread}
-use Rattle.rota_items.specs.Limits.{signed_limit}
-use Rattle.rota_items.proofs.TermsHold.{OnTerms, value_of-agree}
+use Rattle.rota_items.proofs.SoundTerms.{OnTerms, value_of-agree}
 
 abbrev chosen : Bool → ℤ → ℤ
 chosen b c = if b then c else pos 0

@@ -1,14 +1,8 @@
 -- Each number up to the number of cells is that of one cell.
-use Rattle.std.proofs.Common.{◌≡◌, ℕ, ◌-◌, ◌<◌, ap, ◌∙◌, arith}
-use Rattle.rota_core.specs.Roster.{InWeek}
-use Rattle.rota_core.specs.RosterTables.{cell_place}
-use Rattle.rota_core.specs.RosterCells.{cell_at}
-use Rattle.rota_core.specs.Week.{Week}
-use Rattle.rota_core.specs.declared.values.Cell.{Cell}
+use Rattle.rota_items.proofs.LogicWords.{◌≡◌, ℕ, ◌-◌, ◌<◌, ap, ◌∙◌, arith}
+use Rattle.rota_items.proofs.ModelWords.{InWeek, cell_place, cell_at, Week, Cell, cell_number, unit_number, cell_of_number}
 use Rattle.rota_core.proofs.CellPlaces.{cell_at-in, cell_at-place, place-cell_at}
 use Rattle.rota_core.proofs.RosterLemmas.{cell_place-lt}
-use Rattle.rota_items.specs.Variables.{cell_number, unit_number}
-use Rattle.rota_items.specs.WeekModel.{cell_of_number}
 
 pub cell_number-below : (week : Week) (one : Cell) → InWeek week one → cell_number week one < unit_number week
 cell_number-below week one inside =

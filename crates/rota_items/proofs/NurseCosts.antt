@@ -1,14 +1,7 @@
 -- What each rule costs at a nurse, of those that charge each nurse.
-use Rattle.std.specs.Prelude.{ℕ}
-use Rattle.rota_core.specs.declared.rule.Rule.{Rule}
-use Rattle.rota_core.specs.declared.rule.Rule.TheVariants.{Unit, H1, H2, H3, H4, H5, S1, S2, S3, S4, S5, S6, S7}
-use Rattle.rota_core.specs.Roster.{Roster}
-use Rattle.rota_core.specs.Week.{Week}
-use Rattle.rota_items.specs.rules.CompleteWeekends.Cost.{complete_weekend_cost_of}
-use Rattle.rota_items.specs.rules.ConsecutiveAssignments.Cost.{consecutive_assignment_cost_of}
-use Rattle.rota_items.specs.rules.ConsecutiveDaysOff.Cost.{consecutive_day_off_cost_of}
-use Rattle.rota_items.specs.rules.TotalAssignments.Cost.{assignment_cost_of}
-use Rattle.rota_items.specs.rules.WorkedWeekends.Cost.{worked_weekend_cost_of}
+use Rattle.rota_items.proofs.LogicWords.{ℕ}
+use Rattle.rota_items.proofs.ModelWords.{Rule, Roster, Week}
+use Rattle.rota_items.proofs.RuleWords.{Unit, H1, H2, H3, H4, H5, S1, S2, S3, S4, S5, S6, S7, complete_weekend_cost_of, consecutive_assignment_cost_of, consecutive_day_off_cost_of, assignment_cost_of, worked_weekend_cost_of}
 
 abbrev pub nurse_cost : Week → Roster → Rule → ℕ → ℕ
 nurse_cost week roster S2 n = consecutive_assignment_cost_of week roster n

@@ -1,16 +1,9 @@
 -- The items of rules that charge each nurse, and items of one slack.
-use Rattle.std.proofs.Common.{◌≡◌, ℕ, zero, suc, List, [], ◌∷◌, ◌++◌, length, refl, arith}
-use Rattle.std.specs.List.{AllByRecursion}
-use Rattle.std.proofs.lemmas.List.Sums.{sum_by-cons}
-use Rattle.rota_core.specs.Lists.{each_below}
-use Rattle.rota_core.specs.Week.{Week}
-use Rattle.rota_core.specs.declared.rule.Rule.{Rule}
-use Rattle.rota_core.specs.declared.rule.Rule.TheVariants.{S1}
-use Rattle.rota_core.specs.declared.values.Cell.{Cell}
-use Rattle.rota_items.specs.ModelWords.{Item}
-use Rattle.rota_items.specs.Charges.{nurse_items, items_of_rule}
-use Rattle.rota_items.specs.RunItems.{Runs, pattern_items, run_items, Pattern, patterns, windows}
-use Rattle.rota_items.specs.WeekModel.{slack_count}
+use Rattle.rota_items.proofs.LogicWords.{◌≡◌, ℕ, zero, suc, List, [], ◌∷◌, length, refl, arith, AllByRecursion, sum_by-cons, each_below}
+use Rattle.rota_items.proofs.ModelWords.{Week, Rule, Cell, Item, nurse_items, items_of_rule, slack_count}
+use Rattle.rota_items.proofs.RunWords.{Runs, run_items}
+use Rattle.rota_items.proofs.RuleWords.{S1}
+use Rattle.rota_items.proofs.EachPattern.{each-run_item}
 
 pub none-each_below : {A : Type 0} (n : ℕ) → [] ≡ each_below n (λ _. let none : List A = [] in none)
 unfolding each_below
@@ -32,11 +25,7 @@ one_slack-each [] all = refl
 one_slack-each (item ∷ items) all =
     omega (arith, sum_by-cons (λ (i : Item Cell). i.slacks) item items, all.0, one_slack-each items all.1)
 
-have_one-patterns : (runs : Runs Cell) (all : List Pattern) → AllByRecursion HasOneSlack (pattern_items runs all)
-have_one-patterns runs [] = tt
-have_one-patterns runs (pattern ∷ rest) = (refl, have_one-patterns runs rest)
-
 pub have_one-runs : (runs : Runs Cell) → AllByRecursion HasOneSlack (run_items runs)
-have_one-runs runs = have_one-patterns runs (windows runs.history runs.limits ++ patterns runs.history runs.limits)
+have_one-runs runs = each-run_item runs HasOneSlack (λ pattern is. refl)
 
 pub ruleset items_of_nurses = (rule_items-are)

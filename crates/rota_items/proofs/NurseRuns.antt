@@ -1,12 +1,10 @@
 -- What the items of a nurse's runs charge on a roster with one cell a day.
 use Rattle.rota_items.proofs.LogicWords.{◌≡◌, ℕ, ◌*◌, ◌<◌, Bool, not, ap, ◌∙◌, list_any}
 use Rattle.rota_items.proofs.ModelWords.{KeepsOneCell, is_off, is_on, works, Roster, Week, Rule, Cell, on_cells, work_cells, weighted_shortages}
-use Rattle.rota_core.specs.declared.values.Span.{Span}
+use Rattle.rota_items.proofs.RunWords.{Span, Property, Present, Absent, Runs, run_items, run_cost}
 use Rattle.rota_items.proofs.CellCounts.{any-on, any-works, any-work_cells}
 use Rattle.rota_items.proofs.RunLaw.{weighted_shortages-run_items}
 use Rattle.rota_items.proofs.SoftRules.NurseProperties.{of_nurse-on, one-at_work}
-use Rattle.rota_items.specs.RunItems.{Property, Present, Absent, Runs, run_items}
-use Rattle.rota_items.specs.Runs.{run_cost}
 
 abbrev runs_with : Rule → ℕ → Property Cell → ℕ → Span → Runs Cell
 runs_with rule weight property history limits =

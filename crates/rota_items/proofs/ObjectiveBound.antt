@@ -1,19 +1,17 @@
 -- How large the objective of any assignment is.
-use Rattle.rota_items.proofs.LogicWords.{◌*◌, ◌≤◌, arith, ℕ, ◌+◌, Bool, List, [], ◌∷◌, ap, sum_by-cons, count_by-le-length, pos, ◌≤ℤ◌, sum_by, count_by, ints}
-use Rattle.rota_items.proofs.ModelWords.{Week, Item, IsWithinLimits, constant, soft_items, cell_number, unit_number, first_slack, value_of, times, slack_variables, slack_weights, numbered, numbered_items, objective_terms, cell_terms, roster_of}
+use Rattle.rota_items.proofs.LogicWords.{◌*◌, ◌≤◌, arith, ℕ, ◌+◌, Bool, List, [], ◌∷◌, ap, sum_by-cons, count_by-le-length, pos, ◌≤ℤ◌, sum_by, count_by, ints, mul-le-mul_left}
+use Rattle.rota_items.proofs.ModelWords.{Week, Item, constant, soft_items, cell_number, unit_number, first_slack, value_of, times, slack_variables, slack_weights, numbered, numbered_items, objective_terms, cell_terms, roster_of}
+use Rattle.rota_items.proofs.RuleWords.{IsWithinLimits, most_objective, most_weight}
 use Rattle.std.proofs.lemmas.List.FromFn.{length-range_with_len as length-range}
-use Rattle.std.proofs.Math.Nat.{mul-le-mul_left}
 use Rattle.rota_items.proofs.Extension.{value_of-objective}
 use Rattle.rota_items.proofs.ItemLaw.{value_of-weight, value_of-numbered}
-use Rattle.rota_items.proofs.ListSums.{sum_by-map}
+use Rattle.rota_items.proofs.Lists.{sum_by-map, where_in}
 use Rattle.rota_items.proofs.PatternItems.{value_of-append}
 use Rattle.rota_items.proofs.PenaltyBound.{constant-few}
 use Rattle.rota_items.proofs.RuleSizes.{request_cost-le}
 use Rattle.rota_items.proofs.SlackBound.{soft_items-le}
 use Rattle.rota_items.proofs.SoftRules.EachRule.{cell_terms-are}
 use Rattle.rota_items.proofs.SoftRules.ShiftOffRequests.{value_of-request_terms}
-use Rattle.rota_items.proofs.SumsBelow.{where_in}
-use Rattle.rota_items.specs.Bounds.{most_objective, most_weight}
 
 -- what all slacks of an item weigh
 abbrev all_slacks : {X : Type 0} → Item X → ℕ

@@ -1,23 +1,8 @@
 -- How a taker takes the objective, term by term.
-use Rattle.std.proofs.Common.{◌≡◌, ℕ, zero, suc, ◌<◌, Bool, true, false, nat_lt, List, [], ◌∷◌, ◌++◌, length, length-append, Result, MatchResult, refl, sym, ap, ◌∙◌, arith}
-use Rattle.std.proofs.lemmas.Bool.{lt-ltb, true≢false}
-use Rattle.std.proofs.lemmas.List.{length-map}
-use Rattle.std.specs.List.{fold}
-use Rattle.std.specs.Prelude.{pos, Ok, Err}
-use Rattle.std.specs.Result.{is_err}
-use Rattle.rota_core.proofs.Loops.{only_if-fails}
-use Rattle.rota_core.specs.Lists.{each_below, only_if}
-use Rattle.rota_core.specs.Week.{Week}
-use Rattle.rota_core.specs.declared.values.Cell.{Cell}
+use Rattle.rota_items.proofs.LogicWords.{◌≡◌, ℕ, zero, suc, ◌<◌, Bool, true, false, nat_lt, List, [], ◌∷◌, ◌++◌, length, length-append, Result, MatchResult, refl, sym, ap, ◌∙◌, arith, lt-ltb, true≢false, length-map, fold, pos, Ok, Err, is_err, only_if-fails, each_below, only_if}
+use Rattle.rota_items.proofs.ModelWords.{Week, Cell, Term, LinearRow, objective_rows}
+use Rattle.rota_items.proofs.TakingWords.{cell_term_events, Event, term, term_events, Took, Objective, Ghosts}
 use Rattle.rota_items.proofs.Taking.{nothing, terms_join}
-use Rattle.rota_items.specs.CellEvents.{cell_term_events}
-use Rattle.rota_items.specs.Events.{Event, term, term_events}
-use Rattle.rota_items.specs.Linear.{Term}
-use Rattle.rota_items.specs.ModelWords.{LinearRow}
-use Rattle.rota_items.specs.Objective.{objective_rows}
-use Rattle.rota_items.specs.Takes.{Took}
-use Rattle.rota_items.specs.declared.part.Part.TheVariants.{Objective}
-use Rattle.rota_items.specs.declared.takers.Taker.{Ghosts}
 
 -- the objective's row with these terms
 abbrev pub row_of : List (Term ℕ) → LinearRow ℕ

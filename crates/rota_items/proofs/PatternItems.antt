@@ -1,18 +1,14 @@
 -- The shortage of a pattern's item is 1 where the days are as the pattern says, and else 0.
 use Rattle.rota_items.proofs.LogicWords.{◌≡◌, ℕ, ◌-◌, ◌*◌, ◌≤◌, Bool, not, cond, true, false, ◌⊎◌, inr, List, [], ◌∷◌, ◌++◌, refl, ap, ◌∙◌, arith, ℤ, pos, negsuc, ◌+ℤ◌, ◌-ℤ◌, list_any, sum_by, count_by, flat_map, AllByRecursion, sum_by-cons, ints}
-use Rattle.rota_items.proofs.ModelWords.{Item, Rule, positive_part, shortage, times, Term, value_of}
+use Rattle.rota_items.proofs.ModelWords.{Item, Rule, shortage, times, Term, value_of}
+use Rattle.rota_items.proofs.RunWords.{Property, Present, Absent, variables_on, is_plain, day_terms, pattern_item, PatternDay, Pattern, has_property}
+use Rattle.rota_items.proofs.SmallSums.{positive_part-parts}
 use Rattle.rota_items.proofs.DayLaw.{matches_day, matches, units_of}
-use Rattle.rota_items.specs.RunItems.{Property, Present, Absent, variables_on, is_plain, day_terms, pattern_item, PatternDay, Pattern}
-use Rattle.rota_items.specs.RunItemParts.{has_property}
 
 pub value_of-append : {X : Type 0} (assignment : X → Bool) (xs ys : List (Term X)) →
     value_of assignment (xs ++ ys) ≡ value_of assignment xs +ℤ value_of assignment ys
 value_of-append assignment [] ys = omega (arith, ints)
 value_of-append assignment (x ∷ xs) ys = omega (arith, ints, value_of-append assignment xs ys)
-
-pub positive_part_is : (z : ℤ) (n k : ℕ) → z +ℤ pos k ≡ pos n → positive_part z ≡ n - k
-positive_part_is (pos a) n k sum = omega (arith, ints)
-positive_part_is (negsuc a) n k sum = omega (arith, ints)
 
 -- whether one of the variables is true, by how many are
 pub any_or_none : {X : Type 0} (assignment : X → Bool) (variables : List X) →
@@ -85,9 +81,13 @@ module _ {X : Type 0} (rule : Rule) (weight : ℕ) (property : Property X) (assi
   pub shortage-pattern_item : shortage assignment item ≡
       cond (matches (has_property property assignment) pattern.days) 1 0
   shortage-pattern_item =
-      positive_part_is (item.degree -ℤ value_of assignment item.terms) 1 (sum_by (miss (has_property property assignment)) pattern.days)
-      (omega (arith, ints, value_of-days property assignment pattern.days one)) ∙
-      misses (has_property property assignment) pattern.days
+      omega (
+        arith,
+        ints,
+        positive_part-parts (item.degree -ℤ value_of assignment item.terms),
+        value_of-days property assignment pattern.days one,
+        misses (has_property property assignment) pattern.days,
+      )
 
   pub weighted-pattern_item : item.weight * shortage assignment item ≡
       weight * units_of (has_property property assignment) pattern

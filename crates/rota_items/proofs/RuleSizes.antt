@@ -1,31 +1,12 @@
 -- How large the numbers of the soft rules are in a week within the limits: their items, their constant and their cost.
-use Rattle.rota_items.proofs.LogicWords.{◌≡◌, ℕ, ◌+◌, ◌-◌, ◌*◌, ◌≤◌, Bool, ◌&&◌, ◌||◌, cond, length, refl, arith, pos, negsuc, ◌-ℤ◌, nat_lt, nat_le, AllByRecursion, count_by-le-length, length-append, ints, AllByRecursion-append, AllByRecursion-each_below, AllByRecursion-only_if, length-only_if, true, false}
-use Rattle.rota_items.proofs.ModelWords.{Roster, Week, Rule, Cell, Item, is_on, is_off, works, nurses_at, cell, nurse_cells, demand_cells, IsWithinLimits, positive_part, constant_of_rule, items_of_rule, rule_cost, soft_items, soft_rules}
-use Rattle.std.proofs.lemmas.List.Sums.{sum_by-le-sum_by}
-use Rattle.rota_core.specs.Below.{sum_below}
-use Rattle.rota_core.specs.Lists.{each_below}
-use Rattle.rota_core.specs.declared.rule.Rule.TheVariants.{S1, S2, S3, S4, S5, S6, S7}
-use Rattle.rota_core.specs.declared.values.Span.{Span}
+use Rattle.rota_items.proofs.LogicWords.{◌≡◌, ℕ, ◌+◌, ◌-◌, ◌*◌, ◌≤◌, Bool, ◌&&◌, ◌||◌, cond, length, refl, arith, pos, negsuc, ◌-ℤ◌, nat_lt, nat_le, AllByRecursion, count_by-le-length, length-append, ints, AllByRecursion-append, AllByRecursion-each_below, AllByRecursion-only_if, length-only_if, true, false, sum_by-le-sum_by, sum_below, each_below}
+use Rattle.rota_items.proofs.ModelWords.{Roster, Week, Rule, Cell, Item, is_on, is_off, works, nurses_at, cell, nurse_cells, demand_cells, constant_of_rule, items_of_rule, rule_cost, soft_items, soft_rules, nurse_constant, nurse_items}
+use Rattle.rota_items.proofs.RunWords.{Span, run_items, ends_run, is_over, missing_on, run_cost, run_length_before, run_over, run_under, week_days}
+use Rattle.rota_items.proofs.RuleWords.{IsWithinLimits, S1, S2, S3, S4, S5, S6, S7, most_cells, most_constant_of_nurse, most_constant_of_rule, most_cost, most_cost_of_nurse, most_items, most_items_of_nurse, charged_excess, excess_before_counts, greatest_totals_count, least_totals_count, most_nurses, most_number, most_shifts, most_skills, complete_weekend_weight, history_on, shift_run_cost, shift_runs, work_runs, off_runs, optimum_item, optimum_items_at, request_cost, request_weight, assignments_of, greatest_total_item, greatest_totals_of, least_total_item, least_totals_of, still_allowed, still_wanted, worked_weekend, worked_weekend_weight}
 use Rattle.rota_items.proofs.ItemSizes.{IsItemSmall, few-run_items, few-weekend, length-demand, length-nurse, length-on, length-work, small-runs, small-weekend, spread-times}
-use Rattle.rota_items.proofs.ListAll.{all-flat_map, all-weaker}
-use Rattle.rota_items.proofs.SmallSums.{positive_part-parts, spread}
-use Rattle.rota_items.proofs.SumsBelow.{length-at_most, sum_below-at_most, where_in}
-use Rattle.rota_items.specs.Bounds.{most_cells, most_constant_of_nurse, most_constant_of_rule, most_cost, most_cost_of_nurse, most_items, most_items_of_nurse, most_weight}
-use Rattle.rota_items.specs.CountedTotals.{charged_excess, excess_before_counts, greatest_totals_count, least_totals_count}
-use Rattle.rota_items.specs.Limits.{most_nurses, most_number, most_shifts, most_skills}
-use Rattle.rota_items.specs.Charges.{nurse_constant, nurse_items}
+use Rattle.rota_items.proofs.Lists.{all-flat_map, all-weaker, length-at_most, sum_below-at_most, where_in}
+use Rattle.rota_items.proofs.SmallSums.{positive_part-parts}
 use Rattle.rota_items.proofs.NurseCosts.{nurse_cost}
-use Rattle.rota_items.specs.RunItems.{run_items}
-use Rattle.rota_items.specs.Runs.{ends_run, is_over, missing_on, run_cost, run_length_before, run_over, run_under, week_days}
-use Rattle.rota_items.specs.rules.CompleteWeekends.Cost.{complete_weekend_weight}
-use Rattle.rota_items.specs.rules.ConsecutiveAssignments.Cost.{history_on, shift_run_cost}
-use Rattle.rota_items.specs.rules.ConsecutiveAssignments.Items.{shift_runs, work_runs}
-use Rattle.rota_items.specs.rules.ConsecutiveDaysOff.Items.{off_runs}
-use Rattle.rota_items.specs.rules.OptimalCoverage.Items.{optimum_item, optimum_items_at}
-use Rattle.rota_items.specs.rules.ShiftOffRequests.Cost.{request_cost, request_weight}
-use Rattle.rota_items.specs.rules.TotalAssignments.Cost.{assignments_of}
-use Rattle.rota_items.specs.rules.TotalAssignments.Items.{greatest_total_item, greatest_totals_of, least_total_item, least_totals_of, still_allowed, still_wanted}
-use Rattle.rota_items.specs.rules.WorkedWeekends.Cost.{worked_weekend, worked_weekend_weight}
 
 -- the rule's items, its part of the constant and its cost are small
 pub record IsRuleSmall (week : Week) (rule : Rule) : Type 0 where
@@ -180,26 +161,23 @@ module _ (week : Week) (limits : IsWithinLimits week) where
 
   -- ---- S6
 
-  small-total : (n : ℕ) (item : Item Cell) → item.weight ≤ most_weight → item.weight * item.slacks ≤ most_weight → item.slacks ≤ 7 →
-      spread item.terms ≤ length (nurse_cells week n) → positive_part item.degree ≤ most_number → IsItemSmall S6 item
-  small-total n item weight all_slacks slacks terms degree = record {
-    weight = weight;
-    slacks = slacks;
-    all_slacks = all_slacks;
-    terms = omega (arith, terms, length-nurse week limits n);
-    degree = degree;
+  small-least : (n : ℕ) → IsItemSmall S6 (least_total_item week n)
+  small-least n = record {
+    weight = omega arith;
+    slacks = omega arith;
+    all_slacks = omega arith;
+    terms = omega (arith, spread-times (pos 1) (nurse_cells week n) (omega arith), length-nurse week limits n);
+    degree = omega arith;
   }
 
-  small-least : (n : ℕ) → IsItemSmall S6 (least_total_item week n)
-  small-least n =
-      small-total n (least_total_item week n) (omega arith) (omega arith) (omega arith)
-      (spread-times (pos 1) (nurse_cells week n) (omega arith)) (omega arith)
-
   small-greatest : (n : ℕ) → IsItemSmall S6 (greatest_total_item week n)
-  small-greatest n =
-      small-total n (greatest_total_item week n) (omega arith) (omega arith) (omega arith)
-      (spread-times (negsuc 0) (nurse_cells week n) (omega arith))
-      (omega (arith, ints, positive_part-parts (pos 0 -ℤ pos (still_allowed week n))))
+  small-greatest n = record {
+    weight = omega arith;
+    slacks = omega arith;
+    all_slacks = omega arith;
+    terms = omega (arith, spread-times (negsuc 0) (nurse_cells week n) (omega arith), length-nurse week limits n);
+    degree = omega (arith, ints, positive_part-parts (pos 0 -ℤ pos (still_allowed week n)));
+  }
 
   total_assignments : IsNurseRuleSmall week S6
   total_assignments = record {

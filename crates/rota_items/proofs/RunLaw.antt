@@ -1,17 +1,12 @@
 -- The items of a property's runs charge the cost of the runs.
-use Rattle.rota_items.proofs.LogicWords.{◌≡◌, ℕ, ◌*◌, ◌<◌, ◌≤◌, Bool, cond, List, [], ◌∷◌, ◌++◌, refl, ap, ◌∙◌, arith, All, count_by, sum_by, AllByRecursion, sum_by-cons, sum_by-append}
-use Rattle.std.proofs.lemmas.List.Elements.{All-map, All-weaker}
+use Rattle.rota_items.proofs.LogicWords.{◌≡◌, ℕ, ◌*◌, ◌<◌, ◌≤◌, Bool, cond, List, [], ◌∷◌, ◌++◌, refl, ap, ◌∙◌, arith, All, count_by, sum_by, AllByRecursion, sum_by-cons, sum_by-append, sum_below, All-from_recursion}
 use Rattle.rota_items.proofs.ModelWords.{Item, shortage, weighted_shortages}
-use Rattle.rota_core.specs.Below.{sum_below}
-use Rattle.rota_core.specs.declared.values.Span.{Span}
+use Rattle.rota_items.proofs.RunWords.{Span, Runs, variables_on, pattern_item, run_items, pattern_items, Pattern, windows_on, patterns_on, windows, patterns, has_property, day_items, AtMostOneADay, DaysFollow, day_cost, week_days, is_over, missing_on, run_over, run_under, run_cost}
 use Rattle.rota_items.proofs.CellCounts.{cond-le}
 use Rattle.rota_items.proofs.DayLaw.{matches, units_of, units, units-windows_on, units-patterns_on}
-use Rattle.rota_items.proofs.EachPattern.{IsRunPattern, each-on, each-pattern, days-follow, on-pattern}
-use Rattle.rota_items.proofs.SumsBelow.{sum_by-each-is}
+use Rattle.rota_items.proofs.EachPattern.{IsRunPattern, each-on, each-pattern, on-pattern, each-run_item}
+use Rattle.rota_items.proofs.Lists.{sum_by-each-is}
 use Rattle.rota_items.proofs.PatternItems.{AtMostOneOn, weighted-pattern_item, shortage-pattern_item}
-use Rattle.rota_items.specs.RunItems.{Runs, variables_on, pattern_item, run_items, pattern_items, Pattern, windows_on, patterns_on, windows, patterns}
-use Rattle.rota_items.specs.RunItemParts.{has_property, day_items, AtMostOneADay, DaysFollow, day_cost}
-use Rattle.rota_items.specs.Runs.{week_days, is_over, missing_on, run_over, run_under, run_cost}
 
 sum_by-week_days : (f : ℕ → ℕ) → sum_below 7 f ≡ sum_by f week_days
 unfolding sum_below
@@ -83,12 +78,10 @@ module _ {X : Type 0} (runs : Runs X) (assignment : X → Bool) (one : AtMostOne
 
   pub shortages-run_items : All (λ item. shortage assignment item ≤ item.slacks) (run_items runs)
   shortages-run_items =
-      let all : List Pattern = windows runs.history runs.limits ++ patterns runs.history runs.limits in
-      All-map (λ (item : Item X). shortage assignment item ≤ item.slacks) item_of_pattern all
-      (All-weaker DaysFollow (λ p. shortage assignment (item_of_pattern p) ≤ 1)
-      (λ p follows.
+      All-from_recursion (λ (item : Item X). shortage assignment item ≤ item.slacks) (run_items runs)
+      (each-run_item runs (λ (item : Item X). shortage assignment item ≤ item.slacks) (λ p is.
       omega (
         arith,
-        shortage-pattern_item runs.rule runs.weight runs.property assignment p (at_most_one p follows),
+        shortage-pattern_item runs.rule runs.weight runs.property assignment p (at_most_one p is.follows),
         cond-le (matches has p.days),
-      )) all (days-follow runs.history runs.limits))
+      )))

@@ -1,22 +1,26 @@
 -- How many slacks the items of a week have, and how many rows its model has.
-use Rattle.rota_items.proofs.LogicWords.{◌≡◌, ℕ, ◌+◌, ◌*◌, ◌<◌, ◌≤◌, List, [], ◌∷◌, length, refl, arith, sum_by, length-append, length-map, All-from_recursion, sum_by-le}
-use Rattle.rota_items.proofs.ModelWords.{Week, Rule, Cell, cell_number, first_slack, rule_rows, Item, numbered, IsWithinLimits, linear_constraint, item_rows, slack_count, soft_rules, items_of_rule, soft_items, hard_rows, numbered_items, numbered_row, rows_of, model_of}
-use Rattle.std.proofs.lemmas.List.Concat.{length-flat_map}
-use Rattle.std.proofs.lemmas.List.Sums.{sum_by-le-sum_by}
-use Rattle.std.proofs.lemmas.Nat.{mul-le}
-use Rattle.std.proofs.Math.Nat.{mul-le-mul}
+use Rattle.rota_items.proofs.LogicWords.{◌≡◌, ℕ, ◌+◌, ◌*◌, ◌<◌, ◌≤◌, List, [], ◌∷◌, length, refl, arith, sum_by, length-append, length-map, All-from_recursion, sum_by-le, length-flat_map, sum_by-le-sum_by, mul-le, mul-le-mul}
+use Rattle.rota_items.proofs.ModelWords.{Week, Rule, Cell, cell_number, first_slack, rule_rows, Item, numbered, linear_constraint, item_rows, slack_count, soft_rules, items_of_rule, soft_items, hard_rows, numbered_items, numbered_row, rows_of, model_of, cell_count}
+use Rattle.rota_items.proofs.RuleWords.{IsWithinLimits, count_limit, most_cells, most_items, most_slacks, most_nurses, word_limit}
 use Rattle.rota_items.proofs.ItemSizes.{IsItemSmall}
-use Rattle.rota_items.proofs.ListAll.{all-weaker}
-use Rattle.rota_items.proofs.ListSums.{sum_by-flat_map}
+use Rattle.rota_items.proofs.Lists.{all-weaker, sum_by-flat_map}
 use Rattle.rota_items.proofs.RowSizes.{rule_rows-few}
 use Rattle.rota_items.proofs.RuleSizes.{small-rule}
-use Rattle.rota_items.specs.Bounds.{count_limit, most_cells, most_items, most_slacks}
-use Rattle.rota_items.specs.Variables.{cell_count}
-use Rattle.rota_items.specs.Limits.{most_nurses, word_limit}
 
 pub length-item_rows : (first : ℕ) (items : List (Item ℕ)) → length (item_rows first items) ≡ length items
 length-item_rows first [] = refl
 length-item_rows first (item ∷ items) = omega (arith, length-item_rows (first + item.slacks) items)
+
+-- the row of the unit variable, those of the hard rules, and one for each item
+pub length-rows_of : (week : Week) → length (rows_of week) ≡ 1 + length (rule_rows week) + length (soft_items week)
+length-rows_of week =
+    omega (
+      arith,
+      length-append (hard_rows week) (item_rows (first_slack week) (numbered_items week)),
+      length-map (rule_rows week) (numbered_row week),
+      length-item_rows (first_slack week) (numbered_items week),
+      length-map (soft_items week) (numbered (cell_number week)),
+    )
 
 module _ (week : Week) (limits : IsWithinLimits week) where
   -- ---- items
@@ -76,16 +80,7 @@ module _ (week : Week) (limits : IsWithinLimits week) where
   -- ---- rows
 
   pub rows-below : length (rows_of week) < count_limit
-  rows-below =
-      omega (
-        arith,
-        length-append (hard_rows week) (item_rows (first_slack week) (numbered_items week)),
-        rule_rows-few week limits,
-        length-map (rule_rows week) (numbered_row week),
-        length-item_rows (first_slack week) (numbered_items week),
-        length-map (soft_items week) (numbered (cell_number week)),
-        items-few,
-      )
+  rows-below = omega (arith, length-rows_of week, rule_rows-few week limits, items-few)
 
   pub constraints-below : length (model_of week).constraints < count_limit
   constraints-below = omega (arith, length-map (rows_of week) linear_constraint, rows-below)

@@ -1,25 +1,9 @@
 -- The terms of an item's slacks, and an item's row.
-use Rattle.std.proofs.Common.{◌≡◌, ℕ, zero, suc, ◌+◌, ◌<◌, List, [], ◌∷◌, ◌++◌, Result, MatchResult, refl, ap, ◌∙◌, arith}
-use Rattle.std.specs.Prelude.{ℤ, pos}
-use Rattle.std.specs.List.{range_with_len}
-use Rattle.std.proofs.lemmas.Int.{to_z-of_z}
-use Rattle.std.proofs.lemmas.List.Sums.{fold-append}
-use Rattle.std.proofs.lemmas.List.FromFn.{map-range_with_len_more}
-use Rattle.rota_core.specs.Week.{Week}
-use Rattle.rota_core.specs.declared.values.Cell.{Cell}
+use Rattle.rota_items.proofs.LogicWords.{◌≡◌, ℕ, zero, suc, ◌+◌, ◌<◌, List, [], ◌∷◌, ◌++◌, Result, MatchResult, refl, ap, ◌∙◌, arith, ℤ, pos, range_with_len, to_z-of_z, fold-append, map-range_with_len_more, each_below}
+use Rattle.rota_items.proofs.ModelWords.{Week, Cell, cell_number, Item, numbered, times, LinearRow, Term, item_row}
+use Rattle.rota_items.proofs.TakingWords.{cell_term_events, start_row, term, close_row, term_events, row_of_item, Took, Refused, Takes, Soft, Ghosts}
 use Rattle.rota_items.proofs.ItemEventLists.{term_events-append}
 use Rattle.rota_items.proofs.Taking.{numbers_join, Took-then, Refused-before, Refused-after, loop_refused, term_refused, refused_at_start, refused_at_terms, closed}
-use Rattle.rota_items.specs.CellEvents.{cell_term_events}
-use Rattle.rota_items.specs.Variables.{cell_number}
-use Rattle.rota_items.specs.Events.{start_row, term, close_row, term_events}
-use Rattle.rota_items.specs.ItemRows.{row_of_item}
-use Rattle.rota_items.specs.ModelWords.{Item, numbered, times, LinearRow}
-use Rattle.rota_items.specs.Linear.{Term}
-use Rattle.rota_core.specs.Lists.{each_below}
-use Rattle.rota_items.specs.WeekModel.{item_row}
-use Rattle.rota_items.specs.Takes.{Took, Refused, Takes}
-use Rattle.rota_items.specs.declared.part.Part.TheVariants.{Soft}
-use Rattle.rota_items.specs.declared.takers.Taker.{Ghosts}
 
 -- one variable, so far from the first
 abbrev slack_term : ℤ → ℕ → ℕ → List (Term ℕ)

@@ -1,7 +1,6 @@
 -- Sums that do not reach the greatest number.
-use Rattle.rota_items.proofs.LogicWords.{◌≡◌, ℕ, ◌+◌, ◌-◌, ◌≤◌, Bool, true, false, List, [], ◌∷◌, arith, ℤ, pos, negsuc, ◌+ℤ◌, nat_abs, if◌then◌else◌, sum_by, ints, sum_by-cons}
+use Rattle.rota_items.proofs.LogicWords.{◌≡◌, ℕ, ◌+◌, ◌-◌, ◌≤◌, Bool, true, false, List, [], ◌∷◌, arith, ℤ, pos, negsuc, ◌+ℤ◌, nat_abs, if◌then◌else◌, sum_by, ints, sum_by-cons, up, down}
 use Rattle.rota_items.proofs.ModelWords.{Item, positive_part, shortage, Term, value_of}
-use borrow.Author.Differences.{up, down}
 
 -- the sum of the coefficients without their signs
 abbrev pub spread : {X : Type 0} → List (Term X) → ℕ

@@ -1,12 +1,128 @@
--- Sums of cells whose terms are within the week, rise, and have coefficients of 1 and -1.
-use Rattle.rota_items.proofs.LogicWords.{ℕ, ◌+◌, ◌<◌, ◌≤◌, List, arith, pos, negsuc, AllByRecursion}
-use Rattle.rota_items.proofs.ModelWords.{InWeek, Week, Cell, on_cells, work_cells, demand_cells, skill_cells, cell_number, unit_number, Term, times}
-use Rattle.rota_core.proofs.RisesWithin.{RisesWithin, length-rising}
-use Rattle.rota_items.proofs.CellsIn.{in-on_cells, in-work_cells, in-demand_cells, in-skill_cells}
-use Rattle.rota_items.proofs.RisingCells.{at, day_start, first_day-from, last_day-le, on-keeps, rises-demand_cells, rises-skill_cells, rises-times, rises-work_cells, within, within-block}
+-- Terms: what holds of their variables and coefficients, and those within the week, rising, of coefficients of 1 and -1.
+use Rattle.rota_items.proofs.LogicWords.{◌≡◌, ℕ, ◌<◌, Bool, cond, List, [], ◌∷◌, refl, ap, ◌∙◌, ℤ, pos, ◌+ℤ◌, All, AllByRecursion, flat_map, All-from_recursion, recursion_from_All, AllByRecursion-append, ◌≤◌, true, false, inl, inr, map, length, arith, negsuc, nat_abs, if◌then◌else◌, sum_by-cons, AllByRecursion-each_below, each_below, ◌+◌}
+use Rattle.rota_items.proofs.ModelWords.{Item, Term, times, value_of, StandBelow, IsUnit, cell, InWeek, Week, on_cells, work_cells, nurse_cells, demand_cells, skill_cells, Cell, cell_number, unit_number}
+use Rattle.rota_items.proofs.RunWords.{Property, Runs, variables_on, day_terms, run_items, PatternDay, is_plain}
+use Rattle.rota_items.proofs.EachPattern.{OnDays, on-pattern, each-run_item}
+use Rattle.rota_items.proofs.Lists.{all-map}
 use Rattle.rota_items.proofs.SmallSums.{spread}
-use Rattle.rota_items.proofs.TermsHold.{OnTerms, on-times}
-use Rattle.rota_items.proofs.UnitTerms.{AreUnits, spread-units, units-times, units-minus}
+use Rattle.rota_core.proofs.RisesWithin.{RisesWithin, length-rising}
+use Rattle.rota_items.proofs.RisingCells.{at, day_start, first_day-from, last_day-le, on-keeps, rises-demand_cells, rises-skill_cells, rises-times, rises-work_cells, within, within-block}
+
+-- ---- what holds of the variables of a property's days holds of its items' variables
+
+abbrev pub OnTerms : {X : Type 0} → (X → Type 0) → List (Term X) → Type 0
+OnTerms {X} P terms = AllByRecursion (λ (term : Term X). P term.1) terms
+
+abbrev pub OnVariables : {X : Type 0} → (X → Type 0) → Property X → ℕ → Type 0
+OnVariables P property d = AllByRecursion P (variables_on property d)
+
+pub on-times : {X : Type 0} (P : X → Type 0) (coefficient : ℤ) (variables : List X) → AllByRecursion P variables →
+    OnTerms P (times coefficient variables)
+on-times P coefficient [] all = tt
+on-times P coefficient (v ∷ vs) all = (all.0, on-times P coefficient vs all.1)
+
+-- two assignments that agree where the terms are
+pub value_of-agree : {X : Type 0} (one other : X → Bool) (P : X → Type 0) (terms : List (Term X)) →
+    ((x : X) → P x → one x ≡ other x) → OnTerms P terms → value_of one terms ≡ value_of other terms
+value_of-agree one other P [] agree all = refl
+value_of-agree one other P (t ∷ ts) agree all =
+    ap (λ b. cond b t.0 (pos 0) +ℤ value_of one ts) (agree t.1 all.0) ∙
+    ap (λ z. cond (other t.1) t.0 (pos 0) +ℤ z) (value_of-agree one other P ts agree all.1)
+
+pub on-days : {X : Type 0} (P : X → Type 0) (property : Property X) (days : List PatternDay) →
+    OnDays (OnVariables P property) days → OnTerms P (flat_map (day_terms property) days)
+on-days P property [] all = tt
+on-days {X} P property (day ∷ days) all =
+    AllByRecursion-append (λ (term : Term X). P term.1) (day_terms property day) (flat_map (day_terms property) days)
+    (on-times P _ (variables_on property day.day) all.0) (on-days P property days all.1)
+
+-- the variables of a property's items are those of its days
+pub run_items-below : (runs : Runs ℕ) (first : ℕ) →
+    ((d : ℕ) → d < 7 → All (λ v. v < first) (variables_on runs.property d)) → StandBelow first (run_items runs)
+run_items-below runs first below =
+    let Below : Item ℕ → Type 0 = λ item. All (λ (term : Term ℕ). term.1 < first) item.terms in
+    All-from_recursion Below (run_items runs) (each-run_item runs Below (λ p is.
+    All-from_recursion (λ (term : Term ℕ). term.1 < first) (flat_map (day_terms runs.property) p.days)
+    (on-days (λ v. v < first) runs.property p.days
+    (on-pattern (OnVariables (λ v. v < first) runs.property) on_day p is.follows))))
+  where
+    on_day : (d : ℕ) → d < 7 → OnVariables (λ v. v < first) runs.property d
+    on_day d d_in = recursion_from_All (λ v. v < first) (variables_on runs.property d) (below d d_in)
+
+-- ---- what holds of the coefficients of terms, and terms whose coefficients are 1 and -1
+
+abbrev pub OnCoefficients : {X : Type 0} → (ℤ → Type 0) → List (Term X) → Type 0
+OnCoefficients {X} P terms = AllByRecursion (λ (term : Term X). P term.0) terms
+
+pub coefficients-times : {X : Type 0} (P : ℤ → Type 0) (coefficient : ℤ) (variables : List X) → P coefficient →
+    OnCoefficients P (times coefficient variables)
+coefficients-times P coefficient [] holds = tt
+coefficients-times P coefficient (v ∷ vs) holds = (holds, coefficients-times P coefficient vs holds)
+
+pub coefficients-numbered : {X : Type 0} (P : ℤ → Type 0) (number : X → ℕ) (terms : List (Term X)) → OnCoefficients P terms →
+    OnCoefficients P (map (λ (term : Term X). (term.0, number term.1)) terms)
+coefficients-numbered {X} P number terms all = all-map (λ (term : Term ℕ). P term.0) (λ (term : Term X). (term.0, number term.1)) terms all
+
+-- ---- coefficients of 1 and -1
+
+abbrev pub AreUnits : {X : Type 0} → List (Term X) → Type 0
+AreUnits terms = OnCoefficients IsUnit terms
+
+pub units-times : {X : Type 0} (variables : List X) → AreUnits (times (pos 1) variables)
+units-times variables = coefficients-times IsUnit (pos 1) variables (inl refl)
+
+pub units-days : {X : Type 0} (property : Property X) (days : List PatternDay) → AreUnits (flat_map (day_terms property) days)
+units-days property [] = tt
+units-days {X} property (day ∷ days) =
+    AllByRecursion-append (λ (term : Term X). IsUnit term.0) (day_terms property day) (flat_map (day_terms property) days)
+    (coefficients-times IsUnit _ (variables_on property day.day) (sign (is_plain property day))) (units-days property days)
+  where
+    sign : (plain : Bool) → IsUnit (if plain then negsuc 0 else pos 1)
+    sign true = inr refl
+    sign false = inl refl
+
+-- they spread no further than there are terms
+pub spread-units : {X : Type 0} (terms : List (Term X)) → AreUnits terms → spread terms ≤ length terms
+spread-units [] all = omega arith
+spread-units {X} (t ∷ ts) all =
+    omega (arith, sum_by-cons (λ (term : Term X). nat_abs term.0) t ts, one t.0 all.0, spread-units ts all.1)
+  where
+    one : (c : ℤ) → IsUnit c → nat_abs c ≤ 1
+    one c (inl plus) = rw plus (omega arith)
+    one c (inr minus) = rw minus (omega arith)
+
+-- ---- the cells of the model's sums lie within the week's numbers
+
+module _ (week : Week) where
+  pub in-cell : (n d s k : ℕ) → n < week.nurses → d < 7 → s < week.shifts → k < week.skills → InWeek week (cell n d s k)
+  in-cell n d s k n_in d_in s_in k_in =
+      record { nurse_in = n_in; day_in = d_in; shift_in = s_in; skill_in = k_in }
+
+  pub in-on_cells : (n s d : ℕ) → n < week.nurses → s < week.shifts → d < 7 → AllByRecursion (InWeek week) (on_cells week n s d)
+  in-on_cells n s d n_in s_in d_in =
+      AllByRecursion-each_below (InWeek week) week.skills (λ k. cell n d s k ∷ []) (λ k k_in.
+      (in-cell n d s k n_in d_in s_in k_in, tt))
+
+  pub in-work_cells : (n d : ℕ) → n < week.nurses → d < 7 → AllByRecursion (InWeek week) (work_cells week n d)
+  in-work_cells n d n_in d_in =
+      AllByRecursion-each_below (InWeek week) week.shifts (λ s. on_cells week n s d) (λ s s_in. in-on_cells n s d n_in s_in d_in)
+
+  pub in-nurse_cells : (n : ℕ) → n < week.nurses → AllByRecursion (InWeek week) (nurse_cells week n)
+  in-nurse_cells n n_in =
+      AllByRecursion-each_below (InWeek week) 7 (λ d. work_cells week n d) (λ d d_in. in-work_cells n d n_in d_in)
+
+  pub in-demand_cells : (d s k : ℕ) → d < 7 → s < week.shifts → k < week.skills → AllByRecursion (InWeek week) (demand_cells week d s k)
+  in-demand_cells d s k d_in s_in k_in =
+      AllByRecursion-each_below (InWeek week) week.nurses (λ n. cell n d s k ∷ []) (λ n n_in.
+      (in-cell n d s k n_in d_in s_in k_in, tt))
+
+  pub in-skill_cells : (n k : ℕ) → n < week.nurses → k < week.skills → AllByRecursion (InWeek week) (skill_cells week n k)
+  in-skill_cells n k n_in k_in =
+      AllByRecursion-each_below (InWeek week) 7 (λ d. each_below week.shifts (λ s. cell n d s k ∷ [])) (λ d d_in.
+      AllByRecursion-each_below (InWeek week) week.shifts (λ s. cell n d s k ∷ []) (λ s s_in.
+      (in-cell n d s k n_in d_in s_in k_in, tt)))
+
+-- ---- sums of cells whose terms are within the week, rise, and have coefficients of 1 and -1
 
 pub record AreSound (week : Week) (terms : List (Term Cell)) : Type 0 where
   pub in_week : OnTerms (InWeek week) terms
@@ -23,17 +139,22 @@ module _ (week : Week) where
         length-rising (at week) 1 (unit_number week) terms sound.rise,
       )
 
-  -- minus the cells of a nurse on these days
+  -- the cells of a nurse on these days, plain or negated
+  pub sound-days : (coefficient : ℤ) → IsUnit coefficient → (n first end : ℕ) (cells : List Cell) → n < week.nurses → end ≤ 7 →
+      AllByRecursion (InWeek week) cells → RisesWithin (cell_number week) (day_start week n first) (day_start week n end) cells →
+      AreSound week (times coefficient cells)
+  sound-days coefficient unit n first end cells n_in up_to inside rises = record {
+    in_week = on-times (InWeek week) coefficient cells inside;
+    rise = within-block week (day_start week n first) (day_start week n end) (times coefficient cells)
+        (first_day-from week n first) (last_day-le week n end n_in up_to)
+        (rises-times week (day_start week n first) (day_start week n end) coefficient cells rises);
+    units = coefficients-times IsUnit coefficient cells unit;
+  }
+
   pub sound-minus : (n first end : ℕ) (cells : List Cell) → n < week.nurses → end ≤ 7 → AllByRecursion (InWeek week) cells →
       RisesWithin (cell_number week) (day_start week n first) (day_start week n end) cells →
       AreSound week (times (negsuc 0) cells)
-  sound-minus n first end cells n_in in_week inside rises = record {
-    in_week = on-times (InWeek week) (negsuc 0) cells inside;
-    rise = within-block week (day_start week n first) (day_start week n end) (times (negsuc 0) cells)
-        (first_day-from week n first) (last_day-le week n end n_in in_week)
-        (rises-times week (day_start week n first) (day_start week n end) (negsuc 0) cells rises);
-    units = units-minus cells;
-  }
+  sound-minus = sound-days (negsuc 0) (inr refl)
 
   pub sound-on : (n s d : ℕ) → n < week.nurses → s < week.shifts → d < 7 → AreSound week (times (negsuc 0) (on_cells week n s d))
   sound-on n s d n_in s_in d_in =

@@ -1,18 +1,12 @@
 -- A variable is in some constraint exactly where it is one of the model's.
-use Rattle.rota_items.proofs.LogicWords.{◌≡◌, ◌↔◌, ℕ, zero, suc, ◌+◌, ◌<◌, ◌≤◌, Bool, true, false, inl, inr, List, [], ◌∷◌, map, sym, ◌∙◌, arith, ℤ, pos, negsuc, ◌==◌, AllByRecursion, AllByRecursion-at, AllByRecursion-back, list_any, range_with_len, recursion_from_All, All-from_recursion, subst, cases_Bool, eqb-true, true≢false, sum_by-cons}
-use Rattle.rota_items.proofs.ModelWords.{cell, Week, Cell, on_cells, work_cells, cell_number, cell_of_number, unit_number, first_slack, rule_rows, Item, Term, Constraint, times, LinearRow, linear_constraint, item_rows, slack_count, slack_variables, soft_items, hard_rows, numbered_row, numbered_terms, numbered_items, rows_of, model_of}
-use Rattle.std.specs.Prelude.{slice_index_or}
-use Rattle.rota_core.specs.Lists.{each_below}
-use Rattle.std.proofs.lemmas.Bool.{cases_lt, eq-eqb}
-use Rattle.std.proofs.lemmas.List.Folds.{Any-from_list_any, list_any_at}
+use Rattle.rota_items.proofs.LogicWords.{◌≡◌, ◌↔◌, ℕ, zero, suc, ◌+◌, ◌<◌, ◌≤◌, Bool, true, false, inl, inr, List, [], ◌∷◌, map, sym, ◌∙◌, arith, ℤ, pos, negsuc, ◌==◌, AllByRecursion, AllByRecursion-at, AllByRecursion-back, list_any, range_with_len, recursion_from_All, All-from_recursion, subst, cases_Bool, eqb-true, true≢false, sum_by-cons, slice_index_or, each_below, cases_lt, eq-eqb, Any-from_list_any, list_any_at}
+use Rattle.rota_items.proofs.ModelWords.{cell, Week, Cell, on_cells, work_cells, cell_number, cell_of_number, unit_number, first_slack, rule_rows, Item, Term, Constraint, times, LinearRow, linear_constraint, item_rows, slack_count, slack_variables, soft_items, hard_rows, numbered_row, numbered_terms, numbered_items, rows_of, model_of, h1_row, h1_rows, stands_in, StandsInSome}
 use Rattle.rota_core.proofs.RisesWithin.{RisesWithin}
 use Rattle.rota_items.proofs.ItemEventLists.{slack_count-numbered}
-use Rattle.rota_items.proofs.ListAll.{all-weaker}
+use Rattle.rota_items.proofs.Lists.{all-weaker, all-back}
 use Rattle.rota_items.proofs.Numbers.{cell_of_number-in, cell_number-of}
 use Rattle.rota_items.proofs.RisingTerms.{RisesTo, variable_of, rises-to_last}
-use Rattle.rota_items.proofs.TermsHold.{OnTerms}
-use Rattle.rota_items.specs.HardRows.{h1_row, h1_rows}
-use Rattle.rota_items.specs.Standing.{stands_in, StandsInSome}
+use Rattle.rota_items.proofs.SoundTerms.{OnTerms}
 
 abbrev pub at_variable : ℕ → Term ℕ → Bool
 at_variable v term = term.1 == v
@@ -26,10 +20,6 @@ none-passes p xs none =
       | inl passes ↦ absurd (true≢false (sym (list_any_at p xs k d below passes) ∙ none))
       | inr fails ↦ fails
     ])
-
-all-back : {X Y : Type 0} (P : Y → Type 0) (f : X → Y) (xs : List X) → AllByRecursion P (map f xs) → AllByRecursion (λ x. P (f x)) xs
-all-back P f [] all = tt
-all-back P f (x ∷ xs) all = (all.0, all-back P f xs all.1)
 
 module _ (v : ℕ) where
   abbrev IsOther : ℕ → Type 0

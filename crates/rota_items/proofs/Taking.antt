@@ -1,25 +1,7 @@
 -- How what a taker took grows, call by call and loop by loop.
-use Rattle.std.proofs.Common.{◌≡◌, ℕ, zero, suc, ◌<◌, Bool, true, false, List, [], ◌∷◌, ◌++◌, map, Result, MatchResult, refl, sym, ap, ◌∙◌, subst, inl, inr, arith, append_assoc}
-use Rattle.std.proofs.lemmas.List.{append-nil, map-append}
-use Rattle.std.proofs.lemmas.List.Concat.{flat_map-append}
-use Rattle.std.proofs.lemmas.List.Sums.{fold-append}
-use Rattle.std.proofs.lemmas.Result.{MatchResult-from_err, MatchResult-weaker}
-use Rattle.std.specs.List.{fold}
-use Rattle.std.specs.Prelude.{ℤ}
-use Rattle.std.specs.Result.{IsErr}
-use Rattle.rota_core.specs.Week.{Week}
-use Rattle.rota_core.specs.declared.values.Cell.{Cell}
-use Rattle.rota_core.proofs.Loops.{each_below-zero, each_below-more, last_or_before, only_if-holds, only_if-fails}
-use Rattle.rota_items.specs.CellEvents.{cell_term_events, cell_row_events, coefficient_of, sum_events}
-use Rattle.rota_items.specs.Variables.{cell_number}
-use Rattle.rota_items.specs.Events.{start_row, term, close_row, row_events, term_events, events}
-use Rattle.rota_items.specs.Linear.{Term}
-use Rattle.rota_items.specs.ModelWords.{times, LinearRow}
-use Rattle.rota_core.specs.Lists.{each_below, only_if}
-use Rattle.rota_items.specs.Takes.{TookAll, RefusedOne, TakesAll, Took, Refused, Takes}
-use Rattle.rota_items.specs.WeekModel.{numbered_row, numbered_terms}
-use Rattle.rota_items.specs.declared.sums.Sign.{Sign}
-use Rattle.rota_items.specs.declared.takers.Taker.{Ghosts}
+use Rattle.rota_items.proofs.LogicWords.{◌≡◌, ℕ, zero, suc, ◌<◌, Bool, true, false, List, [], ◌∷◌, ◌++◌, map, Result, MatchResult, refl, sym, ap, ◌∙◌, subst, inl, inr, arith, append_assoc, append-nil, map-append, flat_map-append, fold-append, MatchResult-from_err, MatchResult-weaker, fold, ℤ, IsErr, each_below-zero, each_below-more, last_or_before, only_if-holds, only_if-fails, each_below, only_if}
+use Rattle.rota_items.proofs.ModelWords.{Week, Cell, cell_number, Term, times, LinearRow, numbered_row, numbered_terms}
+use Rattle.rota_items.proofs.TakingWords.{cell_term_events, cell_row_events, coefficient_of, sum_events, start_row, term, close_row, row_events, term_events, events, TookAll, RefusedOne, TakesAll, Took, Refused, Takes, Sign, Ghosts}
 
 -- what holds of a loop's turns before one, with it, and of each longer list, holds of all the turns
 pub in_turn : {A : Type 0} (P : List A → Type 0) → ((xs ys : List A) → P xs → P (xs ++ ys)) → (i n : ℕ) (f : ℕ → List A) →
@@ -90,10 +72,6 @@ pub ruleset taking = (each_below-zero, each_below-more, rows-none, rows-append, 
 events-one : (row : LinearRow ℕ) → events (row ∷ []) ≡ row_events row
 unfolding events
 events-one row = append-nil (row_events row)
-
-cell_row_events-one : (week : Week) (row : LinearRow Cell) → cell_row_events week (row ∷ []) ≡ row_events (numbered_row week row)
-unfolding cell_row_events events
-cell_row_events-one week row = append-nil (row_events (numbered_row week row))
 
 -- ---- a taker of anything: one list, then another
 
@@ -250,18 +228,17 @@ module _ {S F : Type 0} (T : Ghosts S F) where
   module _ (week : Week) (row : LinearRow Cell) where
     pub cell_row_refused_at_start : (s t : S) → T.left (T.value s) (start_row row.part) t →
         Refused T (cell_row_events week (row ∷ [])) s t
-    cell_row_refused_at_start s t h = rw (cell_row_events-one week row) (refused_at_start (numbered_row week row) s t h)
+    unfolding cell_row_events
+    cell_row_refused_at_start = row_refused_at_start (numbered_row week row)
 
     pub cell_row_refused_at_terms : (s t u : S) → T.value t ≡ T.step (T.value s) (start_row row.part) →
         Refused T (cell_term_events week row.terms) t u → Refused T (cell_row_events week (row ∷ [])) s u
-    unfolding cell_term_events
-    cell_row_refused_at_terms s t u started refused =
-        rw (cell_row_events-one week row) (refused_at_terms (numbered_row week row) s t u started refused)
+    unfolding cell_row_events cell_term_events
+    cell_row_refused_at_terms = row_refused_at_terms (numbered_row week row)
 
     pub cell_row_closed : (s t u v : S) (r : Result (Unit {0}) F) → T.value t ≡ T.step (T.value s) (start_row row.part) →
         Took T (cell_term_events week row.terms) t u →
         MatchResult r (λ _. T.value v ≡ T.step (T.value u) (close_row row.degree)) (λ _. T.left (T.value u) (close_row row.degree) v) →
         Takes T (cell_row_events week (row ∷ [])) s v r
-    unfolding cell_term_events
-    cell_row_closed s t u v r started taken closes =
-        rw (cell_row_events-one week row) (closed (numbered_row week row) s t u v r started taken closes)
+    unfolding cell_row_events cell_term_events
+    cell_row_closed = row_closed (numbered_row week row)

@@ -1,13 +1,7 @@
 -- How what a taker took grows in a loop over a list, and in one over held cells.
-use Rattle.std.proofs.Common.{◌≡◌, ℕ, suc, ◌+◌, ◌<◌, List, [], ◌∷◌, ◌++◌, map, get_or, take, drop, length, refl, ap, ◌∙◌, subst, arith}
-use Rattle.std.proofs.Math.Seq.{take-suc}
-use Rattle.std.proofs.lemmas.List.{append-nil, map-append, take-append-drop}
-use Rattle.std.proofs.lemmas.List.Concat.{flat_map-append}
-use Rattle.std.specs.List.{flat_map}
-use Rattle.rota_core.specs.Week.{Week}
-use Rattle.rota_items.specs.CellEvents.{cell_row_events}
-use Rattle.rota_items.specs.Takes.{TookAll, RefusedOne}
-use Rattle.rota_items.specs.HardRows.{h5_row}
+use Rattle.rota_items.proofs.LogicWords.{◌≡◌, ℕ, suc, ◌+◌, ◌<◌, List, [], ◌∷◌, ◌++◌, map, get_or, take, drop, length, refl, ap, ◌∙◌, subst, arith, take-suc, append-nil, map-append, take-append-drop, flat_map-append, flat_map}
+use Rattle.rota_items.proofs.ModelWords.{Week, h5_row}
+use Rattle.rota_items.proofs.TakingWords.{cell_row_events, TookAll, RefusedOne}
 use Rattle.rota_items.proofs.Taking.{Joins, go_on, rows_join, stop}
 
 -- the lists of the elements before one, of it, and of those after it

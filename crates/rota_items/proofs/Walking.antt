@@ -1,16 +1,8 @@
 -- How a walk over items goes on, item by item and loop by loop.
-use Rattle.std.proofs.Common.{◌≡◌, List, [], ◌∷◌, ◌++◌, Result, MatchResult, refl}
-use Rattle.std.proofs.lemmas.List.{map-append}
-use Rattle.std.proofs.lemmas.List.Sums.{fold-append}
-use Rattle.std.proofs.lemmas.Result.{MatchResult-weaker}
-use Rattle.rota_core.proofs.Loops.{each_below-zero, each_below-more}
-use Rattle.rota_core.specs.Week.{Week}
-use Rattle.rota_core.specs.declared.values.Cell.{Cell}
+use Rattle.rota_items.proofs.LogicWords.{◌≡◌, List, [], ◌∷◌, ◌++◌, Result, MatchResult, refl, map-append, fold-append, MatchResult-weaker, each_below-zero, each_below-more}
+use Rattle.rota_items.proofs.ModelWords.{Week, Cell, cell_number, Item, numbered}
+use Rattle.rota_items.proofs.TakingWords.{TakesItems, numbered_list}
 use Rattle.rota_items.proofs.Taking.{Joins, Took-one, Refused-one}
-use Rattle.rota_items.specs.Variables.{cell_number}
-use Rattle.rota_items.specs.ModelWords.{Item, numbered}
-use Rattle.rota_items.specs.ItemTakes.{TakesItems}
-use Rattle.rota_items.specs.ItemTaking.{numbered_list}
 use Rattle.rota_items.specs.declared.items.item_takers.ItemTaker.{Ghosts}
 
 pub items_join : (week : Week) → Joins (numbered_list week)

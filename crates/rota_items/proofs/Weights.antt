@@ -1,14 +1,14 @@
 -- The coefficients of the objective are positive and small.
 use Rattle.rota_items.proofs.LogicWords.{◌≡◌, ℕ, ◌+◌, ◌<◌, Bool, true, false, cond, List, [], ◌∷◌, map, arith, ℤ, pos, ◌+ℤ◌, ◌≤ℤ◌, ◌<ℤ◌, nat_lt, All, AllByRecursion, ints, All-from_recursion, AllByRecursion-append, AllByRecursion-only_if}
-use Rattle.rota_items.proofs.ModelWords.{Week, Cell, cell_number, first_slack, Item, numbered, IsWithinLimits, Term, times, value_of, objective_value, constant_terms, slack_variables, slack_weights, cell_terms, constant, soft_items, numbered_terms, numbered_items, objective_terms, model_of}
-use Rattle.rota_items.proofs.ListAll.{all-weaker}
+use Rattle.rota_items.proofs.ModelWords.{Week, Cell, cell_number, first_slack, Item, numbered, Term, times, value_of, objective_value, constant_terms, slack_variables, slack_weights, cell_terms, constant, soft_items, numbered_terms, numbered_items, objective_terms, model_of}
+use Rattle.rota_items.proofs.RuleWords.{IsWithinLimits, most_coefficient}
+use Rattle.rota_items.proofs.Lists.{all-weaker}
 use Rattle.rota_items.proofs.PenaltyBound.{constant-few}
 use Rattle.rota_items.proofs.RuleSizes.{each-small}
 use Rattle.rota_items.proofs.SoftRules.AllItems.{sound-cell_terms}
 use Rattle.rota_items.proofs.SoftRules.EachRule.{each-item}
 use Rattle.rota_items.proofs.SoftRules.ShiftOffRequests.{IsTermSound}
-use Rattle.rota_items.proofs.UnitTerms.{OnCoefficients, on-times, on-numbered}
-use Rattle.rota_items.specs.Bounds.{most_coefficient}
+use Rattle.rota_items.proofs.SoundTerms.{OnCoefficients, coefficients-times, coefficients-numbered}
 
 some_of_test : (n : ℕ) → nat_lt 0 n ≡ true → 0 < n
 some_of_test n test = grind arith
@@ -24,7 +24,7 @@ module _ (week : Week) (P : ℤ → Type 0) where
       AllByRecursion-append (λ (term : Term ℕ). P term.0)
       (times (pos item.weight) (slack_variables (numbered (cell_number week) item) first))
       (slack_weights (first + item.slacks) (map (numbered (cell_number week)) items))
-      (on-times P (pos item.weight) (slack_variables (numbered (cell_number week) item) first) all.0)
+      (coefficients-times P (pos item.weight) (slack_variables (numbered (cell_number week) item) first) all.0)
       (on-slack_weights (first + item.slacks) items all.1)
 
   -- P holds of each coefficient of the objective
@@ -32,7 +32,7 @@ module _ (week : Week) (P : ℤ → Type 0) where
       AllByRecursion OnWeight (soft_items week) → OnCoefficients P (objective_terms week)
   on-objective of_term of_constant of_items =
       AllByRecursion-append (λ (term : Term ℕ). P term.0) (numbered_terms week (cell_terms week)) _
-      (on-numbered P (cell_number week) (cell_terms week) (all-weaker (IsTermSound week) (λ (term : Term Cell). P term.0) of_term (cell_terms week) (sound-cell_terms week)))
+      (coefficients-numbered P (cell_number week) (cell_terms week) (all-weaker (IsTermSound week) (λ (term : Term Cell). P term.0) of_term (cell_terms week) (sound-cell_terms week)))
       (AllByRecursion-append (λ (term : Term ℕ). P term.0) (constant_terms week)
       (slack_weights (first_slack week) (numbered_items week))
       (AllByRecursion-only_if (λ (term : Term ℕ). P term.0) _ _ (λ test. of_constant (some_of_test (constant week) test)))

@@ -50,7 +50,7 @@ fn give_rule<T: Taker>(instance: &Instance, taker: &mut T, rule: Rule) -> Result
 }
 
 // Hands the taker the rows of the hard rules.
-#[tactic(auto, using(crate::proofs::Taking::taking, crate::proofs::ListTotals::listing))]
+#[tactic(auto, using(crate::proofs::Taking::taking, crate::proofs::Lists::listing))]
 fn give_rules<T: Taker>(instance: &Instance, taker: &mut T) -> Result<(), T::Fault>
     ensures { let week = week_of instance.now in
         Takes T.Taker (cell_row_events week (rule_rows week)) taker.old taker.new result }

@@ -82,7 +82,7 @@ fn walk_rule<T: RunTaker>(instance: &Instance, taker: &mut T, rule: Rule) -> Res
 }
 
 /// The items of all soft rules, in the order of the rules.
-#[tactic(auto, using(crate::proofs::Walking::walking, crate::proofs::ListTotals::listing))]
+#[tactic(auto, using(crate::proofs::Walking::walking, crate::proofs::Lists::listing))]
 pub fn walk_soft_items<T: RunTaker>(instance: &Instance, taker: &mut T) -> Result<(), T::Fault>
     ensures { let week = week_of instance.now in
         TakesItems T.ItemTaker week (soft_items week) taker.old taker.new result }
@@ -110,7 +110,7 @@ fn give_cell_terms_of_rule<T: Taker>(
 }
 
 /// Hands the taker the terms that the soft rules have at cells.
-#[tactic(auto, using(crate::proofs::Taking::taking, crate::proofs::ListTotals::listing))]
+#[tactic(auto, using(crate::proofs::Taking::taking, crate::proofs::Lists::listing))]
 pub fn give_cell_terms<T: Taker>(instance: &Instance, taker: &mut T) -> Result<(), T::Fault>
     ensures { let week = week_of instance.now in
         Takes T.Taker (cell_term_events week (cell_terms week)) taker.old taker.new result }
@@ -135,7 +135,7 @@ fn nurse_constant(instance: &Instance, rule: Rule, nurse: u16) -> u64
 }
 
 /// What no roster of the week can avoid of a rule: the sum of the nurses' parts.
-#[tactic(auto, using(crate::proofs::ListLengths::counting))]
+#[tactic(auto, using(crate::proofs::Lists::counting))]
 pub fn constant_of_rule(instance: &Instance, rule: Rule) -> u64
     ensures sum { result ≡ constant_of_rule (week_of instance.now) rule }
     ensures limits { IsInstance instance.now }

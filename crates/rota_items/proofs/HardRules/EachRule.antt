@@ -1,7 +1,7 @@
 -- What is shown of each hard rule holds of all their rows.
 use Rattle.rota_items.proofs.LogicWords.{List, [], ◌∷◌, AllByRecursion, flat_map}
 use Rattle.rota_items.proofs.ModelWords.{KeepsHardRules, Roster, hard_rules, Week, Rule, Cell, rows_of_hard_rule, rule_rows, LinearRow}
-use Rattle.rota_core.specs.declared.rule.Rule.TheVariants.{H1, H2, H3, H4, H5}
+use Rattle.rota_items.proofs.RuleWords.{H1, H2, H3, H4, H5}
 use Rattle.rota_items.proofs.HardRules.Held.{held}
 use Rattle.rota_items.proofs.HardRules.Minimum.{minimum}
 use Rattle.rota_items.proofs.HardRules.OneCell.{one_cell}
@@ -9,7 +9,7 @@ use Rattle.rota_items.proofs.HardRules.RowsAre.{Are, in-parts, listed}
 use Rattle.rota_items.proofs.HardRules.Skills.{skills}
 use Rattle.rota_items.proofs.HardRules.Sound.{AllHold, Holds, IsHardRuleSound, IsRowSound, Keeps}
 use Rattle.rota_items.proofs.HardRules.Succession.{succession}
-use Rattle.rota_items.proofs.ListAll.{all-weaker}
+use Rattle.rota_items.proofs.Lists.{all-weaker}
 
 -- the only place that lists them
 pub each-rule : (week : Week) → AllByRecursion (IsHardRuleSound week) hard_rules

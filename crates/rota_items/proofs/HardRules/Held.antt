@@ -1,10 +1,8 @@
 -- H5: each held cell is in the roster.
 use Rattle.rota_items.proofs.LogicWords.{◌≡◌, ◌↔◌, Bool, true, false, cond, inl, refl, arith, pos, ◌+ℤ◌, ◌≤ℤ◌, ints}
-use Rattle.rota_items.proofs.ModelWords.{Has, Week, Cell}
-use Rattle.rota_core.specs.RosterCells.{cells_of}
-use Rattle.rota_core.specs.declared.rule.Rule.TheVariants.{H5}
+use Rattle.rota_items.proofs.ModelWords.{Has, Week, Cell, cells_of, h5_row, h5_rows}
+use Rattle.rota_items.proofs.RuleWords.{H5}
 use Rattle.rota_core.proofs.CellLists.{all-cells_of, at-cells_of}
-use Rattle.rota_items.specs.HardRows.{h5_row, h5_rows}
 use Rattle.rota_items.proofs.HardRules.RowsAre.{Are, of-each}
 use Rattle.rota_items.proofs.HardRules.Sound.{Holds, IsHardRuleSound, IsRowSound}
 use Rattle.rota_items.proofs.Numbers.{cell_number-below}

@@ -1,12 +1,11 @@
 -- H2: the least number of nurses, where one is asked for.
 use Rattle.rota_items.proofs.LogicWords.{◌≡◌, ℕ, ◌<◌, ◌≤◌, ◌↔◌, true, inl, inr, refl, arith, nat_lt, cases_Bool, ltb-false, ints}
-use Rattle.rota_items.proofs.ModelWords.{nurses_at, Roster, cell, Week, Cell, demand_cells, LinearRow}
-use Rattle.rota_core.specs.declared.rule.Rule.TheVariants.{H2}
-use Rattle.rota_items.specs.HardRows.{h2_row, h2_rows}
+use Rattle.rota_items.proofs.ModelWords.{nurses_at, Roster, cell, Week, Cell, demand_cells, LinearRow, h2_row, h2_rows}
+use Rattle.rota_items.proofs.RuleWords.{H2}
 use Rattle.rota_items.proofs.HardRules.RowsAre.{Are, in-turns, where-holds}
 use Rattle.rota_items.proofs.HardRules.Sound.{Holds, IsHardRuleSound, IsRowSound}
 use Rattle.rota_items.proofs.SoundTerms.{sound-demand}
-use Rattle.rota_items.proofs.SumsBelow.{count_by-each}
+use Rattle.rota_items.proofs.Lists.{count_by-each}
 use Rattle.rota_items.proofs.Values.{value_of-plus}
 
 module _ (week : Week) where

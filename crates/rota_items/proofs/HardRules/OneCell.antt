@@ -1,8 +1,7 @@
 -- H1: at most one cell of a nurse's day.
 use Rattle.rota_items.proofs.LogicWords.{◌≡◌, ℕ, ◌<◌, ◌≤◌, ◌↔◌, refl, ap, ◌∙◌, arith, ints}
-use Rattle.rota_items.proofs.ModelWords.{Roster, cell, Week, Cell, work_cells, LinearRow}
-use Rattle.rota_core.specs.declared.rule.Rule.TheVariants.{H1}
-use Rattle.rota_items.specs.HardRows.{h1_row, h1_rows}
+use Rattle.rota_items.proofs.ModelWords.{Roster, cell, Week, Cell, work_cells, LinearRow, h1_row, h1_rows}
+use Rattle.rota_items.proofs.RuleWords.{H1}
 use Rattle.rota_items.proofs.CellCounts.{work_count, count-work_cells, work_count-le, same_cells}
 use Rattle.rota_items.proofs.HardRules.RowsAre.{Are, alone, in-turns}
 use Rattle.rota_items.proofs.HardRules.Sound.{Holds, IsHardRuleSound, IsRowSound}

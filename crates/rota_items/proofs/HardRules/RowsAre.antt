@@ -1,7 +1,6 @@
 -- What lists made by loops are: what holds of each of their elements, said turn by turn.
-use Rattle.rota_items.proofs.LogicWords.{◌≡◌, ℕ, ◌<◌, Bool, true, List, [], ◌∷◌, ◌++◌, map, AllByRecursion, AllByRecursion-append, AllByRecursion-at, AllByRecursion-back, AllByRecursion-each_below, AllByRecursion-only_if, holds-where}
-use Rattle.rota_core.specs.Lists.{each_below, only_if}
-use Rattle.rota_items.proofs.ListAll.{all-map}
+use Rattle.rota_items.proofs.LogicWords.{◌≡◌, ℕ, ◌<◌, Bool, true, List, [], ◌∷◌, ◌++◌, map, AllByRecursion, AllByRecursion-append, AllByRecursion-at, AllByRecursion-back, AllByRecursion-each_below, AllByRecursion-only_if, holds-where, each_below, only_if}
+use Rattle.rota_items.proofs.Lists.{all-map, all-back}
 
 -- what holds of each element of a family holds of the list, and back
 pub record Are {A : Type 0} (xs : List A) (Each : (A → Type 0) → Type 0) : Type 1 where
@@ -40,9 +39,5 @@ module _ {A : Type 0} where
       Are (map f xs) (λ P. Each (λ x. P (f x)))
   of-each {B} {f} {xs} elements = record {
     all = λ P each. all-map P f xs (elements.all (λ x. P (f x)) each);
-    each = λ P all. elements.each (λ x. P (f x)) (before-map P xs all);
+    each = λ P all. elements.each (λ x. P (f x)) (all-back P f xs all);
   }
-    where
-      before-map : (P : A → Type 0) (xs : List B) → AllByRecursion P (map f xs) → AllByRecursion (λ x. P (f x)) xs
-      before-map P [] all = tt
-      before-map P (x ∷ xs) all = (all.0, before-map P xs all.1)

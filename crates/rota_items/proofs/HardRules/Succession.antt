@@ -1,16 +1,14 @@
 -- H3: no shift type after one that it may not follow.
-use Rattle.rota_items.proofs.LogicWords.{◌≡◌, ℕ, ◌+◌, ◌<◌, ◌≤◌, ◌↔◌, ◌++◌, true, false, cond, ◌⊎◌, inl, inr, refl, ap, sym, ◌∙◌, arith, Option, Some, None, cases_Bool, true≢false, ints, sum_by-append, AllByRecursion-append}
-use Rattle.rota_items.proofs.ModelWords.{KeepsOneCell, KeepsSuccession, is_on, InWeek, Roster, Week, Cell, cell_number, on_cells, LinearRow}
-use Rattle.rota_core.specs.declared.rule.Rule.TheVariants.{H3}
+use Rattle.rota_items.proofs.LogicWords.{◌≡◌, ℕ, ◌+◌, ◌<◌, ◌≤◌, ◌↔◌, ◌++◌, true, false, cond, ◌⊎◌, inl, inr, refl, ap, ◌∙◌, arith, Option, Some, None, cases_Bool, ints, sum_by-append, AllByRecursion-append, sym, true≢false}
+use Rattle.rota_items.proofs.ModelWords.{KeepsOneCell, KeepsSuccession, is_on, InWeek, Roster, Week, Cell, cell_number, on_cells, LinearRow, h3_monday_row, h3_row, h3_rows, is_forbidden_after}
+use Rattle.rota_items.proofs.RuleWords.{H3}
 use Rattle.rota_core.proofs.RisesWithin.{rises-append}
-use Rattle.rota_items.specs.HardRows.{h3_monday_row, h3_row, h3_rows, is_forbidden_after}
 use Rattle.rota_items.proofs.CellCounts.{on_count, count-on_cells, on_count-le, any-on_cells}
-use Rattle.rota_items.proofs.CellsIn.{in-on_cells}
+use Rattle.rota_items.proofs.SoundTerms.{in-on_cells, AreSound, sound-minus, sound-on}
 use Rattle.rota_items.proofs.HardRules.RowsAre.{Are, in-parts, in-turns, where-holds}
 use Rattle.rota_items.proofs.HardRules.Sound.{Holds, IsHardRuleSound, IsRowSound}
 use Rattle.rota_items.proofs.PatternItems.{any_or_none}
 use Rattle.rota_items.proofs.RisingCells.{day_start, on-keeps}
-use Rattle.rota_items.proofs.SoundTerms.{AreSound, sound-minus, sound-on}
 use Rattle.rota_items.proofs.Values.{value_of-minus}
 
 module _ (week : Week) where
@@ -53,11 +51,7 @@ module _ (week : Week) where
         ]
 
     on-count : (n s d : ℕ) → is_on week roster n s d ≡ true → 1 ≤ on_count week roster n s d
-    on-count n s d on =
-        elim (on-by_count n s d) [
-          | inl present ↦ present.1
-          | inr absent ↦ absurd (true≢false (sym on ∙ absent.0))
-        ]
+    on-count n s d on = grind (arith, on-by_count n s d)
 
     monday-means : (n t : ℕ) → Holds roster (h3_monday_row week n t) ↔ (on_count week roster n t 0 ≡ 0)
     monday-means n t =
@@ -92,15 +86,14 @@ module _ (week : Week) where
         Holds roster (h3_row week n d s t)
     row-holds one kept n d s t n_in d_in s_in t_in forbidden =
         (means n d s t).1
-        (elim (on-by_count n s d) [
-          | inl first ↦
-              elim (on-by_count n t (d + 1)) [
-                | inl second ↦
-                    absurd (true≢false (sym forbidden ∙ kept.in_week n d s t n_in d_in s_in t_in first.0 second.0))
-                | inr second ↦ omega (arith, second.1, on_count-le week roster one n d n_in (omega arith) s s_in)
-              ]
-          | inr first ↦ omega (arith, first.1, on_count-le week roster one n (d + 1) n_in (omega arith) t t_in)
-        ])
+        (grind (
+          arith,
+          on-by_count n s d,
+          on-by_count n t (d + 1),
+          kept.in_week n d s t n_in d_in s_in t_in,
+          on_count-le week roster one n d n_in (omega arith) s s_in,
+          on_count-le week roster one n (d + 1) n_in (omega arith) t t_in,
+        ))
 
     rows-mean : OnRows (Holds roster) → KeepsSuccession week roster
     rows-mean each = record {

@@ -1,11 +1,12 @@
 -- What all items of the soft rules have: projections of what is shown of each rule.
 use Rattle.rota_items.proofs.LogicWords.{◌≡◌, ◌≤◌, true, ap, ◌∙◌, subst, sym, AllByRecursion}
-use Rattle.rota_items.proofs.ModelWords.{KeepsCompetitionRules, Roster, InWeek, Week, Cell, Item, shortage, Term, cell_terms, is_soft, soft_items}
-use Rattle.rota_items.proofs.ListAll.{all-weaker}
+use Rattle.rota_items.proofs.ModelWords.{KeepsCompetitionRules, Roster, InWeek, Week, Cell, Item, shortage, Term, cell_terms, soft_items}
+use Rattle.rota_items.proofs.JudgeWords.{is_soft}
+use Rattle.rota_items.proofs.Lists.{all-weaker}
 use Rattle.rota_items.proofs.RisingCells.{within}
 use Rattle.rota_items.proofs.SoftRules.EachRule.{cell_terms-are, each-item}
 use Rattle.rota_items.proofs.SoftRules.ShiftOffRequests.{IsTermSound, rise-request_terms, sound-request_terms}
-use Rattle.rota_items.proofs.TermsHold.{OnTerms}
+use Rattle.rota_items.proofs.SoundTerms.{OnTerms}
 
 abbrev pub ItemIn : Week → Item Cell → Type 0
 ItemIn week item = OnTerms (InWeek week) item.terms

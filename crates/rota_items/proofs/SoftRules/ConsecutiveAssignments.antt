@@ -1,16 +1,13 @@
 -- The items of the runs on shift types and of working days charge the cost of those runs.
-use Rattle.rota_items.proofs.LogicWords.{◌≡◌, ℕ, List, arith, refl, pos, ints, sum_by-append, AllByRecursion-append, AllByRecursion-each_below}
+use Rattle.rota_items.proofs.LogicWords.{◌≡◌, ℕ, List, arith, refl, pos, ints, sum_by-append, AllByRecursion-append, AllByRecursion-each_below, each_below}
 use Rattle.rota_items.proofs.ModelWords.{KeepsOneCell, is_on, works, Roster, Week, Cell, Item, charged, rule_cost}
-use Rattle.rota_core.specs.Lists.{each_below}
-use Rattle.rota_core.specs.declared.rule.Rule.TheVariants.{S2}
+use Rattle.rota_items.proofs.RunWords.{run_items}
+use Rattle.rota_items.proofs.RuleWords.{S2, history_on, shift_run_cost, shift_run_weight, work_run_weight, shift_runs, work_runs}
 use Rattle.rota_items.proofs.AlikeRosters.{on-alike, run_cost-alike, works-alike}
 use Rattle.rota_items.proofs.NurseRuns.{weighted-on_runs, weighted-work_runs}
 use Rattle.rota_items.proofs.SoftRules.NurseProperties.{of_nurse-on, of_nurse-work, sound-run_items}
 use Rattle.rota_items.proofs.SoftRules.Sound.{IsItemSound, IsNurseRuleSound, charges-nurses, weighted}
-use Rattle.rota_items.proofs.SumsBelow.{sum_by-each-times, sum_below-same}
-use Rattle.rota_items.specs.RunItems.{run_items}
-use Rattle.rota_items.specs.rules.ConsecutiveAssignments.Cost.{history_on, shift_run_cost, shift_run_weight, work_run_weight}
-use Rattle.rota_items.specs.rules.ConsecutiveAssignments.Items.{shift_runs, work_runs}
+use Rattle.rota_items.proofs.Lists.{sum_by-each-times, sum_below-same}
 
 module _ (week : Week) where
   abbrev shift_items : ℕ → List (Item Cell)

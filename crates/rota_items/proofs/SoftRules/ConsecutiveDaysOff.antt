@@ -1,13 +1,11 @@
 -- The items of the runs of days off charge the cost of those runs.
 use Rattle.rota_items.proofs.LogicWords.{◌≡◌, ◌*◌, arith, ap, not, pos, ints}
 use Rattle.rota_items.proofs.ModelWords.{KeepsOneCell, is_off, Roster, Week, charged, rule_cost}
-use Rattle.rota_core.specs.declared.rule.Rule.TheVariants.{S3}
+use Rattle.rota_items.proofs.RuleWords.{S3, off_run_weight, off_runs}
 use Rattle.rota_items.proofs.AlikeRosters.{run_cost-alike, works-alike}
 use Rattle.rota_items.proofs.NurseRuns.{weighted-off_runs}
 use Rattle.rota_items.proofs.SoftRules.NurseProperties.{of_nurse-work, sound-run_items}
 use Rattle.rota_items.proofs.SoftRules.Sound.{IsNurseRuleSound, charges-nurses}
-use Rattle.rota_items.specs.rules.ConsecutiveDaysOff.Cost.{off_run_weight}
-use Rattle.rota_items.specs.rules.ConsecutiveDaysOff.Items.{off_runs}
 
 pub sound-consecutive_days_off : (week : Week) → IsNurseRuleSound week S3
 sound-consecutive_days_off week = record {

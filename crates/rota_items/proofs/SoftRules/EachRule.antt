@@ -1,15 +1,10 @@
 -- What is shown of each soft rule holds of all items.
-use Rattle.rota_items.proofs.LogicWords.{◌≡◌, ◌+◌, true, List, [], ◌∷◌, refl, sym, ◌∙◌, arith, pos, ◌+ℤ◌, AllByRecursion, flat_map, sum_by, ints, sum_by-append, sum_by-cons, AllByRecursion-append, AllByRecursion-each_below}
-use Rattle.rota_items.proofs.ModelWords.{KeepsCompetitionRules, Roster, Week, Rule, Cell, Item, weighted_shortages, value_of, soft_rules, cell_terms, cell_terms_of_rule, constant, constant_of_rule, is_soft, items_of_rule, penalty, rule_cost, soft_items}
-use Rattle.std.specs.List.{list_all}
-use Rattle.std.proofs.lemmas.Bool.{and_parts}
-use Rattle.std.proofs.lemmas.List.{append-nil}
-use Rattle.rota_core.specs.Below.{sum_below}
-use Rattle.rota_core.specs.Lists.{each_below}
-use Rattle.rota_core.specs.declared.rule.Rule.TheVariants.{S1, S2, S3, S4, S5, S6, S7}
+use Rattle.rota_items.proofs.LogicWords.{◌≡◌, ◌+◌, true, List, [], ◌∷◌, refl, sym, ◌∙◌, arith, pos, ◌+ℤ◌, AllByRecursion, flat_map, sum_by, ints, sum_by-append, sum_by-cons, AllByRecursion-append, AllByRecursion-each_below, list_all, and_parts, append-nil, sum_below, each_below}
+use Rattle.rota_items.proofs.ModelWords.{KeepsCompetitionRules, Roster, Week, Rule, Cell, Item, weighted_shortages, value_of, soft_rules, cell_terms, cell_terms_of_rule, constant, constant_of_rule, items_of_rule, penalty, rule_cost, soft_items, nurse_items}
+use Rattle.rota_items.proofs.RuleWords.{S1, S2, S3, S4, S5, S6, S7, request_terms}
+use Rattle.rota_items.proofs.JudgeWords.{is_soft}
 use Rattle.rota_items.proofs.AlikeRosters.{AreAlike}
-use Rattle.rota_items.proofs.ListAll.{all-weaker}
-use Rattle.rota_items.proofs.ListSums.{sum_by-each-same}
+use Rattle.rota_items.proofs.Lists.{all-weaker, sum_by-each-same, sum_below-same, sum_below-zero}
 use Rattle.rota_items.proofs.PatternItems.{value_of-append}
 use Rattle.rota_items.proofs.SoftRules.CompleteWeekends.{sound-complete_weekends}
 use Rattle.rota_items.proofs.SoftRules.ConsecutiveAssignments.{sound-consecutive_assignments}
@@ -19,10 +14,7 @@ use Rattle.rota_items.proofs.SoftRules.ShiftOffRequests.{sound-shift_off_request
 use Rattle.rota_items.proofs.SoftRules.Sound.{IsItemSound, IsNurseRuleSound, IsSoftRuleSound, charges-nurses, weighted}
 use Rattle.rota_items.proofs.SoftRules.TotalAssignments.{sound-total_assignments}
 use Rattle.rota_items.proofs.SoftRules.WorkedWeekends.{sound-worked_weekends}
-use Rattle.rota_items.proofs.SumsBelow.{sum_below-same, sum_below-zero}
-use Rattle.rota_items.specs.Charges.{nurse_items}
 use Rattle.rota_items.proofs.NurseCosts.{nurse_cost}
-use Rattle.rota_items.specs.rules.ShiftOffRequests.Terms.{request_terms}
 
 module _ (week : Week) where
   -- ---- rule by rule

@@ -1,20 +1,15 @@
 -- The items of patterns of a nurse's days are sound.
-use Rattle.rota_items.proofs.LogicWords.{ℕ, ◌+◌, ◌<◌, ◌≤◌, List, ◌++◌, refl, arith, count_by, AllByRecursion}
-use Rattle.rota_items.proofs.ModelWords.{KeepsOneCell, Roster, InWeek, Week, Rule, Cell, cell_number, on_cells, work_cells, Item}
-use Rattle.std.proofs.lemmas.Nat.{mul-le}
+use Rattle.rota_items.proofs.LogicWords.{ℕ, ◌+◌, ◌<◌, ◌≤◌, List, refl, arith, count_by, AllByRecursion, mul-le}
+use Rattle.rota_items.proofs.ModelWords.{KeepsOneCell, Roster, InWeek, Week, Rule, Cell, cell_number, on_cells, work_cells}
+use Rattle.rota_items.proofs.RunWords.{AtMostOneADay, DaysFollow, has_property, Property, Present, Runs, pattern_item, run_items, variables_on, Pattern}
 use Rattle.rota_core.proofs.RisesWithin.{RisesWithin}
 use Rattle.rota_items.proofs.CellCounts.{cond-le, count-on_cells, count-work_cells, on_count-le, work_count-le}
-use Rattle.rota_items.proofs.CellsIn.{in-on_cells, in-work_cells}
+use Rattle.rota_items.proofs.SoundTerms.{in-on_cells, in-work_cells, OnVariables, on-days, units-days}
 use Rattle.rota_items.proofs.DayLaw.{matches}
-use Rattle.rota_items.proofs.EachPattern.{IsRunPattern, each-pattern, on-pattern}
-use Rattle.rota_items.proofs.ListAll.{all-map, all-weaker}
+use Rattle.rota_items.proofs.EachPattern.{on-pattern, each-run_item}
 use Rattle.rota_items.proofs.PatternItems.{shortage-pattern_item}
 use Rattle.rota_items.proofs.RisingCells.{day_start, on-keeps, rises-pattern, rises-work_cells}
 use Rattle.rota_items.proofs.SoftRules.Sound.{IsItemSound}
-use Rattle.rota_items.proofs.TermsHold.{OnVariables, on-days}
-use Rattle.rota_items.proofs.UnitTerms.{units-days}
-use Rattle.rota_items.specs.RunItemParts.{AtMostOneADay, DaysFollow, has_property}
-use Rattle.rota_items.specs.RunItems.{Property, Present, Runs, pattern_item, run_items, variables_on, Pattern, windows, patterns}
 
 -- the cells are those of a nurse's days, at most one a day true on a roster
 pub record IsOfNurse (week : Week) (n : ℕ) (cells : ℕ → List Cell) : Type 0 where
@@ -70,10 +65,5 @@ module _ (week : Week) (n : ℕ) (runs : Runs Cell) where
   pub sound-run_items : IsOfNurse week n (variables_on runs.property) → 1 ≤ runs.weight →
       AllByRecursion (IsItemSound week runs.rule) (run_items runs)
   sound-run_items is weighs =
-      let item : Pattern → Item Cell = pattern_item runs.rule runs.weight runs.property in
-      let all : List Pattern = windows runs.history runs.limits ++ patterns runs.history runs.limits in
-      all-map (IsItemSound week runs.rule) item all
-      (all-weaker (IsRunPattern runs.limits) (λ pattern. IsItemSound week runs.rule (item pattern))
-      (λ pattern found.
+      each-run_item runs (IsItemSound week runs.rule) (λ pattern found.
       sound-pattern week runs.rule runs.weight n runs.property is pattern found.follows weighs found.some)
-      all (each-pattern runs.history runs.limits))

@@ -1,20 +1,15 @@
 -- The terms on cells charge the request rows that are not granted.
-use Rattle.rota_items.proofs.LogicWords.{◌≡◌, ℕ, zero, suc, ◌+◌, ◌*◌, ◌<◌, ◌≤◌, Bool, true, false, cond, List, [], refl, ap, ◌∙◌, arith, pos, ◌+ℤ◌, ◌<ℤ◌, ◌≤ℤ◌, nat_lt, AllByRecursion, ltb-false, ltb-true, ints, AllByRecursion-each_below, AllByRecursion-only_if}
-use Rattle.rota_items.proofs.ModelWords.{Roster, InWeek, cell, Week, Cell, IsWithinLimits, Term, value_of, items_of_rule}
+use Rattle.rota_items.proofs.LogicWords.{◌≡◌, ℕ, zero, suc, ◌+◌, ◌*◌, ◌<◌, ◌≤◌, Bool, true, false, cond, List, [], refl, ap, ◌∙◌, arith, pos, ◌+ℤ◌, ◌<ℤ◌, ◌≤ℤ◌, nat_lt, AllByRecursion, ltb-false, ltb-true, ints, AllByRecursion-each_below, AllByRecursion-only_if, sum_below, each_below, only_if}
+use Rattle.rota_items.proofs.ModelWords.{Roster, InWeek, cell, Week, Cell, Term, value_of, items_of_rule}
+use Rattle.rota_items.proofs.RuleWords.{IsWithinLimits, S4, most_weight, request_cost, request_weight, request_terms, request_terms_on}
 use Rattle.rota_core.proofs.RisesWithin.{RisesWithin, weaken, widen, rises-each, rises-only_if}
-use Rattle.rota_core.specs.Below.{sum_below}
-use Rattle.rota_core.specs.Lists.{each_below, only_if}
-use Rattle.rota_core.specs.declared.rule.Rule.TheVariants.{S4}
 use Rattle.rota_items.proofs.AlikeRosters.{same_cell}
-use Rattle.rota_items.proofs.CellsIn.{in_week}
+use Rattle.rota_items.proofs.SoundTerms.{in-cell}
 use Rattle.rota_items.proofs.NurseItemLists.{none-each_below}
 use Rattle.rota_items.proofs.PatternItems.{value_of-append}
 use Rattle.rota_items.proofs.RisingCells.{at, day_start, shift_start, within, within-block}
 use Rattle.rota_items.proofs.SoftRules.Sound.{IsSoftRuleSound, no_constant}
-use Rattle.rota_items.proofs.SumsBelow.{sum_below-same}
-use Rattle.rota_items.specs.Bounds.{most_weight}
-use Rattle.rota_items.specs.rules.ShiftOffRequests.Cost.{request_cost, request_weight}
-use Rattle.rota_items.specs.rules.ShiftOffRequests.Terms.{request_terms, request_terms_on}
+use Rattle.rota_items.proofs.Lists.{sum_below-same}
 
 -- ---- the cost
 
@@ -78,7 +73,7 @@ module _ (week : Week) where
       AllByRecursion-each_below IsTermSound week.skills _ (λ k k_in.
       AllByRecursion-only_if IsTermSound _ _ (λ test.
       let some : 0 < week.requests n d s = ltb-true 0 (week.requests n d s) test in record {
-        cell_in = in_week week n d s k n_in d_in s_in k_in;
+        cell_in = in-cell week n d s k n_in d_in s_in k_in;
         positive = omega (arith, ints, some);
         small = λ limits. omega (arith, ints, limits.requests n d s);
       })))))

@@ -1,21 +1,14 @@
 -- The items of the totals and their part of the constant charge the assignments outside the limits.
-use Rattle.rota_items.proofs.LogicWords.{◌≡◌, ℕ, ◌+◌, ◌-◌, ◌*◌, ◌<◌, ◌≤◌, Bool, ◌&&◌, true, cond, refl, ap, ◌∙◌, arith, min, ℤ, pos, negsuc, ◌-ℤ◌, nat_lt, count_by, ltb-true, sum_by-append, AllByRecursion-append, AllByRecursion-only_if}
-use Rattle.rota_items.proofs.ModelWords.{KeepsCompetitionRules, KeepsOneCell, Roster, InWeek, Week, nurse_cells, work_cells, positive_part, shortage, times, value_of}
-use Rattle.std.proofs.lemmas.Bool.{and_parts}
-use Rattle.rota_core.specs.declared.rule.Rule.TheVariants.{S6}
+use Rattle.rota_items.proofs.LogicWords.{◌≡◌, ℕ, ◌+◌, ◌-◌, ◌*◌, ◌<◌, ◌≤◌, Bool, ◌&&◌, true, cond, refl, ap, ◌∙◌, arith, min, ℤ, pos, negsuc, ◌-ℤ◌, nat_lt, count_by, ltb-true, sum_by-append, AllByRecursion-append, AllByRecursion-only_if, and_parts, inl, inr}
+use Rattle.rota_items.proofs.ModelWords.{KeepsCompetitionRules, KeepsOneCell, Roster, Week, nurse_cells, work_cells, positive_part, shortage, times, value_of, IsUnit}
+use Rattle.rota_items.proofs.RuleWords.{S6, charged_excess, excess_before_counts, greatest_totals_count, least_totals_count, assignment_weight, assignments_of, greatest_total_item, greatest_totals_of, least_total_item, least_totals_of, still_allowed, still_wanted}
 use Rattle.rota_items.proofs.AlikeRosters.{count_below-alike, same_cell}
 use Rattle.rota_items.proofs.CellCounts.{work_count, work_count-le, count-work_cells}
-use Rattle.rota_items.proofs.CellsIn.{in-nurse_cells}
-use Rattle.rota_items.proofs.ListSums.{sum_by-only_if}
-use Rattle.rota_items.proofs.RisingCells.{day_start, first_day-from, last_day-le, rises-nurse_cells, rises-times, within-block}
+use Rattle.rota_items.proofs.SoundTerms.{in-nurse_cells, sound-days}
+use Rattle.rota_items.proofs.Lists.{sum_by-only_if, sum_by-each-is, sum_below-within, sum_below-same}
+use Rattle.rota_items.proofs.RisingCells.{rises-nurse_cells}
 use Rattle.rota_items.proofs.SoftRules.Sound.{IsItemSound, IsNurseRuleSound, weighted}
-use Rattle.rota_items.proofs.SumsBelow.{sum_by-each-is, sum_below-within, sum_below-same}
-use Rattle.rota_items.proofs.TermsHold.{on-times}
-use Rattle.rota_items.proofs.UnitTerms.{AreUnits, units-times, units-minus}
 use Rattle.rota_items.proofs.Values.{lacking, exceeding}
-use Rattle.rota_items.specs.CountedTotals.{charged_excess, excess_before_counts, greatest_totals_count, least_totals_count}
-use Rattle.rota_items.specs.rules.TotalAssignments.Cost.{assignment_weight, assignments_of}
-use Rattle.rota_items.specs.rules.TotalAssignments.Items.{greatest_total_item, greatest_totals_of, least_total_item, least_totals_of, still_allowed, still_wanted}
 
 -- what item and constant charge of the assignments below the least total, and of those above the greatest
 least_charged : (count : Bool) (least before now lacks : ℕ) → now ≤ 7 → lacks ≡ min (least - before) 7 - now →
@@ -63,8 +56,7 @@ module _ (week : Week) where
   -- ---- the items
 
   module _ (n : ℕ) (n_in : n < week.nurses) where
-    sound-total : (coefficient degree : ℤ) (slacks : ℕ) → AreUnits (times coefficient (nurse_cells week n)) →
-        1 ≤ slacks →
+    sound-total : (coefficient degree : ℤ) (slacks : ℕ) → IsUnit coefficient → 1 ≤ slacks →
         ((roster : Roster) → KeepsCompetitionRules week roster →
         positive_part (degree -ℤ value_of roster (times coefficient (nurse_cells week n))) ≤ slacks) →
         IsItemSound week S6 (record {
@@ -74,15 +66,10 @@ module _ (week : Week) where
           terms = times coefficient (nurse_cells week n);
           degree = degree;
         })
-    sound-total coefficient degree slacks units some enough = record {
+    sound-total coefficient degree slacks unit some enough = record {
       rule_is = refl;
-      terms = record {
-        in_week = on-times (InWeek week) coefficient (nurse_cells week n) (in-nurse_cells week n n_in);
-        rise = within-block week (day_start week n 0) (day_start week n 7) (times coefficient (nurse_cells week n))
-            (first_day-from week n 0) (last_day-le week n 7 n_in (omega arith))
-            (rises-times week (day_start week n 0) (day_start week n 7) coefficient (nurse_cells week n) (rises-nurse_cells week n));
-        units = units;
-      };
+      terms = sound-days week coefficient unit n 0 7 (nurse_cells week n) n_in (omega arith) (in-nurse_cells week n n_in)
+          (rises-nurse_cells week n);
       weighs = omega arith;
       has_slack = some;
       enough = enough;
@@ -90,14 +77,14 @@ module _ (week : Week) where
 
     sound-least : is_wanted n ≡ true → IsItemSound week S6 (least_total_item week n)
     sound-least test =
-        sound-total (pos 1) (pos (min (still_wanted week n) 7)) (min (still_wanted week n) 7) (units-times (nurse_cells week n))
+        sound-total (pos 1) (pos (min (still_wanted week n) 7)) (min (still_wanted week n) 7) (inl refl)
         (omega (arith, ltb-true 0 (still_wanted week n) (and_parts (least_totals_count week) _ test).1))
         (λ roster _. omega (arith, shortage-least roster n))
 
     sound-greatest : is_limited n ≡ true → IsItemSound week S6 (greatest_total_item week n)
     sound-greatest test =
         let room = still_allowed week n in
-        sound-total (negsuc 0) (pos 0 -ℤ pos room) (7 - room) (units-minus (nurse_cells week n))
+        sound-total (negsuc 0) (pos 0 -ℤ pos room) (7 - room) (inr refl)
         (omega (arith, ltb-true room 7 (and_parts (greatest_totals_count week) _ test).1))
         (λ roster keeps. omega (arith, shortage-greatest roster n, assignments-le roster n keeps.one_cell n_in))
 

@@ -1,14 +1,13 @@
 -- The items of a nurse's weekend.
 use Rattle.rota_items.proofs.LogicWords.{◌≡◌, ℕ, ◌+◌, ◌*◌, ◌<◌, ◌≤◌, Bool, true, false, cond, List, [], ◌∷◌, length, map, refl, ap, ◌∙◌, arith, if◌then◌else◌, AllByRecursion, range_with_len, sum_by-cons, count_by}
 use Rattle.rota_items.proofs.ModelWords.{KeepsOneCell, works, Roster, Week, Rule, Cell, work_cells, Item, weighted_shortages}
+use Rattle.rota_items.proofs.RunWords.{Present, pattern_item, variables_on, Pattern, PatternDay, with_property, without_property, saturday, weekend_items, DaysFollow}
 use Rattle.rota_items.proofs.CellCounts.{any-works}
 use Rattle.rota_items.proofs.DayLaw.{matches}
 use Rattle.rota_items.proofs.EachPattern.{on-pattern}
 use Rattle.rota_items.proofs.PatternItems.{weighted-pattern_item}
 use Rattle.rota_items.proofs.SoftRules.NurseProperties.{of_nurse-work, one-at_work, sound-pattern}
 use Rattle.rota_items.proofs.SoftRules.Sound.{IsItemSound, weighted}
-use Rattle.rota_items.specs.RunItems.{Present, pattern_item, variables_on, Pattern, PatternDay, with_property, without_property, saturday, weekend_items}
-use Rattle.rota_items.specs.RunItemParts.{DaysFollow}
 
 abbrev weekend_pattern : List PatternDay → Pattern
 weekend_pattern days = record { days = days; units = 1 }

@@ -1,12 +1,10 @@
 -- The items of worked weekends and their part of the constant charge the weekends above the greatest number.
 use Rattle.rota_items.proofs.LogicWords.{ℕ, Bool, false, refl, arith, ◌&&◌, nat_le}
 use Rattle.rota_items.proofs.ModelWords.{Week}
-use Rattle.rota_core.specs.declared.rule.Rule.TheVariants.{S7}
+use Rattle.rota_items.proofs.RuleWords.{S7, greatest_totals_count, worked_weekend_weight}
 use Rattle.rota_items.proofs.AlikeRosters.{works-alike}
 use Rattle.rota_items.proofs.SoftRules.Sound.{IsNurseRuleSound}
 use Rattle.rota_items.proofs.SoftRules.WeekendItems.{sound-items_where, weighted-items_where}
-use Rattle.rota_items.specs.CountedTotals.{greatest_totals_count}
-use Rattle.rota_items.specs.rules.WorkedWeekends.Cost.{worked_weekend_weight}
 
 pub sound-worked_weekends : (week : Week) → IsNurseRuleSound week S7
 sound-worked_weekends week =

@@ -45,7 +45,7 @@ pub fn give_h4<T: Taker>(instance: &Instance, taker: &mut T) -> Result<(), T::Fa
 }
 
 /// The number of rows of H4.
-#[tactic(auto, using(crate::proofs::ListLengths::counting), unfolding(rota_core::specs::Lists::only_if))]
+#[tactic(auto, using(crate::proofs::Lists::counting), unfolding(rota_core::specs::Lists::only_if))]
 pub fn count_h4(instance: &Instance) -> u32
     ensures { result ≡ length (h4_rows (week_of instance.now)) }
 {

@@ -136,7 +136,7 @@ pub fn give_h3<T: Taker>(instance: &Instance, taker: &mut T) -> Result<(), T::Fa
 }
 
 // The number of forbidden successions, from any day to the next.
-#[tactic(auto, using(crate::proofs::ListLengths::counting), unfolding(rota_core::specs::Lists::only_if))]
+#[tactic(auto, using(crate::proofs::Lists::counting), unfolding(rota_core::specs::Lists::only_if))]
 fn count_successions(instance: &Instance) -> u32
     ensures { (n d : ℕ) → result ≡ length (h3_rows_between (week_of instance.now) n d) }
 {
@@ -150,7 +150,7 @@ fn count_successions(instance: &Instance) -> u32
 }
 
 // The number of shift types that the nurse may not have on Monday.
-#[tactic(auto, using(crate::proofs::ListLengths::counting), unfolding(rota_core::specs::Lists::only_if))]
+#[tactic(auto, using(crate::proofs::Lists::counting), unfolding(rota_core::specs::Lists::only_if))]
 fn count_h3_monday(instance: &Instance, nurse: u16) -> u32
     requires { nurse < (week_of instance.now).nurses }
     ensures { result ≡ length (h3_monday_rows (week_of instance.now) nurse) }
@@ -163,7 +163,7 @@ fn count_h3_monday(instance: &Instance, nurse: u16) -> u32
 }
 
 /// The number of rows of H3.
-#[tactic(auto, using(crate::proofs::ListLengths::counting))]
+#[tactic(auto, using(crate::proofs::Lists::counting))]
 pub fn count_h3(instance: &Instance) -> u32
     requires limits { IsInstance instance.now }
     ensures { result ≡ length (h3_rows (week_of instance.now)) }

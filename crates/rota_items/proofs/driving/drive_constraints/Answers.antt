@@ -1,4 +1,4 @@
-use Rattle.rota_items.proofs.Taking.{events_join, exits, goes_on, stop}
+use Rattle.rota_items.proofs.Common.{events_join, exits, goes_on, stop}
 use Rattle.rota_items.proofs.driving.drive_constraints.Goals as goal
 
 pub returns-in_err-give_hard_rows : goal.returns-in_err-give_hard_rows

@@ -1,13 +1,6 @@
-use Rattle.rota_items.proofs.Common.{◌≡◌, ℕ, ◌≤◌, length, arith, week_of}
-use Rattle.rota_core.specs.Rules.{hard_rules}
-use Rattle.rota_core.specs.Week.{Week}
-use Rattle.rota_core.specs.declared.rule.Rule.{Rule}
-use Rattle.rota_items.proofs.InstanceLimits.{instance-within_limits}
-use Rattle.rota_items.proofs.ListTotals.{lengths-more}
+use Rattle.rota_items.proofs.Common.{◌≡◌, ℕ, ◌≤◌, length, arith, Week, Rule, instance-within_limits, most_cells, rows_of_hard_rule, IsWithinLimits, hard_rules, week_of}
+use Rattle.rota_items.proofs.Lists.{lengths-more}
 use Rattle.rota_items.proofs.RowSizes.{rows-few}
-use Rattle.rota_items.specs.Bounds.{most_cells}
-use Rattle.rota_items.specs.HardRows.{rows_of_hard_rule}
-use Rattle.rota_items.specs.Limits.{IsWithinLimits}
 use Rattle.rota_items.proofs.hard.count_rule_rows.Goals as goal
 
 few_of : (week : Week) → IsWithinLimits week → (rule : Rule) (rows : ℕ) → rows ≡ length (rows_of_hard_rule week rule) → rows ≤ most_cells

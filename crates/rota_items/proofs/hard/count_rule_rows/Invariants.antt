@@ -1,6 +1,4 @@
-use Rattle.rota_items.proofs.Common.{◌≡◌, ◌*◌, ◌≤◌, length, take, flat_map, week_of}
-use Rattle.rota_items.specs.Bounds.{most_cells}
-use Rattle.rota_items.specs.HardRows.{rows_of_hard_rule}
+use Rattle.rota_items.proofs.Common.{◌≡◌, ◌*◌, ◌≤◌, length, take, flat_map, week_of, most_cells, rows_of_hard_rule}
 use Rattle.rota_items.proofs.hard.count_rule_rows.Given as goal
 
 abbrev pub invariant-loop-rule : goal.invariant-loop-rule

@@ -1,6 +1,4 @@
-use Rattle.rota_items.proofs.Common.{[], ◌∷◌}
-use Rattle.rota_items.specs.CellEvents.{cell_row_events}
-use Rattle.rota_items.proofs.Taking.{events_join, exits, goes_on, stop}
+use Rattle.rota_items.proofs.Common.{[], ◌∷◌, cell_row_events, events_join, exits, goes_on, stop}
 use Rattle.rota_items.proofs.hard.give_hard_rows.Goals as goal
 
 pub returns-in_err-give_unit : goal.returns-in_err-give_unit

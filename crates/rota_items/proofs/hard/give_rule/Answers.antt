@@ -1,6 +1,4 @@
-use Rattle.rota_items.proofs.Common.{rules, ◌≡◌, [], week_of}
-use Rattle.rota_items.specs.HardRows.{rows_of_hard_rule}
-use Rattle.rota_items.proofs.Taking.{nothing, rows_join}
+use Rattle.rota_items.proofs.Common.{rules, ◌≡◌, [], week_of, rows_of_hard_rule, nothing, rows_join}
 use Rattle.rota_items.proofs.hard.give_rule.Goals as goal
 
 pub returns-in_default : goal.returns-in_default

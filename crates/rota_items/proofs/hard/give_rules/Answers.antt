@@ -1,8 +1,4 @@
-use Rattle.rota_items.proofs.Common.{arith, week_of}
-use Rattle.rota_core.specs.Rules.{hard_rules}
-use Rattle.rota_items.specs.HardRows.{rows_of_hard_rule}
-use Rattle.rota_items.proofs.Taking.{exits, rows_join}
-use Rattle.rota_items.proofs.TakingLists.{list_refused}
+use Rattle.rota_items.proofs.Common.{arith, week_of, hard_rules, rows_of_hard_rule, exits, rows_join, list_refused}
 use Rattle.rota_items.proofs.hard.give_rules.Goals as goal
 
 pub returns-in_err-give_rule : goal.returns-in_err-give_rule

@@ -1,5 +1,4 @@
-use Rattle.rota_items.proofs.Common.{take, flat_map, week_of, cell_row_events, Took}
-use Rattle.rota_items.specs.HardRows.{rows_of_hard_rule}
+use Rattle.rota_items.proofs.Common.{take, flat_map, week_of, cell_row_events, Took, rows_of_hard_rule}
 use Rattle.rota_items.proofs.hard.give_rules.Given as goal
 
 abbrev pub invariant-loop-rule : goal.invariant-loop-rule

@@ -1,4 +1,4 @@
-use Rattle.rota_items.proofs.Taking.{exits, row_refused_at_start, row_refused_at_terms, row_closed, term_taken, term_refused}
+use Rattle.rota_items.proofs.Common.{exits, row_refused_at_start, row_refused_at_terms, row_closed, term_taken, term_refused}
 use Rattle.rota_items.proofs.hard.give_unit.Goals as goal
 
 pub returns-in_err-start_row : goal.returns-in_err-start_row

@@ -1,6 +1,5 @@
-use Rattle.rota_items.proofs.Common.{◌∙◌, sym}
+use Rattle.rota_items.proofs.Common.{◌∙◌, sym, events_join, exits, nothing, row_refused_at_start, row_refused_at_terms, row_closed}
 use Rattle.rota_items.proofs.ObjectiveTaking.{no_row, one_row}
-use Rattle.rota_items.proofs.Taking.{events_join, exits, nothing, row_refused_at_start, row_refused_at_terms, row_closed}
 use Rattle.rota_items.proofs.objective.drive_objective.Goals as goal
 
 pub returns-then-not-has_term : goal.returns-then-not-has_term

@@ -1,11 +1,5 @@
-use Rattle.std.proofs.lemmas.Int.{to_z_pos}
-use Rattle.rota_core.proofs.Loops.{only_if-fails, only_if-holds}
-use Rattle.rota_items.proofs.Common.{◌≡◌, ◌<◌, pos, nat_lt, true, false, ap, ◌∙◌, w64, arith, week_of}
-use Rattle.rota_items.proofs.InstanceLimits.{instance-within_limits}
+use Rattle.rota_items.proofs.Common.{to_z_pos, only_if-fails, only_if-holds, ◌≡◌, ◌<◌, pos, nat_lt, true, false, ap, ◌∙◌, w64, arith, week_of, instance-within_limits, nothing, numbers_join, term_takes, constant, signed_limit}
 use Rattle.rota_items.proofs.PenaltyBound.{constant-few}
-use Rattle.rota_items.proofs.Taking.{nothing, numbers_join, term_takes}
-use Rattle.rota_items.specs.Charges.{constant}
-use Rattle.rota_items.specs.Limits.{signed_limit}
 use Rattle.rota_items.proofs.objective.give_constant.Goals as goal
 
 pub returns-then-constant-eq0 : goal.returns-then-constant-eq0

@@ -1,5 +1,4 @@
-use Rattle.rota_items.specs.CellEvents.{cell_term_events}
-use Rattle.rota_items.proofs.Taking.{exits, go_on, goes_on, numbers_join, stop}
+use Rattle.rota_items.proofs.Common.{cell_term_events, exits, go_on, goes_on, numbers_join, stop}
 use Rattle.rota_items.proofs.objective.give_terms.Goals as goal
 
 pub returns-in_err-give_cell_terms : goal.returns-in_err-give_cell_terms

@@ -1,7 +1,5 @@
-use Rattle.std.proofs.lemmas.Result.{MatchResult-weaker}
-use Rattle.rota_items.proofs.Common.{week_of}
+use Rattle.rota_items.proofs.Common.{MatchResult-weaker, week_of, objective_terms}
 use Rattle.rota_items.proofs.ObjectiveTaking.{some_refused, told_by_refusal}
-use Rattle.rota_items.specs.WeekModel.{objective_terms}
 use Rattle.rota_items.proofs.objective.has_term.Goals as goal
 
 pub returns : goal.returns

@@ -1,13 +1,6 @@
-use Rattle.rota_items.proofs.Common.{◌≡◌, ℕ, ◌≤◌, arith, week_of}
-use Rattle.rota_core.specs.Rules.{soft_rules}
-use Rattle.rota_core.specs.Week.{Week}
-use Rattle.rota_core.specs.declared.rule.Rule.{Rule}
-use Rattle.rota_items.proofs.InstanceLimits.{instance-within_limits}
-use Rattle.rota_items.proofs.ListTotals.{sum-all, sum-more}
+use Rattle.rota_items.proofs.Common.{◌≡◌, ℕ, ◌≤◌, arith, Week, Rule, instance-within_limits, most_constant, constant_of_rule, IsWithinLimits, soft_rules, week_of}
+use Rattle.rota_items.proofs.Lists.{sum-all, sum-more}
 use Rattle.rota_items.proofs.PenaltyBound.{constant_of_rule-few}
-use Rattle.rota_items.specs.Bounds.{most_constant}
-use Rattle.rota_items.specs.Charges.{constant_of_rule}
-use Rattle.rota_items.specs.Limits.{IsWithinLimits}
 use Rattle.rota_items.proofs.rules.constant.Goals as goal
 
 few_of : (week : Week) → IsWithinLimits week → (rule : Rule) (constant : ℕ) → constant ≡ constant_of_rule week rule → constant ≤ most_constant

@@ -1,12 +1,6 @@
-use Rattle.rota_items.proofs.Common.{◌≡◌, ℕ, ◌≤◌, arith}
-use Rattle.rota_core.specs.Week.{Week}
-use Rattle.rota_core.specs.declared.rule.Rule.{Rule}
-use Rattle.rota_items.proofs.InstanceLimits.{instance-within_limits}
-use Rattle.rota_items.proofs.ListLengths.{counting}
+use Rattle.rota_items.proofs.Common.{◌≡◌, ℕ, ◌≤◌, arith, Week, Rule, instance-within_limits, most_constant, nurse_constant, IsWithinLimits}
+use Rattle.rota_items.proofs.Lists.{counting}
 use Rattle.rota_items.proofs.PenaltyBound.{nurse_constant-few}
-use Rattle.rota_items.specs.Bounds.{most_constant}
-use Rattle.rota_items.specs.Charges.{nurse_constant}
-use Rattle.rota_items.specs.Limits.{IsWithinLimits}
 use Rattle.rota_items.proofs.rules.constant_of_rule.Goals as goal
 
 few_of : (week : Week) → IsWithinLimits week → (rule : Rule) (n constant : ℕ) → constant ≡ nurse_constant week rule n → constant ≤ most_constant

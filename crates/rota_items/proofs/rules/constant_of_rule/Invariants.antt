@@ -1,7 +1,5 @@
-use Rattle.rota_items.proofs.Common.{week_of}
-use Rattle.rota_items.proofs.ListLengths.{SumOfEach}
-use Rattle.rota_items.specs.Bounds.{most_constant}
-use Rattle.rota_items.specs.Charges.{nurse_constant}
+use Rattle.rota_items.proofs.Common.{week_of, most_constant, nurse_constant}
+use Rattle.rota_items.proofs.Lists.{SumOfEach}
 use Rattle.rota_items.proofs.rules.constant_of_rule.Given as goal
 
 abbrev pub invariant-loop-nurse : goal.invariant-loop-nurse

@@ -1,8 +1,4 @@
-use Rattle.rota_items.proofs.Common.{arith, week_of}
-use Rattle.rota_core.specs.Rules.{soft_rules}
-use Rattle.rota_items.proofs.Taking.{exits, terms_join}
-use Rattle.rota_items.proofs.TakingLists.{list_refused}
-use Rattle.rota_items.specs.Charges.{cell_terms_of_rule}
+use Rattle.rota_items.proofs.Common.{arith, week_of, soft_rules, exits, terms_join, list_refused, cell_terms_of_rule}
 use Rattle.rota_items.proofs.rules.give_cell_terms.Goals as goal
 
 pub returns-in_err-give_cell_terms_of_rule : goal.returns-in_err-give_cell_terms_of_rule

@@ -1,5 +1,4 @@
-use Rattle.rota_items.proofs.Common.{take, flat_map, week_of, cell_term_events, Took}
-use Rattle.rota_items.specs.Charges.{cell_terms_of_rule}
+use Rattle.rota_items.proofs.Common.{take, flat_map, week_of, cell_term_events, Took, cell_terms_of_rule}
 use Rattle.rota_items.proofs.rules.give_cell_terms.Given as goal
 
 abbrev pub invariant-loop-rule : goal.invariant-loop-rule

@@ -1,5 +1,4 @@
-use Rattle.rota_items.proofs.Common.{week_of, each_below, TookItems}
-use Rattle.rota_items.specs.Charges.{nurse_items}
+use Rattle.rota_items.proofs.Common.{week_of, each_below, TookItems, nurse_items}
 use Rattle.rota_items.proofs.rules.walk_nurses.Given as goal
 
 abbrev pub invariant-loop-nurse : goal.invariant-loop-nurse

@@ -1,9 +1,4 @@
-use Rattle.rota_items.proofs.Common.{arith, week_of}
-use Rattle.rota_core.specs.Rules.{soft_rules}
-use Rattle.rota_items.proofs.Taking.{exits}
-use Rattle.rota_items.proofs.TakingLists.{list_refused}
-use Rattle.rota_items.proofs.Walking.{items_join}
-use Rattle.rota_items.specs.Charges.{items_of_rule}
+use Rattle.rota_items.proofs.Common.{arith, week_of, soft_rules, exits, list_refused, items_join, items_of_rule}
 use Rattle.rota_items.proofs.rules.walk_soft_items.Goals as goal
 
 pub returns-in_err-walk_rule : goal.returns-in_err-walk_rule

@@ -1,5 +1,4 @@
-use Rattle.rota_items.proofs.Common.{take, flat_map, week_of, TookItems}
-use Rattle.rota_items.specs.Charges.{items_of_rule}
+use Rattle.rota_items.proofs.Common.{take, flat_map, week_of, TookItems, items_of_rule}
 use Rattle.rota_items.proofs.rules.walk_soft_items.Given as goal
 
 abbrev pub invariant-loop-rule : goal.invariant-loop-rule

@@ -1,5 +1,4 @@
-use Rattle.rota_items.proofs.Taking.{cell_taken}
-use Rattle.rota_items.specs.declared.sums.Sign.TheVariants.{Plus, Minus}
+use Rattle.rota_items.proofs.Common.{cell_taken, Plus, Minus}
 use Rattle.rota_items.proofs.sums.give_cell.Goals as goal
 
 pub returns-in-Plus : goal.returns-in-Plus

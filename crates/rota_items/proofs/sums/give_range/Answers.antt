@@ -1,6 +1,5 @@
-use Rattle.rota_items.proofs.Common.{◌≡◌, w64, to_z, of_z, rules, arith, to_z-of_z}
+use Rattle.rota_items.proofs.Common.{◌≡◌, w64, to_z, of_z, rules, arith, to_z-of_z, exits}
 use Rattle.rota_items.proofs.SlackTerms.{range_refused}
-use Rattle.rota_items.proofs.Taking.{exits}
 use Rattle.rota_items.proofs.sums.give_range.Goals as goal
 
 pub returns-in_err-term : goal.returns-in_err-term

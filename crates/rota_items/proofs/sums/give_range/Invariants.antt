@@ -1,7 +1,4 @@
-use Rattle.std.specs.List.{range_with_len}
-use Rattle.rota_items.specs.Events.{term_events}
-use Rattle.rota_items.specs.ModelWords.{times}
-use Rattle.rota_items.proofs.Common.{Took}
+use Rattle.rota_items.proofs.Common.{range_with_len, term_events, times, Took}
 use Rattle.rota_items.proofs.sums.give_range.Given as goal
 
 abbrev pub invariant-loop-i : goal.invariant-loop-i

@@ -1,6 +1,4 @@
-use Rattle.rota_items.proofs.Common.{arith}
-use Rattle.rota_items.proofs.Taking.{exits, cells_join, loop_refused}
-use Rattle.rota_items.specs.declared.sums.Sign.TheVariants.{Minus}
+use Rattle.rota_items.proofs.Common.{arith, exits, cells_join, loop_refused, Minus}
 use Rattle.rota_items.proofs.sums.give_skill_cells.Goals as goal
 
 pub returns-in_err-give_skill_cells_on : goal.returns-in_err-give_skill_cells_on

@@ -1,6 +1,4 @@
-use Rattle.rota_core.specs.Roster.{cell}
-use Rattle.rota_items.proofs.Common.{[], ◌∷◌, week_of, sum_events, each_below, Took}
-use Rattle.rota_items.specs.declared.sums.Sign.TheVariants.{Minus}
+use Rattle.rota_items.proofs.Common.{cell, [], ◌∷◌, week_of, sum_events, each_below, Took, Minus}
 use Rattle.rota_items.proofs.sums.give_skill_cells.Given as goal
 
 abbrev pub invariant-loop-day : goal.invariant-loop-day

@@ -1,12 +1,5 @@
-use Rattle.rota_items.proofs.Common.{arith, week_of}
-use Rattle.std.proofs.lemmas.List.{length-append, length-map}
-use Rattle.rota_items.proofs.InstanceLimits.{instance-within_limits}
-use Rattle.rota_items.proofs.SlackBound.{length-item_rows, rows-below, variables_fit}
-use Rattle.rota_items.specs.Variables.{cell_number}
-use Rattle.rota_items.specs.WeekModel.{first_slack, hard_rows, numbered_items, numbered_row, rows_of, item_rows}
-use Rattle.rota_items.specs.HardRows.{rule_rows}
-use Rattle.rota_items.specs.ModelWords.{numbered, linear_constraint}
-use Rattle.rota_items.specs.Charges.{soft_items}
+use Rattle.rota_items.proofs.Common.{arith, week_of, length-map, instance-within_limits, rows_of, linear_constraint}
+use Rattle.rota_items.proofs.SlackBound.{rows-below, variables_fit, length-rows_of}
 use Rattle.rota_items.proofs.counting.model_counts.counts.Goals as goal
 
 pub overflow_add-result : goal.overflow_add-result
@@ -25,8 +18,7 @@ overflow_add-result-2 c =
     omega (
       arith,
       rows-below week (instance-within_limits c.args.instance.now c.unit_var-unit.ensures.limits),
-      length-append (hard_rows week) (item_rows (first_slack week) (numbered_items week)),
-      length-map (rule_rows week) (numbered_row week),
+      length-rows_of week,
       c.count_rule_rows.ensures.number,
     )
 
@@ -36,10 +28,7 @@ overflow_add-result-3 c =
     omega (
       arith,
       rows-below week (instance-within_limits c.args.instance.now c.unit_var-unit.ensures.limits),
-      length-append (hard_rows week) (item_rows (first_slack week) (numbered_items week)),
-      length-map (rule_rows week) (numbered_row week),
-      length-item_rows (first_slack week) (numbered_items week),
-      length-map (soft_items week) (numbered (cell_number week)),
+      length-rows_of week,
       c.count_rule_rows.ensures.number,
       c.count_soft_items-soft.ensures.items,
     )
@@ -50,10 +39,7 @@ returns-clause-constraints c =
     omega (
       arith,
       length-map (rows_of week) linear_constraint,
-      length-append (hard_rows week) (item_rows (first_slack week) (numbered_items week)),
-      length-map (rule_rows week) (numbered_row week),
-      length-item_rows (first_slack week) (numbered_items week),
-      length-map (soft_items week) (numbered (cell_number week)),
+      length-rows_of week,
       c.count_rule_rows.ensures.number,
       c.count_soft_items-soft.ensures.items,
     )

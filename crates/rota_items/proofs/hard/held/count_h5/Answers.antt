@@ -1,7 +1,4 @@
-use Rattle.rota_items.proofs.Common.{arith, week_of}
-use Rattle.std.proofs.lemmas.List.{length-map}
-use Rattle.rota_core.specs.RosterCells.{cells_of}
-use Rattle.rota_items.specs.HardRows.{h5_row}
+use Rattle.rota_items.proofs.Common.{arith, week_of, length-map, cells_of, h5_row}
 use Rattle.rota_items.proofs.hard.held.count_h5.Goals as goal
 
 pub returns : goal.returns

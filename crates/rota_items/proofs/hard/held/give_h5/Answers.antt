@@ -1,10 +1,4 @@
-use Rattle.rota_items.proofs.Common.{◌∙◌, ◌∷◌, [], map, subst, week_of}
-use Rattle.std.proofs.Common.{append_assoc}
-use Rattle.rota_items.specs.CellEvents.{cell_row_events}
-use Rattle.rota_items.specs.Takes.{Refused}
-use Rattle.rota_items.specs.HardRows.{h5_row}
-use Rattle.rota_items.proofs.Taking.{both, exits, go_on, nothing, rows_join, stop}
-use Rattle.rota_items.proofs.TakingLists.{held_join}
+use Rattle.rota_items.proofs.Common.{◌∙◌, ◌∷◌, [], map, subst, week_of, append_assoc, cell_row_events, Refused, h5_row, both, exits, go_on, nothing, rows_join, stop, held_join}
 use Rattle.rota_items.proofs.hard.held.give_h5.Goals as goal
 
 pub loop-cell-init : goal.loop-cell-init

@@ -1,6 +1,4 @@
-use Rattle.rota_items.proofs.Common.{◌≡◌, ◌++◌, map, week_of, cell_row_events, Took}
-use Rattle.rota_core.specs.RosterCells.{cells_of}
-use Rattle.rota_items.specs.HardRows.{h5_row}
+use Rattle.rota_items.proofs.Common.{◌≡◌, ◌++◌, map, week_of, cell_row_events, Took, cells_of, h5_row}
 use Rattle.rota_items.proofs.hard.held.give_h5.Given as goal
 
 -- the rows of the cells so far are taken, and the others are left

@@ -1,4 +1,4 @@
-use Rattle.rota_items.proofs.Taking.{exits, cell_row_refused_at_start, cell_row_refused_at_terms, cell_row_closed}
+use Rattle.rota_items.proofs.Common.{exits, cell_row_refused_at_start, cell_row_refused_at_terms, cell_row_closed}
 use Rattle.rota_items.proofs.hard.held.give_h5_row.Goals as goal
 
 pub returns-in_err-start_row : goal.returns-in_err-start_row

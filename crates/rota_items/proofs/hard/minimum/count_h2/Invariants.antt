@@ -1,9 +1,5 @@
-use Rattle.rota_items.proofs.ModelWords.{LinearRow, Cell, Week}
-use Rattle.rota_items.proofs.Common.{ℕ, List, week_of, each_below}
-use Rattle.rota_items.specs.Bounds.{most_cells_of_day}
-use Rattle.rota_items.specs.Limits.{most_skills}
-use Rattle.rota_items.proofs.ListLengths.{LengthOfEach}
-use Rattle.rota_items.specs.HardRows.{h2_rows_at}
+use Rattle.rota_items.proofs.Common.{LinearRow, Cell, Week, ℕ, List, week_of, each_below, most_cells_of_day, most_skills, h2_rows_at}
+use Rattle.rota_items.proofs.Lists.{LengthOfEach}
 use Rattle.rota_items.proofs.hard.minimum.count_h2.Given as goal
 
 -- the rows of a day on a shift type

@@ -1,5 +1,4 @@
-use Rattle.rota_items.specs.HardRows.{h2_rows_at}
-use Rattle.rota_items.proofs.Common.{week_of, cell_row_events, each_below, Took}
+use Rattle.rota_items.proofs.Common.{h2_rows_at, week_of, cell_row_events, each_below, Took}
 use Rattle.rota_items.proofs.hard.minimum.give_h2.Given as goal
 
 abbrev pub invariant-loop-day : goal.invariant-loop-day

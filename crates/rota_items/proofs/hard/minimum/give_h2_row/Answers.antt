@@ -1,7 +1,4 @@
-use Rattle.rota_items.proofs.Common.{rules, ◌≡◌, ap, ◌∙◌, pos, w64, to_z, of_z, to_z-of_z, week_of}
-use Rattle.rota_core.specs.declared.values.Demand.{Demand}
-use Rattle.rota_items.specs.HardRows.{h2_row}
-use Rattle.rota_items.proofs.Taking.{exits, cell_row_refused_at_start, cell_row_refused_at_terms, cell_row_closed, row_where, row_nowhere}
+use Rattle.rota_items.proofs.Common.{rules, ◌≡◌, ap, ◌∙◌, pos, w64, to_z, of_z, to_z-of_z, week_of, Demand, h2_row, exits, cell_row_refused_at_start, cell_row_refused_at_terms, cell_row_closed, row_where, row_nowhere}
 use Rattle.rota_items.proofs.hard.minimum.give_h2_row.Goals as goal
 
 pub returns-in_err-start_row : goal.returns-in_err-start_row

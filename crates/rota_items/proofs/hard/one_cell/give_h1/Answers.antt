@@ -1,5 +1,4 @@
-use Rattle.rota_items.proofs.Common.{arith}
-use Rattle.rota_items.proofs.Taking.{exits, loop_refused, rows_join}
+use Rattle.rota_items.proofs.Common.{arith, exits, loop_refused, rows_join}
 use Rattle.rota_items.proofs.hard.one_cell.give_h1.Goals as goal
 
 pub returns-in_err-give_h1_row : goal.returns-in_err-give_h1_row

@@ -1,5 +1,4 @@
-use Rattle.rota_items.proofs.Common.{[], ◌∷◌, week_of, cell_row_events, each_below, Took}
-use Rattle.rota_items.specs.HardRows.{h1_row}
+use Rattle.rota_items.proofs.Common.{[], ◌∷◌, week_of, cell_row_events, each_below, Took, h1_row}
 use Rattle.rota_items.proofs.hard.one_cell.give_h1.Given as goal
 
 abbrev pub invariant-loop-nurse : goal.invariant-loop-nurse

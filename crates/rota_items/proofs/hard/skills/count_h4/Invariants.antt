@@ -1,7 +1,5 @@
-use Rattle.rota_items.proofs.Common.{week_of, each_below}
-use Rattle.rota_items.specs.Limits.{most_skills}
-use Rattle.rota_items.proofs.ListLengths.{LengthOfEach}
-use Rattle.rota_items.specs.HardRows.{h4_rows_at}
+use Rattle.rota_items.proofs.Common.{week_of, each_below, most_skills, h4_rows_at}
+use Rattle.rota_items.proofs.Lists.{LengthOfEach}
 use Rattle.rota_items.proofs.hard.skills.count_h4.Given as goal
 
 abbrev pub invariant-loop-skill : goal.invariant-loop-skill

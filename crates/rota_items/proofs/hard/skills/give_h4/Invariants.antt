@@ -1,5 +1,4 @@
-use Rattle.rota_items.specs.HardRows.{h4_rows_at}
-use Rattle.rota_items.proofs.Common.{week_of, cell_row_events, each_below, Took}
+use Rattle.rota_items.proofs.Common.{h4_rows_at, week_of, cell_row_events, each_below, Took}
 use Rattle.rota_items.proofs.hard.skills.give_h4.Given as goal
 
 abbrev pub invariant-loop-nurse : goal.invariant-loop-nurse

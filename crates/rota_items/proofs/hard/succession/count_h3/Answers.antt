@@ -1,11 +1,6 @@
-use Rattle.rota_items.proofs.Common.{◌≡◌, ◌*◌, ℕ, ◌≤◌, ◌+◌, length, length-append, sym, arith, week_of, each_below}
-use Rattle.rota_core.specs.Week.{Week}
-use Rattle.rota_items.proofs.InstanceLimits.{instance-within_limits}
-use Rattle.rota_items.proofs.ListLengths.{counting, length-each-is}
+use Rattle.rota_items.proofs.Common.{◌≡◌, ◌*◌, ℕ, ◌≤◌, ◌+◌, length, length-append, sym, arith, week_of, each_below, Week, instance-within_limits, most_cells_of_nurse, IsWithinLimits, h3_monday_rows, h3_rows_between}
+use Rattle.rota_items.proofs.Lists.{counting, length-each-is}
 use Rattle.rota_items.proofs.RowSizes.{between-few, monday-few}
-use Rattle.rota_items.specs.Bounds.{most_cells_of_nurse}
-use Rattle.rota_items.specs.Limits.{IsWithinLimits}
-use Rattle.rota_items.specs.HardRows.{h3_monday_rows, h3_rows_between}
 use Rattle.rota_items.proofs.hard.succession.count_h3.Goals as goal
 
 -- the rows of a nurse are no more than she has cells

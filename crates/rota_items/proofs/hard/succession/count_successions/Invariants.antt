@@ -1,6 +1,4 @@
-use Rattle.rota_items.proofs.Common.{◌≡◌, ℕ, ◌+◌, ◌*◌, ◌≤◌, length, week_of, each_below}
-use Rattle.rota_items.specs.Limits.{most_shifts}
-use Rattle.rota_items.specs.HardRows.{h3_rows_at}
+use Rattle.rota_items.proofs.Common.{◌≡◌, ℕ, ◌+◌, ◌*◌, ◌≤◌, length, week_of, each_below, most_shifts, h3_rows_at}
 use Rattle.rota_items.proofs.hard.succession.count_successions.Given as goal
 
 abbrev pub invariant-loop-second : goal.invariant-loop-second

@@ -1,5 +1,4 @@
-use Rattle.rota_items.specs.HardRows.{h3_rows_of}
-use Rattle.rota_items.proofs.Common.{week_of, cell_row_events, each_below, Took}
+use Rattle.rota_items.proofs.Common.{h3_rows_of, week_of, cell_row_events, each_below, Took}
 use Rattle.rota_items.proofs.hard.succession.give_h3.Given as goal
 
 abbrev pub invariant-loop-nurse : goal.invariant-loop-nurse

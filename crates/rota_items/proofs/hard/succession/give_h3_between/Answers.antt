@@ -1,5 +1,4 @@
-use Rattle.rota_items.proofs.Common.{arith}
-use Rattle.rota_items.proofs.Taking.{exits, loop_refused, rows_join}
+use Rattle.rota_items.proofs.Common.{arith, exits, loop_refused, rows_join}
 use Rattle.rota_items.proofs.hard.succession.give_h3_between.Goals as goal
 
 pub returns-in_err-give_h3_row : goal.returns-in_err-give_h3_row

@@ -1,5 +1,4 @@
-use Rattle.rota_items.specs.HardRows.{h3_rows_at}
-use Rattle.rota_items.proofs.Common.{each_below, week_of, cell_row_events, Took}
+use Rattle.rota_items.proofs.Common.{h3_rows_at, each_below, week_of, cell_row_events, Took}
 use Rattle.rota_items.proofs.hard.succession.give_h3_between.Given as goal
 
 abbrev pub invariant-loop-first : goal.invariant-loop-first

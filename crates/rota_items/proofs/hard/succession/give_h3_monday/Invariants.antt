@@ -1,5 +1,4 @@
-use Rattle.rota_items.specs.HardRows.{h3_monday_rows_at}
-use Rattle.rota_items.proofs.Common.{each_below, week_of, cell_row_events, Took}
+use Rattle.rota_items.proofs.Common.{h3_monday_rows_at, each_below, week_of, cell_row_events, Took}
 use Rattle.rota_items.proofs.hard.succession.give_h3_monday.Given as goal
 
 abbrev pub invariant-loop-shift : goal.invariant-loop-shift

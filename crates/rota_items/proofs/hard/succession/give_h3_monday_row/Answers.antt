@@ -1,5 +1,4 @@
-use Rattle.rota_items.proofs.Common.{rules}
-use Rattle.rota_items.proofs.Taking.{exits, cell_row_refused_at_start, cell_row_refused_at_terms, cell_row_closed, row_where, row_nowhere}
+use Rattle.rota_items.proofs.Common.{rules, exits, cell_row_refused_at_start, cell_row_refused_at_terms, cell_row_closed, row_where, row_nowhere}
 use Rattle.rota_items.proofs.hard.succession.give_h3_monday_row.Goals as goal
 
 pub returns-in_err-start_row : goal.returns-in_err-start_row

@@ -1,5 +1,4 @@
-use Rattle.rota_items.proofs.Common.{arith}
-use Rattle.rota_items.proofs.Taking.{exits, go_on, loop_refused, rows_join, stop}
+use Rattle.rota_items.proofs.Common.{arith, exits, go_on, loop_refused, rows_join, stop}
 use Rattle.rota_items.proofs.hard.succession.give_h3_of_nurse.Goals as goal
 
 pub returns-in_err-give_h3_monday : goal.returns-in_err-give_h3_monday

@@ -1,5 +1,4 @@
-use Rattle.rota_items.proofs.Common.{week_of, cell_row_events, each_below, Took}
-use Rattle.rota_items.specs.HardRows.{h3_rows_between}
+use Rattle.rota_items.proofs.Common.{week_of, cell_row_events, each_below, Took, h3_rows_between}
 use Rattle.rota_items.proofs.hard.succession.give_h3_of_nurse.Given as goal
 
 abbrev pub invariant-loop-day : goal.invariant-loop-day

@@ -1,6 +1,4 @@
-use Rattle.rota_items.proofs.Common.{rules}
-use Rattle.rota_items.proofs.Taking.{exits, cell_row_refused_at_start, cell_row_refused_at_terms, cell_row_closed, row_where, row_nowhere, both, cells_join, go_on, stop}
-use Rattle.rota_items.specs.declared.sums.Sign.TheVariants.{Minus}
+use Rattle.rota_items.proofs.Common.{rules, exits, cell_row_refused_at_start, cell_row_refused_at_terms, cell_row_closed, row_where, row_nowhere, both, cells_join, go_on, stop, Minus}
 use Rattle.rota_items.proofs.hard.succession.give_h3_row.Goals as goal
 
 pub returns-in_err-start_row : goal.returns-in_err-start_row

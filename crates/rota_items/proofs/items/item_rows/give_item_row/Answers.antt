@@ -1,6 +1,5 @@
-use Rattle.rota_items.proofs.Common.{◌≡◌, w64, to_z, of_z, rules, to_z-of_z, week_of, item_of}
+use Rattle.rota_items.proofs.Common.{◌≡◌, w64, to_z, of_z, rules, to_z-of_z, week_of, item_of, exits}
 use Rattle.rota_items.proofs.SlackTerms.{item_refused_at_start, item_refused_at_terms, item_refused_at_slacks, item_closed}
-use Rattle.rota_items.proofs.Taking.{exits}
 use Rattle.rota_items.proofs.items.item_rows.give_item_row.Goals as goal
 
 pub returns-in_err-start_row : goal.returns-in_err-start_row

@@ -1,5 +1,5 @@
+use Rattle.rota_items.proofs.Common.{numbered_list}
 use Rattle.rota_items.proofs.ItemRows.{gives_rows, rows_given, same_taker}
-use Rattle.rota_items.specs.ItemTaking.{numbered_list}
 use Rattle.rota_items.proofs.items.item_rows.give_rows.Goals as goal
 
 pub returns-clause-same_taker : goal.returns-clause-same_taker

@@ -1,6 +1,5 @@
-use Rattle.rota_items.proofs.Common.{arith}
+use Rattle.rota_items.proofs.Common.{arith, exits}
 use Rattle.rota_items.proofs.DayTerms.{days_none, days_more, days_refused}
-use Rattle.rota_items.proofs.Taking.{exits}
 use Rattle.rota_items.proofs.items.item_sums.give_days.Goals as goal
 
 pub loop-day-init : goal.loop-day-init

@@ -1,6 +1,4 @@
-use Rattle.std.proofs.Common.{flat_map}
-use Rattle.rota_items.proofs.Common.{week_of, cell_term_events, property_of, day_terms, Took}
-use Rattle.rota_items.specs.RunItems.{days_with}
+use Rattle.rota_items.proofs.Common.{flat_map, week_of, cell_term_events, property_of, day_terms, Took, days_with}
 use Rattle.rota_items.proofs.items.item_sums.give_days.Given as goal
 
 abbrev pub invariant-loop-day : goal.invariant-loop-day

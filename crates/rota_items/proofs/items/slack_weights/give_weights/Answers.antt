@@ -1,5 +1,5 @@
+use Rattle.rota_items.proofs.Common.{numbered_list}
 use Rattle.rota_items.proofs.ItemRows.{gives_weights, rows_given, same_taker}
-use Rattle.rota_items.specs.ItemTaking.{numbered_list}
 use Rattle.rota_items.proofs.items.slack_weights.give_weights.Goals as goal
 
 pub returns-clause-same_taker : goal.returns-clause-same_taker

@@ -1,11 +1,4 @@
-use Rattle.std.proofs.Common.{◌≡◌, ℕ, ◌+◌, ◌<◌, ◌∙◌, List, get_or, take, length, ap, sym, arith}
-use Rattle.std.proofs.lemmas.List.Sums.{fold_more}
-use Rattle.rota_core.specs.InstanceTables.{week_of}
-use Rattle.rota_core.specs.Rules.{soft_rules}
-use Rattle.rota_core.specs.Week.{Week}
-use Rattle.rota_core.specs.declared.rule.Rule.{Rule}
-use Rattle.rota_items.specs.Judging.{with_constants, with_cost}
-use Rattle.rota_items.specs.Charges.{constant_of_rule}
+use Rattle.rota_items.proofs.Common.{◌≡◌, ℕ, ◌+◌, ◌<◌, ◌∙◌, List, get_or, take, length, ap, sym, arith, fold_more, week_of, soft_rules, Week, Rule, with_constants, with_cost, constant_of_rule}
 use Rattle.rota_items.proofs.judge.judging.charge_constants.Goals as goal
 
 with_next : (week : Week) (rules : List Rule) (i : ℕ) (other : Rule) (charged : ℕ) (start before after : List ℕ) → i < length rules →

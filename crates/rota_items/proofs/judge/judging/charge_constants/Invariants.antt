@@ -1,6 +1,4 @@
-use Rattle.std.specs.Prelude.{◌≡◌, take}
-use Rattle.rota_core.specs.InstanceTables.{week_of}
-use Rattle.rota_items.specs.Judging.{with_constants}
+use Rattle.rota_items.proofs.Common.{◌≡◌, take, week_of, with_constants}
 use Rattle.rota_items.proofs.judge.judging.charge_constants.Given as goal
 
 abbrev pub invariant-loop-rule : goal.invariant-loop-rule

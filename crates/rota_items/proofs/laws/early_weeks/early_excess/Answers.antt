@@ -1,7 +1,5 @@
-use Rattle.std.proofs.Common.{◌≡◌, List, sum, take, sym, ap, ◌∙◌, arith, ℕ}
-use Rattle.std.proofs.lemmas.List.{take_all}
+use Rattle.rota_items.proofs.Common.{◌≡◌, List, sum, take, sym, ap, ◌∙◌, arith, ℕ, take_all, added_excess}
 use Rattle.rota_items.proofs.EarlyCharges.{early_charges-are}
-use Rattle.rota_items.specs.EarlyWeeks.{added_excess}
 use Rattle.rota_items.proofs.laws.early_weeks.early_excess.Goals as goal
 
 pub returns-clause-weeks : goal.returns-clause-weeks

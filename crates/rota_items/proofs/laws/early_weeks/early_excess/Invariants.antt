@@ -1,5 +1,4 @@
-use Rattle.std.specs.Prelude.{◌≡◌, ◌+◌, ◌*◌, ◌≤◌, take, sum}
-use Rattle.rota_items.specs.EarlyWeeks.{added_excess}
+use Rattle.rota_items.proofs.Common.{◌≡◌, ◌+◌, ◌*◌, ◌≤◌, take, sum, added_excess}
 use Rattle.rota_items.proofs.laws.early_weeks.early_excess.Given as goal
 
 abbrev pub invariant-loop-step : goal.invariant-loop-step

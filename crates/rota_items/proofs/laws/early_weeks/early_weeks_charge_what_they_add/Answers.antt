@@ -1,4 +1,4 @@
-use Rattle.rota_items.specs.EarlyWeeks.{assignment_total, weekend_total}
+use Rattle.rota_items.proofs.Common.{assignment_total, weekend_total}
 use Rattle.rota_items.proofs.EarlyCharges.{charges-sum}
 use Rattle.rota_items.proofs.laws.early_weeks.early_weeks_charge_what_they_add.Goals as goal
 

@@ -1,7 +1,5 @@
-use Rattle.std.proofs.lemmas.List.Elements.{All-from_recursion, recursion_from_All}
+use Rattle.rota_items.proofs.Common.{All-from_recursion, recursion_from_All, Satisfies, hard_constraints}
 use Rattle.rota_items.proofs.Satisfied.{hard_constraints-hold, hard_constraints-mean}
-use Rattle.rota_items.specs.Linear.{Satisfies}
-use Rattle.rota_items.specs.WeekModel.{hard_constraints}
 use Rattle.rota_items.proofs.laws.model_laws.hard_constraints_mean_hard_rules.Goals as goal
 
 pub returns : goal.returns

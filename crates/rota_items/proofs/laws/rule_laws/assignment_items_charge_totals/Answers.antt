@@ -1,4 +1,4 @@
-use Rattle.rota_core.specs.declared.rule.Rule.TheVariants.{S6}
+use Rattle.rota_items.proofs.Common.{S6}
 use Rattle.rota_items.proofs.SoftRules.EachRule.{sound-nurse_rule}
 use Rattle.rota_items.proofs.SoftRules.Sound.{charges-nurses}
 use Rattle.rota_items.proofs.laws.rule_laws.assignment_items_charge_totals.Goals as goal

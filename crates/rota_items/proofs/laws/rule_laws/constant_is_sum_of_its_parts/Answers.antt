@@ -1,5 +1,5 @@
-use Rattle.std.proofs.Common.{arith}
-use Rattle.rota_items.proofs.SumsBelow.{sum_below-zero}
+use Rattle.rota_items.proofs.Common.{arith}
+use Rattle.rota_items.proofs.Lists.{sum_below-zero}
 use Rattle.rota_items.proofs.laws.rule_laws.constant_is_sum_of_its_parts.Goals as goal
 
 pub returns : goal.returns

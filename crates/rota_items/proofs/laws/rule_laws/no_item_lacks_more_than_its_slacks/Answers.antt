@@ -1,6 +1,5 @@
-use Rattle.std.proofs.lemmas.List.Elements.{All-from_recursion}
+use Rattle.rota_items.proofs.Common.{All-from_recursion, soft_items}
 use Rattle.rota_items.proofs.SoftRules.AllItems.{HasEnough, enough-items}
-use Rattle.rota_items.specs.Charges.{soft_items}
 use Rattle.rota_items.proofs.laws.rule_laws.no_item_lacks_more_than_its_slacks.Goals as goal
 
 pub returns : goal.returns

@@ -1,5 +1,4 @@
-use Rattle.std.proofs.Common.{refl}
-use Rattle.rota_core.specs.declared.rule.Rule.TheVariants.{S3}
+use Rattle.rota_items.proofs.Common.{refl, S3}
 use Rattle.rota_items.proofs.SoftRules.EachRule.{sound-nurse_rule}
 use Rattle.rota_items.proofs.SoftRules.Sound.{charges-items}
 use Rattle.rota_items.proofs.laws.rule_laws.run_items_charge_runs_of_days_off.Goals as goal

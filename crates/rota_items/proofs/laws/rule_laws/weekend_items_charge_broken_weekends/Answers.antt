@@ -1,5 +1,4 @@
-use Rattle.std.proofs.Common.{refl}
-use Rattle.rota_core.specs.declared.rule.Rule.TheVariants.{S5}
+use Rattle.rota_items.proofs.Common.{refl, S5}
 use Rattle.rota_items.proofs.SoftRules.EachRule.{sound-nurse_rule}
 use Rattle.rota_items.proofs.SoftRules.Sound.{charges-items}
 use Rattle.rota_items.proofs.laws.rule_laws.weekend_items_charge_broken_weekends.Goals as goal

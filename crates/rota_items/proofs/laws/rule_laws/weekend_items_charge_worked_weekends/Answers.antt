@@ -1,4 +1,4 @@
-use Rattle.rota_core.specs.declared.rule.Rule.TheVariants.{S7}
+use Rattle.rota_items.proofs.Common.{S7}
 use Rattle.rota_items.proofs.SoftRules.EachRule.{sound-nurse_rule}
 use Rattle.rota_items.proofs.SoftRules.Sound.{charges-nurses}
 use Rattle.rota_items.proofs.laws.rule_laws.weekend_items_charge_worked_weekends.Goals as goal

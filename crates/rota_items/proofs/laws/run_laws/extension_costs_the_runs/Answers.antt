@@ -1,7 +1,6 @@
-use Rattle.rota_items.proofs.Common.{ap, ◌∙◌, run_items}
-use Rattle.std.specs.Prelude.{pos}
+use Rattle.rota_items.proofs.Common.{ap, ◌∙◌, run_items, pos}
 use Rattle.rota_items.proofs.ItemLaw.{value_of-extension}
-use Rattle.rota_items.proofs.TermsHold.{run_items-below}
+use Rattle.rota_items.proofs.SoundTerms.{run_items-below}
 use Rattle.rota_items.proofs.RunLaw.{shortages-run_items, weighted_shortages-run_items}
 use Rattle.rota_items.proofs.laws.run_laws.extension_costs_the_runs.Goals as goal
 

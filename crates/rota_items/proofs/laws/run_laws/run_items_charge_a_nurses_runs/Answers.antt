@@ -1,4 +1,4 @@
-use Rattle.rota_core.specs.declared.rule.Rule.TheVariants.{S2, S3}
+use Rattle.rota_items.proofs.Common.{S2, S3}
 use Rattle.rota_items.proofs.NurseRuns.{weighted-on_runs, weighted-work_runs, weighted-off_runs}
 use Rattle.rota_items.proofs.laws.run_laws.run_items_charge_a_nurses_runs.Goals as goal
 

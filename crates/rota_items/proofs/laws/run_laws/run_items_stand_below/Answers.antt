@@ -1,4 +1,4 @@
-use Rattle.rota_items.proofs.TermsHold.{run_items-below}
+use Rattle.rota_items.proofs.SoundTerms.{run_items-below}
 use Rattle.rota_items.proofs.laws.run_laws.run_items_stand_below.Goals as goal
 
 pub returns : goal.returns

@@ -1,6 +1,4 @@
-use Rattle.rota_items.proofs.Common.{arith, ap, Runs, Cell, run_items}
-use Rattle.rota_items.proofs.Taking.{exits, goes_on, loop_ended, loop_refused, stop}
-use Rattle.rota_items.proofs.Walking.{items_join}
+use Rattle.rota_items.proofs.Common.{arith, ap, Runs, Cell, run_items, exits, goes_on, loop_ended, loop_refused, stop, items_join}
 use Rattle.rota_items.proofs.rules.consecutive_assignments.walk.Goals as goal
 
 pub returns-in_err-runs : goal.returns-in_err-runs

@@ -1,5 +1,4 @@
-use Rattle.rota_items.proofs.Common.{week_of, TookItems, each_below, run_items}
-use Rattle.rota_items.specs.rules.ConsecutiveAssignments.Items.{shift_runs}
+use Rattle.rota_items.proofs.Common.{week_of, TookItems, each_below, run_items, shift_runs}
 use Rattle.rota_items.proofs.rules.consecutive_assignments.walk.Given as goal
 
 abbrev pub invariant-loop-shift : goal.invariant-loop-shift

@@ -1,6 +1,4 @@
-use Rattle.rota_items.proofs.Common.{arith}
-use Rattle.rota_items.proofs.Taking.{exits, loop_refused}
-use Rattle.rota_items.proofs.Walking.{items_join}
+use Rattle.rota_items.proofs.Common.{arith, exits, loop_refused, items_join}
 use Rattle.rota_items.proofs.rules.optimal_coverage.walk.Goals as goal
 
 pub returns-in_err-walk_at : goal.returns-in_err-walk_at

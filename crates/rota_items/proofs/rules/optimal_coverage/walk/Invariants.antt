@@ -1,5 +1,4 @@
-use Rattle.rota_items.proofs.Common.{week_of, each_below, TookItems}
-use Rattle.rota_items.specs.rules.OptimalCoverage.Items.{optimum_items_at}
+use Rattle.rota_items.proofs.Common.{week_of, each_below, TookItems, optimum_items_at}
 use Rattle.rota_items.proofs.rules.optimal_coverage.walk.Given as goal
 
 abbrev pub invariant-loop-day : goal.invariant-loop-day

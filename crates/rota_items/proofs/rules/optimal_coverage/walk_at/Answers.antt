@@ -1,7 +1,4 @@
-use Rattle.rota_items.proofs.Common.{◌≡◌, true, nat_lt, rules, week_of, item_of}
-use Rattle.rota_core.proofs.Loops.{only_if-holds}
-use Rattle.rota_items.proofs.Walking.{item_taken}
-use Rattle.rota_items.specs.rules.OptimalCoverage.Items.{optimum_item}
+use Rattle.rota_items.proofs.Common.{◌≡◌, true, nat_lt, rules, week_of, item_of, only_if-holds, item_taken, optimum_item}
 use Rattle.rota_items.proofs.rules.optimal_coverage.walk_at.Goals as goal
 
 pub returns : goal.returns

@@ -1,5 +1,4 @@
-use Rattle.rota_items.proofs.Common.{arith}
-use Rattle.rota_items.proofs.Taking.{exits, loop_refused, terms_join}
+use Rattle.rota_items.proofs.Common.{arith, exits, loop_refused, terms_join}
 use Rattle.rota_items.proofs.rules.shift_off_requests.give_terms.Goals as goal
 
 pub returns-in_err-give_terms_on : goal.returns-in_err-give_terms_on

@@ -1,5 +1,4 @@
-use Rattle.rota_items.proofs.Common.{week_of, cell_term_events, each_below, Took}
-use Rattle.rota_items.specs.rules.ShiftOffRequests.Terms.{request_terms_on}
+use Rattle.rota_items.proofs.Common.{week_of, cell_term_events, each_below, Took, request_terms_on}
 use Rattle.rota_items.proofs.rules.shift_off_requests.give_terms.Given as goal
 
 abbrev pub invariant-loop-nurse : goal.invariant-loop-nurse

@@ -1,5 +1,4 @@
-use Rattle.rota_items.proofs.Taking.{exits, goes_on, stop}
-use Rattle.rota_items.proofs.Walking.{items_join}
+use Rattle.rota_items.proofs.Common.{exits, goes_on, stop, items_join}
 use Rattle.rota_items.proofs.rules.total_assignments.walk.Goals as goal
 
 pub returns-in_err-walk_least : goal.returns-in_err-walk_least

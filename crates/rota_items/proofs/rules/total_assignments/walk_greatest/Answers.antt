@@ -1,9 +1,4 @@
-use Rattle.std.specs.Prelude.{◌&&◌}
-use Rattle.rota_items.proofs.Common.{◌≡◌, true, nat_lt, rules, week_of, item_of}
-use Rattle.rota_core.proofs.Loops.{only_if-holds}
-use Rattle.rota_items.proofs.Walking.{item_taken}
-use Rattle.rota_items.specs.CountedTotals.{greatest_totals_count}
-use Rattle.rota_items.specs.rules.TotalAssignments.Items.{greatest_total_item, still_allowed}
+use Rattle.rota_items.proofs.Common.{◌&&◌, ◌≡◌, true, nat_lt, rules, week_of, item_of, only_if-holds, item_taken, greatest_totals_count, greatest_total_item, still_allowed}
 use Rattle.rota_items.proofs.rules.total_assignments.walk_greatest.Goals as goal
 
 pub returns : goal.returns

@@ -1,7 +1,4 @@
-use Rattle.rota_items.proofs.Common.{[], ◌∷◌, ap, week_of, charged_items}
-use Rattle.rota_items.proofs.Taking.{exits, goes_on, stop}
-use Rattle.rota_items.proofs.Walking.{items_join}
-use Rattle.rota_items.specs.RunItems.{Pattern, only_sunday, saturday}
+use Rattle.rota_items.proofs.Common.{[], ◌∷◌, ap, week_of, charged_items, exits, goes_on, stop, items_join, Pattern, only_sunday, saturday}
 use Rattle.rota_items.proofs.rules.weekend_walk.walk_weekend.Goals as goal
 
 pub returns-in_err-walk_pattern : goal.returns-in_err-walk_pattern

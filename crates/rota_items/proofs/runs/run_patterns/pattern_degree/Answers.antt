@@ -1,5 +1,4 @@
-use Rattle.rota_items.proofs.Common.{arith}
-use Rattle.std.proofs.lemmas.Int.{ints}
+use Rattle.rota_items.proofs.Common.{arith, ints}
 use Rattle.rota_items.proofs.runs.run_patterns.pattern_degree.Goals as goal
 
 pub returns : goal.returns

@@ -1,5 +1,4 @@
-use Rattle.rota_items.proofs.Common.{arith}
-use Rattle.std.specs.Prelude.{not}
+use Rattle.rota_items.proofs.Common.{arith, not}
 use Rattle.rota_items.proofs.DayPatterns.{count-plain}
 use Rattle.rota_items.proofs.runs.run_patterns.plain_days.Goals as goal
 

@@ -1,6 +1,4 @@
-use Rattle.rota_items.proofs.Common.{week_of, item_of}
-use Rattle.rota_items.proofs.Taking.{nothing}
-use Rattle.rota_items.proofs.Walking.{item_taken, items_join}
+use Rattle.rota_items.proofs.Common.{week_of, item_of, nothing, item_taken, items_join}
 use Rattle.rota_items.proofs.runs.run_walk.walk_pattern.Goals as goal
 
 pub returns-in_default : goal.returns-in_default

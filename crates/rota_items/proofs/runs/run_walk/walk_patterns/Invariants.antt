@@ -1,5 +1,4 @@
-use Rattle.rota_items.proofs.Common.{week_of, TookItems, runs_of, each_below}
-use Rattle.rota_items.specs.RunItemParts.{pattern_items_on}
+use Rattle.rota_items.proofs.Common.{week_of, TookItems, runs_of, each_below, pattern_items_on}
 use Rattle.rota_items.proofs.runs.run_walk.walk_patterns.Given as goal
 
 abbrev pub invariant-loop-day : goal.invariant-loop-day

@@ -1,5 +1,4 @@
-use Rattle.rota_items.proofs.Common.{week_of, TookItems, runs_of, each_below}
-use Rattle.rota_items.specs.RunItemParts.{closed_items_at}
+use Rattle.rota_items.proofs.Common.{week_of, TookItems, runs_of, each_below, closed_items_at}
 use Rattle.rota_items.proofs.runs.run_walk.walk_patterns_on.Given as goal
 
 abbrev pub invariant-loop-count : goal.invariant-loop-count

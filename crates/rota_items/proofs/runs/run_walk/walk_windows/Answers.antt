@@ -1,6 +1,4 @@
-use Rattle.rota_items.proofs.Common.{arith}
-use Rattle.rota_items.proofs.Taking.{exits, loop_refused}
-use Rattle.rota_items.proofs.Walking.{items_join}
+use Rattle.rota_items.proofs.Common.{arith, exits, loop_refused, items_join}
 use Rattle.rota_items.proofs.runs.run_walk.walk_windows.Goals as goal
 
 pub returns-in_err-walk_pattern : goal.returns-in_err-walk_pattern

@@ -1,5 +1,4 @@
-use Rattle.rota_items.proofs.Common.{week_of, TookItems, runs_of, each_below}
-use Rattle.rota_items.specs.RunItemParts.{window_items_on}
+use Rattle.rota_items.proofs.Common.{week_of, TookItems, runs_of, each_below, window_items_on}
 use Rattle.rota_items.proofs.runs.run_walk.walk_windows.Given as goal
 
 abbrev pub invariant-loop-day : goal.invariant-loop-day

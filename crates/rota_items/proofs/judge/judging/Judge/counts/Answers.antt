@@ -1,9 +1,4 @@
-use Rattle.std.proofs.Common.{◌≡◌, ◌<◌, subst, ◌∙◌, arith}
-use Rattle.std.proofs.lemmas.Bool.{le-ltb}
-use Rattle.rota_core.specs.InstanceTables.{week_of}
-use Rattle.rota_items.specs.Variables.{unit_number}
-use Rattle.rota_items.specs.Judged.{subject_of}
-use Rattle.rota_items.specs.Judging.{Judging, counts_for}
+use Rattle.rota_items.proofs.Common.{◌≡◌, ◌<◌, subst, ◌∙◌, arith, le-ltb, week_of, unit_number, subject_of, Judging, counts_for}
 use Rattle.rota_items.proofs.AssignmentOf.{place-assigned}
 use Rattle.rota_items.proofs.judge.judging.Judge.counts.Goals as goal
 

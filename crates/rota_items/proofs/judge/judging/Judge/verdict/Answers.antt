@@ -1,6 +1,4 @@
-use Rattle.std.proofs.Common.{refl, subst, sym}
-use Rattle.rota_core.specs.InstanceTables.{week_of}
-use Rattle.rota_items.specs.Judging.{WasDriven}
+use Rattle.rota_items.proofs.Common.{refl, subst, sym, week_of, WasDriven}
 use Rattle.rota_items.proofs.JudgedVerdict.{driven-judges}
 use Rattle.rota_items.proofs.VerdictMeaning.{either-judged, settles_model}
 use Rattle.rota_items.proofs.judge.judging.Judge.verdict.Goals as goal
