@@ -8,7 +8,7 @@ cases. Half of the weeks are tried as they were made, with several rosters: test
 compared. In the others, and in the files of examples/, bytes are cut, doubled and swapped, words and numbers
 exchanged, lines moved. What is checked of each run then:
 
-- its status is one of the list in docs/formats.md, and not want of memory or a failed read or write;
+- its status is one of the list in docs/formats.md, and not that of out of memory or a failed read or write;
 - where it is not 0, standard error is one line of the stated form, standard output is empty, and no file is made;
 - the counts of a model's first line are those of its lines;
 - an answer in pieces ends as the whole answer does;

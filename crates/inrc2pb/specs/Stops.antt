@@ -21,7 +21,7 @@ IsUsage (stopped.Words text) = ⊥
 IsUsage (stopped.Usage text) = ⊤
 IsUsage (stopped.Job fault) = ⊥
 
--- a text that was asked for is shown, and want of memory ends the program as it ends a job
+-- a text that was asked for is shown, and out of memory ends the program as it ends a job
 abbrev pub IsStopOf : JobFault → Stop → Type 0
 IsStopOf (Words error) stop = (IsAskedFor (kind_of error) → stop ≡ stopped.Shown error)
     × (kind_of error ≡ OutOfMemory → stop ≡ stopped.Job failed.Memory)

@@ -13,11 +13,10 @@ use crate::values::{Cell, Contract, Demand, Past, Span};
 use crate::week::{Week, WeekParts};
 use std::marker::Model;
 
-/// The tables of one week: its scenario, the history before it, and its own demands and requests, all
-/// for the same nurses, shift types and skills. The week is one of those that the scenario spans.
-/// Beside them are whether excess is charged in each week, and the cells that are held.
-/// Nurses, shift types and skills are numbered from 0 in the order of the scenario's file, and days
-/// are 0 (Monday) to 6 (Sunday).
+/// The tables of one week: its scenario, which spans the week, the history before it, and its own demands and requests,
+/// all for the same nurses, shift types and skills. Beside them are whether excess is charged in each week, and the cells
+/// that are held. Nurses, shift types and skills are numbered from 0 in the order of the scenario's file, and days are 0
+/// (Monday) to 6 (Sunday).
 #[derive(Drop)]
 pub struct Instance {
     scenario: Scenario,
@@ -29,10 +28,9 @@ pub struct Instance {
 
 impl Model for Instance {
     ghost use Rattle.rota_core.specs.InstanceTables.{InstanceTables, IsInstance};
+    ghost use Rattle.rota_core.specs.Parts.{instance_of};
 
     ghost Value = { InstanceTables };
-
-    ghost use Rattle.rota_core.specs.Parts.{instance_of};
 
     ghost view = { λ i. instance_of i.scenario i.history i.week i.early i.held };
 
