@@ -28,6 +28,7 @@ pub mod JudgedModel
 pub mod JudgedRows
 pub mod JudgedTerms
 pub mod JudgedVerdict
+pub mod LawProofs
 pub mod Least
 pub mod Lists
 pub mod LogicWords
