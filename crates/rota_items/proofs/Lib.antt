@@ -22,7 +22,6 @@ pub mod ItemEventLists
 pub mod ItemLaw
 pub mod ItemRows
 pub mod ItemSizes
-pub mod JudgeWords
 pub mod JudgedItems
 pub mod JudgedModel
 pub mod JudgedRows
@@ -31,10 +30,8 @@ pub mod JudgedVerdict
 pub mod LawProofs
 pub mod Least
 pub mod Lists
-pub mod LogicWords
 pub mod ModelParts
 pub mod ModelRows
-pub mod ModelWords
 pub mod Numbers
 pub mod NurseCosts
 pub mod NurseItemLists
@@ -47,10 +44,8 @@ pub mod RisingCells
 pub mod RisingTerms
 pub mod RowSizes
 pub mod RuleSizes
-pub mod RuleWords
 pub mod RunItemLists
 pub mod RunLaw
-pub mod RunWords
 pub mod Satisfied
 pub mod SlackBound
 pub mod SlackTerms
@@ -60,7 +55,6 @@ pub mod SoundTerms
 pub mod Standing
 pub mod Taking
 pub mod TakingLists
-pub mod TakingWords
 pub mod Values
 pub mod VerdictMeaning
 pub mod Walking
