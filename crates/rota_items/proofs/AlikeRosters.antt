@@ -1,7 +1,5 @@
 -- Rosters with the same cells in a week keep the same hard rules, and what their costs depend on is the same.
-use Rattle.rota_items.proofs.LogicWords.{◌≡◌, ℕ, zero, suc, ◌+◌, ◌<◌, ◌≤◌, Bool, if◌then◌else◌, refl, sym, ap, ◌∙◌, subst, arith, any_below, count_below}
-use Rattle.rota_items.proofs.ModelWords.{Cell, is_on, works, nurses_at, KeepsCompetitionRules, KeepsHardRules, Roster, InWeek, Has, cell, Week}
-use Rattle.rota_items.proofs.RunWords.{Span, run_cost, run_over, run_under}
+use Rattle.rota_items.proofs.Common.Words.{◌≡◌, ℕ, zero, suc, ◌+◌, ◌<◌, ◌≤◌, Bool, if◌then◌else◌, refl, sym, ap, ◌∙◌, subst, arith, any_below, count_below, Cell, is_on, works, nurses_at, KeepsCompetitionRules, KeepsHardRules, Roster, InWeek, Has, cell, Week, Span, run_cost, run_over, run_under}
 use Rattle.rota_items.proofs.Lists.{sum_below-same}
 
 any_below-alike : (n : ℕ) (p q : ℕ → Bool) → ((i : ℕ) → i < n → p i ≡ q i) → any_below n p ≡ any_below n q

@@ -1,6 +1,5 @@
 -- The assignment that stands for a roster.
-use Rattle.rota_items.proofs.LogicWords.{◌≡◌, ℕ, ◌+◌, ◌<◌, true, false, refl, ap, arith, slice_index_or, lt-ltb, ne_eqb, eq-eqb}
-use Rattle.rota_items.proofs.ModelWords.{Roster, InWeek, RosterTables, HasShapeOf, cell_place, set_of, Week, Cell, cell_number, unit_number, cell_of_number, assignment_of}
+use Rattle.rota_items.proofs.Common.Words.{◌≡◌, ℕ, ◌+◌, ◌<◌, true, false, refl, ap, arith, slice_index_or, lt-ltb, ne_eqb, eq-eqb, Roster, InWeek, RosterTables, HasShapeOf, cell_place, set_of, Week, Cell, cell_number, unit_number, cell_of_number, assignment_of}
 use Rattle.rota_items.proofs.Numbers.{cell_number-below, cell_number-of, cell_of-cell_number}
 
 pub assignment_of-cell : (week : Week) (roster : Roster) (one : Cell) → InWeek week one →

@@ -1,6 +1,5 @@
 -- A nurse has at most one cell a day, so the sums over her day are 0 or 1.
-use Rattle.rota_items.proofs.LogicWords.{◌≡◌, ℕ, ◌<◌, ◌≤◌, Bool, true, false, cond, [], ◌∷◌, refl, ap, ◌∙◌, arith, sym, count_by, list_any, true≢false, or-false, cond-false, false_from_ne_true, sum_below, count_below, each_below}
-use Rattle.rota_items.proofs.ModelWords.{KeepsOneCell, KeepsSkills, is_on, works, Roster, cell, Has, Week, Cell, on_cells, work_cells, skill_cells}
+use Rattle.rota_items.proofs.Common.Words.{◌≡◌, ℕ, ◌<◌, ◌≤◌, Bool, true, false, cond, [], ◌∷◌, refl, ap, ◌∙◌, arith, sym, count_by, list_any, true≢false, or-false, cond-false, false_from_ne_true, sum_below, count_below, each_below, KeepsOneCell, KeepsSkills, is_on, works, Roster, cell, Has, Week, Cell, on_cells, work_cells, skill_cells}
 use Rattle.rota_items.proofs.Lists.{sum_by-each-is, count_by-each, sum_below-one, found, list_any-each, any_below-same, sum_below-zero, term-le-sum_below, one-sum_below}
 
 pub cond-le : (b : Bool) → cond b 1 0 ≤ 1

@@ -1,6 +1,5 @@
 -- The coefficients of the constraints are 1 and -1.
-use Rattle.rota_items.proofs.LogicWords.{ℕ, inl, refl, pos, All, All-from_recursion, AllByRecursion-append}
-use Rattle.rota_items.proofs.ModelWords.{Week, cell_number, unit_number, numbered, Term, times, LinearRow, linear_constraint, item_row, slack_variables, numbered_row, numbered_terms, model_of, unit_row, IsUnit, HasUnitCoefficients}
+use Rattle.rota_items.proofs.Common.Words.{ℕ, inl, refl, pos, All, All-from_recursion, AllByRecursion-append, Week, cell_number, unit_number, numbered, Term, times, LinearRow, linear_constraint, item_row, slack_variables, numbered_row, numbered_terms, model_of, unit_row, IsUnit, HasUnitCoefficients}
 use Rattle.rota_items.proofs.ModelRows.{each-constraint, each-model_row}
 use Rattle.rota_items.proofs.SoundTerms.{AreUnits, coefficients-numbered, units-times}
 

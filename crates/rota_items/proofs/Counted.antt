@@ -1,8 +1,5 @@
 -- What a counter makes of a list of rows.
-use Rattle.rota_items.proofs.LogicWords.{◌≡◌, ℕ, ◌+◌, ◌≤◌, min, max, Bool, true, cond, List, [], ◌∷◌, ◌++◌, map, length, refl, ap, ◌∙◌, arith, fold-append, sum_by-cons, AllByRecursion, fold, count_by}
-use Rattle.rota_items.proofs.ModelWords.{Term, LinearRow, counted, counts_of, greatest, is_constraint, no_counts, variables_in}
-use Rattle.rota_items.proofs.RuleWords.{greatest_count}
-use Rattle.rota_items.proofs.TakingWords.{start_row, close_row, term_events, row_events, events, Part, Objective, Hard, Soft}
+use Rattle.rota_items.proofs.Common.Words.{◌≡◌, ℕ, ◌+◌, ◌≤◌, min, max, Bool, true, cond, List, [], ◌∷◌, ◌++◌, map, length, refl, ap, ◌∙◌, arith, fold-append, sum_by-cons, AllByRecursion, fold, count_by, Term, LinearRow, counted, counts_of, greatest, is_constraint, no_counts, variables_in, greatest_count, start_row, close_row, term_events, row_events, events, Part, Objective, Hard, Soft}
 use Rattle.rota_items.specs.declared.counting.counter.Counts.{Counts}
 
 abbrev pub counts_row : LinearRow ℕ → Bool

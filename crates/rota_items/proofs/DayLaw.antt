@@ -1,6 +1,5 @@
 -- What a day's window and patterns charge is what the run costs on that day.
-use Rattle.rota_items.proofs.LogicWords.{◌≡◌, ℕ, zero, suc, ◌+◌, ◌-◌, ◌<◌, Bool, ◌&&◌, not, cond, true, false, ◌⊎◌, inl, inr, List, [], ◌∷◌, ◌++◌, map, sym, ap, ◌∙◌, add-one, arith, ltb, leb, nat_lt, nat_le, ◌==◌, list_all, range_with_len, sum_by, list_all-append, map-range_with_len_more, sum_by-append, le-leb, nat_tests, sum_below}
-use Rattle.rota_items.proofs.RunWords.{Span, PatternDay, Pattern, with_property, without_property, days_with, window, windows_on, closed_pattern, closed_patterns_at, closed_patterns_on, edge_pattern, edge_patterns_on, patterns_on, run_length_before, is_over, missing_on}
+use Rattle.rota_items.proofs.Common.Words.{◌≡◌, ℕ, zero, suc, ◌+◌, ◌-◌, ◌<◌, Bool, ◌&&◌, not, cond, true, false, ◌⊎◌, inl, inr, List, [], ◌∷◌, ◌++◌, map, sym, ap, ◌∙◌, add-one, arith, ltb, leb, nat_lt, nat_le, ◌==◌, list_all, range_with_len, sum_by, list_all-append, map-range_with_len_more, sum_by-append, le-leb, nat_tests, sum_below, Span, PatternDay, Pattern, with_property, without_property, days_with, window, windows_on, closed_pattern, closed_patterns_at, closed_patterns_on, edge_pattern, edge_patterns_on, patterns_on, run_length_before, is_over, missing_on}
 use Rattle.rota_items.proofs.Lists.{sum_by-only_if, sum_by-each-is}
 
 -- whether the day is as the pattern says

@@ -1,6 +1,5 @@
 -- What weeks that follow one another are charged sums up to what is above in the end, less what was at the start.
-use Rattle.rota_items.proofs.LogicWords.{◌≡◌, ℕ, ◌+◌, true, List, [], ◌∷◌, arith, sum, sum_by, sum_by-cons}
-use Rattle.rota_items.proofs.RuleWords.{charged_excess, CountedTotal, FollowEarly, RosteredWeek, added_by_all, added_excess, added_in, early_charges}
+use Rattle.rota_items.proofs.Common.Words.{◌≡◌, ℕ, ◌+◌, true, List, [], ◌∷◌, arith, sum, sum_by, sum_by-cons, charged_excess, CountedTotal, FollowEarly, RosteredWeek, added_by_all, added_excess, added_in, early_charges}
 
 pub early_charges-are : (most before : ℕ) (steps : List ℕ) → early_charges most before steps ≡ added_excess most before (sum steps)
 early_charges-are most before [] = omega arith

@@ -1,7 +1,5 @@
 -- Rosters extend to assignments at their penalty, and satisfying assignments stand for rosters of no greater one.
-use Rattle.rota_items.proofs.LogicWords.{◌≡◌, ℕ, ◌+◌, ◌*◌, ◌<◌, ◌≤◌, Bool, true, false, cond, List, ◌++◌, refl, sym, ap, ◌∙◌, arith, pos, ◌+ℤ◌, ◌-ℤ◌, ◌≤ℤ◌, nat_lt, All, AllByRecursion, ints, lt-ltb, ltb-false, All-from_recursion, recursion_from_All}
-use Rattle.rota_items.proofs.ModelWords.{KeepsCompetitionRules, KeepsHardRules, Roster, InWeek, Week, Cell, cell_number, unit_number, first_slack, constant_terms, cell_terms, constant, penalty, soft_items, Item, positive_part, shortage, weighted_shortages, numbered, Term, Satisfies, value_of, SatisfiesModel, StandBelow, item_constraints, slack_weights, numbered_terms, numbered_items, objective_terms, roster_of, assignment_of, extension_of, model_of}
-use Rattle.rota_items.proofs.RuleWords.{request_cost}
+use Rattle.rota_items.proofs.Common.Words.{◌≡◌, ℕ, ◌+◌, ◌*◌, ◌<◌, ◌≤◌, Bool, true, false, cond, List, ◌++◌, refl, sym, ap, ◌∙◌, arith, pos, ◌+ℤ◌, ◌-ℤ◌, ◌≤ℤ◌, nat_lt, All, AllByRecursion, ints, lt-ltb, ltb-false, All-from_recursion, recursion_from_All, KeepsCompetitionRules, KeepsHardRules, Roster, InWeek, Week, Cell, cell_number, unit_number, first_slack, constant_terms, cell_terms, constant, penalty, soft_items, Item, positive_part, shortage, weighted_shortages, numbered, Term, Satisfies, value_of, SatisfiesModel, StandBelow, item_constraints, slack_weights, numbered_terms, numbered_items, objective_terms, roster_of, assignment_of, extension_of, model_of, request_cost}
 use Rattle.rota_items.proofs.AlikeRosters.{keeps-alike}
 use Rattle.rota_items.proofs.AssignmentOf.{assignment_of-cell, assignment_of-unit}
 use Rattle.rota_items.proofs.ItemLaw.{value_of-numbered, extension_satisfies, value_of-extension, weighted_shortages-le}

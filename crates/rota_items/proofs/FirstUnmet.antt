@@ -1,6 +1,5 @@
 -- The first of some rows that fails a test.
-use Rattle.rota_items.proofs.LogicWords.{◌≡◌, ℕ, suc, ◌+◌, Bool, true, false, ◌⊎◌, inl, inr, List, [], ◌∷◌, ◌++◌, map, length, refl, sym, ap, ◌∙◌, arith, Option, Some, None, ℤ, ◌≤ℤ◌, int_le, if◌then◌else◌, IfSome, MatchOption, All, AllByRecursion, ints, cases_Bool, option_or, All-cons, All-head, All-nil, All-tail}
-use Rattle.rota_items.proofs.ModelWords.{Rule, Satisfies, value_of, LinearRow, linear_constraint, first_failing, first_unmet, later, rule_of_part}
+use Rattle.rota_items.proofs.Common.Words.{◌≡◌, ℕ, suc, ◌+◌, Bool, true, false, ◌⊎◌, inl, inr, List, [], ◌∷◌, ◌++◌, map, length, refl, sym, ap, ◌∙◌, arith, Option, Some, None, ℤ, ◌≤ℤ◌, int_le, if◌then◌else◌, IfSome, MatchOption, All, AllByRecursion, ints, cases_Bool, option_or, All-cons, All-head, All-nil, All-tail, Rule, Satisfies, value_of, LinearRow, linear_constraint, first_failing, first_unmet, later, rule_of_part}
 
 abbrev pub Named : Type 0
 Named = Option (ℕ × Rule)

@@ -1,7 +1,5 @@
 -- Holding cells adds to the model only that each of them is true.
-use Rattle.rota_items.proofs.LogicWords.{◌≡◌, ◌↔◌, ℕ, ◌+◌, Bool, false, [], map, length, ap, arith, length-map, nil_from_length, length-flat_map}
-use Rattle.rota_items.proofs.ModelWords.{KeepsHeld, Roster, hard_rules, Week, rows_of_hard_rule, rule_rows, SatisfiesModel, linear_constraint, model_of, roster_of, rows_of, cells_of, h5_row, h5_rows, without_held}
-use Rattle.rota_items.proofs.RuleWords.{H5}
+use Rattle.rota_items.proofs.Common.Words.{◌≡◌, ◌↔◌, ℕ, ◌+◌, Bool, false, [], map, length, ap, arith, length-map, nil_from_length, length-flat_map, KeepsHeld, Roster, hard_rules, Week, rows_of_hard_rule, rule_rows, SatisfiesModel, linear_constraint, model_of, roster_of, rows_of, cells_of, h5_row, h5_rows, without_held, H5}
 use Rattle.rota_items.proofs.SlackBound.{length-rows_of}
 use Rattle.rota_core.proofs.RosterCount.{cells_of-none}
 use Rattle.rota_items.proofs.HardRules.EachRule.{rows-are}

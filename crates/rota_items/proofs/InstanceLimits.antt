@@ -1,7 +1,5 @@
 -- The numbers of an instance's week are within the limits that the model's numbers are bounded by.
-use Rattle.rota_items.proofs.LogicWords.{ℕ, zero, suc, ◌≤◌, List, [], ◌∷◌, arith, slice_index_or, AllByRecursion, none-some}
-use Rattle.rota_items.proofs.ModelWords.{InstanceTables, IsInstance, week_of, AreLimits, IsContract, no_span, no_contract, no_demand, no_past, IsDemand, IsPast}
-use Rattle.rota_items.proofs.RuleWords.{IsWithinLimits, most_number}
+use Rattle.rota_items.proofs.Common.Words.{ℕ, zero, suc, ◌≤◌, List, [], ◌∷◌, arith, slice_index_or, AllByRecursion, none-some, InstanceTables, IsInstance, week_of, AreLimits, IsContract, no_span, no_contract, no_demand, no_past, IsDemand, IsPast, IsWithinLimits, most_number}
 
 -- what holds of each element and of the default holds at any place
 pub AllByRecursion-or_default : {X : Type 0} (P : X → Type 0) (xs : List X) (i : ℕ) (default : X) →

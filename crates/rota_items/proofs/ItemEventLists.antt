@@ -1,7 +1,5 @@
 -- The slacks of items and the events of terms, one list after another.
-use Rattle.rota_items.proofs.LogicWords.{◌≡◌, ℕ, ◌+◌, List, ◌∷◌, ◌++◌, map, map-append, sum_by-cons, sum_by-append}
-use Rattle.rota_items.proofs.ModelWords.{Cell, Item, numbered, Term, slack_count}
-use Rattle.rota_items.proofs.TakingWords.{term, term_events}
+use Rattle.rota_items.proofs.Common.Words.{◌≡◌, ℕ, ◌+◌, List, ◌∷◌, ◌++◌, map, map-append, sum_by-cons, sum_by-append, Cell, Item, numbered, Term, slack_count, term, term_events}
 use Rattle.rota_items.proofs.Lists.{sum_by-map}
 
 -- ---- how many slacks

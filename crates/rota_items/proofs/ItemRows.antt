@@ -1,8 +1,5 @@
 -- What a taker of rows takes by the items that are handed on to it.
-use Rattle.rota_items.proofs.LogicWords.{◌≡◌, ℕ, ◌+◌, ◌<◌, List, [], ◌∷◌, ◌++◌, Result, Ok, Err, refl, sym, ap, subst, ◌∙◌, arith, append_assoc, fold, fold-append, MatchResult-weaker}
-use Rattle.rota_items.proofs.ModelWords.{InstanceTables, IsInstance, week_of, soft_items, Item, item_rows, slack_count, slack_weights, first_slack, numbered_items, cell_number}
-use Rattle.rota_items.proofs.RuleWords.{word_limit}
-use Rattle.rota_items.proofs.TakingWords.{Event, events, term_events, Handing, StopsAt, row_of_item, slacks_within, weights_of_item, with_item, within_numbers, Took, Refused, Takes, TookAll, RefusedOne, TakesAll, Ghosts}
+use Rattle.rota_items.proofs.Common.Words.{◌≡◌, ℕ, ◌+◌, ◌<◌, List, [], ◌∷◌, ◌++◌, Result, Ok, Err, refl, sym, ap, subst, ◌∙◌, arith, append_assoc, fold, fold-append, MatchResult-weaker, InstanceTables, IsInstance, week_of, soft_items, Item, item_rows, slack_count, slack_weights, first_slack, numbered_items, cell_number, word_limit, Event, events, term_events, Handing, StopsAt, row_of_item, slacks_within, weights_of_item, with_item, within_numbers, Took, Refused, Takes, TookAll, RefusedOne, TakesAll, Ghosts}
 use Rattle.rota_items.proofs.InstanceLimits.{instance-within_limits}
 use Rattle.rota_items.proofs.ItemEventLists.{slack_count-cons, slack_count-append, slack_count-numbered, term_events-append}
 use Rattle.rota_items.proofs.SlackBound.{variables_fit}

@@ -1,8 +1,5 @@
 -- How large items are: their weights, slacks, terms and degrees.
-use Rattle.rota_items.proofs.LogicWords.{ℕ, ◌*◌, ◌≤◌, Bool, true, false, List, [], ◌∷◌, ◌++◌, length, arith, ℤ, pos, negsuc, nat_abs, if◌then◌else◌, ints, length-append, length-map, sum_by-append, sum_by-cons, AllByRecursion, flat_map, mul-le}
-use Rattle.rota_items.proofs.ModelWords.{Week, Rule, Cell, Item, positive_part, Term, times, on_cells, work_cells, nurse_cells, demand_cells}
-use Rattle.rota_items.proofs.RunWords.{Present, Property, Runs, day_terms, is_plain, pattern_item, run_items, variables_on, Pattern, PatternDay, patterns, windows, only_sunday, saturday, weekend_items}
-use Rattle.rota_items.proofs.RuleWords.{IsWithinLimits, S1, heaviest, most_cells_of_day, most_run_items, most_slacks, most_terms, most_weight, most_number, most_nurses, most_shifts, most_skills}
+use Rattle.rota_items.proofs.Common.Words.{ℕ, ◌*◌, ◌≤◌, Bool, true, false, List, [], ◌∷◌, ◌++◌, length, arith, ℤ, pos, negsuc, nat_abs, if◌then◌else◌, ints, length-append, length-map, sum_by-append, sum_by-cons, AllByRecursion, flat_map, mul-le, Week, Rule, Cell, Item, positive_part, Term, times, on_cells, work_cells, nurse_cells, demand_cells, Present, Property, Runs, day_terms, is_plain, pattern_item, run_items, variables_on, Pattern, PatternDay, patterns, windows, only_sunday, saturday, weekend_items, IsWithinLimits, S1, heaviest, most_cells_of_day, most_run_items, most_slacks, most_terms, most_weight, most_number, most_nurses, most_shifts, most_skills}
 use Rattle.rota_items.proofs.EachPattern.{few-run_patterns, each-run_item}
 use Rattle.rota_items.proofs.Lists.{length-at_most}
 use Rattle.rota_items.proofs.SmallSums.{positive_part-parts, spread}

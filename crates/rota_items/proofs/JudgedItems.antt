@@ -1,22 +1,13 @@
 -- What a judge makes of the rows of items.
-use Rattle.rota_items.proofs.LogicWords.{◌≡◌, ℕ, zero, suc, ◌+◌, ◌*◌, ◌<◌, ◌≤◌, Bool, List, [], ◌∷◌, refl, sym, ap, ◌∙◌, arith, min, ltb, w64, ℤ, pos, nat_abs, ◌-ℤ◌, int_le, nat_le, AllByRecursion, count_by, count_by-le-length, length-map, range_with_len, sum_by, fold, fold-append, lt-ltb, le-leb, ints, sum_by-append, sum_by-cons}
-use Rattle.rota_items.proofs.ModelWords.{set_of, Week, Rule, unit_number, Item, positive_part, shortage, Term, value_of, times, LinearRow, item_row, item_rows, slack_count, slack_variables, slack_weights, assignment_of, extension_of, model_of}
-use Rattle.std.specs.Int.{saturate_signed}
-use Rattle.std.proofs.lemmas.Bool.Decides.{nat_tests}
-use Rattle.rota_core.specs.RosterTables.{RosterTables}
-use Rattle.rota_items.specs.Judging.{Subject, assigned, extended, assignment_in, counts_for, lacking_in, tallied, true_slacks}
-use Rattle.rota_items.specs.Truths.{truth_of}
+use Rattle.rota_items.proofs.Common.Words.{◌≡◌, ℕ, zero, suc, ◌+◌, ◌*◌, ◌<◌, ◌≤◌, Bool, List, [], ◌∷◌, refl, sym, ap, ◌∙◌, arith, min, ltb, w64, ℤ, pos, nat_abs, ◌-ℤ◌, int_le, nat_le, AllByRecursion, count_by, count_by-le-length, length-map, range_with_len, sum_by, fold, fold-append, lt-ltb, le-leb, ints, sum_by-append, sum_by-cons, set_of, Week, Rule, unit_number, Item, positive_part, shortage, Term, value_of, times, LinearRow, item_row, item_rows, slack_count, slack_variables, slack_weights, assignment_of, extension_of, model_of, saturate_signed, nat_tests, RosterTables, Subject, assigned, extended, assignment_in, counts_for, lacking_in, tallied, true_slacks, truth_of, Tally, row_events, events, half_limit, signed_limit}
 use Rattle.rota_items.proofs.Extension.{extension-below}
 use Rattle.rota_items.proofs.ItemLaw.{IsExtension, count-front, needed-first, needed-after, value_of-item_constraint, value_of-weight}
 use Rattle.rota_items.proofs.FirstUnmet.{Named}
-use Rattle.rota_items.specs.declared.judge.tallies.Tally.{Tally}
-use Rattle.rota_items.specs.Events.{row_events, events}
 use Rattle.rota_items.proofs.JudgedRows.{Comes, IsJudged, covers, positive-saturated, row-comes, same}
 use Rattle.rota_items.proofs.JudgedTerms.{AtSlacks, Before, others-of, slacks-of, sums_of}
 use Rattle.std.proofs.lemmas.List.FromFn.{length-range_with_len as length-range}
 use Rattle.rota_items.proofs.PatternItems.{value_of-append}
 use Rattle.rota_items.proofs.SmallSums.{positive_part-parts, shortage-least, spread}
-use Rattle.rota_items.specs.Limits.{half_limit, signed_limit}
 use Rattle.rota_items.proofs.SoundTerms.{value_of-agree, spread-units, units-times}
 
 -- ---- the slacks of an item

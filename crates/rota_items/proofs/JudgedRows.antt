@@ -1,9 +1,5 @@
 -- What a judge makes of rows, one after the other.
-use Rattle.rota_items.proofs.LogicWords.{◌≡◌, ℕ, ◌+◌, ◌-◌, ◌*◌, ◌<◌, ◌≤◌, Bool, true, false, List, [], ◌∷◌, ◌++◌, map, length, refl, sym, ap, ◌∙◌, arith, min, w64, Option, Some, None, add-zero, inl, inr, ℤ, pos, negsuc, ◌+ℤ◌, ◌-ℤ◌, ◌==◌, int_le, nat_le, if◌then◌else◌, fold, AllByRecursion, ints, fold-append, saturate_signed, option_or, leb_tells, one-mul, zero-mul}
-use Rattle.rota_items.proofs.ModelWords.{soft_rules, Week, Rule, positive_part, LinearRow, is_satisfied, first_unmet, later, rule_of_part}
-use Rattle.rota_items.proofs.RuleWords.{greatest_count, half_limit, signed_limit}
-use Rattle.rota_items.proofs.TakingWords.{Hard, row_events, events}
-use Rattle.rota_items.proofs.JudgeWords.{RowSums, Tally, Subject, assigned, extended, assignment_in, capped, closed, constraint_closed, lacking_in, tallied, true_slacks, with_cost, soft_place}
+use Rattle.rota_items.proofs.Common.Words.{◌≡◌, ℕ, ◌+◌, ◌-◌, ◌*◌, ◌<◌, ◌≤◌, Bool, true, false, List, [], ◌∷◌, ◌++◌, map, length, refl, sym, ap, ◌∙◌, arith, min, w64, Option, Some, None, add-zero, inl, inr, ℤ, pos, negsuc, ◌+ℤ◌, ◌-ℤ◌, ◌==◌, int_le, nat_le, if◌then◌else◌, fold, AllByRecursion, ints, fold-append, saturate_signed, option_or, leb_tells, one-mul, zero-mul, soft_rules, Week, Rule, positive_part, LinearRow, is_satisfied, first_unmet, later, rule_of_part, greatest_count, half_limit, signed_limit, Hard, row_events, events, RowSums, Tally, Subject, assigned, extended, assignment_in, capped, closed, constraint_closed, lacking_in, tallied, true_slacks, with_cost, soft_place}
 use Rattle.rota_core.specs.declared.rule.Rule.TheVariants.{Unit as UnitRule}
 use Rattle.rota_items.proofs.FirstUnmet.{Named, later-later}
 use Rattle.rota_items.proofs.JudgedTerms.{Before, opened, others-before, row-tallied, slacks-before, sums_of}

@@ -1,9 +1,5 @@
 -- What a judge makes of the terms of a row.
-use Rattle.rota_items.proofs.LogicWords.{◌≡◌, ℕ, ◌+◌, ◌<◌, Bool, true, false, ◌&&◌, not, List, [], ◌∷◌, ◌++◌, refl, ap, ◌∙◌, arith, w64, ℤ, pos, negsuc, ◌+ℤ◌, nat_abs, nat_lt, if◌then◌else◌, fold, lt-ltb, le-ltb, ints, fold-append, sum_by-cons, saturate_signed}
-use Rattle.rota_items.proofs.ModelWords.{Week, unit_number, first_slack, Term, value_of, LinearRow, set_of}
-use Rattle.rota_items.proofs.RuleWords.{signed_limit}
-use Rattle.rota_items.proofs.TakingWords.{close_row, row_events, start_row, term_events}
-use Rattle.rota_items.proofs.JudgeWords.{RowSums, Tally, Subject, assignment_in, assigned, extended, closed, counts_for, no_sums, tallied}
+use Rattle.rota_items.proofs.Common.Words.{◌≡◌, ℕ, ◌+◌, ◌<◌, Bool, true, false, ◌&&◌, not, List, [], ◌∷◌, ◌++◌, refl, ap, ◌∙◌, arith, w64, ℤ, pos, negsuc, ◌+ℤ◌, nat_abs, nat_lt, if◌then◌else◌, fold, lt-ltb, le-ltb, ints, fold-append, sum_by-cons, saturate_signed, Week, unit_number, first_slack, Term, value_of, LinearRow, set_of, signed_limit, close_row, row_events, start_row, term_events, RowSums, Tally, Subject, assignment_in, assigned, extended, closed, counts_for, no_sums, tallied}
 use Rattle.rota_items.proofs.Extension.{extension-below}
 use Rattle.rota_items.proofs.PatternItems.{value_of-append}
 use Rattle.rota_items.proofs.SmallSums.{chosen-small, spread}

@@ -1,14 +1,5 @@
 -- A judge that was driven has the verdict of its assignment.
-use Rattle.rota_items.proofs.LogicWords.{◌≡◌, ℕ, ◌+◌, ◌-◌, ◌*◌, ◌≤◌, Bool, List, [], ◌∷◌, ◌++◌, map, refl, sym, ap, subst, ◌∙◌, arith, pos, if◌then◌else◌, AllByRecursion, fold, sum_by, ints, sum_by-cons}
-use Rattle.rota_items.proofs.ModelWords.{soft_rules, Week, Rule, unit_number, weighted_shortages, IsWithinLimits, value_of, objective_rows, cell_terms_of_rule, charged, constant, constant_of_rule, items_of_rule, objective_terms, rows_of}
-use Rattle.rota_core.specs.InstanceTables.{InstanceTables, IsInstance, week_of}
-use Rattle.rota_core.specs.declared.rule.Rule.TheVariants.{S4}
-use Rattle.rota_items.specs.declared.judge.tallies.Tally.{Tally}
-use Rattle.rota_items.specs.Events.{Event, events}
-use Rattle.rota_items.specs.Judging.{Subject, Judging, assignment_in, roster_in, capped, counts_for, fresh, judged, no_tally, tallied, WasDriven, with_constants, with_cost}
-use Rattle.rota_items.specs.Limits.{greatest_sum}
-use Rattle.rota_items.specs.rules.ShiftOffRequests.Cost.{request_cost}
-use Rattle.rota_items.specs.Verdicts.{Judges}
+use Rattle.rota_items.proofs.Common.Words.{◌≡◌, ℕ, ◌+◌, ◌-◌, ◌*◌, ◌≤◌, Bool, List, [], ◌∷◌, ◌++◌, map, refl, sym, ap, subst, ◌∙◌, arith, pos, if◌then◌else◌, AllByRecursion, fold, sum_by, ints, sum_by-cons, soft_rules, Week, Rule, unit_number, weighted_shortages, IsWithinLimits, value_of, objective_rows, cell_terms_of_rule, charged, constant, constant_of_rule, items_of_rule, objective_terms, rows_of, InstanceTables, IsInstance, week_of, S4, Tally, Event, events, Subject, Judging, assignment_in, roster_in, capped, counts_for, fresh, judged, no_tally, tallied, WasDriven, with_constants, with_cost, greatest_sum, request_cost, Judges}
 use Rattle.rota_items.proofs.InstanceLimits.{instance-within_limits}
 use Rattle.rota_items.proofs.JudgedModel.{charges-are, few, given, model-comes, objective-judged, of_rule}
 use Rattle.rota_items.proofs.JudgedRows.{cost-raised, costs_of, or_else-none, same}

@@ -1,6 +1,5 @@
 -- The least objective is the least penalty.
-use Rattle.rota_items.proofs.LogicWords.{◌↔◌, ℕ, ◌≤◌, Bool, arith, pos, ◌≤ℤ◌, ints}
-use Rattle.rota_items.proofs.ModelWords.{KeepsHardRules, Roster, Week, SatisfiesModel, objective_value, penalty, roster_of, extension_of, model_of}
+use Rattle.rota_items.proofs.Common.Words.{◌↔◌, ℕ, ◌≤◌, Bool, arith, pos, ◌≤ℤ◌, ints, KeepsHardRules, Roster, Week, SatisfiesModel, objective_value, penalty, roster_of, extension_of, model_of}
 use Rattle.rota_items.proofs.Extension.{extension-satisfies, extension-objective, satisfying-keeps, satisfying-objective}
 
 pub least : (week : Week) (n : ℕ) →

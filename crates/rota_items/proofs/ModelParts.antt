@@ -1,6 +1,5 @@
 -- The constraints of the model in their two parts: those of the hard rules, and those of the items.
-use Rattle.rota_items.proofs.LogicWords.{◌≡◌, ◌↔◌, ℕ, Bool, List, ◌++◌, map, map-append, sym, subst, AllByRecursion, AllByRecursion-append, AllByRecursion-back, All-from_recursion, recursion_from_All}
-use Rattle.rota_items.proofs.ModelWords.{Week, Cell, first_slack, Constraint, Satisfies, SatisfiesModel, LinearRow, linear_constraint, item_rows, item_constraints, numbered_row, hard_rows, hard_constraints, numbered_items, model_of}
+use Rattle.rota_items.proofs.Common.Words.{◌≡◌, ◌↔◌, ℕ, Bool, List, ◌++◌, map, map-append, sym, subst, AllByRecursion, AllByRecursion-append, AllByRecursion-back, All-from_recursion, recursion_from_All, Week, Cell, first_slack, Constraint, Satisfies, SatisfiesModel, LinearRow, linear_constraint, item_rows, item_constraints, numbered_row, hard_rows, hard_constraints, numbered_items, model_of}
 
 abbrev pub hard_constraint : Week → LinearRow Cell → Constraint
 hard_constraint week row = linear_constraint (numbered_row week row)

@@ -1,8 +1,5 @@
 -- The items of rules that charge each nurse, and items of one slack.
-use Rattle.rota_items.proofs.LogicWords.{◌≡◌, ℕ, zero, suc, List, [], ◌∷◌, length, refl, arith, AllByRecursion, sum_by-cons, each_below}
-use Rattle.rota_items.proofs.ModelWords.{Week, Rule, Cell, Item, nurse_items, items_of_rule, slack_count}
-use Rattle.rota_items.proofs.RunWords.{Runs, run_items}
-use Rattle.rota_items.proofs.RuleWords.{S1}
+use Rattle.rota_items.proofs.Common.Words.{◌≡◌, ℕ, zero, suc, List, [], ◌∷◌, length, refl, arith, AllByRecursion, sum_by-cons, each_below, Week, Rule, Cell, Item, nurse_items, items_of_rule, slack_count, Runs, run_items, S1}
 use Rattle.rota_items.proofs.EachPattern.{each-run_item}
 
 pub none-each_below : {A : Type 0} (n : ℕ) → [] ≡ each_below n (λ _. let none : List A = [] in none)

@@ -1,7 +1,5 @@
 -- What the items of a nurse's runs charge on a roster with one cell a day.
-use Rattle.rota_items.proofs.LogicWords.{◌≡◌, ℕ, ◌*◌, ◌<◌, Bool, not, ap, ◌∙◌, list_any}
-use Rattle.rota_items.proofs.ModelWords.{KeepsOneCell, is_off, is_on, works, Roster, Week, Rule, Cell, on_cells, work_cells, weighted_shortages}
-use Rattle.rota_items.proofs.RunWords.{Span, Property, Present, Absent, Runs, run_items, run_cost}
+use Rattle.rota_items.proofs.Common.Words.{◌≡◌, ℕ, ◌*◌, ◌<◌, Bool, not, ap, ◌∙◌, list_any, KeepsOneCell, is_off, is_on, works, Roster, Week, Rule, Cell, on_cells, work_cells, weighted_shortages, Span, Property, Present, Absent, Runs, run_items, run_cost}
 use Rattle.rota_items.proofs.CellCounts.{any-on, any-works, any-work_cells}
 use Rattle.rota_items.proofs.RunLaw.{weighted_shortages-run_items}
 use Rattle.rota_items.proofs.SoftRules.NurseProperties.{of_nurse-on, one-at_work}

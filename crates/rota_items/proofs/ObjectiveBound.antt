@@ -1,7 +1,5 @@
 -- How large the objective of any assignment is.
-use Rattle.rota_items.proofs.LogicWords.{◌*◌, ◌≤◌, arith, ℕ, ◌+◌, Bool, List, [], ◌∷◌, ap, sum_by-cons, count_by-le-length, pos, ◌≤ℤ◌, sum_by, count_by, ints, mul-le-mul_left}
-use Rattle.rota_items.proofs.ModelWords.{Week, Item, constant, soft_items, cell_number, unit_number, first_slack, value_of, times, slack_variables, slack_weights, numbered, numbered_items, objective_terms, cell_terms, roster_of}
-use Rattle.rota_items.proofs.RuleWords.{IsWithinLimits, most_objective, most_weight}
+use Rattle.rota_items.proofs.Common.Words.{◌*◌, ◌≤◌, arith, ℕ, ◌+◌, Bool, List, [], ◌∷◌, ap, sum_by-cons, count_by-le-length, pos, ◌≤ℤ◌, sum_by, count_by, ints, mul-le-mul_left, Week, Item, constant, soft_items, cell_number, unit_number, first_slack, value_of, times, slack_variables, slack_weights, numbered, numbered_items, objective_terms, cell_terms, roster_of, IsWithinLimits, most_objective, most_weight}
 use Rattle.std.proofs.lemmas.List.FromFn.{length-range_with_len as length-range}
 use Rattle.rota_items.proofs.Extension.{value_of-objective}
 use Rattle.rota_items.proofs.ItemLaw.{value_of-weight, value_of-numbered}

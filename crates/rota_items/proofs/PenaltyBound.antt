@@ -1,7 +1,5 @@
 -- How large the penalty, the constant and the shortages are.
-use Rattle.rota_items.proofs.LogicWords.{ℕ, ◌*◌, ◌<◌, ◌≤◌, arith, sum_by-le-sum_by, mul-le}
-use Rattle.rota_items.proofs.ModelWords.{Roster, soft_rules, Week, Rule, shortage, weighted_shortages, constant, constant_of_rule, items_of_rule, penalty, rule_cost, nurse_constant}
-use Rattle.rota_items.proofs.RuleWords.{IsWithinLimits, S1, S2, S6, S7, most_constant, most_constant_of_rule, most_cost, most_items, most_items_of_any, most_shortage, most_weight, penalty_limit}
+use Rattle.rota_items.proofs.Common.Words.{ℕ, ◌*◌, ◌<◌, ◌≤◌, arith, sum_by-le-sum_by, mul-le, Roster, soft_rules, Week, Rule, shortage, weighted_shortages, constant, constant_of_rule, items_of_rule, penalty, rule_cost, nurse_constant, IsWithinLimits, S1, S2, S6, S7, most_constant, most_constant_of_rule, most_cost, most_items, most_items_of_any, most_shortage, most_weight, penalty_limit}
 use Rattle.rota_items.proofs.RuleSizes.{small-nurse_rule, small-rule}
 use Rattle.rota_items.proofs.SlackBound.{items-le}
 use Rattle.rota_items.proofs.SmallSums.{shortage-least}

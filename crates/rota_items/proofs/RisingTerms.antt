@@ -1,6 +1,5 @@
 -- The terms of the model are by rising variable number.
-use Rattle.rota_items.proofs.LogicWords.{◌≡◌, ℕ, zero, suc, ◌+◌, ◌≤◌, List, [], ◌∷◌, ◌++◌, arith, ℤ, pos, nat_lt, All, AllByRecursion, range_with_len, All-from_recursion, sum_by-cons}
-use Rattle.rota_items.proofs.ModelWords.{Week, unit_number, first_slack, slack_count, constant_terms, cell_terms, constant, Item, Term, Constraint, times, linear_constraint, slack_weights, soft_items, cell_number, numbered_terms, objective_terms, numbered_items, model_of, RisesFrom, HasRisingTerms}
+use Rattle.rota_items.proofs.Common.Words.{◌≡◌, ℕ, zero, suc, ◌+◌, ◌≤◌, List, [], ◌∷◌, ◌++◌, arith, ℤ, pos, nat_lt, All, AllByRecursion, range_with_len, All-from_recursion, sum_by-cons, Week, unit_number, first_slack, slack_count, constant_terms, cell_terms, constant, Item, Term, Constraint, times, linear_constraint, slack_weights, soft_items, cell_number, numbered_terms, objective_terms, numbered_items, model_of, RisesFrom, HasRisingTerms}
 use Rattle.rota_items.proofs.ItemEventLists.{slack_count-numbered}
 use Rattle.rota_items.proofs.Lists.{all-weaker}
 use Rattle.rota_items.proofs.ModelRows.{each-constraint, each-model_row}

@@ -1,8 +1,5 @@
 -- How large the numbers of the soft rules are in a week within the limits: their items, their constant and their cost.
-use Rattle.rota_items.proofs.LogicWords.{◌≡◌, ℕ, ◌+◌, ◌-◌, ◌*◌, ◌≤◌, Bool, ◌&&◌, ◌||◌, cond, length, refl, arith, pos, negsuc, ◌-ℤ◌, nat_lt, nat_le, AllByRecursion, count_by-le-length, length-append, ints, AllByRecursion-append, AllByRecursion-each_below, AllByRecursion-only_if, length-only_if, true, false, sum_by-le-sum_by, sum_below, each_below}
-use Rattle.rota_items.proofs.ModelWords.{Roster, Week, Rule, Cell, Item, is_on, is_off, works, nurses_at, cell, nurse_cells, demand_cells, constant_of_rule, items_of_rule, rule_cost, soft_items, soft_rules, nurse_constant, nurse_items}
-use Rattle.rota_items.proofs.RunWords.{Span, run_items, ends_run, is_over, missing_on, run_cost, run_length_before, run_over, run_under, week_days}
-use Rattle.rota_items.proofs.RuleWords.{IsWithinLimits, S1, S2, S3, S4, S5, S6, S7, most_cells, most_constant_of_nurse, most_constant_of_rule, most_cost, most_cost_of_nurse, most_items, most_items_of_nurse, charged_excess, excess_before_counts, greatest_totals_count, least_totals_count, most_nurses, most_number, most_shifts, most_skills, complete_weekend_weight, history_on, shift_run_cost, shift_runs, work_runs, off_runs, optimum_item, optimum_items_at, request_cost, request_weight, assignments_of, greatest_total_item, greatest_totals_of, least_total_item, least_totals_of, still_allowed, still_wanted, worked_weekend, worked_weekend_weight}
+use Rattle.rota_items.proofs.Common.Words.{◌≡◌, ℕ, ◌+◌, ◌-◌, ◌*◌, ◌≤◌, Bool, ◌&&◌, ◌||◌, cond, length, refl, arith, pos, negsuc, ◌-ℤ◌, nat_lt, nat_le, AllByRecursion, count_by-le-length, length-append, ints, AllByRecursion-append, AllByRecursion-each_below, AllByRecursion-only_if, length-only_if, true, false, sum_by-le-sum_by, sum_below, each_below, Roster, Week, Rule, Cell, Item, is_on, is_off, works, nurses_at, cell, nurse_cells, demand_cells, constant_of_rule, items_of_rule, rule_cost, soft_items, soft_rules, nurse_constant, nurse_items, Span, run_items, ends_run, is_over, missing_on, run_cost, run_length_before, run_over, run_under, week_days, IsWithinLimits, S1, S2, S3, S4, S5, S6, S7, most_cells, most_constant_of_nurse, most_constant_of_rule, most_cost, most_cost_of_nurse, most_items, most_items_of_nurse, charged_excess, excess_before_counts, greatest_totals_count, least_totals_count, most_nurses, most_number, most_shifts, most_skills, complete_weekend_weight, history_on, shift_run_cost, shift_runs, work_runs, off_runs, optimum_item, optimum_items_at, request_cost, request_weight, assignments_of, greatest_total_item, greatest_totals_of, least_total_item, least_totals_of, still_allowed, still_wanted, worked_weekend, worked_weekend_weight}
 use Rattle.rota_items.proofs.ItemSizes.{IsItemSmall, few-run_items, few-weekend, length-demand, length-nurse, length-on, length-work, small-runs, small-weekend, spread-times}
 use Rattle.rota_items.proofs.Lists.{all-flat_map, all-weaker, length-at_most, sum_below-at_most, where_in}
 use Rattle.rota_items.proofs.SmallSums.{positive_part-parts}

@@ -1,7 +1,5 @@
 -- A property's items, in the order of the loops that hand them over.
-use Rattle.rota_items.proofs.LogicWords.{◌≡◌, ℕ, ◌++◌, map, ap, ◌∙◌, map-append, each_below}
-use Rattle.rota_items.proofs.ModelWords.{Item}
-use Rattle.rota_items.proofs.RunWords.{Runs, pattern_item, run_items, Pattern, closed_patterns_at, closed_patterns_on, edge_patterns_on, patterns, patterns_on, windows, windows_on, window_items_on, closed_items_at, edge_items_on, pattern_items_on}
+use Rattle.rota_items.proofs.Common.Words.{◌≡◌, ℕ, ◌++◌, map, ap, ◌∙◌, map-append, each_below, Item, Runs, pattern_item, run_items, Pattern, closed_patterns_at, closed_patterns_on, edge_patterns_on, patterns, patterns_on, windows, windows_on, window_items_on, closed_items_at, edge_items_on, pattern_items_on}
 use Rattle.rota_items.proofs.Lists.{map-each_below}
 
 module _ {X : Type 0} (runs : Runs X) where

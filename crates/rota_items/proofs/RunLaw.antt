@@ -1,7 +1,5 @@
 -- The items of a property's runs charge the cost of the runs.
-use Rattle.rota_items.proofs.LogicWords.{◌≡◌, ℕ, ◌*◌, ◌<◌, ◌≤◌, Bool, cond, List, [], ◌∷◌, ◌++◌, refl, ap, ◌∙◌, arith, All, count_by, sum_by, AllByRecursion, sum_by-cons, sum_by-append, sum_below, All-from_recursion}
-use Rattle.rota_items.proofs.ModelWords.{Item, shortage, weighted_shortages}
-use Rattle.rota_items.proofs.RunWords.{Span, Runs, variables_on, pattern_item, run_items, pattern_items, Pattern, windows_on, patterns_on, windows, patterns, has_property, day_items, AtMostOneADay, DaysFollow, day_cost, week_days, is_over, missing_on, run_over, run_under, run_cost}
+use Rattle.rota_items.proofs.Common.Words.{◌≡◌, ℕ, ◌*◌, ◌<◌, ◌≤◌, Bool, cond, List, [], ◌∷◌, ◌++◌, refl, ap, ◌∙◌, arith, All, count_by, sum_by, AllByRecursion, sum_by-cons, sum_by-append, sum_below, All-from_recursion, Item, shortage, weighted_shortages, Span, Runs, variables_on, pattern_item, run_items, pattern_items, Pattern, windows_on, patterns_on, windows, patterns, has_property, day_items, AtMostOneADay, DaysFollow, day_cost, week_days, is_over, missing_on, run_over, run_under, run_cost}
 use Rattle.rota_items.proofs.CellCounts.{cond-le}
 use Rattle.rota_items.proofs.DayLaw.{matches, units_of, units, units-windows_on, units-patterns_on}
 use Rattle.rota_items.proofs.EachPattern.{IsRunPattern, each-on, each-pattern, on-pattern, each-run_item}

@@ -1,6 +1,5 @@
 -- An assignment satisfies the numbered rows exactly where its roster keeps the rules.
-use Rattle.rota_items.proofs.LogicWords.{◌≡◌, ℕ, Bool, true, List, [], ◌∷◌, sym, subst, ◌≤ℤ◌, AllByRecursion}
-use Rattle.rota_items.proofs.ModelWords.{KeepsHardRules, Week, Cell, cell_number, unit_number, rule_rows, Satisfies, value_of, LinearRow, hard_constraints, roster_of}
+use Rattle.rota_items.proofs.Common.Words.{◌≡◌, ℕ, Bool, true, List, [], ◌∷◌, sym, subst, ◌≤ℤ◌, AllByRecursion, KeepsHardRules, Week, Cell, cell_number, unit_number, rule_rows, Satisfies, value_of, LinearRow, hard_constraints, roster_of}
 use Rattle.rota_items.proofs.HardRules.EachRule.{rule_rows-hold, rule_rows-mean}
 use Rattle.rota_items.proofs.HardRules.Held.{one-where_true}
 use Rattle.rota_items.proofs.HardRules.Sound.{AllHold}

@@ -1,7 +1,5 @@
 -- How many slacks the items of a week have, and how many rows its model has.
-use Rattle.rota_items.proofs.LogicWords.{◌≡◌, ℕ, ◌+◌, ◌*◌, ◌<◌, ◌≤◌, List, [], ◌∷◌, length, refl, arith, sum_by, length-append, length-map, All-from_recursion, sum_by-le, length-flat_map, sum_by-le-sum_by, mul-le, mul-le-mul}
-use Rattle.rota_items.proofs.ModelWords.{Week, Rule, Cell, cell_number, first_slack, rule_rows, Item, numbered, linear_constraint, item_rows, slack_count, soft_rules, items_of_rule, soft_items, hard_rows, numbered_items, numbered_row, rows_of, model_of, cell_count}
-use Rattle.rota_items.proofs.RuleWords.{IsWithinLimits, count_limit, most_cells, most_items, most_slacks, most_nurses, word_limit}
+use Rattle.rota_items.proofs.Common.Words.{◌≡◌, ℕ, ◌+◌, ◌*◌, ◌<◌, ◌≤◌, List, [], ◌∷◌, length, refl, arith, sum_by, length-append, length-map, All-from_recursion, sum_by-le, length-flat_map, sum_by-le-sum_by, mul-le, mul-le-mul, Week, Rule, Cell, cell_number, first_slack, rule_rows, Item, numbered, linear_constraint, item_rows, slack_count, soft_rules, items_of_rule, soft_items, hard_rows, numbered_items, numbered_row, rows_of, model_of, cell_count, IsWithinLimits, count_limit, most_cells, most_items, most_slacks, most_nurses, word_limit}
 use Rattle.rota_items.proofs.ItemSizes.{IsItemSmall}
 use Rattle.rota_items.proofs.Lists.{all-weaker, sum_by-flat_map}
 use Rattle.rota_items.proofs.RowSizes.{rule_rows-few}

@@ -1,6 +1,5 @@
 -- Sums that do not reach the greatest number.
-use Rattle.rota_items.proofs.LogicWords.{◌≡◌, ℕ, ◌+◌, ◌-◌, ◌≤◌, Bool, true, false, List, [], ◌∷◌, arith, ℤ, pos, negsuc, ◌+ℤ◌, nat_abs, if◌then◌else◌, sum_by, ints, sum_by-cons, up, down}
-use Rattle.rota_items.proofs.ModelWords.{Item, positive_part, shortage, Term, value_of}
+use Rattle.rota_items.proofs.Common.Words.{◌≡◌, ℕ, ◌+◌, ◌-◌, ◌≤◌, Bool, true, false, List, [], ◌∷◌, arith, ℤ, pos, negsuc, ◌+ℤ◌, nat_abs, if◌then◌else◌, sum_by, ints, sum_by-cons, up, down, Item, positive_part, shortage, Term, value_of}
 
 -- the sum of the coefficients without their signs
 abbrev pub spread : {X : Type 0} → List (Term X) → ℕ

@@ -1,7 +1,5 @@
 -- Terms: what holds of their variables and coefficients, and those within the week, rising, of coefficients of 1 and -1.
-use Rattle.rota_items.proofs.LogicWords.{◌≡◌, ℕ, ◌<◌, Bool, cond, List, [], ◌∷◌, refl, ap, ◌∙◌, ℤ, pos, ◌+ℤ◌, All, AllByRecursion, flat_map, All-from_recursion, recursion_from_All, AllByRecursion-append, ◌≤◌, true, false, inl, inr, map, length, arith, negsuc, nat_abs, if◌then◌else◌, sum_by-cons, AllByRecursion-each_below, each_below, ◌+◌}
-use Rattle.rota_items.proofs.ModelWords.{Item, Term, times, value_of, StandBelow, IsUnit, cell, InWeek, Week, on_cells, work_cells, nurse_cells, demand_cells, skill_cells, Cell, cell_number, unit_number}
-use Rattle.rota_items.proofs.RunWords.{Property, Runs, variables_on, day_terms, run_items, PatternDay, is_plain}
+use Rattle.rota_items.proofs.Common.Words.{◌≡◌, ℕ, ◌<◌, Bool, cond, List, [], ◌∷◌, refl, ap, ◌∙◌, ℤ, pos, ◌+ℤ◌, All, AllByRecursion, flat_map, All-from_recursion, recursion_from_All, AllByRecursion-append, ◌≤◌, true, false, inl, inr, map, length, arith, negsuc, nat_abs, if◌then◌else◌, sum_by-cons, AllByRecursion-each_below, each_below, ◌+◌, Item, Term, times, value_of, StandBelow, IsUnit, cell, InWeek, Week, on_cells, work_cells, nurse_cells, demand_cells, skill_cells, Cell, cell_number, unit_number, Property, Runs, variables_on, day_terms, run_items, PatternDay, is_plain}
 use Rattle.rota_items.proofs.EachPattern.{OnDays, on-pattern, each-run_item}
 use Rattle.rota_items.proofs.Lists.{all-map}
 use Rattle.rota_items.proofs.SmallSums.{spread}

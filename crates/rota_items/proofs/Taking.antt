@@ -1,7 +1,5 @@
 -- How what a taker took grows, call by call and loop by loop.
-use Rattle.rota_items.proofs.LogicWords.{◌≡◌, ℕ, zero, suc, ◌<◌, Bool, true, false, List, [], ◌∷◌, ◌++◌, map, Result, MatchResult, refl, sym, ap, ◌∙◌, subst, inl, inr, arith, append_assoc, append-nil, map-append, flat_map-append, fold-append, MatchResult-from_err, MatchResult-weaker, fold, ℤ, IsErr, each_below-zero, each_below-more, last_or_before, only_if-holds, only_if-fails, each_below, only_if}
-use Rattle.rota_items.proofs.ModelWords.{Week, Cell, cell_number, Term, times, LinearRow, numbered_row, numbered_terms}
-use Rattle.rota_items.proofs.TakingWords.{cell_term_events, cell_row_events, coefficient_of, sum_events, start_row, term, close_row, row_events, term_events, events, TookAll, RefusedOne, TakesAll, Took, Refused, Takes, Sign, Ghosts}
+use Rattle.rota_items.proofs.Common.Words.{◌≡◌, ℕ, zero, suc, ◌<◌, Bool, true, false, List, [], ◌∷◌, ◌++◌, map, Result, MatchResult, refl, sym, ap, ◌∙◌, subst, inl, inr, arith, append_assoc, append-nil, map-append, flat_map-append, fold-append, MatchResult-from_err, MatchResult-weaker, fold, ℤ, IsErr, each_below-zero, each_below-more, last_or_before, only_if-holds, only_if-fails, each_below, only_if, Week, Cell, cell_number, Term, times, LinearRow, numbered_row, numbered_terms, cell_term_events, cell_row_events, coefficient_of, sum_events, start_row, term, close_row, row_events, term_events, events, TookAll, RefusedOne, TakesAll, Took, Refused, Takes, Sign, Ghosts}
 
 -- what holds of a loop's turns before one, with it, and of each longer list, holds of all the turns
 pub in_turn : {A : Type 0} (P : List A → Type 0) → ((xs ys : List A) → P xs → P (xs ++ ys)) → (i n : ℕ) (f : ℕ → List A) →

@@ -1,7 +1,5 @@
 -- How what a taker took grows in a loop over a list, and in one over held cells.
-use Rattle.rota_items.proofs.LogicWords.{◌≡◌, ℕ, suc, ◌+◌, ◌<◌, List, [], ◌∷◌, ◌++◌, map, get_or, take, drop, length, refl, ap, ◌∙◌, subst, arith, take-suc, append-nil, map-append, take-append-drop, flat_map-append, flat_map}
-use Rattle.rota_items.proofs.ModelWords.{Week, h5_row}
-use Rattle.rota_items.proofs.TakingWords.{cell_row_events, TookAll, RefusedOne}
+use Rattle.rota_items.proofs.Common.Words.{◌≡◌, ℕ, suc, ◌+◌, ◌<◌, List, [], ◌∷◌, ◌++◌, map, get_or, take, drop, length, refl, ap, ◌∙◌, subst, arith, take-suc, append-nil, map-append, take-append-drop, flat_map-append, flat_map, Week, h5_row, cell_row_events, TookAll, RefusedOne}
 use Rattle.rota_items.proofs.Taking.{Joins, go_on, rows_join, stop}
 
 -- the lists of the elements before one, of it, and of those after it

@@ -1,6 +1,5 @@
 -- The shortages of plain sums.
-use Rattle.rota_items.proofs.LogicWords.{◌≡◌, ℕ, ◌-◌, Bool, true, false, List, arith, pos, negsuc, ◌-ℤ◌, count_by, ints}
-use Rattle.rota_items.proofs.ModelWords.{positive_part, times, value_of}
+use Rattle.rota_items.proofs.Common.Words.{◌≡◌, ℕ, ◌-◌, Bool, true, false, List, arith, pos, negsuc, ◌-ℤ◌, count_by, ints, positive_part, times, value_of}
 use Rattle.rota_items.proofs.PatternItems.{value_of-sum}
 use Rattle.rota_items.proofs.SmallSums.{positive_part-parts}
 

@@ -1,8 +1,5 @@
 -- What a verdict says of the model and of the rules, of bits and of a roster's extension.
-use Rattle.rota_items.proofs.LogicWords.{◌≡◌, ◌↔◌, ℕ, ◌+◌, Bool, true, false, cond, ◌⊎◌, inl, inr, List, [], ◌∷◌, map, length, refl, sym, ap, ◌∙◌, arith, Some, None, pos, ◌+ℤ◌, int_le, IfSome, MatchOption, AllByRecursion, cases_Bool, true≢false, ints, sum, slice_index_or, IsSomeAnd, option_or}
-use Rattle.rota_items.proofs.ModelWords.{KeepsCompetitionRules, KeepsHardRules, FirstBroken, InWeek, Roster, set_of, soft_rules, Week, Rule, Cell, cell_number, first_slack, unit_number, Item, numbered, positive_part, SatisfiesModel, LinearRow, is_satisfied, item_rows, charged, rule_cost, soft_items, extension_of, hard_rows, model_of, numbered_items, roster_of, rows_of, NamesFirstBroken, first_unmet, rule_of_part, truth_of}
-use Rattle.rota_items.proofs.RuleWords.{H1, H2, H3, H4, H5}
-use Rattle.rota_items.proofs.JudgeWords.{is_soft, Verdict, Subject, SettlesModel, assigned, assignment_in, extended, roster_in, CostsTheRules, Extends, IsMet, Judges, JudgesTheRules}
+use Rattle.rota_items.proofs.Common.Words.{◌≡◌, ◌↔◌, ℕ, ◌+◌, Bool, true, false, cond, ◌⊎◌, inl, inr, List, [], ◌∷◌, map, length, refl, sym, ap, ◌∙◌, arith, Some, None, pos, ◌+ℤ◌, int_le, IfSome, MatchOption, AllByRecursion, cases_Bool, true≢false, ints, sum, slice_index_or, IsSomeAnd, option_or, KeepsCompetitionRules, KeepsHardRules, FirstBroken, InWeek, Roster, set_of, soft_rules, Week, Rule, Cell, cell_number, first_slack, unit_number, Item, numbered, positive_part, SatisfiesModel, LinearRow, is_satisfied, item_rows, charged, rule_cost, soft_items, extension_of, hard_rows, model_of, numbered_items, roster_of, rows_of, NamesFirstBroken, first_unmet, rule_of_part, truth_of, H1, H2, H3, H4, H5, is_soft, Verdict, Subject, SettlesModel, assigned, assignment_in, extended, roster_in, CostsTheRules, Extends, IsMet, Judges, JudgesTheRules}
 use Rattle.rota_items.proofs.Extension.{extension-objective, extension-satisfies, extension-unit, satisfying-keeps, satisfying-objective}
 use Rattle.rota_items.proofs.FirstBroken.{names-first_broken}
 use Rattle.rota_items.proofs.FirstUnmet.{Decided, IfSome-later, Named, first_failing-append, first_failing-of, first_unmet-decides}

@@ -1,9 +1,7 @@
 -- How a walk over items goes on, item by item and loop by loop.
-use Rattle.rota_items.proofs.LogicWords.{◌≡◌, List, [], ◌∷◌, ◌++◌, Result, MatchResult, refl, map-append, fold-append, MatchResult-weaker, each_below-zero, each_below-more}
-use Rattle.rota_items.proofs.ModelWords.{Week, Cell, cell_number, Item, numbered}
-use Rattle.rota_items.proofs.TakingWords.{TakesItems, numbered_list}
-use Rattle.rota_items.proofs.Taking.{Joins, Took-one, Refused-one}
+use Rattle.rota_items.proofs.Common.Words.{◌≡◌, List, [], ◌∷◌, ◌++◌, Result, MatchResult, refl, map-append, fold-append, MatchResult-weaker, each_below-zero, each_below-more, Week, Cell, cell_number, Item, numbered, TakesItems, numbered_list}
 use Rattle.rota_items.specs.declared.items.item_takers.ItemTaker.{Ghosts}
+use Rattle.rota_items.proofs.Taking.{Joins, Took-one, Refused-one}
 
 pub items_join : (week : Week) → Joins (numbered_list week)
 unfolding numbered_list

@@ -1,7 +1,5 @@
 -- The coefficients of the objective are positive and small.
-use Rattle.rota_items.proofs.LogicWords.{◌≡◌, ℕ, ◌+◌, ◌<◌, Bool, true, false, cond, List, [], ◌∷◌, map, arith, ℤ, pos, ◌+ℤ◌, ◌≤ℤ◌, ◌<ℤ◌, nat_lt, All, AllByRecursion, ints, All-from_recursion, AllByRecursion-append, AllByRecursion-only_if}
-use Rattle.rota_items.proofs.ModelWords.{Week, Cell, cell_number, first_slack, Item, numbered, Term, times, value_of, objective_value, constant_terms, slack_variables, slack_weights, cell_terms, constant, soft_items, numbered_terms, numbered_items, objective_terms, model_of}
-use Rattle.rota_items.proofs.RuleWords.{IsWithinLimits, most_coefficient}
+use Rattle.rota_items.proofs.Common.Words.{◌≡◌, ℕ, ◌+◌, ◌<◌, Bool, true, false, cond, List, [], ◌∷◌, map, arith, ℤ, pos, ◌+ℤ◌, ◌≤ℤ◌, ◌<ℤ◌, nat_lt, All, AllByRecursion, ints, All-from_recursion, AllByRecursion-append, AllByRecursion-only_if, Week, Cell, cell_number, first_slack, Item, numbered, Term, times, value_of, objective_value, constant_terms, slack_variables, slack_weights, cell_terms, constant, soft_items, numbered_terms, numbered_items, objective_terms, model_of, IsWithinLimits, most_coefficient}
 use Rattle.rota_items.proofs.Lists.{all-weaker}
 use Rattle.rota_items.proofs.PenaltyBound.{constant-few}
 use Rattle.rota_items.proofs.RuleSizes.{each-small}

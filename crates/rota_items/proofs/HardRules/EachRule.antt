@@ -1,7 +1,5 @@
 -- What is shown of each hard rule holds of all their rows.
-use Rattle.rota_items.proofs.LogicWords.{List, [], ◌∷◌, AllByRecursion, flat_map}
-use Rattle.rota_items.proofs.ModelWords.{KeepsHardRules, Roster, hard_rules, Week, Rule, Cell, rows_of_hard_rule, rule_rows, LinearRow}
-use Rattle.rota_items.proofs.RuleWords.{H1, H2, H3, H4, H5}
+use Rattle.rota_items.proofs.Common.Words.{List, [], ◌∷◌, AllByRecursion, flat_map, KeepsHardRules, Roster, hard_rules, Week, Rule, Cell, rows_of_hard_rule, rule_rows, LinearRow, H1, H2, H3, H4, H5}
 use Rattle.rota_items.proofs.HardRules.Held.{held}
 use Rattle.rota_items.proofs.HardRules.Minimum.{minimum}
 use Rattle.rota_items.proofs.HardRules.OneCell.{one_cell}

@@ -1,7 +1,5 @@
 -- H5: each held cell is in the roster.
-use Rattle.rota_items.proofs.LogicWords.{◌≡◌, ◌↔◌, Bool, true, false, cond, inl, refl, arith, pos, ◌+ℤ◌, ◌≤ℤ◌, ints}
-use Rattle.rota_items.proofs.ModelWords.{Has, Week, Cell, cells_of, h5_row, h5_rows}
-use Rattle.rota_items.proofs.RuleWords.{H5}
+use Rattle.rota_items.proofs.Common.Words.{◌≡◌, ◌↔◌, Bool, true, false, cond, inl, refl, arith, pos, ◌+ℤ◌, ◌≤ℤ◌, ints, Has, Week, Cell, cells_of, h5_row, h5_rows, H5}
 use Rattle.rota_core.proofs.CellLists.{all-cells_of, at-cells_of}
 use Rattle.rota_items.proofs.HardRules.RowsAre.{Are, of-each}
 use Rattle.rota_items.proofs.HardRules.Sound.{Holds, IsHardRuleSound, IsRowSound}

@@ -1,7 +1,5 @@
 -- H2: the least number of nurses, where one is asked for.
-use Rattle.rota_items.proofs.LogicWords.{◌≡◌, ℕ, ◌<◌, ◌≤◌, ◌↔◌, true, inl, inr, refl, arith, nat_lt, cases_Bool, ltb-false, ints}
-use Rattle.rota_items.proofs.ModelWords.{nurses_at, Roster, cell, Week, Cell, demand_cells, LinearRow, h2_row, h2_rows}
-use Rattle.rota_items.proofs.RuleWords.{H2}
+use Rattle.rota_items.proofs.Common.Words.{◌≡◌, ℕ, ◌<◌, ◌≤◌, ◌↔◌, true, inl, inr, refl, arith, nat_lt, cases_Bool, ltb-false, ints, nurses_at, Roster, cell, Week, Cell, demand_cells, LinearRow, h2_row, h2_rows, H2}
 use Rattle.rota_items.proofs.HardRules.RowsAre.{Are, in-turns, where-holds}
 use Rattle.rota_items.proofs.HardRules.Sound.{Holds, IsHardRuleSound, IsRowSound}
 use Rattle.rota_items.proofs.SoundTerms.{sound-demand}

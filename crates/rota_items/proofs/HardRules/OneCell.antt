@@ -1,7 +1,5 @@
 -- H1: at most one cell of a nurse's day.
-use Rattle.rota_items.proofs.LogicWords.{◌≡◌, ℕ, ◌<◌, ◌≤◌, ◌↔◌, refl, ap, ◌∙◌, arith, ints}
-use Rattle.rota_items.proofs.ModelWords.{Roster, cell, Week, Cell, work_cells, LinearRow, h1_row, h1_rows}
-use Rattle.rota_items.proofs.RuleWords.{H1}
+use Rattle.rota_items.proofs.Common.Words.{◌≡◌, ℕ, ◌<◌, ◌≤◌, ◌↔◌, refl, ap, ◌∙◌, arith, ints, Roster, cell, Week, Cell, work_cells, LinearRow, h1_row, h1_rows, H1}
 use Rattle.rota_items.proofs.CellCounts.{work_count, count-work_cells, work_count-le, same_cells}
 use Rattle.rota_items.proofs.HardRules.RowsAre.{Are, alone, in-turns}
 use Rattle.rota_items.proofs.HardRules.Sound.{Holds, IsHardRuleSound, IsRowSound}

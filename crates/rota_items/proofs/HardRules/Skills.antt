@@ -1,7 +1,5 @@
 -- H4: no cell that needs a skill that the nurse lacks.
-use Rattle.rota_items.proofs.LogicWords.{◌≡◌, ℕ, ◌<◌, ◌↔◌, not, true, inl, inr, refl, ap, arith, cases_Bool, ints, not-true}
-use Rattle.rota_items.proofs.ModelWords.{Roster, Week, Cell, skill_cells, LinearRow, h4_row, h4_rows}
-use Rattle.rota_items.proofs.RuleWords.{H4}
+use Rattle.rota_items.proofs.Common.Words.{◌≡◌, ℕ, ◌<◌, ◌↔◌, not, true, inl, inr, refl, ap, arith, cases_Bool, ints, not-true, Roster, Week, Cell, skill_cells, LinearRow, h4_row, h4_rows, H4}
 use Rattle.rota_items.proofs.CellCounts.{skill_count, count-skill_cells, no_skill_cells, some_skill_cell}
 use Rattle.rota_items.proofs.HardRules.RowsAre.{Are, in-turns, where-holds}
 use Rattle.rota_items.proofs.HardRules.Sound.{Holds, IsHardRuleSound, IsRowSound}

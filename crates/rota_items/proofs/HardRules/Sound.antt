@@ -1,8 +1,5 @@
 -- What is to be shown of a hard rule and its rows.
-use Rattle.rota_items.proofs.LogicWords.{◌≡◌, ◌≤ℤ◌, List, AllByRecursion}
-use Rattle.rota_items.proofs.ModelWords.{KeepsOneCell, KeepsMinimum, KeepsSuccession, KeepsSkills, KeepsHeld, Roster, Week, Rule, Cell, rows_of_hard_rule, value_of, LinearRow}
-use Rattle.rota_items.proofs.RuleWords.{H1, H2, H3, H4, H5}
-use Rattle.rota_items.proofs.TakingWords.{Hard}
+use Rattle.rota_items.proofs.Common.Words.{◌≡◌, ◌≤ℤ◌, List, AllByRecursion, KeepsOneCell, KeepsMinimum, KeepsSuccession, KeepsSkills, KeepsHeld, Roster, Week, Rule, Cell, rows_of_hard_rule, value_of, LinearRow, H1, H2, H3, H4, H5, Hard}
 use Rattle.rota_items.proofs.SoundTerms.{AreSound}
 
 -- the row holds on the roster

@@ -1,7 +1,5 @@
 -- What all items of the soft rules have: projections of what is shown of each rule.
-use Rattle.rota_items.proofs.LogicWords.{◌≡◌, ◌≤◌, true, ap, ◌∙◌, subst, sym, AllByRecursion}
-use Rattle.rota_items.proofs.ModelWords.{KeepsCompetitionRules, Roster, InWeek, Week, Cell, Item, shortage, Term, cell_terms, soft_items}
-use Rattle.rota_items.proofs.JudgeWords.{is_soft}
+use Rattle.rota_items.proofs.Common.Words.{◌≡◌, ◌≤◌, true, ap, ◌∙◌, subst, sym, AllByRecursion, KeepsCompetitionRules, Roster, InWeek, Week, Cell, Item, shortage, Term, cell_terms, soft_items, is_soft}
 use Rattle.rota_items.proofs.Lists.{all-weaker}
 use Rattle.rota_items.proofs.RisingCells.{within}
 use Rattle.rota_items.proofs.SoftRules.EachRule.{cell_terms-are, each-item}

@@ -1,7 +1,5 @@
 -- The items of complete weekends charge the nurses who work on only one of its days.
-use Rattle.rota_items.proofs.LogicWords.{true, refl, arith}
-use Rattle.rota_items.proofs.ModelWords.{Week}
-use Rattle.rota_items.proofs.RuleWords.{S5, complete_weekend_weight}
+use Rattle.rota_items.proofs.Common.Words.{true, refl, arith, Week, S5, complete_weekend_weight}
 use Rattle.rota_items.proofs.AlikeRosters.{works-alike}
 use Rattle.rota_items.proofs.SoftRules.Sound.{IsNurseRuleSound}
 use Rattle.rota_items.proofs.SoftRules.WeekendItems.{sound-items_where, weighted-items_where}

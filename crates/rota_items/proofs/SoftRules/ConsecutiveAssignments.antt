@@ -1,8 +1,5 @@
 -- The items of the runs on shift types and of working days charge the cost of those runs.
-use Rattle.rota_items.proofs.LogicWords.{◌≡◌, ℕ, List, arith, refl, pos, ints, sum_by-append, AllByRecursion-append, AllByRecursion-each_below, each_below}
-use Rattle.rota_items.proofs.ModelWords.{KeepsOneCell, is_on, works, Roster, Week, Cell, Item, charged, rule_cost}
-use Rattle.rota_items.proofs.RunWords.{run_items}
-use Rattle.rota_items.proofs.RuleWords.{S2, history_on, shift_run_cost, shift_run_weight, work_run_weight, shift_runs, work_runs}
+use Rattle.rota_items.proofs.Common.Words.{◌≡◌, ℕ, List, arith, refl, pos, ints, sum_by-append, AllByRecursion-append, AllByRecursion-each_below, each_below, KeepsOneCell, is_on, works, Roster, Week, Cell, Item, charged, rule_cost, run_items, S2, history_on, shift_run_cost, shift_run_weight, work_run_weight, shift_runs, work_runs}
 use Rattle.rota_items.proofs.AlikeRosters.{on-alike, run_cost-alike, works-alike}
 use Rattle.rota_items.proofs.NurseRuns.{weighted-on_runs, weighted-work_runs}
 use Rattle.rota_items.proofs.SoftRules.NurseProperties.{of_nurse-on, of_nurse-work, sound-run_items}

@@ -1,7 +1,5 @@
 -- The items of the runs of days off charge the cost of those runs.
-use Rattle.rota_items.proofs.LogicWords.{◌≡◌, ◌*◌, arith, ap, not, pos, ints}
-use Rattle.rota_items.proofs.ModelWords.{KeepsOneCell, is_off, Roster, Week, charged, rule_cost}
-use Rattle.rota_items.proofs.RuleWords.{S3, off_run_weight, off_runs}
+use Rattle.rota_items.proofs.Common.Words.{◌≡◌, ◌*◌, arith, ap, not, pos, ints, KeepsOneCell, is_off, Roster, Week, charged, rule_cost, S3, off_run_weight, off_runs}
 use Rattle.rota_items.proofs.AlikeRosters.{run_cost-alike, works-alike}
 use Rattle.rota_items.proofs.NurseRuns.{weighted-off_runs}
 use Rattle.rota_items.proofs.SoftRules.NurseProperties.{of_nurse-work, sound-run_items}

@@ -1,7 +1,5 @@
 -- The items of the optimal numbers charge the nurses who are missing.
-use Rattle.rota_items.proofs.LogicWords.{◌≡◌, ℕ, ◌-◌, ◌*◌, ◌<◌, Bool, true, refl, ap, ◌∙◌, arith, nat_lt, AllByRecursion, ltb-true, ints, AllByRecursion-each_below, AllByRecursion-only_if}
-use Rattle.rota_items.proofs.ModelWords.{nurses_at, KeepsMinimum, Roster, cell, Week, demand_cells, shortage, weighted_shortages}
-use Rattle.rota_items.proofs.RuleWords.{S1, optimum_cost, optimum_weight, optimum_item, optimum_items, optimum_items_at}
+use Rattle.rota_items.proofs.Common.Words.{◌≡◌, ℕ, ◌-◌, ◌*◌, ◌<◌, Bool, true, refl, ap, ◌∙◌, arith, nat_lt, AllByRecursion, ltb-true, ints, AllByRecursion-each_below, AllByRecursion-only_if, nurses_at, KeepsMinimum, Roster, cell, Week, demand_cells, shortage, weighted_shortages, S1, optimum_cost, optimum_weight, optimum_item, optimum_items, optimum_items_at}
 use Rattle.rota_items.proofs.AlikeRosters.{nurses-alike}
 use Rattle.rota_items.proofs.Lists.{sum_by-only_if, sum_by-each-times, count_by-each, sum_below-same}
 use Rattle.rota_items.proofs.SoftRules.Sound.{IsItemSound, IsSoftRuleSound, no_constant, weighted}

@@ -1,7 +1,5 @@
 -- The items of the totals and their part of the constant charge the assignments outside the limits.
-use Rattle.rota_items.proofs.LogicWords.{◌≡◌, ℕ, ◌+◌, ◌-◌, ◌*◌, ◌<◌, ◌≤◌, Bool, ◌&&◌, true, cond, refl, ap, ◌∙◌, arith, min, ℤ, pos, negsuc, ◌-ℤ◌, nat_lt, count_by, ltb-true, sum_by-append, AllByRecursion-append, AllByRecursion-only_if, and_parts, inl, inr}
-use Rattle.rota_items.proofs.ModelWords.{KeepsCompetitionRules, KeepsOneCell, Roster, Week, nurse_cells, work_cells, positive_part, shortage, times, value_of, IsUnit}
-use Rattle.rota_items.proofs.RuleWords.{S6, charged_excess, excess_before_counts, greatest_totals_count, least_totals_count, assignment_weight, assignments_of, greatest_total_item, greatest_totals_of, least_total_item, least_totals_of, still_allowed, still_wanted}
+use Rattle.rota_items.proofs.Common.Words.{◌≡◌, ℕ, ◌+◌, ◌-◌, ◌*◌, ◌<◌, ◌≤◌, Bool, ◌&&◌, true, cond, refl, ap, ◌∙◌, arith, min, ℤ, pos, negsuc, ◌-ℤ◌, nat_lt, count_by, ltb-true, sum_by-append, AllByRecursion-append, AllByRecursion-only_if, and_parts, inl, inr, KeepsCompetitionRules, KeepsOneCell, Roster, Week, nurse_cells, work_cells, positive_part, shortage, times, value_of, IsUnit, S6, charged_excess, excess_before_counts, greatest_totals_count, least_totals_count, assignment_weight, assignments_of, greatest_total_item, greatest_totals_of, least_total_item, least_totals_of, still_allowed, still_wanted}
 use Rattle.rota_items.proofs.AlikeRosters.{count_below-alike, same_cell}
 use Rattle.rota_items.proofs.CellCounts.{work_count, work_count-le, count-work_cells}
 use Rattle.rota_items.proofs.SoundTerms.{in-nurse_cells, sound-days}

@@ -1,7 +1,5 @@
 -- The items of a nurse's weekend.
-use Rattle.rota_items.proofs.LogicWords.{◌≡◌, ℕ, ◌+◌, ◌*◌, ◌<◌, ◌≤◌, Bool, true, false, cond, List, [], ◌∷◌, length, map, refl, ap, ◌∙◌, arith, if◌then◌else◌, AllByRecursion, range_with_len, sum_by-cons, count_by}
-use Rattle.rota_items.proofs.ModelWords.{KeepsOneCell, works, Roster, Week, Rule, Cell, work_cells, Item, weighted_shortages}
-use Rattle.rota_items.proofs.RunWords.{Present, pattern_item, variables_on, Pattern, PatternDay, with_property, without_property, saturday, weekend_items, DaysFollow}
+use Rattle.rota_items.proofs.Common.Words.{◌≡◌, ℕ, ◌+◌, ◌*◌, ◌<◌, ◌≤◌, Bool, true, false, cond, List, [], ◌∷◌, length, map, refl, ap, ◌∙◌, arith, if◌then◌else◌, AllByRecursion, range_with_len, sum_by-cons, count_by, KeepsOneCell, works, Roster, Week, Rule, Cell, work_cells, Item, weighted_shortages, Present, pattern_item, variables_on, Pattern, PatternDay, with_property, without_property, saturday, weekend_items, DaysFollow}
 use Rattle.rota_items.proofs.CellCounts.{any-works}
 use Rattle.rota_items.proofs.DayLaw.{matches}
 use Rattle.rota_items.proofs.EachPattern.{on-pattern}

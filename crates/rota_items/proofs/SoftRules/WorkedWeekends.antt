@@ -1,7 +1,5 @@
 -- The items of worked weekends and their part of the constant charge the weekends above the greatest number.
-use Rattle.rota_items.proofs.LogicWords.{ℕ, Bool, false, refl, arith, ◌&&◌, nat_le}
-use Rattle.rota_items.proofs.ModelWords.{Week}
-use Rattle.rota_items.proofs.RuleWords.{S7, greatest_totals_count, worked_weekend_weight}
+use Rattle.rota_items.proofs.Common.Words.{ℕ, Bool, false, refl, arith, ◌&&◌, nat_le, Week, S7, greatest_totals_count, worked_weekend_weight}
 use Rattle.rota_items.proofs.AlikeRosters.{works-alike}
 use Rattle.rota_items.proofs.SoftRules.Sound.{IsNurseRuleSound}
 use Rattle.rota_items.proofs.SoftRules.WeekendItems.{sound-items_where, weighted-items_where}

@@ -1,4 +1,6 @@
 //! What a counter of rows finds.
+#![tactic(auto, using(crate::proofs::LawProofs::counts))]
+
 ghost use Rattle.std.specs.Prelude.{◌++◌, ◌≡◌, ℕ, List};
 ghost use Rattle.std.specs.List.{fold};
 ghost use Rattle.rota_core.specs.Week.{Week};

@@ -1,4 +1,6 @@
 //! What weeks that follow one another pay with `--early` for what is above a greatest total.
+#![tactic(auto, using(crate::proofs::LawProofs::early))]
+
 ghost use Rattle.std.specs.Prelude.{◌≡◌, ℕ, ◌≤◌, List, ◌∷◌, All, length, sum};
 ghost use Rattle.std.specs.List.{sum_by};
 ghost use Rattle.rota_items.specs.EarlyWeeks.{FollowEarly, RosteredWeek, added_by_all, added_excess, assignment_total, early_charges, weekend_total};

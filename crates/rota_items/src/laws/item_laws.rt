@@ -1,4 +1,6 @@
 //! What items mean: their constraints, their slacks and their shortages.
+#![tactic(auto, using(crate::proofs::LawProofs::items))]
+
 ghost use Rattle.std.specs.Prelude.{◌≡◌, ◌↔◌, ℕ, pos, ◌≤◌, ◌≤ℤ◌, Bool, All, List, count_by};
 ghost use Rattle.rota_core.specs.declared.values.Cell.{Cell};
 ghost use Rattle.rota_items.specs.Linear.{Satisfies, value_of};

@@ -1,5 +1,7 @@
 //! What the model of a week means: its assignments stand for the rosters that keep the hard rules, at
 //! their penalty.
+#![tactic(auto, using(crate::proofs::LawProofs::models))]
+
 ghost use Rattle.std.specs.Prelude.{◌≡◌, ◌↔◌, ◌≤◌, ◌<◌, ◌+◌, ℕ, Bool, true, pos, ◌≤ℤ◌, All, length};
 ghost use Rattle.rota_core.specs.declared.values.Cell.{Cell};
 ghost use Rattle.rota_core.specs.Week.{Week};

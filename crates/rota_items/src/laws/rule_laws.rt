@@ -1,5 +1,7 @@
 //! What the model charges is what the soft rules cost, on rosters that keep the hard rules of the
 //! competition.
+#![tactic(auto, using(crate::proofs::LawProofs::rules_charged))]
+
 ghost use Rattle.std.specs.Prelude.{◌≡◌, ℕ, ◌+◌, ◌≤◌, ◌<◌, pos, All};
 ghost use Rattle.rota_core.specs.declared.rule.Rule.{Rule};
 ghost use Rattle.rota_core.specs.declared.rule.Rule.TheVariants.{S2, S3, S5, S6, S7};

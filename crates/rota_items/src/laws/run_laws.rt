@@ -1,4 +1,6 @@
 //! What the items of a property's runs charge.
+#![tactic(auto, using(crate::proofs::LawProofs::runs))]
+
 ghost use Rattle.std.specs.Prelude.{◌≡◌, ◌++◌, ℕ, pos, ◌*◌, ◌<◌, ◌≤◌, Bool, All};
 ghost use Rattle.rota_core.specs.declared.values.Cell.{Cell};
 ghost use Rattle.rota_core.specs.declared.values.Span.{Span};

@@ -1,4 +1,6 @@
 //! How large the numbers of a week's model are, and what its coefficients are.
+#![tactic(auto, using(crate::proofs::LawProofs::sizes))]
+
 ghost use Rattle.std.specs.Prelude.{ℕ, ◌<◌, pos, ◌<ℤ◌, ◌≤ℤ◌, Bool, All, length};
 ghost use Rattle.rota_core.specs.InstanceTables.{InstanceTables, IsInstance, week_of};
 ghost use Rattle.rota_core.specs.Week.{Week};

@@ -1,5 +1,4 @@
-use Rattle.rota_items.proofs.Common.{◌≡◌, ℕ, ◌≤◌, length, arith, Week, Rule, instance-within_limits, most_cells, rows_of_hard_rule, IsWithinLimits, hard_rules, week_of}
-use Rattle.rota_items.proofs.Lists.{lengths-more}
+use Rattle.rota_items.proofs.Common.{◌≡◌, ℕ, ◌≤◌, length, arith, Week, Rule, instance-within_limits, most_cells, rows_of_hard_rule, IsWithinLimits, hard_rules, week_of, lengths-more}
 use Rattle.rota_items.proofs.RowSizes.{rows-few}
 use Rattle.rota_items.proofs.hard.count_rule_rows.Goals as goal
 

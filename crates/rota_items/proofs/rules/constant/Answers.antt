@@ -1,5 +1,4 @@
-use Rattle.rota_items.proofs.Common.{◌≡◌, ℕ, ◌≤◌, arith, Week, Rule, instance-within_limits, most_constant, constant_of_rule, IsWithinLimits, soft_rules, week_of}
-use Rattle.rota_items.proofs.Lists.{sum-all, sum-more}
+use Rattle.rota_items.proofs.Common.{◌≡◌, ℕ, ◌≤◌, arith, Week, Rule, instance-within_limits, most_constant, constant_of_rule, IsWithinLimits, soft_rules, week_of, sum-all, sum-more}
 use Rattle.rota_items.proofs.PenaltyBound.{constant_of_rule-few}
 use Rattle.rota_items.proofs.rules.constant.Goals as goal
 

@@ -1,5 +1,4 @@
-use Rattle.rota_items.proofs.Common.{◌≡◌, ℕ, ◌≤◌, arith, Week, Rule, instance-within_limits, most_constant, nurse_constant, IsWithinLimits}
-use Rattle.rota_items.proofs.Lists.{counting}
+use Rattle.rota_items.proofs.Common.{◌≡◌, ℕ, ◌≤◌, arith, Week, Rule, instance-within_limits, most_constant, nurse_constant, IsWithinLimits, counting}
 use Rattle.rota_items.proofs.PenaltyBound.{nurse_constant-few}
 use Rattle.rota_items.proofs.rules.constant_of_rule.Goals as goal
 

@@ -1,5 +1,4 @@
-use Rattle.rota_items.proofs.Common.{week_of, most_constant, nurse_constant}
-use Rattle.rota_items.proofs.Lists.{SumOfEach}
+use Rattle.rota_items.proofs.Common.{week_of, most_constant, nurse_constant, SumOfEach}
 use Rattle.rota_items.proofs.rules.constant_of_rule.Given as goal
 
 abbrev pub invariant-loop-nurse : goal.invariant-loop-nurse

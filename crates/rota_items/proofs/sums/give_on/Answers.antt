@@ -1,5 +1,4 @@
-use Rattle.rota_items.proofs.Common.{◌≡◌, ◌∙◌, w64, to_z, of_z, rules, to_z-of_z, week_of, coefficient_of}
-use Rattle.rota_items.proofs.CellRanges.{on_cells-range}
+use Rattle.rota_items.proofs.Common.{◌≡◌, ◌∙◌, w64, to_z, of_z, rules, to_z-of_z, week_of, coefficient_of, on_cells-range}
 use Rattle.rota_items.proofs.sums.give_on.Goals as goal
 
 pub returns : goal.returns

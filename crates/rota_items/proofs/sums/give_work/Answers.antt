@@ -1,5 +1,4 @@
-use Rattle.rota_items.proofs.Common.{◌≡◌, ◌∙◌, w64, to_z, of_z, rules, to_z-of_z, week_of, coefficient_of}
-use Rattle.rota_items.proofs.CellRanges.{work_cells-range}
+use Rattle.rota_items.proofs.Common.{◌≡◌, ◌∙◌, w64, to_z, of_z, rules, to_z-of_z, week_of, coefficient_of, work_cells-range}
 use Rattle.rota_items.proofs.sums.give_work.Goals as goal
 
 pub returns : goal.returns

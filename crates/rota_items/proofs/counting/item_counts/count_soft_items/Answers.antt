@@ -1,6 +1,5 @@
-use Rattle.rota_items.proofs.Common.{◌∙◌, ap}
+use Rattle.rota_items.proofs.Common.{◌∙◌, ap, ItemNumbers}
 use Rattle.rota_items.proofs.ItemCounting.{counted-week}
-use Rattle.rota_items.specs.ItemCounting.{ItemNumbers}
 use Rattle.rota_items.proofs.counting.item_counts.count_soft_items.Goals as goal
 
 pub returns-clause-items : goal.returns-clause-items

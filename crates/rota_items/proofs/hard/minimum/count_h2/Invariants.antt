@@ -1,5 +1,4 @@
-use Rattle.rota_items.proofs.Common.{LinearRow, Cell, Week, ℕ, List, week_of, each_below, most_cells_of_day, most_skills, h2_rows_at}
-use Rattle.rota_items.proofs.Lists.{LengthOfEach}
+use Rattle.rota_items.proofs.Common.{LinearRow, Cell, Week, ℕ, List, week_of, each_below, most_cells_of_day, most_skills, h2_rows_at, LengthOfEach}
 use Rattle.rota_items.proofs.hard.minimum.count_h2.Given as goal
 
 -- the rows of a day on a shift type

@@ -1,5 +1,4 @@
-use Rattle.rota_items.proofs.Common.{[], ◌∷◌, refl, arith, week_of, each_below, h1_row}
-use Rattle.rota_items.proofs.Lists.{length-each-is}
+use Rattle.rota_items.proofs.Common.{[], ◌∷◌, refl, arith, week_of, each_below, h1_row, length-each-is}
 use Rattle.rota_items.proofs.hard.one_cell.count_h1.Goals as goal
 
 pub returns : goal.returns

@@ -1,5 +1,4 @@
-use Rattle.rota_items.proofs.Common.{week_of, each_below, most_skills, h4_rows_at}
-use Rattle.rota_items.proofs.Lists.{LengthOfEach}
+use Rattle.rota_items.proofs.Common.{week_of, each_below, most_skills, h4_rows_at, LengthOfEach}
 use Rattle.rota_items.proofs.hard.skills.count_h4.Given as goal
 
 abbrev pub invariant-loop-skill : goal.invariant-loop-skill

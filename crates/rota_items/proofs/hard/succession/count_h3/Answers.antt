@@ -1,5 +1,4 @@
-use Rattle.rota_items.proofs.Common.{◌≡◌, ◌*◌, ℕ, ◌≤◌, ◌+◌, length, length-append, sym, arith, week_of, each_below, Week, instance-within_limits, most_cells_of_nurse, IsWithinLimits, h3_monday_rows, h3_rows_between}
-use Rattle.rota_items.proofs.Lists.{counting, length-each-is}
+use Rattle.rota_items.proofs.Common.{◌≡◌, ◌*◌, ℕ, ◌≤◌, ◌+◌, length, length-append, sym, arith, week_of, each_below, Week, instance-within_limits, most_cells_of_nurse, IsWithinLimits, h3_monday_rows, h3_rows_between, counting, length-each-is}
 use Rattle.rota_items.proofs.RowSizes.{between-few, monday-few}
 use Rattle.rota_items.proofs.hard.succession.count_h3.Goals as goal
 

@@ -1,5 +1,4 @@
-use Rattle.rota_items.proofs.Common.{week_of, h3_monday_rows_at}
-use Rattle.rota_items.proofs.Lists.{LengthOfEach}
+use Rattle.rota_items.proofs.Common.{week_of, h3_monday_rows_at, LengthOfEach}
 use Rattle.rota_items.proofs.hard.succession.count_h3_monday.Given as goal
 
 abbrev pub invariant-loop-shift : goal.invariant-loop-shift

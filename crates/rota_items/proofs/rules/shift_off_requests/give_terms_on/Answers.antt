@@ -1,5 +1,4 @@
-use Rattle.rota_items.proofs.Common.{◌≡◌, ℕ, ◌*◌, ◌∙◌, ap, pos, w64, to_z, of_z, rules, arith, to_z-of_z, week_of, request_weight}
-use Rattle.rota_items.proofs.CellRanges.{requests-range}
+use Rattle.rota_items.proofs.Common.{◌≡◌, ℕ, ◌*◌, ◌∙◌, ap, pos, w64, to_z, of_z, rules, arith, to_z-of_z, week_of, request_weight, requests-range}
 use Rattle.rota_items.proofs.ObjectiveTaking.{cell_terms_nowhere}
 use Rattle.rota_items.proofs.rules.shift_off_requests.give_terms_on.Goals as goal
 

@@ -1,7 +1,6 @@
-use Rattle.rota_items.proofs.Common.{◌≡◌, ◌∙◌, ◌+◌, sym, arith, rules, week_of, runs_of}
+use Rattle.rota_items.proofs.Common.{◌≡◌, ◌∙◌, ◌+◌, sym, arith, rules, week_of, runs_of, ItemNumbers, sum_within}
 use Rattle.rota_items.proofs.EachPattern.{few-run_patterns}
 use Rattle.rota_items.proofs.ItemCounting.{counted-runs}
-use Rattle.rota_items.specs.ItemCounting.{ItemNumbers, sum_within}
 use Rattle.rota_items.proofs.counting.item_counts.ItemCountsRunTaker.runs.Goals as goal
 
 pub overflow_add-items : goal.overflow_add-items

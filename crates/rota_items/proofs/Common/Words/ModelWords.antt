@@ -17,6 +17,7 @@ pub use Rattle.rota_items.specs.Coefficients.{IsUnit, HasUnitCoefficients}
 pub use Rattle.rota_items.specs.Counting.{counted, counts_of, greatest, is_constraint, no_counts, variables_in, counts_of_model}
 pub use Rattle.rota_items.specs.FirstUnmet.{first_unmet, later, rule_of_part, FirstBroken, NamesFirstBroken, first_failing}
 pub use Rattle.rota_items.specs.HardRows.{rows_of_hard_rule, rule_rows, h5_row, h1_row, h3_rows_between, h3_rows_of, h1_rows, h2_row, h2_rows_at, h3_monday_rows, h3_monday_rows_at, h3_rows_at, h4_rows_at, h5_rows, h2_rows, h3_monday_row, h3_row, h3_rows, h4_row, h4_rows, is_forbidden_after}
+pub use Rattle.rota_items.specs.ItemCounting.{ItemNumbers, sum_within, with_one}
 pub use Rattle.rota_items.specs.ItemConstraints.{StandBelow, item_constraints, item_constraint}
 pub use Rattle.rota_items.specs.Limits.{IsWithinLimits}
 pub use Rattle.rota_items.specs.Linear.{Term, value_of, Satisfies, Constraint, SatisfiesModel, objective_value}
