@@ -3,7 +3,8 @@ use Rattle.rota_items.proofs.LogicWords.{◌≡◌, ℕ, ◌+◌, ◌*◌, ◌<�
 use Rattle.rota_items.proofs.ModelWords.{cell, Week, Cell, cell_number, nurse_cells, on_cells, work_cells, times, Term}
 use Rattle.rota_items.proofs.RuleWords.{request_terms_on, request_weight}
 use Rattle.rota_items.proofs.TakingWords.{cell_term_events, coefficient_of, sum_events, term_events, Sign}
-use Rattle.rota_core.proofs.RisesWithin.{RisesWithin, numbers-rising}
+use Rattle.rota_core.specs.RisingLists.{RisesWithin}
+use Rattle.rota_core.proofs.LogicWords.{numbers-rising}
 use Rattle.rota_items.proofs.Lists.{length-each-is, map-each_below}
 use Rattle.rota_items.proofs.RisingCells.{rises-on_cells, rises-work_cells, rises-nurse_cells}
 

@@ -5,7 +5,7 @@ use Rattle.rota_items.proofs.RuleWords.{IsWithinLimits}
 use Rattle.rota_items.proofs.TakingWords.{Objective, events}
 use Rattle.rota_items.proofs.Counted.{all-counted, counts_row, count-more, counted-rows, greatest-append, same_counts, variables_of}
 use Rattle.rota_items.proofs.ModelRows.{each-model_row}
-use Rattle.rota_core.proofs.RisesWithin.{RisesWithin}
+use Rattle.rota_core.specs.RisingLists.{RisesWithin}
 use Rattle.rota_items.proofs.RisingTerms.{RisesTo, variable_of, objective-to_last, rises-to_last}
 use Rattle.rota_items.proofs.SlackBound.{rows-below}
 use Rattle.rota_items.proofs.Standing.{at_variable, rises-end, stands-exactly}

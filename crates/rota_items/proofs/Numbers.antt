@@ -1,8 +1,7 @@
 -- Each number up to the number of cells is that of one cell.
 use Rattle.rota_items.proofs.LogicWords.{◌≡◌, ℕ, ◌-◌, ◌<◌, ap, ◌∙◌, arith}
 use Rattle.rota_items.proofs.ModelWords.{InWeek, cell_place, cell_at, Week, Cell, cell_number, unit_number, cell_of_number}
-use Rattle.rota_core.proofs.CellPlaces.{cell_at-in, cell_at-place, place-cell_at}
-use Rattle.rota_core.proofs.RosterLemmas.{cell_place-lt}
+use Rattle.rota_core.proofs.CellPlaces.{cell_at-in, cell_at-place, cell_place-lt, place-cell_at}
 
 pub cell_number-below : (week : Week) (one : Cell) → InWeek week one → cell_number week one < unit_number week
 cell_number-below week one inside =

@@ -2,7 +2,8 @@
 use Rattle.rota_items.proofs.LogicWords.{◌≡◌, ℕ, zero, suc, ◌+◌, ◌*◌, ◌<◌, ◌≤◌, Bool, true, false, cond, List, [], refl, ap, ◌∙◌, arith, pos, ◌+ℤ◌, ◌<ℤ◌, ◌≤ℤ◌, nat_lt, AllByRecursion, ltb-false, ltb-true, ints, AllByRecursion-each_below, AllByRecursion-only_if, sum_below, each_below, only_if}
 use Rattle.rota_items.proofs.ModelWords.{Roster, InWeek, cell, Week, Cell, Term, value_of, items_of_rule}
 use Rattle.rota_items.proofs.RuleWords.{IsWithinLimits, S4, most_weight, request_cost, request_weight, request_terms, request_terms_on}
-use Rattle.rota_core.proofs.RisesWithin.{RisesWithin, weaken, widen, rises-each, rises-only_if}
+use Rattle.rota_core.specs.RisingLists.{RisesWithin}
+use Rattle.rota_core.proofs.LogicWords.{weaken, widen, rises-each, rises-only_if}
 use Rattle.rota_items.proofs.AlikeRosters.{same_cell}
 use Rattle.rota_items.proofs.SoundTerms.{in-cell}
 use Rattle.rota_items.proofs.NurseItemLists.{none-each_below}
