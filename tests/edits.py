@@ -5,7 +5,7 @@ usage: edits.py [map | many | none | stale] [CRATE..]
 
   map     each function that an edit turns, its promises, and its edits
   many    the same, where a function has two edits or more
-  none    the public functions that no edit turns, beside the laws, whose bodies are empty
+  none    the public functions that no edit turns, beside the laws, whose bodies call laws or nothing
   stale   the edits whose old text is not in its file exactly once; the word may be left out
 
 A promise is told by its label, or by its text where it has none; `=` stands before one that fixes the whole result.
@@ -19,6 +19,7 @@ import sys
 from collections import namedtuple
 
 FUNCTION = re.compile(r"( *)(pub(?:\(\w+\))? )?(?:const |unsafe |ghost )*fn (\w+)")
+CITES = re.compile(r"\s*(\w+\(\);\s*)*")
 OWNER = re.compile(r"(?:pub |unsafe )*(impl|trait)\b(?:<[^>]*>)? (.*?)\s*(?:\{|where|$)")
 PROMISE = re.compile(r"(?m)^ +ensures (\w+)? ?\{ ?((?:.(?!\n +(?:ensures|requires) |\n *\{))*.)", re.S)
 EXACT = re.compile(r"(let .*? in )?result(\.now)? ≡ ")
@@ -42,7 +43,7 @@ def body_of(lines, at, indent):
     """The lines where the body of the function at this line begins and ends: `rt fmt` puts its brace below the `fn`."""
     for begin in range(at, len(lines)):
         rest = lines[begin].removeprefix(indent)
-        if rest == "{" or rest[:1].strip() and rest.endswith((" {", " }")) or rest.endswith(";"):
+        if rest in ("{", "{}") or rest[:1].strip() and rest.endswith((" {", " }")) or rest.endswith(";"):
             break
     if not rest.endswith("{"):
         return begin, begin
@@ -68,7 +69,7 @@ def functions(path, module, exports, is_open):
         public = (visible == "pub " or shares and of != []) and (seen or is_open)
         promises = [promise(*told) for told in PROMISE.findall("\n".join(lines[at:begin + 1]))]
         whole = "::".join([" for ".join(of), name] if of else [name])
-        found.append(Function(whole, at, end, public, not "".join(lines[begin + 1:end]).strip(), promises))
+        found.append(Function(whole, at, end, public, bool(CITES.fullmatch("".join(lines[begin + 1:end]))), promises))
     return found
 
 

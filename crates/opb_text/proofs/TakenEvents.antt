@@ -11,8 +11,7 @@ use Rattle.rota_items.specs.Takes.{Took, Refused, Takes}
 use Rattle.opb_text.specs.Sink.{PutsText, stands_for, sent_by, sink_failed, target_of}
 use Rattle.opb_text.specs.SinkTaker.{EventTexts, FailedAt, Writing, joined_texts, sink_taker, with_event, writing_into}
 use Rattle.opb_text.specs.declared.sink.Sink.{Sink}
-use Rattle.opb_text.proofs.PutsTextLemmas.{or_false, or_true}
-use Rattle.opb_text.proofs.Told.{append_known-append, append_known-nil, Begins-longer}
+use Rattle.opb_text.proofs.LogicWords.{Begins-longer, append_known-append, append_known-nil, or_false, or_true}
 
 -- what a failed sink left
 left_there : {W : Type 0} (failed : Bool) (target old : W) → failed ≡ true →

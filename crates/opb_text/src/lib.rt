@@ -35,7 +35,10 @@ mod text;
 mod text_buffer;
 // What the text of a model says of the model and of its rows.
 mod text_laws;
+// The text of a week's whole model.
+mod whole_model;
 
 pub use opb_taker::OpbTaker;
 pub use sink::{Piece, Sink};
 pub use text_laws::{each_text_spells_one_model, events_spell_their_model};
+pub use whole_model::put_model;

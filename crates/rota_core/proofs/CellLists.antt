@@ -10,11 +10,10 @@ use Rattle.rota_core.specs.RosterCells.{cells_of, cell_at}
 use Rattle.rota_core.specs.HardRules.{KeepsOneCell}
 use Rattle.rota_core.specs.RosterTables.{cell_place, place_count}
 use Rattle.rota_core.specs.Week.{Week}
-use Rattle.rota_core.proofs.CellPlaces.{cell_at-in, cell_at-place, place-cell_at}
+use Rattle.rota_core.proofs.CellPlaces.{cell_at-in, cell_at-place, cell_place-lt, place-cell_at}
 use Rattle.rota_core.proofs.CellsByPlace.{cell_if_in, cells_of-by_place}
-use Rattle.rota_core.proofs.Loops.{AllByRecursion-each_below, AllByRecursion-at, AllByRecursion-only_if, holds-where}
-use Rattle.rota_core.proofs.RisesWithin.{RisesWithin, rises-each, rises-only_if}
-use Rattle.rota_core.proofs.RosterLemmas.{cell_place-lt}
+use Rattle.rota_core.proofs.LogicWords.{AllByRecursion-each_below, AllByRecursion-at, AllByRecursion-only_if, holds-where, rises-each, rises-only_if}
+use Rattle.rota_core.specs.RisingLists.{RisesWithin}
 
 module _ (week : Week) (roster : Roster) where
   abbrev place : Cell → ℕ

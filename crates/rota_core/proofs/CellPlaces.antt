@@ -1,11 +1,21 @@
 -- The cell at each place.
 use Rattle.std.proofs.Common.{◌≡◌, ℕ, ◌+◌, ◌*◌, ◌/◌, ◌%◌, ◌<◌, zero, suc, refl, arith}
-use Rattle.std.proofs.lemmas.Nat.{div-mul-add, mod-mul-add, div-add-mod'}
+use Rattle.std.proofs.lemmas.Nat.{div-mul-add, mod-mul-add, div-add-mod', mul-add-lt}
 use Rattle.std.proofs.Math.Nat.{div-lt_iff_lt-mul, mod-lt}
+use Rattle.rota_core.specs.declared.values.Cell.{Cell}
 use Rattle.rota_core.specs.Roster.{InWeek, cell}
 use Rattle.rota_core.specs.RosterTables.{cell_place, place_count}
 use Rattle.rota_core.specs.RosterCells.{cell_at}
 use Rattle.rota_core.specs.Week.{Week}
+
+-- a cell within the numbers has a place
+pub cell_place-lt : (nurses shifts skills : ℕ) (cell : Cell) → cell.nurse < nurses → cell.day < 7 → cell.shift < shifts → cell.skill < skills
+    → cell_place shifts skills cell < place_count nurses shifts skills
+cell_place-lt nurses shifts skills cell n d s k =
+    let day = mul-add-lt cell.nurse 7 cell.day nurses n d in
+    let row = mul-add-lt (cell.nurse * 7 + cell.day) shifts cell.shift (7 * nurses) day s in
+    let place = mul-add-lt ((cell.nurse * 7 + cell.day) * shifts + cell.shift) skills cell.skill (shifts * (7 * nurses)) row k in
+    omega (arith, place)
 
 -- at the place of a cell there is that cell
 pub cell_at-place : (shifts skills n d s k : ℕ) → d < 7 → s < shifts → k < skills

@@ -14,7 +14,7 @@ use Rattle.rota_core.specs.RosterCalls.{cells_in, ArePlaces, HoldsRoster}
 use Rattle.rota_core.specs.RosterTables.{RosterTables, HasShapeOf, place_count, set_of}
 use Rattle.rota_core.specs.Week.{Week}
 use Rattle.rota_core.proofs.CellPlaces.{cell_at-place, place-cell_at}
-use Rattle.rota_core.proofs.Loops.{each_below-grid, each_below-same}
+use Rattle.rota_core.proofs.LogicWords.{each_below-grid, each_below-same}
 
 -- the cell at a place, where it is in the set
 abbrev pub cell_if_in : ℕ → ℕ → Roster → ℕ → List Cell

@@ -1,25 +1,19 @@
--- A numeral is digits only, which tell its number. It is a word, and what the standard library writes.
-use Rattle.std.proofs.Common.{◌≡◌, ℕ, zero, suc, ◌+◌, ◌/◌, ◌%◌, ◌^◌, ◌<◌, ◌≤◌, ℤ, pos, negsuc, Bool, true, List, [], ◌∷◌, ◌++◌, length, length-append, inl, inr, refl, sym, ap, ◌∙◌, arith, rules}
+-- A numeral is digits only, which tell its number. It is a word.
+use Rattle.std.proofs.Common.{◌≡◌, ℕ, zero, suc, ◌+◌, ◌/◌, ◌%◌, ◌^◌, ◌<◌, ◌≤◌, Bool, true, List, [], ◌∷◌, ◌++◌, length, length-append, inl, inr, refl, arith, rules}
 use Rattle.std.specs.Char.{is_ascii_digit}
-use Rattle.std.specs.Fmt.{decimal as std_decimal, signed_decimal}
 use Rattle.std.specs.List.{list_all}
-use lib.Signed.{mag}
 use Rattle.std.proofs.lemmas.Bool.{cases_lt, le-leb}
 use Rattle.std.proofs.lemmas.Bool.Decides.{nat_tests}
-use Rattle.std.proofs.lemmas.Fmt.{AppendsLastDigit, decimal_from_appends_wide, length-decimal-le_wide}
+use Rattle.std.proofs.lemmas.Fmt.{AppendsLastDigit}
 use Rattle.std.proofs.lemmas.List.Sums.{fold-append}
-use Rattle.rota_core.specs.Numeral.{numeral, numeral_within, signed_numeral, is_decimal, with_digit, decimal}
+use Rattle.rota_core.specs.Numeral.{numeral, numeral_within, is_decimal, with_digit, decimal}
+use Rattle.rota_core.specs.NumeralLaws.{AreDigits, TellsNumber}
 use Rattle.rota_core.specs.Words.{is_word_byte, IsWord}
 
-pub numeral_steps : AppendsLastDigit numeral_within
+numeral_steps : AppendsLastDigit numeral_within
 numeral_steps = search rules
 
 -- ---- digits only
-
--- the bytes are digits
-abbrev pub AreDigits : List ℕ → Type 0
-AreDigits [] = Unit {0}
-AreDigits (b ∷ bs) = (48 ≤ b) × (b < 58) × AreDigits bs
 
 AreDigits-append : (xs ys : List ℕ) → AreDigits xs → AreDigits ys → AreDigits (xs ++ ys)
 AreDigits-append [] ys p q = q
@@ -45,16 +39,16 @@ numeral-stands (suc k) n below =
           rw (numeral_steps.more k n large) (one_more_digit n (numeral_within k (n / 10)) (numeral-stands k (n / 10) (omega arith)))
     ]
 
-pub digits-numeral : (n : ℕ) → AreDigits (numeral n)
+digits-numeral : (n : ℕ) → AreDigits (numeral n)
 unfolding numeral
 digits-numeral n = (numeral-stands (suc n) n (omega arith)).0
 
-pub numeral-has_digits : (n : ℕ) → 0 < length (numeral n)
+numeral-has_digits : (n : ℕ) → 0 < length (numeral n)
 unfolding numeral
 numeral-has_digits n = (numeral-stands (suc n) n (omega arith)).1
 
 -- the digits of a numeral spell its number
-pub decimal-numeral : (n : ℕ) → decimal (numeral n) ≡ n
+decimal-numeral : (n : ℕ) → decimal (numeral n) ≡ n
 unfolding numeral
 decimal-numeral n = (numeral-stands (suc n) n (omega arith)).2
 
@@ -63,32 +57,37 @@ digits-all : (test : ℕ → Bool) → ((b : ℕ) → 48 ≤ b → b < 58 → te
 digits-all test each [] these = refl
 digits-all test each (b ∷ digits) these = rw (each b these.0 these.1) (digits-all test each digits these.2)
 
-pub is_decimal-numeral : (n : ℕ) → is_decimal (numeral n) ≡ true
+is_decimal-numeral : (n : ℕ) → is_decimal (numeral n) ≡ true
 is_decimal-numeral n =
     digits-all is_ascii_digit (λ b low high. rw (le-leb 48 b low, le-leb b 57 (omega arith)) refl) (numeral n) (digits-numeral n)
-
-pub numeral_injective : (m n : ℕ) → numeral m ≡ numeral n → m ≡ n
-numeral_injective m n same = sym (decimal-numeral m) ∙ ap decimal same ∙ decimal-numeral n
 
 -- ---- as a word
 
 is_word_byte-digit : (b : ℕ) → 48 ≤ b → b < 58 → is_word_byte b ≡ true
 is_word_byte-digit b low high = grind (arith, nat_tests)
 
-pub IsWord-numeral : (n : ℕ) → IsWord (numeral n)
+IsWord-numeral : (n : ℕ) → IsWord (numeral n)
 IsWord-numeral n = (numeral-has_digits n, digits-all is_word_byte is_word_byte-digit (numeral n) (digits-numeral n))
 
--- ---- as the standard library writes it
+-- ---- how long
 
-below_power : (n : ℕ) → n < 10 ^ suc n
-below_power zero = omega arith
-below_power (suc n) = omega (arith, below_power n)
+length-numeral_within : (k m n : ℕ) → n < 10 ^ suc m → length (numeral_within k n) ≤ suc m
+length-numeral_within zero m n below = omega arith
+length-numeral_within (suc k) zero n below = rw (numeral_steps.one k n (omega arith)) (omega arith)
+length-numeral_within (suc k) (suc m) n below =
+    elim (cases_lt n 10) [
+      | inl small ↦ rw (numeral_steps.one k n small) (omega arith)
+      | inr large ↦
+          let front : length (numeral_within k (n / 10)) ≤ suc m = length-numeral_within k m (n / 10) (omega arith) in
+          rw (numeral_steps.more k n large, length-append (numeral_within k (n / 10)) ((48 + n % 10) ∷ [])) (omega (arith, front))
+    ]
 
-pub numeral_is : (n : ℕ) → n < 10 ^ 64 → std_decimal n ≡ numeral n
+pub tells : (n : ℕ) → TellsNumber n
 unfolding numeral
-numeral_is n small =
-    sym (decimal_from_appends_wide numeral_within numeral_steps (suc n) n small (length-decimal-le_wide (suc n) n (omega arith) (below_power n) small))
-
-pub signed_numeral_is : (z : ℤ) → mag z < 2 ^ 127 → signed_decimal z ≡ signed_numeral z
-signed_numeral_is (pos n) small = numeral_is n (omega arith)
-signed_numeral_is (negsuc n) small = ap (λ digits. 45 ∷ digits) (numeral_is (suc n) (omega arith))
+tells n = record {
+  digits = digits-numeral n;
+  decimal_only = is_decimal-numeral n;
+  word = IsWord-numeral n;
+  number = decimal-numeral n;
+  short = λ m below. length-numeral_within (suc n) m n below;
+}

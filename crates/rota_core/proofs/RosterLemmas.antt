@@ -1,24 +1,11 @@
 -- Cells and their places.
-use Rattle.std.proofs.Common.{◌≡◌, ℕ, ◌+◌, ◌*◌, ◌<◌, Bool, true, false, List, length, get_or, set, sym, ap, ◌∙◌, subst, arith}
+use Rattle.std.proofs.Common.{◌≡◌, ℕ, ◌<◌, Bool, true, false, List, length, get_or, set, sym, ap, ◌∙◌, subst, arith}
 use Rattle.std.proofs.lemmas.List.{get_or-take, get_or-set_same, get_or-set_other}
-use Rattle.std.proofs.lemmas.Nat.{mul-add-lt}
 use Rattle.rota_core.specs.declared.values.Cell.{Cell}
 use Rattle.rota_core.specs.RosterTables.{RosterTables, cell_place, place_count, set_of}
 use Rattle.rota_core.specs.RosterCells.{cell_at}
 use Rattle.rota_core.specs.RosterCalls.{InShape, AddsCell, HoldsRoster, roster_tables}
-use Rattle.rota_core.proofs.CellPlaces.{cell_at-place}
-
--- a cell within the numbers has a place
-pub cell_place-lt : (nurses shifts skills : ℕ) (cell : Cell) → cell.nurse < nurses → cell.day < 7 → cell.shift < shifts → cell.skill < skills
-    → cell_place shifts skills cell < place_count nurses shifts skills
-cell_place-lt nurses shifts skills cell n d s k =
-    let day = mul-add-lt cell.nurse 7 cell.day nurses n d in
-    let row = mul-add-lt (cell.nurse * 7 + cell.day) shifts cell.shift (7 * nurses) day s in
-    let place = mul-add-lt ((cell.nurse * 7 + cell.day) * shifts + cell.shift) skills cell.skill (shifts * (7 * nurses)) row k in
-    omega (arith, place)
-
-pub same_cell : (one other : Cell) → one.nurse ≡ other.nurse → one.day ≡ other.day → one.shift ≡ other.shift → one.skill ≡ other.skill → one ≡ other
-same_cell one other n d s k = λ i. record { nurse = n i; day = d i; shift = s i; skill = k i }
+use Rattle.rota_core.proofs.CellPlaces.{cell_at-place, cell_place-lt}
 
 -- two cells of one place are the same cell
 same_from_cell_place : (shifts skills : ℕ) (one other : Cell) → one.day < 7 → one.shift < shifts → one.skill < skills →

@@ -1,14 +1,17 @@
 pub mod Below
 pub mod Bits
+pub mod CellLists
 pub mod FaultTexts
 pub mod HardRules
 pub mod InstanceTables
 pub mod Lists
 pub mod MemoryPorts
 pub mod Numeral
+pub mod NumeralLaws
 pub mod Parts
 pub mod PortCalls
 pub mod Ports
+pub mod RisingLists
 pub mod Roster
 pub mod RosterCalls
 pub mod RosterCells

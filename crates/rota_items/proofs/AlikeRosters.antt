@@ -1,5 +1,6 @@
 -- Rosters with the same cells in a week keep the same hard rules, and what their costs depend on is the same.
-use Rattle.rota_items.proofs.Common.Words.{◌≡◌, ℕ, zero, suc, ◌+◌, ◌<◌, ◌≤◌, Bool, if◌then◌else◌, refl, sym, ap, ◌∙◌, subst, arith, any_below, count_below, Cell, is_on, works, nurses_at, KeepsCompetitionRules, KeepsHardRules, Roster, InWeek, Has, cell, Week, Span, run_cost, run_over, run_under}
+use Rattle.rota_items.proofs.Common.Words.{◌≡◌, ℕ, zero, suc, ◌+◌, ◌<◌, ◌≤◌, Bool, if◌then◌else◌, refl, sym, ap, ◌∙◌, subst, arith, any_below, count_below, Cell, is_on, works, nurses_at, KeepsCompetitionRules, KeepsHardRules, Roster, Has, cell, Week, Span, run_cost, run_over, run_under}
+use Rattle.rota_items.specs.AlikeRosters.{AreAlike}
 use Rattle.rota_items.proofs.Lists.{sum_below-same}
 
 any_below-alike : (n : ℕ) (p q : ℕ → Bool) → ((i : ℕ) → i < n → p i ≡ q i) → any_below n p ≡ any_below n q
@@ -25,9 +26,6 @@ run_cost-alike p q same history limits =
     ) refl
 
 -- ---- rosters
-
-abbrev pub AreAlike : Week → Roster → Roster → Type 0
-AreAlike week one other = (cell : Cell) → InWeek week cell → one cell ≡ other cell
 
 module _ (week : Week) (one other : Roster) (same : AreAlike week one other) where
   pub same_cell : (n d s k : ℕ) → n < week.nurses → d < 7 → s < week.shifts → k < week.skills → one (cell n d s k) ≡ other (cell n d s k)

@@ -1,6 +1,7 @@
 -- The cells of a nurse's day on a shift type, of her day and of her week: their variables follow one another.
 use Rattle.rota_items.proofs.Common.Words.{◌≡◌, ℕ, ◌+◌, ◌*◌, ◌<◌, ◌≤◌, true, nat_lt, List, [], ◌∷◌, length, refl, sym, ap, ◌∙◌, arith, ℤ, pos, range_with_len, nat_tests, map-map, each_below, only_if, cell, Week, Cell, cell_number, nurse_cells, on_cells, work_cells, times, Term, request_terms_on, request_weight, cell_term_events, coefficient_of, sum_events, term_events, Sign}
-use Rattle.rota_core.proofs.RisesWithin.{RisesWithin, numbers-rising}
+use Rattle.rota_core.specs.RisingLists.{RisesWithin}
+use Rattle.rota_core.proofs.LogicWords.{numbers-rising}
 use Rattle.rota_items.proofs.Lists.{length-each-is, map-each_below}
 use Rattle.rota_items.proofs.RisingCells.{rises-on_cells, rises-work_cells, rises-nurse_cells}
 

@@ -2,7 +2,7 @@
 use Rattle.rota_items.proofs.Common.Words.{◌≡◌, ℕ, ◌+◌, ◌<◌, ◌≤◌, true, List, [], ◌∷◌, ◌++◌, map, length, refl, sym, ap, ◌∙◌, arith, pos, AllByRecursion, count_by, fold, list_any, true≢false, length-map, ◌||◌, inl, inr, ◌==◌, cases_Bool, eqb-true, Week, objective_rows, Term, LinearRow, linear_constraint, rows_of, objective_terms, model_of, counted, counts_of, counts_of_model, greatest, is_constraint, no_counts, variables_in, stands_in, IsWithinLimits, Objective, events}
 use Rattle.rota_items.proofs.Counted.{all-counted, counts_row, count-more, counted-rows, greatest-append, same_counts, variables_of}
 use Rattle.rota_items.proofs.ModelRows.{each-model_row}
-use Rattle.rota_core.proofs.RisesWithin.{RisesWithin}
+use Rattle.rota_core.specs.RisingLists.{RisesWithin}
 use Rattle.rota_items.proofs.RisingTerms.{RisesTo, variable_of, objective-to_last, rises-to_last}
 use Rattle.rota_items.proofs.SlackBound.{rows-below}
 use Rattle.rota_items.proofs.Standing.{at_variable, rises-end, stands-exactly}

@@ -1,18 +1,23 @@
 -- Holding cells adds to the model only that each of them is true.
-use Rattle.rota_items.proofs.Common.Words.{◌≡◌, ◌↔◌, ℕ, ◌+◌, Bool, false, [], map, length, ap, arith, length-map, nil_from_length, length-flat_map, KeepsHeld, Roster, hard_rules, Week, rows_of_hard_rule, rule_rows, SatisfiesModel, linear_constraint, model_of, roster_of, rows_of, cells_of, h5_row, h5_rows, without_held, H5}
+use Rattle.rota_items.proofs.Common.Words.{◌≡◌, ◌↔◌, ℕ, ◌+◌, Bool, [], map, length, ap, arith, length-map, length-flat_map, KeepsHeld, Roster, hard_rules, Week, rows_of_hard_rule, rule_rows, SatisfiesModel, linear_constraint, model_of, roster_of, rows_of, cells_of, h5_row, h5_rows, without_held, H5, List, ◌∷◌, refl, sym, true≢false, AllByRecursion}
 use Rattle.rota_items.proofs.SlackBound.{length-rows_of}
-use Rattle.rota_core.proofs.RosterCount.{cells_of-none}
 use Rattle.rota_items.proofs.HardRules.EachRule.{rows-are}
-use Rattle.rota_items.proofs.HardRules.Held.{held}
+use Rattle.rota_items.proofs.HardRules.Held.{cells-are, held}
 use Rattle.rota_items.proofs.HardRules.OneCell.{one_cell}
 use Rattle.rota_items.proofs.HardRules.Sound.{AllHold, Holds, IsRowSound}
 use Rattle.rota_items.proofs.Lists.{all-weaker}
 use Rattle.rota_items.proofs.ModelParts.{satisfies-parts}
 use Rattle.rota_items.proofs.Satisfied.{all_hold, satisfied}
 
+nothing : {A : Type 0} (xs : List A) → AllByRecursion (λ _. ⊥) xs → xs ≡ []
+nothing [] all = refl
+nothing (x ∷ xs) all = absurd all.0
+
 no-held_rows : (week : Week) → h5_rows (without_held week) ≡ []
 no-held_rows week =
-    ap (map h5_row) (nil_from_length (cells_of (without_held week) (λ one. false)) (cells_of-none (without_held week)))
+    let bare = without_held week in
+    let none = (cells-are bare).all (λ _. ⊥) (λ one has. true≢false (sym has.in_roster)) in
+    ap (map h5_row) (nothing (cells_of bare bare.is_held) none)
 
 module _ (week : Week) where
   rows-hold : (roster : Roster) →

@@ -1,5 +1,6 @@
 -- Lists: what holds of each element, their sums, their lengths, and what loops make and add up.
 use Rattle.rota_items.proofs.Common.Words.{List, [], ◌∷◌, map, AllByRecursion, flat_map, AllByRecursion-append, ◌≡◌, ℕ, ◌+◌, Bool, true, false, cond, refl, ap, arith, zero-add, sum_by, fold-map, sum_by-append, sum_by-cons, only_if, zero, suc, ◌*◌, ◌<◌, ◌≤◌, inl, inr, length, ◌∙◌, count_by, list_any, list_any-append, cases_lt, mul-le, sum_below, count_below, any_below, length-each_below, each_below, ◌++◌, length-append, add-one, each_below-more, append-nil, take_all, flat_map-append, take_at_read, map-append, get_or, take, take-suc, length-flat_map}
+pub use Rattle.rota_core.proofs.LogicWords.{all-weaker}
 
 -- ---- what holds of each element of a list
 
@@ -11,11 +12,6 @@ all-map P f (x ∷ xs) all = (all.0, all-map P f xs all.1)
 pub all-back : {X Y : Type 0} (P : Y → Type 0) (f : X → Y) (xs : List X) → AllByRecursion P (map f xs) → AllByRecursion (λ x. P (f x)) xs
 all-back P f [] all = tt
 all-back P f (x ∷ xs) all = (all.0, all-back P f xs all.1)
-
-pub all-weaker : {X : Type 0} (P Q : X → Type 0) → ((x : X) → P x → Q x) → (xs : List X) → AllByRecursion P xs →
-    AllByRecursion Q xs
-all-weaker P Q weaker [] all = tt
-all-weaker P Q weaker (x ∷ xs) all = (weaker x all.0, all-weaker P Q weaker xs all.1)
 
 pub all-both : {X : Type 0} (P Q R : X → Type 0) → ((x : X) → P x → Q x → R x) → (xs : List X) → AllByRecursion P xs →
     AllByRecursion Q xs → AllByRecursion R xs

@@ -1,7 +1,6 @@
 -- Each number up to the number of cells is that of one cell.
 use Rattle.rota_items.proofs.Common.Words.{◌≡◌, ℕ, ◌-◌, ◌<◌, ap, ◌∙◌, arith, InWeek, cell_place, cell_at, Week, Cell, cell_number, unit_number, cell_of_number}
-use Rattle.rota_core.proofs.CellPlaces.{cell_at-in, cell_at-place, place-cell_at}
-use Rattle.rota_core.proofs.RosterLemmas.{cell_place-lt}
+use Rattle.rota_core.proofs.CellPlaces.{cell_at-in, cell_at-place, place-cell_at, cell_place-lt}
 
 pub cell_number-below : (week : Week) (one : Cell) → InWeek week one → cell_number week one < unit_number week
 cell_number-below week one inside =

@@ -1,6 +1,7 @@
 -- The cells of sums, and the terms of patterns, are by rising number.
 use Rattle.rota_items.proofs.Common.Words.{◌≡◌, ℕ, ◌+◌, ◌*◌, ◌<◌, ◌≤◌, List, [], ◌∷◌, map, length, refl, subst, arith, ℤ, range_with_len, flat_map, mul-add-lt, mul-le-mul_right, each_below, cell, Week, Cell, on_cells, work_cells, nurse_cells, demand_cells, skill_cells, cell_number, unit_number, Term, times, numbered_terms, Property, variables_on, day_terms, PatternDay}
-use Rattle.rota_core.proofs.RisesWithin.{RisesWithin, rises-append, rises-blocks, rises-each, rises-in, rises-map}
+use Rattle.rota_core.specs.RisingLists.{RisesWithin}
+use Rattle.rota_core.proofs.LogicWords.{rises-append, rises-blocks, rises-each, rises-in, rises-map}
 
 module _ (week : Week) where
   -- the first number of a nurse's day

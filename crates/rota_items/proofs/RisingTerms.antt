@@ -3,7 +3,8 @@ use Rattle.rota_items.proofs.Common.Words.{◌≡◌, ℕ, zero, suc, ◌+◌, �
 use Rattle.rota_items.proofs.ItemEventLists.{slack_count-numbered}
 use Rattle.rota_items.proofs.Lists.{all-weaker}
 use Rattle.rota_items.proofs.ModelRows.{each-constraint, each-model_row}
-use Rattle.rota_core.proofs.RisesWithin.{RisesWithin, widen, rises-append, rises-only_if}
+use Rattle.rota_core.specs.RisingLists.{RisesWithin}
+use Rattle.rota_core.proofs.LogicWords.{widen, rises-append, rises-only_if}
 use Rattle.rota_items.proofs.RisingCells.{rises-numbered}
 use Rattle.rota_items.proofs.SoftRules.AllItems.{rise-cell_terms}
 

@@ -3,7 +3,8 @@ use Rattle.rota_items.proofs.Common.Words.{◌≡◌, ℕ, ◌<◌, Bool, cond, 
 use Rattle.rota_items.proofs.EachPattern.{OnDays, on-pattern, each-run_item}
 use Rattle.rota_items.proofs.Lists.{all-map}
 use Rattle.rota_items.proofs.SmallSums.{spread}
-use Rattle.rota_core.proofs.RisesWithin.{RisesWithin, length-rising}
+use Rattle.rota_core.specs.RisingLists.{RisesWithin}
+use Rattle.rota_core.proofs.LogicWords.{length-rising}
 use Rattle.rota_items.proofs.RisingCells.{at, day_start, first_day-from, last_day-le, on-keeps, rises-demand_cells, rises-skill_cells, rises-times, rises-work_cells, within, within-block}
 
 -- ---- what holds of the variables of a property's days holds of its items' variables

@@ -1,6 +1,6 @@
 -- A variable is in some constraint exactly where it is one of the model's.
 use Rattle.rota_items.proofs.Common.Words.{◌≡◌, ◌↔◌, ℕ, zero, suc, ◌+◌, ◌<◌, ◌≤◌, Bool, true, false, inl, inr, List, [], ◌∷◌, map, sym, ◌∙◌, arith, ℤ, pos, negsuc, ◌==◌, AllByRecursion, AllByRecursion-at, AllByRecursion-back, list_any, range_with_len, recursion_from_All, All-from_recursion, subst, cases_Bool, eqb-true, true≢false, sum_by-cons, slice_index_or, each_below, cases_lt, eq-eqb, Any-from_list_any, list_any_at, cell, Week, Cell, on_cells, work_cells, cell_number, cell_of_number, unit_number, first_slack, rule_rows, Item, Term, Constraint, times, LinearRow, linear_constraint, item_rows, slack_count, slack_variables, soft_items, hard_rows, numbered_row, numbered_terms, numbered_items, rows_of, model_of, h1_row, h1_rows, stands_in, StandsInSome}
-use Rattle.rota_core.proofs.RisesWithin.{RisesWithin}
+use Rattle.rota_core.specs.RisingLists.{RisesWithin}
 use Rattle.rota_items.proofs.ItemEventLists.{slack_count-numbered}
 use Rattle.rota_items.proofs.Lists.{all-weaker, all-back}
 use Rattle.rota_items.proofs.Numbers.{cell_of_number-in, cell_number-of}

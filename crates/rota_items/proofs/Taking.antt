@@ -1,16 +1,5 @@
 -- How what a taker took grows, call by call and loop by loop.
-use Rattle.rota_items.proofs.Common.Words.{◌≡◌, ℕ, zero, suc, ◌<◌, Bool, true, false, List, [], ◌∷◌, ◌++◌, map, Result, MatchResult, refl, sym, ap, ◌∙◌, subst, inl, inr, arith, append_assoc, append-nil, map-append, flat_map-append, fold-append, MatchResult-from_err, MatchResult-weaker, fold, ℤ, IsErr, each_below-zero, each_below-more, last_or_before, only_if-holds, only_if-fails, each_below, only_if, Week, Cell, cell_number, Term, times, LinearRow, numbered_row, numbered_terms, cell_term_events, cell_row_events, coefficient_of, sum_events, start_row, term, close_row, row_events, term_events, events, TookAll, RefusedOne, TakesAll, Took, Refused, Takes, Sign, Ghosts}
-
--- what holds of a loop's turns before one, with it, and of each longer list, holds of all the turns
-pub in_turn : {A : Type 0} (P : List A → Type 0) → ((xs ys : List A) → P xs → P (xs ++ ys)) → (i n : ℕ) (f : ℕ → List A) →
-    i < n → P (each_below i f ++ f i) → P (each_below n f)
-unfolding each_below
-in_turn P longer i zero f below here = absurd (omega arith)
-in_turn P longer i (suc n) f below here =
-    elim (last_or_before i n below) [
-      | inl last ↦ subst (λ k. P (each_below k f ++ f k)) last here
-      | inr before ↦ longer (each_below n f) (f n) (in_turn P longer i n f before here)
-    ]
+use Rattle.rota_items.proofs.Common.Words.{◌≡◌, ℕ, ◌<◌, Bool, true, false, List, [], ◌∷◌, ◌++◌, map, Result, MatchResult, refl, sym, ap, ◌∙◌, append_assoc, append-nil, map-append, flat_map-append, fold-append, MatchResult-from_err, MatchResult-weaker, fold, ℤ, IsErr, each_below-zero, each_below-more, only_if-holds, only_if-fails, each_below, only_if, Week, Cell, cell_number, Term, times, LinearRow, numbered_row, numbered_terms, cell_term_events, cell_row_events, coefficient_of, sum_events, start_row, term, close_row, row_events, term_events, events, TookAll, RefusedOne, TakesAll, Took, Refused, Takes, Sign, Ghosts, in_turn}
 
 -- ---- what makes events of a list, element by element
 

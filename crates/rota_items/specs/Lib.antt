@@ -1,3 +1,4 @@
+pub mod AlikeRosters
 pub mod Bounds
 pub mod CellEvents
 pub mod Charges

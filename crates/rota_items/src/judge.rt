@@ -1,5 +1,7 @@
 //! The judge: a taker that evaluates a model, and what it answers.
 
+// The verdict of a judge that is driven over the whole model.
+mod driven;
 // The taker that evaluates.
 mod judging;
 // What a judge evaluates.
@@ -9,5 +11,6 @@ mod tallies;
 // What a judge answers.
 mod verdicts;
 
+pub use driven::verdict_of;
 pub use judging::Judge;
 pub use verdicts::Verdict;

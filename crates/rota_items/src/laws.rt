@@ -26,7 +26,7 @@ pub use item_laws::{
     satisfied_items_cost_their_shortages,
 };
 pub use model_laws::{
-    cells_and_variables_are_inverse, constraints_have_rising_terms,
+    cells_and_variables_are_inverse, constraints_are_no_objective, constraints_have_rising_terms,
     extension_fails_first_at_first_broken_rule, first_failing_row_has_first_broken_rule,
     hard_constraints_mean_hard_rules, held_cells_add_only_that_they_are_true,
     least_objective_is_least_penalty, objective_has_rising_terms, objective_is_small,
@@ -34,12 +34,12 @@ pub use model_laws::{
     variables_are_those_of_the_constraints,
 };
 pub use rule_laws::{
-    assignment_items_charge_totals, constant_is_sum_of_its_parts, items_charge_each_rule_its_cost,
-    items_requests_and_constant_charge_penalty, no_item_lacks_more_than_its_slacks,
-    one_cell_a_day_is_at_most_one, optimum_items_charge_missing_nurses, penalty_is_small,
-    request_terms_charge_requests, run_items_charge_runs_of_days_off,
-    run_items_charge_shift_and_work_runs, weekend_items_charge_broken_weekends,
-    weekend_items_charge_worked_weekends,
+    alike_rosters_cost_the_same, assignment_items_charge_totals, constant_is_sum_of_its_parts,
+    items_charge_each_rule_its_cost, items_requests_and_constant_charge_penalty,
+    no_item_lacks_more_than_its_slacks, one_cell_a_day_is_at_most_one,
+    optimum_items_charge_missing_nurses, penalty_is_small, request_terms_charge_requests,
+    run_items_charge_runs_of_days_off, run_items_charge_shift_and_work_runs,
+    weekend_items_charge_broken_weekends, weekend_items_charge_worked_weekends,
 };
 pub use run_laws::{
     day_items_charge_day_cost, extension_costs_the_runs, pattern_days_follow_one_another,

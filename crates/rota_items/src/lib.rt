@@ -3,10 +3,7 @@
 //! Judges a roster of the week that `instance` describes. Here it breaks one soft rule:
 //!
 //! ```
-//! let mut judge = Judge::of_roster(&instance, &roster);
-//! drive_objective(&instance, &mut judge)?;
-//! drive_constraints(&instance, &mut judge)?;
-//! let verdict = judge.verdict();
+//! let verdict = verdict_of(&instance, Judge::of_roster(&instance, &roster));
 //! for (rule, cost) in Rule::SOFT.into_iter().zip(verdict.costs) {
 //!     let wanted = if rule == Rule::S2 { 30 } else { 0 };
 //!     assert_eq!(rt; cost, wanted, "{rule}");
@@ -45,7 +42,7 @@ pub mod laws;
 
 pub use counting::{Counter, Counts, counts, patterns_of, windows_of};
 pub use driving::drive_constraints;
-pub use judge::{Judge, Verdict};
+pub use judge::{Judge, Verdict, verdict_of};
 pub use laws::early_excess;
 pub use objective::drive_objective;
 pub use part::Part;

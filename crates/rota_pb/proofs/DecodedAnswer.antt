@@ -3,8 +3,9 @@ use Rattle.std.proofs.Common.{◌≡◌, ℕ, ◌+◌, ◌≤◌, pos, Bool, fal
 use Rattle.std.specs.Prelude.{sum, slice_index_or}
 use Rattle.rota_core.specs.Week.{Week}
 use Rattle.rota_core.specs.declared.values.Cell.{Cell}
-use Rattle.rota_core.specs.Roster.{InWeek}
+use Rattle.rota_core.specs.Roster.{InWeek, Roster}
 use Rattle.rota_core.specs.RosterTables.{RosterTables, HasShapeOf, cell_place, set_of}
+use Rattle.rota_items.specs.AlikeRosters.{AreAlike, CostAlike}
 use Rattle.rota_items.specs.Linear.{objective_value}
 use Rattle.rota_core.specs.Rules.{soft_rules}
 use Rattle.rota_items.specs.Penalty.{penalty}
@@ -15,8 +16,6 @@ use Rattle.rota_items.specs.WeekModel.{model_of}
 use Rattle.rota_items.specs.declared.judge.verdicts.Verdict.{Verdict}
 use Rattle.solver_text.specs.declared.outcome.Solved.{Solved}
 use Rattle.rota_pb.specs.Decoded.{FindsRoster, IsDecoded}
-use Rattle.rota_items.proofs.AlikeRosters.{keeps-alike}
-use Rattle.rota_items.proofs.SoftRules.EachRule.{penalty-alike, sound-rule}
 
 map-alike : {X Y : Type 0} (f g : X → Y) → ((x : X) → f x ≡ g x) → (xs : List X) → map f xs ≡ map g xs
 map-alike f g same [] = refl
@@ -25,7 +24,8 @@ map-alike f g same (x ∷ xs) = rw (same x, map-alike f g same xs) refl
 truth_behind : (bits : List Bool) (place : ℕ) → truth_of bits (place + 1) ≡ slice_index_or bits place false
 truth_behind bits place = rw add-one refl
 
-module _ (week : Week) (solved : Solved) (verdict : Verdict) (roster : RosterTables) (total : ℕ)
+module _ (week : Week) (alike : (one other : Roster) → AreAlike week one other → CostAlike week one other)
+    (solved : Solved) (verdict : Verdict) (roster : RosterTables) (total : ℕ)
     (finds : FindsRoster solved.status) (met : IsMet week (truth_of solved.bits) verdict)
     (objective : pos verdict.objective ≡ objective_value (truth_of solved.bits) (model_of week))
     (shape : HasShapeOf week roster)
@@ -36,7 +36,7 @@ module _ (week : Week) (solved : Solved) (verdict : Verdict) (roster : RosterTab
   same cell in_week = truth_behind solved.bits (cell_place week.shifts week.skills cell) ∙ sym (cells cell in_week)
 
   of_roster : total ≡ penalty week (set_of roster)
-  of_roster = is_total ∙ met.costs_rules.sum_is ∙ penalty-alike week _ _ same
+  of_roster = is_total ∙ met.costs_rules.sum_is ∙ (alike _ _ same).penalties
 
   -- an assignment that satisfies the model is decoded
   pub is_decoded : IsDecoded week solved (record {
@@ -52,9 +52,9 @@ module _ (week : Week) (solved : Solved) (verdict : Verdict) (roster : RosterTab
     satisfies = met.satisfies;
     shape = shape;
     cells = λ cell in_week. sym (same cell in_week);
-    keeps = keeps-alike week _ _ same met.keeps;
+    keeps = (alike _ _ same).keeps met.keeps;
     objective = objective;
-    costs = met.costs_rules.costs ∙ map-alike _ _ (λ rule. (sound-rule week rule).alike _ _ same) soft_rules;
+    costs = met.costs_rules.costs ∙ map-alike _ _ (alike _ _ same).costs soft_rules;
     sum_of_costs = is_total;
     penalty_is = of_roster;
     penalty_at_most = subst (λ n. n ≤ verdict.objective) (sym (is_total ∙ met.costs_rules.sum_is)) met.penalty_at_most;

@@ -16,7 +16,7 @@ use Rattle.rota_items.proofs.InstanceLimits.{instance-within_limits}
 use Rattle.rota_items.proofs.Numbers.{cell_number-below}
 use Rattle.rota_items.proofs.PenaltyBound.{penalty-below}
 use Rattle.solver_text.specs.Answers.{outcome}
-use Rattle.solver_text.proofs.ReadBack.{written-is_read}
+use Rattle.solver_text.specs.AnswerLaws.{WrittenAnswerIsRead}
 use Rattle.rota_pb.specs.Extending.{extension_truths, extension_answer, extension_text, IsReadBack, ExtensionIsReadBack}
 use Rattle.rota_pb.proofs.SlackWeek.{few_variables}
 use Rattle.rota_pb.proofs.ValuesText.{length-singles}
@@ -50,18 +50,18 @@ module _ (week : Week) (roster : Roster) where
       let next : place + 1 ≡ suc place = omega arith in
       value-at (model_of week).variables (λ p. extension_of week roster (p + 1)) place (omega (arith, below)) ∙ ap (extension_of week roster) next
 
-  read-back : IsWithinLimits week → IsReadBack week roster
+  read-back : WrittenAnswerIsRead → IsWithinLimits week → IsReadBack week roster
   unfolding extension_answer
-  read-back limits = record {
+  read-back written limits = record {
     outcome =
         let count : length (extension_truths week roster) ≡ (model_of week).variables =
         length-singles (model_of week).variables (λ p. extension_of week roster (p + 1)) in
         ap (λ (n : ℕ). outcome n (extension_text week roster)) (sym count) ∙
-        written-is_read (penalty week roster) (extension_truths week roster) (omega (arith, penalty-below week roster limits)) (omega (arith, count, few_variables week roster limits));
+        written (penalty week roster) (extension_truths week roster) (omega (arith, penalty-below week roster limits)) (omega (arith, count, few_variables week roster limits));
     truths = truths-are;
     same_roster = λ cell inside.
         truths-are (cell_number week cell) (omega arith) (omega (arith, cell_number-below week cell inside)) ∙ extension-roster week roster cell inside;
   }
 
-pub extension-is_read_back : ExtensionIsReadBack
-extension-is_read_back tables roster limits keeps = read-back (week_of tables) roster (instance-within_limits tables limits)
+pub extension-is_read_back : WrittenAnswerIsRead → ExtensionIsReadBack
+extension-is_read_back written tables roster limits keeps = read-back (week_of tables) roster written (instance-within_limits tables limits)

@@ -9,7 +9,7 @@ use Rattle.solver_text.specs.declared.outcome.Solved.{Solved}
 use Rattle.solver_text.specs.Answers.{judge_all, outcome, fault_within}
 use Rattle.solver_text.specs.Lines.{cut}
 use Rattle.solver_text.specs.States.{LeadsTo}
-use Rattle.solver_text.proofs.StayLaws.{fault-stays}
+use Rattle.solver_text.specs.AnswerLaws.{FaultStays}
 use Rattle.rota_pb.specs.declared.fault.Fault.{Fault}
 use Rattle.rota_pb.specs.declared.fault.Fault.TheVariants.{Read, Answer}
 use Rattle.rota_pb.specs.AnswerPieces.{FailsAnswer, IsSolved}
@@ -81,22 +81,22 @@ all_taken reader taken bytes front at_end told =
 
 module _ (variables : ℕ) (reader : Reader) (old : AnswerState) (from : LeadsTo variables [] old) where
   -- why not all bytes were taken is why the answer is not taken
-  pub fails_answer : (fault : Fault) → StopsTaking reader old fault → FailsAnswer variables reader fault
-  fails_answer (Answer fault) stops = record {
+  pub fails_answer : FaultStays → (fault : Fault) → StopsTaking reader old fault → FailsAnswer variables reader fault
+  fails_answer stays (Answer fault) stops = record {
     means = λ bytes told.
         let parts : (rest : List ℕ) × (reader.left ≡ Some rest) × (stops.taken ++ rest ≡ bytes) =
         told_are reader.given reader.left stops.taken bytes stops.front told in
         subst (λ (text : List ℕ). outcome variables text ≡ Err fault) parts.2
-        (fault-stays.whole variables stops.taken parts.0 fault from.few (stops.judged variables from));
+        (stays.whole variables stops.taken parts.0 fault from.few (stops.judged variables from));
     sound = stops.sound;
   }
-  fails_answer Read stops = record {
+  fails_answer stays Read stops = record {
     taken = stops.taken;
     front = stops.front;
     unjudged = stops.unjudged variables from;
     no_end = stops.no_end;
   }
-  fails_answer _ stops = absurd stops
+  fails_answer stays _ stops = absurd stops
 
   module _ (new : AnswerState) (all : HasTakenAll reader old new) where
     -- the fault at the end

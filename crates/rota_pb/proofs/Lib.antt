@@ -1,9 +1,7 @@
 pub mod DecodedAnswer
-pub mod Encoded
 pub mod ExtensionLaws
 pub mod Feeding
 pub mod GivenFiles
-pub mod PutModel
 pub mod Runs
 pub mod SinkLoops
 pub mod SlackRows
@@ -11,5 +9,4 @@ pub mod SlackSteps
 pub mod SlackWeek
 pub mod SolutionPieces
 pub mod ValuesText
-pub mod WeekRows
 pub mod WholeFiles

@@ -6,10 +6,8 @@ use Rattle.rota_core.specs.declared.ports.Target.{Ghosts}
 use Rattle.rota_core.specs.Lists.{each_below}
 use Rattle.opb_text.specs.declared.sink.Sink.{Sink}
 use Rattle.opb_text.specs.Sink.{PutsText, stands_for, sink_failed, target_of}
-use Rattle.opb_text.proofs.Told.{append_known-nil}
-use Rattle.opb_text.proofs.PutsTextLemmas.{or_false, puts_exit, puts_stop, puts_then}
-use Rattle.rota_core.proofs.Loops.{each_below-zero, each_below-more}
-use Rattle.rota_items.proofs.Taking.{in_turn}
+use Rattle.opb_text.proofs.LogicWords.{append_known-nil, or_false, puts_exit, puts_stop, puts_then}
+use Rattle.rota_core.proofs.LogicWords.{each_below-zero, each_below-more, in_turn}
 
 -- a text made of a list, element by element
 pub record Joins {A : Type 0} (text : List A → List ℕ) : Type 0 where

@@ -7,7 +7,7 @@ use Rattle.rota_items.specs.Events.{close_row}
 use Rattle.opb_text.specs.declared.sink.Sink.{Sink}
 use Rattle.opb_text.specs.Sink.{stands_for}
 use Rattle.opb_text.specs.SinkTaker.{with_event, writing_into}
-use Rattle.opb_text.proofs.Told.{append_known-nil}
+use Rattle.opb_text.proofs.LogicWords.{append_known-nil}
 use Rattle.opb_text.proofs.TakenEvents.{same_writing}
 use Rattle.rota_pb.specs.SlackTaker.{Progress, slack_texts}
 

@@ -4,7 +4,7 @@ use Rattle.std.specs.Prelude.{IsErr}
 use Rattle.rota_core.specs.Lists.{each_below}
 use Rattle.rota_core.specs.declared.ports.PortFault.{PortFault}
 use Rattle.rota_core.specs.declared.ports.Target.{Ghosts}
-use Rattle.rota_core.proofs.Loops.{each_below-zero, each_below-same}
+use Rattle.rota_core.proofs.LogicWords.{each_below-zero, each_below-same}
 use Rattle.opb_text.specs.declared.sink.Sink.{Sink}
 use Rattle.opb_text.specs.Sink.{PutsText}
 use Rattle.solver_text.specs.AnswerWriter.{literal_text, literals_text}

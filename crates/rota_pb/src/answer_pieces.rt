@@ -6,7 +6,7 @@ ghost use Rattle.rota_pb.specs.RunPorts.{reader_of};
 
 use crate::fault::Fault;
 use rota_core::Source;
-use solver_text::{Answer, Solved};
+use solver_text::{Answer, Solved, fault_of_a_beginning_stays};
 use std::alloc::Global;
 
 const PIECE: usize = 4096;
@@ -37,6 +37,7 @@ pub(crate) fn read_answer<A: Source>(
 ) -> Result<Solved, Fault>
     ensures { (answer_reading variables (reader_of A.Source source.old source.new)).ends result }
 {
+    fault_of_a_beginning_stays();
     let mut answer = Answer::new(alloc, variables)?;
     feed_all(source, &mut answer)?;
     Ok(answer.finish()?)

@@ -4,10 +4,10 @@ ghost use Rattle.rota_core.specs.InstanceTables.{week_of};
 ghost use Rattle.rota_items.specs.WeekModel.{model_of};
 ghost use Rattle.rota_pb.specs.Decoded.{IsDecoded, LacksRoster};
 
-use crate::driven::verdict_of;
 use crate::fault::Fault;
 use rota_core::{Instance, Roster, SOFT_RULES};
-use rota_items::Judge;
+use rota_items::laws::alike_rosters_cost_the_same;
+use rota_items::{Judge, verdict_of};
 use solver_text::{Solved, Status};
 
 /// The roster of an answer that satisfies the model, and what the roster costs.
@@ -57,6 +57,7 @@ pub fn decode(instance: &Instance, solved: Solved) -> Result<Decoded, Fault>
     if !matches!(status, Status::Satisfiable | Status::Optimum) {
         return Err(Fault::NoRoster(status));
     }
+    alike_rosters_cost_the_same();
     let verdict = verdict_of(instance, Judge::of_bits(instance, &bits));
     if let Some((number, _)) = verdict.unmet {
         return Err(Fault::Unmet(number));

@@ -1,31 +1,18 @@
 //! Runs that write a model.
-ghost use Rattle.std.specs.Prelude.{◌≡◌, true, IsErr};
 ghost use Rattle.rota_core.specs.InstanceTables.{week_of};
 ghost use Rattle.rota_items.specs.WeekModel.{model_of};
 ghost use Rattle.opb_text.specs.ModelText.{opb_text};
-ghost use Rattle.opb_text.specs.OpbTaker.{sink_of};
-ghost use Rattle.opb_text.specs.Sink.{PutsText, sink_failed};
 ghost use Rattle.rota_pb.specs.Encoding.{EncodeOutcome};
 ghost use Rattle.rota_pb.specs.RunPorts.{reader_of, week_readers, writer_of};
 ghost use Rattle.rota_pb.specs.Runs.{send};
 ghost use Rattle.rota_pb.specs.RunParts.{SendsText};
 
 use crate::fault::Fault;
+use crate::model_text::model_text_means_the_rules;
 use crate::week_files::{Choice, read_instance};
-use opb_text::{OpbTaker, Sink};
+use opb_text::{OpbTaker, Sink, put_model};
 use rota_core::{Instance, PortFault, Source, Target};
-use rota_items::{counts, drive_constraints, drive_objective};
 use std::alloc::Global;
-
-// Puts the text of the model.
-fn put_model<W: Target>(instance: &Instance, taker: &mut OpbTaker<W>) -> Result<(), PortFault>
-    ensures takes { PutsText (sink_of taker.old) result (opb_text (model_of (week_of instance.now))) (sink_of taker.new) }
-    ensures for_good { sink_failed (sink_of taker.old) ≡ true → IsErr result }
-{
-    taker.first_line(counts(instance))?;
-    drive_objective(instance, taker)?;
-    drive_constraints(instance, taker)
-}
 
 // Sends the text of the model, and makes it flushed.
 fn send_model<W: Target>(instance: &Instance, out: &mut W) -> Result<(), PortFault>
@@ -86,6 +73,7 @@ pub fn run_encode<S: Source, H: Source, K: Source, F: Source, W: Target>(
         (reader_of K.Source week.old week.new) (reader_of F.Source fix_file.old fix_file.new))
         (writer_of W.Target out.old out.new) result }
 {
+    model_text_means_the_rules();
     let instance = read_instance(alloc, choice, sce, his, week, fix_file)?;
     encode(&instance, out)
 }

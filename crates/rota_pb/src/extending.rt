@@ -5,14 +5,13 @@ ghost use Rattle.rota_pb.specs.Extending.{ExtendOutcome, extend_roster, extensio
 ghost use Rattle.rota_pb.specs.RunPorts.{reader_of, week_readers, writer_of};
 ghost use Rattle.rota_pb.specs.RunParts.{SendsText};
 
-use crate::driven::verdict_of;
 use crate::fault::Fault;
 use crate::given_roster::read_roster;
 use crate::slack_taker::SlackTaker;
 use crate::week_files::{Choice, read_instance};
 use opb_text::Sink;
 use rota_core::{Instance, PortFault, Roster, Source, Target};
-use rota_items::Judge;
+use rota_items::{Judge, verdict_of};
 use solver_text::AnswerWriter;
 use std::alloc::Global;
 

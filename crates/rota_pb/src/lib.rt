@@ -27,8 +27,6 @@ mod answer_pieces;
 mod decoded;
 // The run that reads an answer.
 mod decoding;
-// The verdict of a judge that is driven over the whole model.
-mod driven;
 // Runs that write a model.
 mod encoding;
 // Runs that extend a roster to an answer.
@@ -39,6 +37,8 @@ mod extension_laws;
 mod fault;
 // Rosters that are given as files.
 mod given_roster;
+// What the text of a week's model says.
+mod model_text;
 // Values of variables that are put into an answer.
 mod put_values;
 // The report on a decoded answer.

@@ -15,8 +15,9 @@ ghost use Rattle.rota_pb.specs.RunParts.{SendsText};
 
 use crate::fault::Fault;
 use opb_text::{Piece, Sink};
+use rota_core::laws::rosters_list_their_cells;
 use rota_core::{Cell, Instance, PortFault, Roster, Target};
-use rota_read::day_name;
+use rota_read::{day_name, each_roster_has_its_text};
 
 // Puts the lines before the assignments, of which there are `count`.
 fn put_heading<W: Target>(
@@ -69,6 +70,7 @@ fn put_assignments<W: Target>(
     ensures { PutsText sink.old result
         (rows_text instance.now (cells_of (week_of instance.now) (set_of roster.now))) sink.new }
 {
+    rosters_list_their_cells();
     for cell in roster.cells() {
         put_assignment(sink, instance, cell)?;
     }
@@ -85,6 +87,7 @@ fn put_solution<W: Target>(
     ensures takes { PutsText sink.old result (solution_text instance.now (set_of roster.now)) sink.new }
     ensures for_good { sink_failed sink.old ≡ true → IsErr result }
 {
+    rosters_list_their_cells();
     put_heading(sink, instance, roster.count())?;
     put_assignments(sink, instance, roster)
 }
@@ -124,6 +127,7 @@ pub fn write_solution<W: Target>(
         length (solution_text instance.now (set_of roster.now)) ≤ LONGEST →
         SpellsRoster instance.now (solution_text instance.now (set_of roster.now)) roster.now) }
 {
+    each_roster_has_its_text();
     let _nurses = instance.nurses();
     match send_solution(instance, roster, out) {
         Ok(()) => Ok(()),

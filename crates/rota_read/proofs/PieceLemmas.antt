@@ -10,7 +10,7 @@ use Rattle.rota_core.specs.Numeral.{numeral, decimal}
 use Rattle.rota_read.specs.Tokens.{Token, tokens_from, lengthen, line_after}
 use Rattle.rota_read.specs.Layout.{Slot, wants_exactly, wants_number, wants_word, wants_known, Layout, end, slot, ◌>>=◌, misfit, is_sign_token, exactly, number, any_word, known_name}
 use Rattle.rota_read.specs.Files.{Fills}
-use Rattle.rota_core.proofs.NumeralLemmas.{is_decimal-numeral, decimal-numeral, IsWord-numeral}
+use Rattle.rota_core.specs.NumeralLaws.{TellsNumber}
 use Rattle.rota_read.proofs.TokenLemmas.{tokens_from-sign, one_blank, one_longer, last_byte}
 
 -- The piece, at the front of any bytes, is a number of tokens that fill the layout with the value.
@@ -110,20 +110,22 @@ pub piece-any_word : (word : List ℕ) (b : ℕ) → IsWord word → is_blank b 
 unfolding any_word
 piece-any_word word b is_word blank = piece-word wants_word word b is_word blank (rw (no_sign word is_word) refl)
 
-fits-number : (low high n : ℕ) → low ≤ n → n ≤ high → misfit (wants_number low high) (numeral n) ≡ None
-fits-number low high n from up_to =
-    rw (is_decimal-numeral n, decimal-numeral n, below low n from, below n high up_to) refl
-  where
-    below : (a b : ℕ) → a ≤ b → nat_le a b ≡ true
-    below a b h = grind (arith, nat_tests)
+-- a numeral that tells its number
+module _ (tells : (n : ℕ) → TellsNumber n) where
+  fits-number : (low high n : ℕ) → low ≤ n → n ≤ high → misfit (wants_number low high) (numeral n) ≡ None
+  fits-number low high n from up_to =
+      rw ((tells n).decimal_only, (tells n).number, below low n from, below n high up_to) refl
+    where
+      below : (a b : ℕ) → a ≤ b → nat_le a b ≡ true
+      below a b h = grind (arith, nat_tests)
 
-pub piece-number : (low high n b : ℕ) → low ≤ n → n ≤ high → is_blank b ≡ true →
-    FillsAsPiece (number low high) (numeral n ++ b ∷ []) n
-unfolding number
-piece-number low high n b from up_to blank =
-    subst (FillsAsPiece (number low high) (numeral n ++ b ∷ [])) (decimal-numeral n)
-    (piece-map (slot (wants_number low high)) decimal (numeral n ++ b ∷ []) (numeral n)
-    (piece-word (wants_number low high) (numeral n) b (IsWord-numeral n) blank (fits-number low high n from up_to)))
+  pub piece-number : (low high n b : ℕ) → low ≤ n → n ≤ high → is_blank b ≡ true →
+      FillsAsPiece (number low high) (numeral n ++ b ∷ []) n
+  unfolding number
+  piece-number low high n b from up_to blank =
+      subst (FillsAsPiece (number low high) (numeral n ++ b ∷ [])) (tells n).number
+      (piece-map (slot (wants_number low high)) decimal (numeral n ++ b ∷ []) (numeral n)
+      (piece-word (wants_number low high) (numeral n) b (tells n).word blank (fits-number low high n from up_to)))
 
 pub piece-known_name : (names : List (List ℕ)) (is_taken : ℕ → Bool) (name : List ℕ) (place b : ℕ) → IsWord name →
     is_blank b ≡ true → place_of names name ≡ Some place → is_taken place ≡ false →

@@ -8,20 +8,21 @@ use Rattle.std.proofs.lemmas.List.{append-nil}
 use Rattle.rota_core.specs.declared.values.Cell.{Cell}
 use Rattle.rota_core.specs.InstanceTables.{InstanceTables, IsInstance, week_of}
 use Rattle.rota_core.specs.Numeral.{numeral}
-use Rattle.rota_core.specs.Roster.{InWeek, cell}
+use Rattle.rota_core.specs.Roster.{Has, InWeek, Roster, cell}
 use Rattle.rota_core.specs.HardRules.{KeepsOneCell}
 use Rattle.rota_core.specs.RosterTables.{RosterTables, HasShapeOf, cell_place, set_of}
 use Rattle.rota_core.specs.ScenarioTables.{ScenarioTables, IsShiftName, AreDistinct}
 use Rattle.rota_core.specs.Words.{IsWord}
-use Rattle.rota_core.proofs.Loops.{AllByRecursion-append}
-use Rattle.rota_core.proofs.RisesWithin.{RisesWithin}
+use Rattle.rota_core.proofs.LogicWords.{AllByRecursion-append, all-weaker}
+use Rattle.rota_core.specs.CellLists.{ListsCells}
+use Rattle.rota_core.specs.NumeralLaws.{TellsNumber}
+use Rattle.rota_core.specs.RisingLists.{RisesWithin}
 use Rattle.rota_read.specs.Layout.{day_names, setting, Layout, end, exactly, number, any_word, known_name, none_taken, repeat}
 use Rattle.rota_read.specs.Files.{Fills, LONGEST}
 use Rattle.rota_read.specs.SolutionLayout.{is_same_cell, is_one_cell, assignment_row, solution_heading, solution, SpellsRoster}
 use Rattle.rota_read.specs.SolutionText.{name_at, spaced, ended, heading_text, assignment_text, text_of_cells, solution_text}
 use Rattle.rota_read.specs.Tokens.{tokens_from, tokens}
 use Rattle.rota_core.specs.RosterCells.{cells_of}
-use Rattle.rota_core.proofs.CellLists.{rises-cells_of, all-cells_of, length-cells_of}
 use Rattle.rota_read.proofs.CellLists.{is_one_cell-cells_of}
 use Rattle.rota_read.proofs.NamePlaces.{holds-name_at, place_of-name_at}
 use Rattle.rota_read.proofs.PieceLemmas.{FillsAsPiece, piece-bind, piece-end, piece-map, piece-blank, piece-sign, piece-exactly, piece-any_word, piece-number, piece-known_name}
@@ -80,7 +81,7 @@ shift_words : (names : List (List ℕ)) → AllByRecursion IsShiftName names →
 shift_words [] all = tt
 shift_words (x ∷ xs) all = (all.0.0, shift_words xs all.1)
 
-module _ (tables : InstanceTables) (valid : IsInstance tables) where
+module _ (tells : (n : ℕ) → TellsNumber n) (tables : InstanceTables) (valid : IsInstance tables) where
   abbrev scenario : ScenarioTables
   scenario = tables.scenario
 
@@ -182,33 +183,34 @@ module _ (tables : InstanceTables) (valid : IsInstance tables) where
       (codes "SOLUTION") count
       (piece-exactly (codes "SOLUTION") 10 (omega arith, refl) refl refl)
       (piece-bind (number 0 9999) _ (week ++ 32 ∷ []) ((name ++ 10 ∷ []) ++ count_line) tables.history.week count
-      (piece-number 0 9999 tables.history.week 32 (omega arith) valid.history.week refl)
+      (piece-number tells 0 9999 tables.history.week 32 (omega arith) valid.history.week refl)
       (piece-bind any_word _ (name ++ 10 ∷ []) count_line name count (piece-any_word name 10 valid.scenario.name refl)
       (piece-bind (exactly (codes "ASSIGNMENTS")) _ (10 ∷ (codes "ASSIGNMENTS" ++ 32 ∷ [])) ((61 ∷ []) ++ number_line) (codes "ASSIGNMENTS") count
       (piece-blank (exactly (codes "ASSIGNMENTS")) 10 (codes "ASSIGNMENTS" ++ 32 ∷ []) (codes "ASSIGNMENTS") refl
       (piece-exactly (codes "ASSIGNMENTS") 32 (omega arith, refl) refl refl))
       (piece-bind (exactly (codes "=")) _ (61 ∷ []) number_line (codes "=") count (piece-sign 61 refl refl refl)
-      (piece-blank (number 0 9999) 32 (numeral count ++ 10 ∷ []) count refl (piece-number 0 9999 count 10 (omega arith) few refl)))))))
+      (piece-blank (number 0 9999) 32 (numeral count ++ 10 ∷ []) count refl (piece-number tells 0 9999 count 10 (omega arith) few refl)))))))
 
   -- ---- the whole text
 
-  pub roster_text-spelled : (roster : RosterTables) → HasShapeOf (week_of tables) roster →
+  pub roster_text-spelled : ((roster : Roster) → ListsCells (week_of tables) roster) → (roster : RosterTables) → HasShapeOf (week_of tables) roster →
       KeepsOneCell (week_of tables) (set_of roster) → length (solution_text tables (set_of roster)) ≤ LONGEST →
       SpellsRoster tables (solution_text tables (set_of roster)) roster
   unfolding solution text_of_cells tokens_from
-  roster_text-spelled roster shape one_cell short =
+  roster_text-spelled lists roster shape one_cell short =
       let week = week_of tables in
       let cells : List Cell = cells_of week (set_of roster) in
-      let few : length cells ≤ 9999 = omega (arith, length-cells_of week (set_of roster) one_cell, valid.scenario.nurses.0.1) in
+      let listed = lists (set_of roster) in
+      let few : length cells ≤ 9999 = omega (arith, listed.few one_cell, valid.scenario.nurses.0.1) in
       let rows : FillsAsPiece (repeat (length cells) (assignment_row scenario) []) (flat_map (assignment_text scenario) cells) cells =
-      rows-spelled [] cells _ _ tt (rises-cells_of week (set_of roster)) (all-cells_of week (set_of roster) (InWeek week) (λ one has. has.in_week)) in
+      rows-spelled [] cells _ _ tt listed.rise (all-weaker (Has week (set_of roster)) (InWeek week) (λ one has. has.in_week) cells listed.theirs) in
       let whole : FillsAsPiece (solution scenario) (solution_text tables (set_of roster)) cells =
       piece-bind solution_heading (λ count. repeat count (assignment_row scenario) []) (heading_text tables (length cells))
       (flat_map (assignment_text scenario) cells) (length cells) cells (heading-spelled (length cells) few) rows in
       record {
         rows = cells;
         spelled = record { short = short; filled = all_of_it (solution scenario) (solution_text tables (set_of roster)) cells whole };
-        cells = record { shape = shape; set = λ one in_week. is_one_cell-cells_of week (set_of roster) one in_week };
+        cells = record { shape = shape; set = λ one in_week. is_one_cell-cells_of week (set_of roster) listed one in_week };
       }
     where
       all_of_it : {V : Type 0} (layout : Layout V) (text : List ℕ) (value : V) → FillsAsPiece layout text value →
@@ -217,5 +219,3 @@ module _ (tables : InstanceTables) (valid : IsInstance tables) where
           let part = whole 1 in
           subst (λ all. Fills layout all value)
           (sym (ap tokens (sym (append-nil text)) ∙ part.3 [] ∙ append-nil part.0)) part.2
-
-pub ruleset roster_texts = (roster_text-spelled)

@@ -14,7 +14,7 @@ use Rattle.rota_read.specs.Layout.{Layout}
 use Rattle.rota_read.specs.WeekLayout.{demand, demands_of_days, Requirements, requirement, requirement_of, requirement_row, after_row, repeat_until, most_rows, no_requirements, requirement_rows, demand_on, demand_table, request_row, request_table, requirements_part, requests_part, week}
 use Rattle.rota_read.specs.WeekRows.{AreWithin}
 use Rattle.rota_read.specs.Files.{Fills, Spells}
-use Rattle.rota_core.proofs.Loops.{AllByRecursion-append}
+use Rattle.rota_core.proofs.LogicWords.{AllByRecursion-append}
 use Rattle.rota_read.proofs.WordLaws.{tokens-are_tokens}
 use Rattle.rota_read.proofs.SlotLaws.{AreTokens, length_push, number-within, repeat-keeps}
 use Rattle.rota_read.proofs.ScenarioLaws.{left, right, pair-limits, rows_length}

@@ -16,6 +16,7 @@ ghost use Rattle.rota_read.specs.RosterReading.{ReadsRoster, ReadsRosterFile};
 use crate::cursor::Cursor;
 use crate::fault::Stop;
 use crate::files::open;
+use rota_core::laws::{numerals_tell_their_numbers, rosters_list_their_cells};
 use rota_core::{Cell, FileFault, FileName, Instance, Roster};
 use std::alloc::Global;
 
@@ -155,7 +156,9 @@ pub fn each_text_means_one_solution()
 
 /// A law: for each instance, the solution file of a roster with at most one cell for each nurse and
 /// day spells that roster, where it has at most 4,194,304 bytes.
-#[tactic(auto, using(crate::proofs::RosterTexts::roster_texts))]
 pub fn each_roster_has_its_text()
     ensures { EachRosterHasItsText }
-{}
+{
+    numerals_tell_their_numbers();
+    rosters_list_their_cells();
+}

@@ -1,30 +1,14 @@
 -- Numerals as words: digits without blanks, which spell their number.
-use Rattle.std.proofs.Common.{◌≡◌, ℕ, zero, suc, ◌+◌, ◌/◌, ◌%◌, ◌^◌, ◌<◌, ◌≤◌, Bool, true, false, List, [], ◌∷◌, Option, Some, None, length, length-append, refl, ap, ◌∙◌, arith, inl, inr, pos}
+use Rattle.std.proofs.Common.{◌≡◌, ℕ, ◌^◌, ◌<◌, ◌≤◌, Bool, true, false, List, [], ◌∷◌, Option, Some, None, length, refl, ap, ◌∙◌, arith, pos}
 use Rattle.std.specs.Prelude.{All}
 use Rattle.std.specs.Option.{option_map_or}
-use Rattle.std.proofs.lemmas.Bool.{cases_lt, lt-ltb, le-leb, ne_eqb}
+use Rattle.std.proofs.lemmas.Bool.{lt-ltb, le-leb, ne_eqb}
 use Rattle.std.proofs.lemmas.List.Elements.{All-nil, All-cons}
-use Rattle.rota_core.specs.Numeral.{numeral, numeral_within, decimal, is_decimal}
-use Rattle.rota_core.proofs.NumeralLemmas.{AreDigits, decimal-numeral, digits-numeral, is_decimal-numeral, numeral-has_digits, numeral_steps}
+use Rattle.rota_core.specs.Numeral.{numeral, decimal, is_decimal}
+use Rattle.rota_core.specs.NumeralLaws.{AreDigits, TellsNumber}
 use Rattle.solver_text.specs.Lines.{is_blank, is_line_feed, has_bytes}
 use Rattle.solver_text.specs.Answers.{Literal, magnitude_of, positive_of, number_of, variable_of, literal_of}
 use Rattle.solver_text.specs.AnswerText.{literal_word}
-
-length-numeral_within : (k m n : ℕ) → n < 10 ^ suc m → length (numeral_within k n) ≤ suc m
-length-numeral_within zero m n below = omega arith
-length-numeral_within (suc k) zero n below = rw (numeral_steps.one k n (omega arith)) (omega arith)
-length-numeral_within (suc k) (suc m) n below =
-    elim (cases_lt n 10) [
-      | inl small ↦ rw (numeral_steps.one k n small) (omega arith)
-      | inr large ↦
-          let front : length (numeral_within k (n / 10)) ≤ suc m = length-numeral_within k m (n / 10) (omega arith) in
-          rw (numeral_steps.more k n large, length-append (numeral_within k (n / 10)) ((48 + n % 10) ∷ [])) (omega (arith, front))
-    ]
-
--- a number below 10 ^ 18 has at most 18 digits
-pub length-numeral : (n : ℕ) → n < 10 ^ 18 → length (numeral n) ≤ 18
-unfolding numeral
-length-numeral n below = length-numeral_within (suc n) 17 n below
 
 -- neither blank nor line feed
 abbrev pub IsWordByte : ℕ → Type 0
@@ -43,26 +27,9 @@ digits-word_bytes : (digits : List ℕ) → AreDigits digits → All IsWordByte 
 digits-word_bytes [] these = All-nil IsWordByte
 digits-word_bytes (b ∷ digits) these = All-cons IsWordByte b digits (word_byte b (omega (arith, these.0))) (digits-word_bytes digits these.2)
 
-numeral-word_bytes : (n : ℕ) → All IsWordByte (numeral n)
-numeral-word_bytes n = digits-word_bytes (numeral n) (digits-numeral n)
-
 has_some_bytes : (word : List ℕ) → 0 < length word → has_bytes word ≡ true
 has_some_bytes [] some = absurd (omega arith)
 has_some_bytes (b ∷ word) some = refl
-
-pub numeral-is_word : (n : ℕ) → IsWord (numeral n)
-numeral-is_word n = record { some = has_some_bytes (numeral n) (numeral-has_digits n); bytes = numeral-word_bytes n }
-
-pub literal-is_word : (variable : ℕ) (truth : Bool) → IsWord (literal_word variable truth)
-literal-is_word variable true =
-    record { some = refl; bytes = All-cons IsWordByte 120 (numeral variable) (word_byte 120 (omega arith)) (numeral-word_bytes variable) }
-literal-is_word variable false =
-    record {
-      some = refl;
-      bytes =
-          All-cons IsWordByte 45 (120 ∷ numeral variable) (word_byte 45 (omega arith))
-          (All-cons IsWordByte 120 (numeral variable) (word_byte 120 (omega arith)) (numeral-word_bytes variable));
-    }
 
 -- digits that name the variable
 variable-digits : (positive : Bool) (digits : List ℕ) → 0 < length digits → is_decimal digits ≡ true → variable_of positive digits ≡ Some (record { positive = positive; variable = decimal digits })
@@ -71,16 +38,6 @@ variable-digits positive (b ∷ digits) some e = rw e refl
 
 abbrev literal_of_variable : Bool → ℕ → Option Literal
 literal_of_variable positive n = Some (record { positive = positive; variable = n })
-
-variable-numeral : (positive : Bool) (n : ℕ) → variable_of positive (numeral n) ≡ literal_of_variable positive n
-variable-numeral positive n =
-    variable-digits positive (numeral n) (numeral-has_digits n) (is_decimal-numeral n)
-    ∙ ap (λ (m : ℕ). literal_of_variable positive m) (decimal-numeral n)
-
--- a literal's word names the literal
-pub literal_of-literal_word : (variable : ℕ) (truth : Bool) → literal_of (literal_word variable truth) ≡ Some (record { positive = truth; variable = variable })
-literal_of-literal_word variable true = variable-numeral true variable
-literal_of-literal_word variable false = variable-numeral false variable
 
 magnitude-digits : (digits : List ℕ) → 0 < length digits → length digits ≤ 18 → is_decimal digits ≡ true → magnitude_of digits ≡ Some (decimal digits)
 magnitude-digits digits some short e = rw (e, lt-ltb 0 (length digits) some, le-leb (length digits) 18 short) refl
@@ -91,9 +48,38 @@ unsigned-digits [] these some = absurd (omega arith)
 unsigned-digits (b ∷ digits) these some =
     rw (ne_eqb b 45 (λ e. omega (arith, these.0)), ne_eqb b 43 (λ e. omega (arith, these.0))) refl
 
--- a numeral of at most 18 digits spells its number
-pub number_of-numeral : (n : ℕ) → n < 10 ^ 18 → number_of (numeral n) ≡ Some (pos n)
-number_of-numeral n small =
-    unsigned-digits (numeral n) (digits-numeral n) (numeral-has_digits n)
-    ∙ ap (λ (m : Option ℕ). option_map_or (λ d. Some (pos d)) m None)
-    (magnitude-digits (numeral n) (numeral-has_digits n) (length-numeral n small) (is_decimal-numeral n) ∙ ap Some (decimal-numeral n))
+-- as numerals tell their numbers
+module _ (tells : (n : ℕ) → TellsNumber n) where
+  numeral-word_bytes : (n : ℕ) → All IsWordByte (numeral n)
+  numeral-word_bytes n = digits-word_bytes (numeral n) (tells n).digits
+
+  pub numeral-is_word : (n : ℕ) → IsWord (numeral n)
+  numeral-is_word n = record { some = has_some_bytes (numeral n) (tells n).word.0; bytes = numeral-word_bytes n }
+
+  pub literal-is_word : (variable : ℕ) (truth : Bool) → IsWord (literal_word variable truth)
+  literal-is_word variable true =
+      record { some = refl; bytes = All-cons IsWordByte 120 (numeral variable) (word_byte 120 (omega arith)) (numeral-word_bytes variable) }
+  literal-is_word variable false =
+      record {
+        some = refl;
+        bytes =
+            All-cons IsWordByte 45 (120 ∷ numeral variable) (word_byte 45 (omega arith))
+            (All-cons IsWordByte 120 (numeral variable) (word_byte 120 (omega arith)) (numeral-word_bytes variable));
+      }
+
+  variable-numeral : (positive : Bool) (n : ℕ) → variable_of positive (numeral n) ≡ literal_of_variable positive n
+  variable-numeral positive n =
+      variable-digits positive (numeral n) (tells n).word.0 (tells n).decimal_only
+      ∙ ap (λ (m : ℕ). literal_of_variable positive m) (tells n).number
+
+  -- a literal's word names the literal
+  pub literal_of-literal_word : (variable : ℕ) (truth : Bool) → literal_of (literal_word variable truth) ≡ Some (record { positive = truth; variable = variable })
+  literal_of-literal_word variable true = variable-numeral true variable
+  literal_of-literal_word variable false = variable-numeral false variable
+
+  -- a numeral of at most 18 digits spells its number
+  pub number_of-numeral : (n : ℕ) → n < 10 ^ 18 → number_of (numeral n) ≡ Some (pos n)
+  number_of-numeral n small =
+      unsigned-digits (numeral n) (tells n).digits (tells n).word.0
+      ∙ ap (λ (m : Option ℕ). option_map_or (λ d. Some (pos d)) m None)
+      (magnitude-digits (numeral n) (tells n).word.0 ((tells n).short 17 small) (tells n).decimal_only ∙ ap Some (tells n).number)

@@ -8,6 +8,7 @@ use Rattle.std.proofs.lemmas.Bool.{ne_eqb, le-ltb}
 use Rattle.std.proofs.lemmas.List.{map-append, length-replicate}
 use Rattle.std.proofs.lemmas.List.Elements.{All-nil, All-cons}
 use Rattle.rota_core.specs.Numeral.{numeral}
+use Rattle.rota_core.specs.NumeralLaws.{TellsNumber}
 use Rattle.solver_text.specs.AnswerLaws.{WrittenAnswerIsRead}
 use Rattle.solver_text.specs.AnswerText.{literal_word, literal_words, rows_of_ten, value_line, answer_head, answer_text}
 use Rattle.solver_text.specs.declared.outcome.Solved.{Solved}
@@ -70,14 +71,6 @@ seen-next status value truths false more =
 in_range : (facts : Facts) (truth : Bool) (n : ℕ) → 0 < n → n ≤ length facts.seen_true → judge_variable facts (literal_at truth n) ≡ see_variable facts truth n
 in_range facts truth n some most = rw (ne_eqb n 0 (λ e. omega arith), le-ltb (length facts.seen_true) n most) refl
 
-literal-next : (status : Option Status) (value : Option ℤ) (truths : List Bool) (truth : Bool) (more : ℕ) → judge (facts_behind status value truths (suc more)) (of_literal (literal_word (length truths + 1) truth)) ≡ Ok (facts_behind status value (truths ++ truth ∷ []) more)
-literal-next status value truths truth more =
-    let facts = facts_behind status value truths (suc more) in
-    let room : length truths + 1 ≤ length (truths ++ replicate (suc more) false) = omega (arith, length-append truths (replicate (suc more) false), length-replicate (suc more) false) in
-    ap (λ (literal : Option Literal). judge_literal facts literal) (literal_of-literal_word (length truths + 1) truth)
-    ∙ in_range facts truth (length truths + 1) (omega arith) room
-    ∙ seen-next status value truths truth more
-
 abbrev literals_from : ℕ → List Bool → List Judgement
 literals_from variable truths = map of_literal (literal_words variable truths)
 
@@ -88,18 +81,6 @@ judge_all-cons facts judgement others = refl
 judge_all-none : (result : Result Facts AnswerFault) → judge_all result [] ≡ result
 unfolding judge_all
 judge_all-none result = refl
-
-literals-judged : (status : Option Status) (value : Option ℤ) (before truths : List Bool) → judge_all (Ok (facts_behind status value before (length truths))) (literals_from (length before + 1) truths) ≡ Ok (facts_behind status value (before ++ truths) 0)
-literals-judged status value before [] =
-    judge_all-none (Ok (facts_behind status value before 0))
-    ∙ ap (λ (truths : List Bool). Ok (facts_behind status value truths 0)) (sym (append-nil before))
-literals-judged status value before (truth ∷ truths) =
-    let next : (length before + 1) + 1 ≡ length (before ++ truth ∷ []) + 1 = omega (arith, length-append before (truth ∷ [])) in
-    judge_all-cons (facts_behind status value before (suc (length truths))) (of_literal (literal_word (length before + 1) truth)) (literals_from ((length before + 1) + 1) truths)
-    ∙ ap (λ (result : Result Facts AnswerFault). judge_all result (literals_from ((length before + 1) + 1) truths)) (literal-next status value before truth (length truths))
-    ∙ ap (λ (variable : ℕ). judge_all (Ok (facts_behind status value (before ++ truth ∷ []) (length truths))) (literals_from variable truths)) next
-    ∙ literals-judged status value (before ++ truth ∷ []) truths
-    ∙ ap (λ (all : List Bool). Ok (facts_behind status value all 0)) (append_assoc before (truth ∷ []) truths)
 
 -- bytes without a line feed, by a test
 not_feed : (b : ℕ) (test : Bool) → is_line_feed b ≡ test → not test ≡ true → NoFeed b
@@ -119,45 +100,6 @@ feed_free (b ∷ bytes) e =
 abbrev objective_line : ℕ → List ℕ
 objective_line objective = 111 ∷ 32 ∷ numeral objective
 
-objective_line-judgements : (objective : ℕ) → judgements_of_line (objective_line objective) ≡ of_objective (numeral objective ∷ []) ∷ []
-objective_line-judgements objective =
-    let is = All-cons IsWord (numeral objective) [] (numeral-is_word objective) (All-nil IsWord) in
-    ap (λ (these : List (List ℕ)). of_objective these ∷ [])
-    (ap (λ (bytes : List ℕ). words (32 ∷ bytes)) (sym (append-nil (numeral objective))) ∙ words-behind_blanks (numeral objective ∷ []) is)
-
-objective_line-feed_free : (objective : ℕ) → All NoFeed (objective_line objective)
-objective_line-feed_free objective =
-    All-cons NoFeed 111 (32 ∷ numeral objective) refl
-    (All-cons NoFeed 32 (numeral objective) refl (no_feed (numeral objective) (numeral-is_word objective).bytes))
-
--- the lines before the values
-head-line : (objective : ℕ) (rest : List ℕ) → judgements (answer_head objective ++ rest) ≡ of_objective (numeral objective ∷ []) ∷ of_status (codes "SATISFIABLE" ∷ []) ∷ judgements rest
-head-line objective rest =
-    let behind = codes "s SATISFIABLE\n" ++ rest in
-    ap (λ (text : List ℕ). judgements text) (append_assoc (objective_line objective) (codes "\ns SATISFIABLE\n") rest)
-    ∙ judgements-line (objective_line objective) behind (objective_line-feed_free objective)
-    ∙ ap (λ (these : List Judgement). these ++ judgements behind) (objective_line-judgements objective)
-    ∙ ap (λ (others : List Judgement). of_objective (numeral objective ∷ []) ∷ others)
-    (judgements-line (codes "s SATISFIABLE") rest (feed_free (codes "s SATISFIABLE") refl))
-
-literal-words_are_words : (variable : ℕ) (truths : List Bool) → All IsWord (literal_words variable truths)
-literal-words_are_words variable [] = All-nil IsWord
-literal-words_are_words variable (truth ∷ truths) =
-    All-cons IsWord (literal_word variable truth) (literal_words (variable + 1) truths) (literal-is_word variable truth)
-    (literal-words_are_words (variable + 1) truths)
-
-text-judgements : (objective : ℕ) (truths : List Bool) → judgements (answer_text objective truths) ≡ of_objective (numeral objective ∷ []) ∷ of_status (codes "SATISFIABLE" ∷ []) ∷ literals_from 1 truths
-text-judgements objective truths =
-    let these = literal_words 1 truths in
-    head-line objective (flat_map value_line (rows_of_ten these))
-    ∙ ap (λ (others : List Judgement). of_objective (numeral objective ∷ []) ∷ of_status (codes "SATISFIABLE" ∷ []) ∷ others)
-    (judgements-rows (length these) these (omega arith) (literal-words_are_words 1 truths))
-
--- the judgement of the lines before the values
-head-judged : (objective variables : ℕ) (others : List Judgement) → objective < 10 ^ 18 → judge_all (Ok (no_facts variables)) (of_objective (numeral objective ∷ []) ∷ of_status (codes "SATISFIABLE" ∷ []) ∷ others) ≡ judge_all (Ok (facts_behind (Some statuses.Satisfiable) (Some (pos objective)) [] variables)) others
-unfolding judge_all
-head-judged objective variables others small = rw (number_of-numeral objective small) refl
-
 abbrev satisfied : Option ℤ → List Bool → Result Solved AnswerFault
 satisfied value truths = Ok (record { status = statuses.Satisfiable; last_o = value; bits = truths })
 
@@ -165,10 +107,71 @@ end-solved : (value : Option ℤ) (truths : List Bool) → and_then (Ok (facts_b
 end-solved value truths =
     ap (λ (all : List Bool). satisfied value all) (append-nil truths)
 
-pub written-is_read : WrittenAnswerIsRead
-written-is_read objective truths small few =
-    ap (λ (these : List Judgement). and_then (judge_all (Ok (no_facts (length truths))) these) at_end) (text-judgements objective truths)
-    ∙ ap (λ (result : Result Facts AnswerFault). and_then result at_end)
-    (head-judged objective (length truths) (literals_from 1 truths) small
-    ∙ literals-judged (Some statuses.Satisfiable) (Some (pos objective)) [] truths)
-    ∙ end-solved (Some (pos objective)) truths
+-- as numerals tell their numbers
+module _ (tells : (n : ℕ) → TellsNumber n) where
+  literal-next : (status : Option Status) (value : Option ℤ) (truths : List Bool) (truth : Bool) (more : ℕ) → judge (facts_behind status value truths (suc more)) (of_literal (literal_word (length truths + 1) truth)) ≡ Ok (facts_behind status value (truths ++ truth ∷ []) more)
+  literal-next status value truths truth more =
+      let facts = facts_behind status value truths (suc more) in
+      let room : length truths + 1 ≤ length (truths ++ replicate (suc more) false) = omega (arith, length-append truths (replicate (suc more) false), length-replicate (suc more) false) in
+      ap (λ (literal : Option Literal). judge_literal facts literal) (literal_of-literal_word tells (length truths + 1) truth)
+      ∙ in_range facts truth (length truths + 1) (omega arith) room
+      ∙ seen-next status value truths truth more
+
+  literals-judged : (status : Option Status) (value : Option ℤ) (before truths : List Bool) → judge_all (Ok (facts_behind status value before (length truths))) (literals_from (length before + 1) truths) ≡ Ok (facts_behind status value (before ++ truths) 0)
+  literals-judged status value before [] =
+      judge_all-none (Ok (facts_behind status value before 0))
+      ∙ ap (λ (truths : List Bool). Ok (facts_behind status value truths 0)) (sym (append-nil before))
+  literals-judged status value before (truth ∷ truths) =
+      let next : (length before + 1) + 1 ≡ length (before ++ truth ∷ []) + 1 = omega (arith, length-append before (truth ∷ [])) in
+      judge_all-cons (facts_behind status value before (suc (length truths))) (of_literal (literal_word (length before + 1) truth)) (literals_from ((length before + 1) + 1) truths)
+      ∙ ap (λ (result : Result Facts AnswerFault). judge_all result (literals_from ((length before + 1) + 1) truths)) (literal-next status value before truth (length truths))
+      ∙ ap (λ (variable : ℕ). judge_all (Ok (facts_behind status value (before ++ truth ∷ []) (length truths))) (literals_from variable truths)) next
+      ∙ literals-judged status value (before ++ truth ∷ []) truths
+      ∙ ap (λ (all : List Bool). Ok (facts_behind status value all 0)) (append_assoc before (truth ∷ []) truths)
+
+  objective_line-judgements : (objective : ℕ) → judgements_of_line (objective_line objective) ≡ of_objective (numeral objective ∷ []) ∷ []
+  objective_line-judgements objective =
+      let is = All-cons IsWord (numeral objective) [] (numeral-is_word tells objective) (All-nil IsWord) in
+      ap (λ (these : List (List ℕ)). of_objective these ∷ [])
+      (ap (λ (bytes : List ℕ). words (32 ∷ bytes)) (sym (append-nil (numeral objective))) ∙ words-behind_blanks (numeral objective ∷ []) is)
+
+  objective_line-feed_free : (objective : ℕ) → All NoFeed (objective_line objective)
+  objective_line-feed_free objective =
+      All-cons NoFeed 111 (32 ∷ numeral objective) refl
+      (All-cons NoFeed 32 (numeral objective) refl (no_feed (numeral objective) (numeral-is_word tells objective).bytes))
+
+  -- the lines before the values
+  head-line : (objective : ℕ) (rest : List ℕ) → judgements (answer_head objective ++ rest) ≡ of_objective (numeral objective ∷ []) ∷ of_status (codes "SATISFIABLE" ∷ []) ∷ judgements rest
+  head-line objective rest =
+      let behind = codes "s SATISFIABLE\n" ++ rest in
+      ap (λ (text : List ℕ). judgements text) (append_assoc (objective_line objective) (codes "\ns SATISFIABLE\n") rest)
+      ∙ judgements-line (objective_line objective) behind (objective_line-feed_free objective)
+      ∙ ap (λ (these : List Judgement). these ++ judgements behind) (objective_line-judgements objective)
+      ∙ ap (λ (others : List Judgement). of_objective (numeral objective ∷ []) ∷ others)
+      (judgements-line (codes "s SATISFIABLE") rest (feed_free (codes "s SATISFIABLE") refl))
+
+  literal-words_are_words : (variable : ℕ) (truths : List Bool) → All IsWord (literal_words variable truths)
+  literal-words_are_words variable [] = All-nil IsWord
+  literal-words_are_words variable (truth ∷ truths) =
+      All-cons IsWord (literal_word variable truth) (literal_words (variable + 1) truths) (literal-is_word tells variable truth)
+      (literal-words_are_words (variable + 1) truths)
+
+  text-judgements : (objective : ℕ) (truths : List Bool) → judgements (answer_text objective truths) ≡ of_objective (numeral objective ∷ []) ∷ of_status (codes "SATISFIABLE" ∷ []) ∷ literals_from 1 truths
+  text-judgements objective truths =
+      let these = literal_words 1 truths in
+      head-line objective (flat_map value_line (rows_of_ten these))
+      ∙ ap (λ (others : List Judgement). of_objective (numeral objective ∷ []) ∷ of_status (codes "SATISFIABLE" ∷ []) ∷ others)
+      (judgements-rows (length these) these (omega arith) (literal-words_are_words 1 truths))
+
+  -- the judgement of the lines before the values
+  head-judged : (objective variables : ℕ) (others : List Judgement) → objective < 10 ^ 18 → judge_all (Ok (no_facts variables)) (of_objective (numeral objective ∷ []) ∷ of_status (codes "SATISFIABLE" ∷ []) ∷ others) ≡ judge_all (Ok (facts_behind (Some statuses.Satisfiable) (Some (pos objective)) [] variables)) others
+  unfolding judge_all
+  head-judged objective variables others small = rw (number_of-numeral tells objective small) refl
+
+  pub written-is_read : WrittenAnswerIsRead
+  written-is_read objective truths small few =
+      ap (λ (these : List Judgement). and_then (judge_all (Ok (no_facts (length truths))) these) at_end) (text-judgements objective truths)
+      ∙ ap (λ (result : Result Facts AnswerFault). and_then result at_end)
+      (head-judged objective (length truths) (literals_from 1 truths) small
+      ∙ literals-judged (Some statuses.Satisfiable) (Some (pos objective)) [] truths)
+      ∙ end-solved (Some (pos objective)) truths

@@ -3,6 +3,8 @@
 ghost use Rattle.solver_text.specs.AnswerLaws.{FaultStays, TrueByLiteral, WrittenAnswerIsRead};
 ghost use Rattle.solver_text.specs.AnswerWriter.{WritesAnswerText};
 
+use rota_core::laws::numerals_tell_their_numbers;
+
 /// A fault judged within a beginning of a text is that of each longer beginning and of the whole text.
 pub fn fault_of_a_beginning_stays()
     ensures { FaultStays }
@@ -23,4 +25,6 @@ pub fn calls_write_the_answer()
 /// digits.
 pub fn written_answer_is_read()
     ensures { WrittenAnswerIsRead }
-{}
+{
+    numerals_tell_their_numbers();
+}

@@ -1,8 +1,7 @@
 //! What a roster costs.
 use crate::files::Stop;
-use crate::judged::verdict_of;
 use rota_core::{Instance, Rule};
-use rota_items::Verdict;
+use rota_items::{Judge, Verdict, verdict_of};
 use rota_read::read_solution;
 use std::fs;
 use std::rt::Files;
@@ -16,7 +15,8 @@ pub fn print_costs<R: Files + Print + AllocGlobal>(
 ) -> Result<(), Stop> {
     let roster = read_solution(rt.alloc(), instance, &fs::read(rt, solution)?)?;
     println!(rt; "cells {}", roster.count())?;
-    print_verdict(rt, &verdict_of(instance, &roster))
+    let judge = Judge::of_roster(instance, &roster);
+    print_verdict(rt, &verdict_of(instance, judge))
 }
 
 fn print_verdict<R: Print>(rt: &R, verdict: &Verdict) -> Result<(), Stop> {

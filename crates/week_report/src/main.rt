@@ -10,8 +10,6 @@
 mod costs;
 // The files, read.
 mod files;
-// What the judge says of a roster.
-mod judged;
 // The numbers of cells and models.
 mod numbers;
 // The tables that have a row for each nurse, shift type and skill.

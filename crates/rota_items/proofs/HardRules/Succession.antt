@@ -1,6 +1,6 @@
 -- H3: no shift type after one that it may not follow.
 use Rattle.rota_items.proofs.Common.Words.{◌≡◌, ℕ, ◌+◌, ◌<◌, ◌≤◌, ◌↔◌, ◌++◌, true, false, cond, ◌⊎◌, inl, inr, refl, ap, ◌∙◌, arith, Option, Some, None, cases_Bool, ints, sum_by-append, AllByRecursion-append, sym, true≢false, KeepsOneCell, KeepsSuccession, is_on, InWeek, Roster, Week, Cell, cell_number, on_cells, LinearRow, h3_monday_row, h3_row, h3_rows, is_forbidden_after, H3}
-use Rattle.rota_core.proofs.RisesWithin.{rises-append}
+use Rattle.rota_core.proofs.LogicWords.{rises-append}
 use Rattle.rota_items.proofs.CellCounts.{on_count, count-on_cells, on_count-le, any-on_cells}
 use Rattle.rota_items.proofs.SoundTerms.{in-on_cells, AreSound, sound-minus, sound-on}
 use Rattle.rota_items.proofs.HardRules.RowsAre.{Are, in-parts, in-turns, where-holds}

@@ -1,6 +1,6 @@
 -- The items of patterns of a nurse's days are sound.
 use Rattle.rota_items.proofs.Common.Words.{ℕ, ◌+◌, ◌<◌, ◌≤◌, List, refl, arith, count_by, AllByRecursion, mul-le, KeepsOneCell, Roster, InWeek, Week, Rule, Cell, cell_number, on_cells, work_cells, AtMostOneADay, DaysFollow, has_property, Property, Present, Runs, pattern_item, run_items, variables_on, Pattern}
-use Rattle.rota_core.proofs.RisesWithin.{RisesWithin}
+use Rattle.rota_core.specs.RisingLists.{RisesWithin}
 use Rattle.rota_items.proofs.CellCounts.{cond-le, count-on_cells, count-work_cells, on_count-le, work_count-le}
 use Rattle.rota_items.proofs.SoundTerms.{in-on_cells, in-work_cells, OnVariables, on-days, units-days}
 use Rattle.rota_items.proofs.DayLaw.{matches}

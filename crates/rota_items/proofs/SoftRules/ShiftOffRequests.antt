@@ -1,6 +1,7 @@
 -- The terms on cells charge the request rows that are not granted.
 use Rattle.rota_items.proofs.Common.Words.{◌≡◌, ℕ, zero, suc, ◌+◌, ◌*◌, ◌<◌, ◌≤◌, Bool, true, false, cond, List, [], refl, ap, ◌∙◌, arith, pos, ◌+ℤ◌, ◌<ℤ◌, ◌≤ℤ◌, nat_lt, AllByRecursion, ltb-false, ltb-true, ints, AllByRecursion-each_below, AllByRecursion-only_if, sum_below, each_below, only_if, Roster, InWeek, cell, Week, Cell, Term, value_of, items_of_rule, IsWithinLimits, S4, most_weight, request_cost, request_weight, request_terms, request_terms_on}
-use Rattle.rota_core.proofs.RisesWithin.{RisesWithin, weaken, widen, rises-each, rises-only_if}
+use Rattle.rota_core.specs.RisingLists.{RisesWithin}
+use Rattle.rota_core.proofs.LogicWords.{weaken, widen, rises-each, rises-only_if}
 use Rattle.rota_items.proofs.AlikeRosters.{same_cell}
 use Rattle.rota_items.proofs.SoundTerms.{in-cell}
 use Rattle.rota_items.proofs.NurseItemLists.{none-each_below}

@@ -1,6 +1,6 @@
 -- What is to be shown of a soft rule and its items.
 use Rattle.rota_items.proofs.Common.Words.{◌≡◌, ℕ, ◌+◌, ◌*◌, ◌<◌, ◌≤◌, pos, AllByRecursion, arith, sum_below, each_below, KeepsCompetitionRules, KeepsOneCell, Roster, Week, Rule, Cell, Item, shortage, weighted_shortages, charged, constant_of_rule, items_of_rule, rule_cost, nurse_constant, nurse_items}
-use Rattle.rota_items.proofs.AlikeRosters.{AreAlike}
+use Rattle.rota_items.specs.AlikeRosters.{AreAlike}
 use Rattle.rota_items.proofs.SoundTerms.{AreSound}
 use Rattle.rota_items.proofs.Lists.{sum_by-each, sum_below-plus, sum_below-same, sum_below-zero}
 use Rattle.rota_items.proofs.NurseCosts.{nurse_cost}

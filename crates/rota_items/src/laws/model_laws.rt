@@ -2,16 +2,19 @@
 //! their penalty.
 #![tactic(auto, using(crate::proofs::LawProofs::models))]
 
-ghost use Rattle.std.specs.Prelude.{◌≡◌, ◌↔◌, ◌≤◌, ◌<◌, ◌+◌, ℕ, Bool, true, pos, ◌≤ℤ◌, All, length};
+ghost use Rattle.std.specs.Prelude.{◌≡◌, ◌≢◌, ◌↔◌, ◌≤◌, ◌<◌, ◌+◌, ℕ, Bool, true, pos, ◌≤ℤ◌, All, length};
+ghost use Rattle.std.specs.List.{AllByRecursion};
 ghost use Rattle.rota_core.specs.declared.values.Cell.{Cell};
 ghost use Rattle.rota_core.specs.Week.{Week};
 ghost use Rattle.rota_core.specs.Roster.{Has, Roster, InWeek};
 ghost use Rattle.rota_core.specs.RosterCells.{cells_of};
 ghost use Rattle.rota_core.specs.HardRules.{KeepsHardRules};
 ghost use Rattle.rota_items.specs.Bounds.{most_objective};
+ghost use Rattle.rota_items.specs.declared.part.Part.TheVariants.{Objective};
+ghost use Rattle.rota_items.specs.ModelWords.{LinearRow};
 ghost use Rattle.rota_items.specs.Linear.{Satisfies, SatisfiesModel, objective_value};
 ghost use Rattle.rota_items.specs.Variables.{cell_number, unit_number, roster_of};
-ghost use Rattle.rota_items.specs.WeekModel.{cell_of_number, extension_of, hard_constraints, hard_rows, model_of};
+ghost use Rattle.rota_items.specs.WeekModel.{cell_of_number, extension_of, hard_constraints, hard_rows, model_of, rows_of};
 ghost use Rattle.rota_items.specs.Penalty.{penalty};
 ghost use Rattle.rota_items.specs.Limits.{IsWithinLimits};
 ghost use Rattle.rota_items.specs.RisingTerms.{RisesFrom, HasRisingTerms};
@@ -128,4 +131,9 @@ pub fn held_cells_add_only_that_they_are_true()
     ensures constraints { (week : Week) →
         length (model_of week).constraints ≡
         length (model_of (without_held week)).constraints + length (cells_of week week.is_held) }
+{}
+
+/// No row of the constraints is the objective's.
+pub fn constraints_are_no_objective()
+    ensures { (week : Week) → AllByRecursion (λ (row : LinearRow ℕ). row.part ≢ Objective) (rows_of week) }
 {}

@@ -8,6 +8,7 @@ ghost use Rattle.rota_core.specs.declared.rule.Rule.TheVariants.{S2, S3, S5, S6,
 ghost use Rattle.rota_core.specs.Week.{Week};
 ghost use Rattle.rota_core.specs.Roster.{Roster};
 ghost use Rattle.rota_core.specs.HardRules.{KeepsOneCell, KeepsCompetitionRules, KeepsMinimum};
+ghost use Rattle.rota_items.specs.AlikeRosters.{AreAlike, CostAlike};
 ghost use Rattle.rota_items.specs.Linear.{value_of};
 ghost use Rattle.rota_items.specs.ModelWords.{shortage};
 ghost use Rattle.rota_items.specs.RuleCharges.{weighted_shortages, charged, complete_weekend_items, consecutive_assignment_items, consecutive_day_off_items, assignment_items, constant_of_assignments, worked_weekend_items, constant_of_weekends};
@@ -128,4 +129,11 @@ pub fn penalty_is_small()
     ensures { (week : Week) (roster : Roster) →
         IsWithinLimits week →
         penalty week roster < penalty_limit }
+{}
+
+/// Rosters that have the same cells in the week keep the same hard rules, at the same costs.
+pub fn alike_rosters_cost_the_same()
+    ensures { (week : Week) (one other : Roster) →
+        AreAlike week one other →
+        CostAlike week one other }
 {}

@@ -2,7 +2,7 @@ use Rattle.std.proofs.Common.{◌≡◌, ℕ, ◌++◌, append_assoc}
 use Rattle.std.specs.Prelude.{codes}
 use Rattle.rota_core.specs.Numeral.{numeral}
 use Rattle.opb_text.specs.ModelText.{first_line}
-use Rattle.opb_text.proofs.PutsTextLemmas.{puts_same}
+use Rattle.opb_text.proofs.LogicWords.{puts_same}
 use Rattle.opb_text.proofs.event_text.put_first_line.Goals as goal
 
 pieces : (variables constraints : ℕ) → first_line variables constraints ≡

@@ -1,6 +1,6 @@
 use Rattle.std.proofs.Common.{◌≡◌, ◌≤◌, ◌∷◌, ◌++◌, [], ℕ, List, Bool, length, sym, ap, ◌∙◌, arith, decimal, append_assoc, length-append}
 use Rattle.rota_core.specs.Numeral.{numeral}
-use Rattle.rota_core.proofs.NumeralLemmas.{numeral_is}
+use Rattle.opb_text.proofs.StdNumerals.{numeral_is}
 use Rattle.opb_text.specs.TermText.{sign}
 use Rattle.std.proofs.lemmas.Fmt.{length-decimal-le}
 use Rattle.opb_text.proofs.text_buffer.append_anew.Goals.{then-positive, else-positive}

@@ -1,6 +1,6 @@
 use Rattle.std.proofs.Common.{◌≡◌, ◌+◌, ◌-◌, ◌/◌, ◌%◌, ◌≤◌, ◌<◌, ◌^◌, ◌∷◌, ◌++◌, [], ℕ, List, take, sym, ap, ◌∙◌, arith, decimal, append_assoc}
 use Rattle.opb_text.specs.TermText.{head_text, sign}
-use Rattle.rota_core.proofs.NumeralLemmas.{numeral_is}
+use Rattle.opb_text.proofs.StdNumerals.{numeral_is}
 use Rattle.opb_text.proofs.TwoDigits.{decimal_hundreds}
 use Rattle.opb_text.proofs.text_buffer.append_near.Goals.{then-positive, else-positive}
 use Rattle.opb_text.proofs.text_buffer.append_near.Goals as goal

@@ -24,7 +24,7 @@ pub use Rattle.std.specs.Prelude.{pos, nat_lt, ℤ, ◌+ℤ◌, negsuc, if◌the
 pub use Rattle.std.specs.Result.{IsErr, is_err}
 pub use borrow.Author.Differences.{down, up}
 pub use mir.Val.{bool_byte}
-pub use Rattle.rota_core.proofs.Loops.{AllByRecursion-append, AllByRecursion-each_below, AllByRecursion-only_if, only_if-holds, AllByRecursion-back, each_below-more, length-only_if, only_if-fails, AllByRecursion-at, each_below-zero, length-each_below, holds-where, last_or_before}
+pub use Rattle.rota_core.proofs.LogicWords.{AllByRecursion-append, AllByRecursion-each_below, AllByRecursion-only_if, only_if-holds, AllByRecursion-back, each_below-more, length-only_if, only_if-fails, AllByRecursion-at, each_below-zero, length-each_below, holds-where, in_turn, last_or_before}
 pub use Rattle.rota_core.specs.Below.{count_below}
 unfoldable pub use Rattle.rota_core.specs.Below.{sum_below, any_below}
 unfoldable pub use Rattle.rota_core.specs.Lists.{each_below, only_if}

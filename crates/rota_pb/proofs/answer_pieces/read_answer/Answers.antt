@@ -5,7 +5,7 @@ use Rattle.rota_pb.proofs.answer_pieces.read_answer.Goals as goal
 pub returns-in_err-feed_all : goal.returns-in_err-feed_all
 returns-in_err-feed_all g c =
     let p = err_from_is_err_and c.from_residual-in_err-feed_all.result c.from_residual-in_err-feed_all.ensures.1 in
-    rw (p.1, p.2) (fails_answer _ _ _ c.in_ok-answer.ensures _ c.in_err-feed_all.ensures.fault)
+    rw (p.1, p.2) (fails_answer _ _ _ c.in_ok-answer.ensures c.fault_of_a_beginning_stays.ensures _ c.in_err-feed_all.ensures.fault)
 
 pub returns-in_err-finish : goal.returns-in_err-finish
 returns-in_err-finish g c =

@@ -21,5 +21,7 @@ returns-clause-decoded c =
     let finds : FindsRoster c.args.solved.status = search rules in
     let met : IsMet (week_of c.args.instance.now) (truth_of c.args.solved.bits) verdict = search rules in
     let total : c.sum-penalty.result ≡ sum verdict.costs = search rules in
-    is_decoded (week_of c.args.instance.now) c.args.solved verdict c.of_bits-2.result _ finds met
+    let week = week_of c.args.instance.now in
+    is_decoded week (c.alike_rosters_cost_the_same.ensures week)
+    c.args.solved verdict c.of_bits-2.result _ finds met
     judges.objective c.of_bits-2.ensures.shape c.of_bits-2.ensures.cells total

@@ -3,7 +3,6 @@ use Rattle.rota_core.specs.InstanceTables.{week_of}
 use Rattle.rota_items.specs.WeekModel.{model_of}
 use Rattle.opb_text.specs.ModelText.{opb_text}
 use Rattle.rota_pb.specs.Runs.{went_on}
-use Rattle.rota_pb.proofs.Encoded.{model_text}
 use Rattle.rota_pb.proofs.Runs.{stopped_by}
 use Rattle.rota_pb.proofs.encoding.run_encode.Goals as goal
 
@@ -13,4 +12,4 @@ returns-in_err-instance g c = record { outcome = stopped_by _ _ c.from_residual.
 pub returns : goal.returns
 returns g c =
     let week = week_of c.in_ok-instance.instance in
-    record { outcome = went_on c.in_ok-instance.instance c.in_ok-instance.ensures (went_on (opb_text (model_of week)) (model_text week) c.encode.ensures) }
+    record { outcome = went_on c.in_ok-instance.instance c.in_ok-instance.ensures (went_on (opb_text (model_of week)) (c.model_text_means_the_rules.ensures week) c.encode.ensures) }

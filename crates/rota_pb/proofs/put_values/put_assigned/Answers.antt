@@ -5,7 +5,7 @@ use Rattle.rota_core.specs.RosterTables.{set_of}
 use Rattle.rota_items.specs.Variables.{unit_number}
 use Rattle.rota_items.specs.WeekModel.{assignment_of}
 use Rattle.rota_items.proofs.AssignmentOf.{assignment_of-unit, place-assigned}
-use Rattle.opb_text.proofs.PutsTextLemmas.{puts_same}
+use Rattle.opb_text.proofs.LogicWords.{puts_same}
 use Rattle.solver_text.specs.AnswerWriter.{literals_of}
 use Rattle.rota_pb.specs.SlackTaker.{literals_after, values_text}
 use Rattle.rota_pb.proofs.ValuesText.{values_none, values_more, values_exit, literals_after-more}

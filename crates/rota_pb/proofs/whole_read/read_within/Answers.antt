@@ -1,6 +1,6 @@
 use Rattle.std.proofs.Common.{◌++◌, take, arith, length-append, length-take, inl, sym, ap, ◌∙◌}
 use Rattle.std.specs.Io.KnownBytes.{prepend_known}
-use Rattle.opb_text.proofs.PutsTextLemmas.{or_false}
+use Rattle.opb_text.proofs.LogicWords.{or_false}
 use Rattle.rota_core.specs.Ports.{Told}
 use Rattle.rota_pb.proofs.Feeding.{prepend_known-append}
 use Rattle.rota_pb.proofs.whole_read.read_within.Goals as goal

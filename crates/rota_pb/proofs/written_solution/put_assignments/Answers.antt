@@ -2,14 +2,12 @@ use Rattle.std.proofs.Common.{[], ◌∷◌, append_assoc, sym, ap, ◌∙◌}
 use Rattle.std.specs.List.{AllByRecursion}
 use Rattle.std.proofs.lemmas.List.{append-nil}
 use Rattle.rota_core.specs.InstanceTables.{week_of}
-use Rattle.rota_core.specs.Roster.{InWeek}
+use Rattle.rota_core.specs.Roster.{Has, InWeek}
 use Rattle.rota_core.specs.RosterCells.{cells_of}
 use Rattle.rota_core.specs.RosterTables.{set_of}
-use Rattle.rota_core.proofs.CellLists.{all-cells_of}
-use Rattle.rota_core.proofs.CellsByPlace.{cells_in-is}
-use Rattle.rota_core.proofs.Loops.{AllByRecursion-back}
+use Rattle.rota_core.proofs.LogicWords.{AllByRecursion-back, all-weaker}
 use Rattle.rota_read.specs.SolutionText.{rows_text}
-use Rattle.opb_text.proofs.PutsTextLemmas.{puts_exit, puts_same, puts_stop, puts_then}
+use Rattle.opb_text.proofs.LogicWords.{puts_exit, puts_same, puts_stop, puts_then}
 use Rattle.rota_pb.proofs.SinkLoops.{puts_nothing}
 use Rattle.rota_pb.proofs.SolutionPieces.{rows-more, rows-left}
 use Rattle.rota_pb.proofs.written_solution.put_assignments.Goals as goal
@@ -18,14 +16,15 @@ pub loop-cell-init : goal.loop-cell-init
 loop-cell-init g c = record {
   puts = puts_nothing c.args.sink.now;
   left = c.into_iter-cell-iterator.ensures.into_iter_gives ∙ c.cells-cell-items.ensures ∙
-      cells_in-is (week_of c.args.instance.now) c.args.roster.now c.requires.shape;
+      (c.rosters_list_their_cells.ensures.tables (week_of c.args.instance.now) c.args.roster.now c.requires.shape).cells;
 }
 
 pub put_assignment-requires : goal.put_assignment-requires
 put_assignment-requires g c =
     let week = week_of c.args.instance.now in
     let roster = set_of c.args.roster.now in
-    let all : AllByRecursion (InWeek week) (cells_of week roster) = all-cells_of week roster (InWeek week) (λ one has. has.in_week) in
+    let all : AllByRecursion (InWeek week) (cells_of week roster) = all-weaker (Has week roster) (InWeek week) (λ one has. has.in_week) (cells_of week roster)
+    (c.rosters_list_their_cells.ensures.cells week roster).theirs in
     let left = rw c.in-Some.ensures.steps at c.loop-cell.invariant.left in
     record { in_week = (AllByRecursion-back (InWeek week) c.loop-cell.yielded (c.in-Some.cell ∷ c.next.new.self) (rw left all)).1.0 }
 

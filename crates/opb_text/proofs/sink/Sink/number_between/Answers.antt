@@ -2,8 +2,8 @@ use Rattle.std.proofs.Common.{◌≡◌, ◌+◌, ◌++◌, ◌≤◌, length, r
 use Rattle.std.proofs.lemmas.Fmt.{length-decimal-le}
 use Rattle.std.specs.Fmt.{decimal}
 use Rattle.rota_core.specs.Numeral.{numeral}
-use Rattle.rota_core.proofs.NumeralLemmas.{numeral_is}
-use Rattle.opb_text.proofs.PutsTextLemmas.{puts_appended}
+use Rattle.opb_text.proofs.StdNumerals.{numeral_is}
+use Rattle.opb_text.proofs.LogicWords.{puts_appended}
 use Rattle.opb_text.proofs.sink.Sink.number_between.Goals as goal
 
 pub append-requires-2 : goal.append-requires-2

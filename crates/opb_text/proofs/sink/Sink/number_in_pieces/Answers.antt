@@ -1,4 +1,4 @@
-use Rattle.opb_text.proofs.PutsTextLemmas.{puts_exit, puts_stop, puts_then}
+use Rattle.opb_text.proofs.LogicWords.{puts_exit, puts_stop, puts_then}
 use Rattle.opb_text.proofs.sink.Sink.number_in_pieces.Goals as goal
 
 pub returns-in_err-put-clause-takes : goal.returns-in_err-put-clause-takes

@@ -1,7 +1,7 @@
 use Rattle.std.proofs.Common.{◌<◌, ap, subst, sym, ◌∙◌}
 use Rattle.rota_core.specs.InstanceTables.{week_of}
 use Rattle.rota_core.specs.RosterTables.{cell_place, place_count}
-use Rattle.rota_core.proofs.RosterLemmas.{cell_place-lt}
+use Rattle.rota_core.proofs.CellPlaces.{cell_place-lt}
 use Rattle.rota_core.proofs.instance.Instance.place.Goals as goal
 
 pub returns-clause-place : goal.returns-clause-place

@@ -2,7 +2,7 @@ use Rattle.std.proofs.Common.{ℕ, ap, sym, ◌∙◌}
 use Rattle.std.proofs.lemmas.Result.{on_ok_weaker}
 use Rattle.rota_core.specs.InstanceTables.{week_of}
 use Rattle.rota_core.specs.RosterTables.{set_of}
-use Rattle.opb_text.proofs.PutsTextLemmas.{puts_exit, puts_same, puts_stop, puts_then}
+use Rattle.opb_text.proofs.LogicWords.{puts_exit, puts_same, puts_stop, puts_then}
 use Rattle.rota_pb.specs.SlackTaker.{after_assigned, after_slacks, assigned_text, slacks_text}
 use Rattle.rota_pb.proofs.slack_taker.SlackTaker.put_extension.Goals as goal
 

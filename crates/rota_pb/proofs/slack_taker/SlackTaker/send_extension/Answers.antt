@@ -2,7 +2,7 @@ use Rattle.std.proofs.Common.{refl, sym}
 use Rattle.rota_core.specs.InstanceTables.{week_of}
 use Rattle.rota_core.specs.RosterTables.{set_of}
 use Rattle.rota_items.proofs.InstanceLimits.{instance-within_limits}
-use Rattle.opb_text.proofs.PutsTextLemmas.{finish_exit, puts_finish, puts_same, puts_stop}
+use Rattle.opb_text.proofs.LogicWords.{finish_exit, puts_finish, puts_same, puts_stop}
 use Rattle.solver_text.specs.AnswerWriter.{end_text}
 use Rattle.rota_pb.specs.SlackTaker.{after_assigned, after_slacks}
 use Rattle.rota_pb.proofs.SlackWeek.{answer-parts}

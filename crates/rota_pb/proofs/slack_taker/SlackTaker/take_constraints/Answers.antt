@@ -4,7 +4,7 @@ use Rattle.rota_items.specs.Events.{events}
 use Rattle.rota_items.specs.WeekModel.{rows_of}
 use Rattle.rota_core.specs.InstanceTables.{week_of}
 use Rattle.rota_pb.specs.SlackTaker.{Progress, progress_of, slack_texts, writer_of}
-use Rattle.opb_text.proofs.PutsTextLemmas.{puts_same}
+use Rattle.opb_text.proofs.LogicWords.{puts_same}
 use Rattle.opb_text.proofs.TakenEvents.{events_put_text, took_events_keep}
 use Rattle.solver_text.specs.AnswerWriter.{sink_of}
 use Rattle.rota_pb.proofs.SlackWeek.{week-after, week-text}

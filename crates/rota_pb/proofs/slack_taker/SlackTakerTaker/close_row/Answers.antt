@@ -3,7 +3,7 @@ use Rattle.std.proofs.Common.{ℕ, sym, ap, ◌∙◌}
 use Rattle.std.proofs.lemmas.Int.{to_z-of_z}
 use Rattle.std.proofs.lemmas.Result.{on_ok_weaker}
 use Rattle.rota_items.specs.Events.{close_row}
-use Rattle.opb_text.proofs.PutsTextLemmas.{puts_same}
+use Rattle.opb_text.proofs.LogicWords.{puts_same}
 use Rattle.opb_text.proofs.TakenEvents.{event_put}
 use Rattle.solver_text.specs.AnswerWriter.{sink_of}
 use Rattle.rota_pb.specs.SlackTaker.{progress_of, slack_texts}

@@ -1,22 +1,30 @@
-//! The verdict of a judge over the whole model of a week.
+//! The verdict of a judge that is driven over the whole model.
 ghost use Rattle.std.specs.Prelude.{◌≡◌, ◌++◌};
 ghost use Rattle.std.specs.List.{fold};
 ghost use Rattle.rota_core.specs.InstanceTables.{week_of};
 ghost use Rattle.rota_items.specs.Events.{events};
 ghost use Rattle.rota_items.specs.Judging.{SettlesModel, assignment_in, fresh, judged, roster_in};
 ghost use Rattle.rota_items.specs.Objective.{objective_rows};
-ghost use Rattle.rota_items.specs.Verdicts.{Judges};
+ghost use Rattle.rota_items.specs.Verdicts.{Judges, JudgesTheRules};
 ghost use Rattle.rota_items.specs.WeekModel.{objective_terms, rows_of};
 
+use crate::driving::drive_constraints;
+use crate::judge::judging::Judge;
+use crate::judge::verdicts::Verdict;
+use crate::objective::drive_objective;
 use rota_core::Instance;
-use rota_items::{Judge, Verdict, drive_constraints, drive_objective};
 use std::convert::Infallible;
 
-/// Hands a judge that took nothing yet the model of its instance, and gives its verdict.
-pub(crate) fn verdict_of(instance: &Instance, mut judge: Judge<'_>) -> Verdict
+/// Hands a judge that took nothing yet the model of its instance, and gives its verdict: what
+/// `Judge::verdict` says of it.
+///
+/// See the example at the head of the crate.
+pub fn verdict_of(instance: &Instance, mut judge: Judge<'_>) -> Verdict
     requires begun { judge ≡ fresh instance.now judge.subject }
     ensures judges { let week = week_of instance.now in let subject = judge.entry.subject in
         Judges week (assignment_in week subject) (roster_in week subject) result }
+    ensures rules { let week = week_of instance.now in let subject = judge.entry.subject in
+        JudgesTheRules week (assignment_in week subject) (roster_in week subject) result }
     ensures model { SettlesModel (week_of instance.now) judge.entry.subject result }
 {
     match drive_both(instance, &mut judge) {

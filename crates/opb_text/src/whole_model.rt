@@ -1,0 +1,32 @@
+//! The text of a week's whole model.
+ghost use Rattle.std.specs.Prelude.{◌≡◌, true, IsErr};
+ghost use Rattle.rota_core.specs.InstanceTables.{week_of};
+ghost use Rattle.rota_items.specs.WeekModel.{model_of};
+ghost use Rattle.opb_text.specs.ModelText.{opb_text};
+ghost use Rattle.opb_text.specs.OpbTaker.{sink_of};
+ghost use Rattle.opb_text.specs.Sink.{PutsText, sink_failed};
+
+use crate::opb_taker::OpbTaker;
+use rota_core::{Instance, PortFault, Target};
+use rota_items::laws::constraints_are_no_objective;
+use rota_items::{counts, drive_constraints, drive_objective};
+
+/// Puts the text of the week's model: the first line, the objective where it has a term, and the
+/// constraints. It fails only where the target does.
+///
+/// Here `sink` goes to a target:
+///
+/// ```
+/// let mut taker = OpbTaker::new(sink);
+/// put_model(instance, &mut taker)?;
+/// taker.finish()
+/// ```
+pub fn put_model<W: Target>(instance: &Instance, taker: &mut OpbTaker<W>) -> Result<(), PortFault>
+    ensures takes { PutsText (sink_of taker.old) result (opb_text (model_of (week_of instance.now))) (sink_of taker.new) }
+    ensures for_good { sink_failed (sink_of taker.old) ≡ true → IsErr result }
+{
+    constraints_are_no_objective();
+    taker.first_line(counts(instance))?;
+    drive_objective(instance, taker)?;
+    drive_constraints(instance, taker)
+}

@@ -1,0 +1,17 @@
+-- What the digits of a number say.
+use Rattle.std.specs.Prelude.{◌≡◌, ℕ, suc, ◌^◌, ◌<◌, ◌≤◌, true, List, [], ◌∷◌, length}
+use Rattle.rota_core.specs.Numeral.{numeral, is_decimal, decimal}
+use Rattle.rota_core.specs.Words.{IsWord}
+
+-- the bytes are digits
+abbrev pub AreDigits : List ℕ → Type 0
+AreDigits [] = Unit {0}
+AreDigits (b ∷ bs) = (48 ≤ b) × (b < 58) × AreDigits bs
+
+-- a numeral is a word of digits, which stand for its number, and no longer than it has to be
+pub record TellsNumber (n : ℕ) : Type 0 where
+  pub digits : AreDigits (numeral n)
+  pub decimal_only : is_decimal (numeral n) ≡ true
+  pub word : IsWord (numeral n)
+  pub number : decimal (numeral n) ≡ n
+  pub short : (m : ℕ) → n < 10 ^ suc m → length (numeral n) ≤ suc m
