@@ -5,7 +5,7 @@ ghost use Rattle.rota_core.specs.RosterTables.{HasShapeOf};
 use crate::week_files::{instance_of, one_nurse_one_shift, run_in_the_history};
 use opb_text::{OpbTaker, Sink};
 use rota_core::{Cell, FileFault, Instance, MemoryTarget, Pace, Roster, Rule};
-use rota_items::{Counts, Judge, Part, Taker, drive_constraints, drive_objective};
+use rota_items::{Counts, Judge, Part, Taker, verdict_of};
 use rota_read::{read_history, read_scenario};
 use solver_text::{Answer, Status};
 use std::alloc::Global;
@@ -71,10 +71,7 @@ fn check_first_cell(rt: &impl Abort, alloc: Global, instance: &Instance) -> Resu
 fn example_of_rota_items(rt: &impl Abort, instance: &Instance, roster: &Roster) -> Result<(), Fail>
     requires { HasShapeOf (week_of instance.now) roster.now }
 {
-    let mut judge = Judge::of_roster(&instance, &roster);
-    drive_objective(&instance, &mut judge)?;
-    drive_constraints(&instance, &mut judge)?;
-    let verdict = judge.verdict();
+    let verdict = verdict_of(&instance, Judge::of_roster(&instance, &roster));
     for (rule, cost) in Rule::SOFT.into_iter().zip(verdict.costs) {
         let wanted = if rule == Rule::S2 { 30 } else { 0 };
         assert_eq!(rt; cost, wanted, "{rule}");
