@@ -12,6 +12,7 @@ pub mod DayTerms
 pub mod EachPattern
 pub mod EarlyCharges
 pub mod Extension
+pub mod ExtensionTruths
 pub mod FirstBroken
 pub mod FirstUnmet
 pub mod HardRules
@@ -30,6 +31,7 @@ pub mod JudgedTerms
 pub mod JudgedVerdict
 pub mod Least
 pub mod Lists
+pub mod LiteralTaking
 pub mod LogicWords
 pub mod ModelParts
 pub mod ModelRows
@@ -53,6 +55,7 @@ pub mod RunWords
 pub mod Satisfied
 pub mod SlackBound
 pub mod SlackTerms
+pub mod SlackValues
 pub mod SmallSums
 pub mod SoftRules
 pub mod SoundTerms

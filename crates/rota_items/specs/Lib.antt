@@ -6,6 +6,7 @@ pub mod CountedTotals
 pub mod Counting
 pub mod EarlyWeeks
 pub mod Events
+pub mod ExtensionTruths
 pub mod FirstUnmet
 pub mod HardRows
 pub mod ItemConstraints
@@ -18,6 +19,7 @@ pub mod Judged
 pub mod Judging
 pub mod Limits
 pub mod Linear
+pub mod LiteralTakes
 pub mod ModelWords
 pub mod Objective
 pub mod Penalty
@@ -26,6 +28,7 @@ pub mod RuleCharges
 pub mod RunItemParts
 pub mod RunItems
 pub mod Runs
+pub mod SlackValues
 pub mod Standing
 pub mod Takes
 pub mod Truths
