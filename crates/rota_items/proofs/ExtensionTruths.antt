@@ -6,7 +6,8 @@ use Rattle.rota_items.proofs.Extension.{extension-below, extension-roster}
 use Rattle.rota_items.proofs.ItemEventLists.{slack_count-cons, slack_count-numbered}
 use Rattle.rota_items.proofs.ItemLaw.{extension-extends, needed-first, needed-after}
 use Rattle.rota_items.proofs.Numbers.{cell_number-below}
-use Rattle.rota_items.specs.ExtensionTruths.{assigned_truths, extension_truths, first_true, slack_truths, truths_below}
+use Rattle.rota_items.specs.ExtensionTruths.{extension_truths, truths_to}
+use Rattle.rota_items.specs.SlackValues.{first_true, slack_truths, truths_below}
 
 -- ---- truth values of the places below a number
 
@@ -83,7 +84,7 @@ module _ (week : Week) (roster : Roster) where
       (slack_count-numbered (cell_number week) (soft_items week))
 
   -- those of the cells and the unit variable, and then those of the slacks
-  pub truths-parts : assigned_truths week roster ++ slack_truths week roster ≡ extension_truths week roster
+  pub truths-parts : truths_to (unit_number week) (assignment_of week roster) ++ slack_truths week roster ≡ extension_truths week roster
   truths-parts =
       let value : ℕ → Bool = λ place. extension_of week roster (place + 1) in
       let slacks : ℕ = slack_count (soft_items week) in

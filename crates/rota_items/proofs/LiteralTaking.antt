@@ -1,8 +1,8 @@
 -- How what a taker of literals took grows, literal by literal.
 use Rattle.rota_items.proofs.LogicWords.{◌≡◌, ℕ, ◌+◌, ◌<◌, Bool, List, [], ◌∷◌, refl, subst, each_below-zero, each_below-more}
 use Rattle.rota_items.proofs.Taking.{Joins, Refused-one, Took-none, Took-one, both, loop_refused}
-use Rattle.rota_items.specs.ExtensionTruths.{truths_below}
 use Rattle.rota_items.specs.LiteralTakes.{RefusedLiterals, TookLiterals}
+use Rattle.rota_items.specs.SlackValues.{truths_below}
 use Rattle.rota_items.specs.declared.extended.literal_takers.LiteralTaker.{Ghosts}
 
 pub literals_join : Joins (λ (truths : List Bool). truths)

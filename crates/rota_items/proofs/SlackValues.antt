@@ -1,9 +1,9 @@
 -- What a taker of literals takes by the items whose slacks are handed on to it.
-use Rattle.rota_items.proofs.LogicWords.{◌≡◌, ℕ, ◌+◌, ◌<◌, Bool, List, [], ◌∷◌, ◌++◌, Result, Ok, Err, refl, sym, ap, subst, ◌∙◌, arith, fold, fold-append, flat_map, flat_map-append, pos, ◌-ℤ◌, w64, saturate_signed, AllByRecursion, AllByRecursion-back, MatchResult-weaker}
+use Rattle.rota_items.proofs.LogicWords.{◌≡◌, ℕ, ◌+◌, Bool, List, [], ◌∷◌, ◌++◌, Result, Ok, Err, refl, sym, ap, subst, ◌∙◌, arith, fold, fold-append, flat_map, flat_map-append, ◌-ℤ◌, w64, saturate_signed, AllByRecursion, AllByRecursion-back, MatchResult-weaker}
 use Rattle.rota_items.proofs.ModelWords.{InstanceTables, IsInstance, week_of, Week, Item, LinearRow, positive_part, shortage, set_of, numbered_items, assignment_of, RosterTables}
 use Rattle.rota_items.proofs.JudgeWords.{Judging, Subject, Tally, extended, lacking_in, no_tally}
 use Rattle.rota_items.proofs.TakingWords.{Soft, start_row, term_events, TookAll, RefusedOne, TakesAll}
-use Rattle.rota_items.specs.Judging.{fresh, judged}
+use Rattle.rota_items.specs.Judging.{fresh}
 use Rattle.rota_items.proofs.ExtensionTruths.{item_truths, week-slacks}
 use Rattle.rota_items.proofs.InstanceLimits.{instance-within_limits}
 use Rattle.rota_items.proofs.JudgedItems.{IsFit, not_cut, shortage-extended}
@@ -11,9 +11,8 @@ use Rattle.rota_items.proofs.JudgedModel.{items-fit}
 use Rattle.rota_items.proofs.JudgedTerms.{opened, others-before, row-opened, sums_of}
 use Rattle.rota_items.proofs.JudgedVerdict.{tally-driven}
 use Rattle.rota_items.proofs.Taking.{Refused-after, Refused-before}
-use Rattle.rota_items.specs.ExtensionTruths.{first_true, slack_truths}
 use Rattle.rota_items.specs.LiteralTakes.{RefusedLiterals, TakesLiterals, TookLiterals}
-use Rattle.rota_items.specs.SlackValues.{StopsAt, Valuing, slacks_judged, with_slacks_of, with_terms_of}
+use Rattle.rota_items.specs.SlackValues.{StopsAt, Valuing, first_true, slack_truths, slacks_judged, with_slacks_of, with_terms_of}
 use Rattle.rota_items.specs.declared.extended.literal_takers.LiteralTaker.{Ghosts}
 
 -- what refuses nothing took all

@@ -1,15 +1,11 @@
 pub mod DecodedAnswer
 pub mod Encoded
-pub mod ExtensionLaws
+pub mod ExtensionAnswer
 pub mod Feeding
 pub mod GivenFiles
 pub mod PutModel
 pub mod Runs
 pub mod SinkLoops
-pub mod SlackRows
-pub mod SlackSteps
-pub mod SlackWeek
 pub mod SolutionPieces
-pub mod ValuesText
 pub mod WeekRows
 pub mod WholeFiles

@@ -1,8 +1,10 @@
 //! The drive: all values of an extension.
 ghost use Rattle.rota_core.specs.InstanceTables.{week_of};
 ghost use Rattle.rota_core.specs.RosterTables.{HasShapeOf, set_of};
-ghost use Rattle.rota_items.specs.ExtensionTruths.{assigned_truths, extension_truths};
+ghost use Rattle.rota_items.specs.ExtensionTruths.{extension_truths, truths_to};
 ghost use Rattle.rota_items.specs.LiteralTakes.{TakesLiterals};
+ghost use Rattle.rota_items.specs.Variables.{unit_number};
+ghost use Rattle.rota_items.specs.WeekModel.{assignment_of};
 
 use crate::extended::literal_takers::LiteralTaker;
 use crate::extended::slack_values::give_slack_values;
@@ -15,7 +17,8 @@ fn give_assigned<T: LiteralTaker>(
     taker: &mut T,
 ) -> Result<(), T::Fault>
     requires shape { HasShapeOf (week_of instance.now) roster.now }
-    ensures { TakesLiterals T.LiteralTaker (assigned_truths (week_of instance.now) (set_of roster.now))
+    ensures { let week = week_of instance.now in
+        TakesLiterals T.LiteralTaker (truths_to (unit_number week) (assignment_of week (set_of roster.now)))
         taker.old taker.new result }
 {
     for place in 0..instance.places() {

@@ -2,12 +2,11 @@
 ghost use Rattle.std.specs.Prelude.{◌≡◌};
 ghost use Rattle.rota_core.specs.InstanceTables.{IsInstance, week_of};
 ghost use Rattle.rota_core.specs.RosterTables.{HasShapeOf, set_of};
-ghost use Rattle.rota_items.specs.ExtensionTruths.{first_true, slack_truths};
 ghost use Rattle.rota_items.specs.ItemTaking.{numbered_item};
 ghost use Rattle.rota_items.specs.ItemValues.{IsSumOf};
 ghost use Rattle.rota_items.specs.Judging.{extended, fresh};
 ghost use Rattle.rota_items.specs.LiteralTakes.{TakesLiterals};
-ghost use Rattle.rota_items.specs.SlackValues.{with_terms_of};
+ghost use Rattle.rota_items.specs.SlackValues.{first_true, slack_truths, with_terms_of};
 
 use crate::extended::literal_takers::LiteralTaker;
 use crate::items::item_sums::give_sum;
@@ -32,11 +31,7 @@ fn give_first_true<T: LiteralTaker>(taker: &mut T, count: u32, most: u64) -> Res
 }
 
 // Hands the judge the terms of an item, in a row that stays open.
-fn judge_item(
-    instance: &Instance,
-    judge: &mut Judge<'_>,
-    item: SoftItem,
-) -> Result<(), Infallible>
+fn judge_item(instance: &Instance, judge: &mut Judge<'_>, item: SoftItem) -> Result<(), Infallible>
     requires sum_in { IsSumOf (week_of instance.now) item.sum }
     ensures { judge.new ≡ with_terms_of judge.old (numbered_item (week_of instance.now) item) }
 {

@@ -1,4 +1,4 @@
-use Rattle.rota_items.proofs.Common.{◌+◌, week_of}
+use Rattle.rota_items.proofs.Common.{week_of}
 use Rattle.rota_core.specs.RosterTables.{set_of}
 use Rattle.rota_items.specs.ExtensionTruths.{truths_to}
 use Rattle.rota_items.specs.LiteralTakes.{TookLiterals}

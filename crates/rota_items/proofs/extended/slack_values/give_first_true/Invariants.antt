@@ -1,6 +1,6 @@
 use Rattle.rota_items.proofs.Common.{nat_lt}
-use Rattle.rota_items.specs.ExtensionTruths.{truths_below}
 use Rattle.rota_items.specs.LiteralTakes.{TookLiterals}
+use Rattle.rota_items.specs.SlackValues.{truths_below}
 use Rattle.rota_items.proofs.extended.slack_values.give_first_true.Given as goal
 
 abbrev pub invariant-loop-place : goal.invariant-loop-place

@@ -1,4 +1,4 @@
-use Rattle.rota_items.proofs.Common.{cell_term_events, term_events}
+use Rattle.rota_items.proofs.Common.{cell_term_events}
 use Rattle.rota_items.specs.Judging.{judged}
 use Rattle.rota_items.proofs.SlackValues.{took_every}
 use Rattle.rota_items.proofs.extended.slack_values.judge_item.Goals as goal
