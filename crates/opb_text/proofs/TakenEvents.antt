@@ -6,10 +6,9 @@ use Rattle.std.specs.Io.KnownBytes.{append_known}
 use Rattle.rota_core.specs.Ports.{Told, Begins}
 use Rattle.rota_core.specs.declared.ports.PortFault.{PortFault}
 use Rattle.rota_core.specs.declared.ports.Target.{Ghosts}
-use Rattle.rota_items.specs.Events.{Event}
-use Rattle.rota_items.specs.Takes.{Took, Refused, Takes}
+use Rattle.rota_items.specs.Takes.{RefusedOne, TookAll, TakesAll}
 use Rattle.opb_text.specs.Sink.{PutsText, stands_for, sent_by, sink_failed, target_of}
-use Rattle.opb_text.specs.SinkTaker.{EventTexts, FailedAt, Writing, joined_texts, sink_taker, with_event, writing_into}
+use Rattle.opb_text.specs.SinkTaker.{EventTexts, FailedAt, Writing, joined_texts, with_event, writing_into}
 use Rattle.opb_text.specs.declared.sink.Sink.{Sink}
 use Rattle.opb_text.proofs.LogicWords.{Begins-longer, append_known-append, append_known-nil, or_false, or_true}
 
@@ -40,9 +39,9 @@ pub same_writing : {W Kept : Type 0} (t u : ℕ) (b c : Told) (p q : Kept) (f g 
     (record { target_name = u; bytes = c; kept = q; has_failed = g; target_has_failed = i; left_target = m })
 same_writing t u b c p q f g h i l m one two three four five six = cc
 
-module _ {Kept : Type 0} (texts : EventTexts Kept) where
+module _ {E Kept : Type 0} (texts : EventTexts E Kept) where
   -- the text of events and of those that follow them
-  pub joined_texts-append : (kept : Kept) (before after : List Event) →
+  pub joined_texts-append : (kept : Kept) (before after : List E) →
       joined_texts texts kept (before ++ after) ≡ joined_texts texts kept before ++ joined_texts texts (fold texts.after kept before) after
   joined_texts-append kept [] after = refl
   joined_texts-append kept (event ∷ before) after =
@@ -50,13 +49,13 @@ module _ {Kept : Type 0} (texts : EventTexts Kept) where
       sym (append_assoc (texts.text kept event) (joined_texts texts (texts.after kept event) before) _)
 
   -- the text of all the events follows
-  abbrev with_events : {W : Type 0} → Writing W Kept → List Event → Writing W Kept
+  abbrev with_events : {W : Type 0} → Writing W Kept → List E → Writing W Kept
   with_events before events = record before {
     bytes = append_known before.bytes (joined_texts texts before.kept events);
     kept = fold texts.after before.kept events;
   }
 
-  fold-with_event : {W : Type 0} (before : Writing W Kept) (events : List Event) → fold (with_event texts) before events ≡ with_events before events
+  fold-with_event : {W : Type 0} (before : Writing W Kept) (events : List E) → fold (with_event texts) before events ≡ with_events before events
   fold-with_event before [] = ap (λ (told : Told). record before { bytes = told }) (sym (append_known-nil before.bytes))
   fold-with_event before (event ∷ events) =
       fold-with_event (with_event texts before event) events ∙
@@ -65,7 +64,7 @@ module _ {Kept : Type 0} (texts : EventTexts Kept) where
 
   module _ {W : Type 0} {target : Ghosts W} where
     -- an event whose text was put, or not
-    pub event_put : {old new : Sink W target} (kept next : Kept) (event : Event) (r : Result (Unit {0}) PortFault) →
+    pub event_put : {old new : Sink W target} (kept next : Kept) (event : E) (r : Result (Unit {0}) PortFault) →
         PutsText old r (texts.text kept event) new → OnOk r (next ≡ texts.after kept event) →
         MatchResult r (λ _. writing_into new next ≡ with_event texts (writing_into old kept) event)
         (λ _. FailedAt texts (writing_into old kept) event new)
@@ -81,26 +80,29 @@ module _ {Kept : Type 0} (texts : EventTexts Kept) where
       silent = λ before left. left_before (sink_failed old) (target_of new) (target_of old) before takes.silent left;
     }
 
-module _ {Self W Kept : Type 0} {target : Ghosts W} (sink_of : Self → Sink W target) (kept_of : Self → Kept) (texts : EventTexts Kept) where
+module _ {Self W E Kept : Type 0} {target : Ghosts W} (sink_of : Self → Sink W target) (kept_of : Self → Kept) (texts : EventTexts E Kept) where
   abbrev writing : Self → Writing W Kept
   writing taker = writing_into (sink_of taker) (kept_of taker)
+
+  abbrev refusal : Writing W Kept → E → Self → Type 0
+  refusal before event taker = FailedAt texts before event (sink_of taker)
 
   -- what a taker stands for whose sink failed before
   failed_before : (taker : Self) → sink_failed (sink_of taker) ≡ true → (writing taker).left_target ≡ Some (target_of (sink_of taker))
   failed_before taker failed = ap (λ (b : Bool). if b then Some (target_of (sink_of taker)) else None) failed
 
-  took_is : {old new : Self} (events : List Event) → Took (sink_taker sink_of kept_of texts) events old new →
+  took_is : {old new : Self} (events : List E) → TookAll writing (with_event texts) refusal events old new →
       writing new ≡ with_events texts (writing old) events
   took_is {old} events took = took.value_is ∙ fold-with_event texts (writing old) events
 
   -- what is kept after events that were taken
-  pub took_events_keep : {old new : Self} (events : List Event) → Took (sink_taker sink_of kept_of texts) events old new →
+  pub took_events_keep : {old new : Self} (events : List E) → TookAll writing (with_event texts) refusal events old new →
       kept_of new ≡ fold texts.after (kept_of old) events
   took_events_keep events took = ap (λ (w : Writing W Kept). w.kept) (took_is events took)
 
   -- events that were taken put their text
-  pub took_events_put_text : {old new : Self} {u : Unit {0}} (events : List Event) →
-      Took (sink_taker sink_of kept_of texts) events old new →
+  pub took_events_put_text : {old new : Self} {u : Unit {0}} (events : List E) →
+      TookAll writing (with_event texts) refusal events old new →
       PutsText (sink_of old) (Ok u) (joined_texts texts (kept_of old) events) (sink_of new)
   took_events_put_text {old} {new} events took =
       let is : writing new ≡ with_events texts (writing old) events = took_is events took in
@@ -117,8 +119,8 @@ module _ {Self W Kept : Type 0} {target : Ghosts W} (sink_of : Self → Sink W t
       }
 
   -- a refusal leaves a sink that failed, and what was sent begins the text of the events
-  pub refused_events_begin_text : {old new : Self} {fault : PortFault} (events : List Event) →
-      Refused (sink_taker sink_of kept_of texts) events old new →
+  pub refused_events_begin_text : {old new : Self} {fault : PortFault} (events : List E) →
+      RefusedOne writing (with_event texts) refusal events old new →
       PutsText (sink_of old) (Err fault) (joined_texts texts (kept_of old) events) (sink_of new)
   refused_events_begin_text {old} {new} events refused =
       let kept = kept_of old in
@@ -146,8 +148,8 @@ module _ {Self W Kept : Type 0} {target : Ghosts W} (sink_of : Self → Sink W t
       }
 
   -- what a taker took of these events went into its sink as a text does
-  pub events_put_text : (old new : Self) (events : List Event) (r : Result (Unit {0}) PortFault) →
-      Takes (sink_taker sink_of kept_of texts) events old new r →
+  pub events_put_text : (old new : Self) (events : List E) (r : Result (Unit {0}) PortFault) →
+      TakesAll writing (with_event texts) refusal events old new r →
       PutsText (sink_of old) r (joined_texts texts (kept_of old) events) (sink_of new)
   events_put_text old new events (Ok u) took = took_events_put_text events took
   events_put_text old new events (Err fault) refused = refused_events_begin_text events refused

@@ -39,7 +39,7 @@ event_text in_objective (term coefficient variable) = term_text (coefficient, va
 event_text in_objective (close_row degree) = close_text in_objective degree
 
 -- the texts of events, where it is kept whether the row that is open is the objective's
-abbrev pub opb_texts : EventTexts Bool
+abbrev pub opb_texts : EventTexts Event Bool
 opb_texts = record { text = event_text; after = objective_after }
 
 -- the texts of the events, joined

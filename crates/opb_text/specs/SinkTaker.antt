@@ -1,4 +1,4 @@
--- What a taker of rows stands for that puts a text for each event into a sink.
+-- What a taker stands for that puts a text into a sink for each event: of rows, or anything else that it takes one by one.
 use Rattle.std.specs.Prelude.{◌≡◌, ℕ, Bool, true, if◌then◌else◌, Option, Some, None, List, [], ◌∷◌, ◌++◌}
 use Rattle.std.specs.Io.KnownBytes.{append_known}
 use Rattle.rota_core.specs.Ports.{Told, Begins}
@@ -10,12 +10,12 @@ use Rattle.opb_text.specs.Sink.{stands_for, sent_by, sink_failed, target_name, t
 use Rattle.opb_text.specs.declared.sink.Sink.{Sink}
 
 -- the text of each event, where something is kept from one event to the next
-pub record EventTexts (Kept : Type 0) : Type 0 where
-  pub text : Kept → Event → List ℕ
-  pub after : Kept → Event → Kept
+pub record EventTexts (E Kept : Type 0) : Type 0 where
+  pub text : Kept → E → List ℕ
+  pub after : Kept → E → Kept
 
 -- the texts of the events, joined
-abbrev pub joined_texts : {Kept : Type 0} → EventTexts Kept → Kept → List Event → List ℕ
+abbrev pub joined_texts : {E Kept : Type 0} → EventTexts E Kept → Kept → List E → List ℕ
 joined_texts texts kept [] = []
 joined_texts texts kept (event ∷ events) = texts.text kept event ++ joined_texts texts (texts.after kept event) events
 
@@ -30,7 +30,7 @@ pub record Writing (W Kept : Type 0) : Type 0 where
   pub left_target : Option W
 
 -- the event's text follows
-abbrev pub with_event : {W Kept : Type 0} → EventTexts Kept → Writing W Kept → Event → Writing W Kept
+abbrev pub with_event : {W E Kept : Type 0} → EventTexts E Kept → Writing W Kept → E → Writing W Kept
 with_event texts writing event = record writing {
   bytes = append_known writing.bytes (texts.text writing.kept event);
   kept = texts.after writing.kept event;
@@ -50,15 +50,15 @@ module _ {W Kept : Type 0} {target : Ghosts W} where
 
   -- what is left after a failure at the event: the sink and its target failed, and what was sent begins the text with
   -- that of the event. A sink that had failed before left its target as it was.
-  pub record FailedAt (texts : EventTexts Kept) (before : Writing W Kept) (event : Event) (sink : Sink W target) : Type 0 where
+  pub record FailedAt {E : Type 0} (texts : EventTexts E Kept) (before : Writing W Kept) (event : E) (sink : Sink W target) : Type 0 where
     pub same_target : target_name sink ≡ before.target_name
     pub failed : sink_failed sink ≡ true
     pub target_failed : target.has_failed (target_of sink) ≡ true
     pub begins : Begins (sent_by sink) (append_known before.bytes (texts.text before.kept event))
     pub silent : (old : W) → before.left_target ≡ Some old → target_of sink ≡ old
 
-  -- a taker's value, its step and what a failure leaves, where it has a sink and keeps something
-  abbrev pub sink_taker : {Self : Type 0} → (Self → Sink W target) → (Self → Kept) → EventTexts Kept → TakerGhosts Self PortFault
+  -- the value of a taker of rows, its step and what a failure leaves, where it has a sink and keeps something
+  abbrev pub sink_taker : {Self : Type 0} → (Self → Sink W target) → (Self → Kept) → EventTexts Event Kept → TakerGhosts Self PortFault
   sink_taker sink_of kept_of texts = record {
     Value = Writing W Kept;
     value = λ taker. writing_into (sink_of taker) (kept_of taker);

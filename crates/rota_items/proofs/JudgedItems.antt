@@ -108,7 +108,7 @@ module _ (week : Week) (subject : Subject) where
           fit.small,
         )
 
-    not_cut : positive_part (saturate_signed w64 (item.degree -ℤ value_of A item.terms)) ≡ shortage A item
+    pub not_cut : positive_part (saturate_signed w64 (item.degree -ℤ value_of A item.terms)) ≡ shortage A item
     not_cut = omega (arith, positive-saturated (item.degree -ℤ value_of A item.terms), fit.small, shortage-least A item)
 
     module _ (after : unit_number week < first) where

@@ -116,7 +116,7 @@ driven-judges judging limits driven objective costs objective_is costs_are =
 -- ---- a fresh judge that was driven
 
 -- the tally is all that changes
-tally-driven : (judging : Judging) (all : List Event) →
+pub tally-driven : (judging : Judging) (all : List Event) →
     fold judged judging all ≡
     record judging { tally = fold (tallied (week_of judging.instance) judging.subject) judging.tally all }
 tally-driven judging [] = refl

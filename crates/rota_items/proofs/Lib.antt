@@ -12,6 +12,7 @@ pub mod DayTerms
 pub mod EachPattern
 pub mod EarlyCharges
 pub mod Extension
+pub mod ExtensionTruths
 pub mod FirstBroken
 pub mod FirstUnmet
 pub mod HardRules
@@ -30,6 +31,7 @@ pub mod JudgedVerdict
 pub mod LawProofs
 pub mod Least
 pub mod Lists
+pub mod LiteralTaking
 pub mod ModelParts
 pub mod ModelRows
 pub mod Numbers
@@ -49,6 +51,7 @@ pub mod RunLaw
 pub mod Satisfied
 pub mod SlackBound
 pub mod SlackTerms
+pub mod SlackValues
 pub mod SmallSums
 pub mod SoftRules
 pub mod SoundTerms

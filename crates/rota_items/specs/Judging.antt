@@ -139,11 +139,7 @@ pub record Judging : Type 0 where
   pub subject : Subject
   pub tally : Tally
 
--- how many slacks of the open row count, each of which is there with 1: of a roster's extension all that were taken
-abbrev pub open_slacks : Judging → ℕ
-open_slacks judging = positive_part judging.tally.sums.slacks
-
--- what the other terms of the open row lack of the degree
+-- what the terms other than those at slacks lack of the degree, in the open row
 abbrev pub lacking : Judging → ℤ → ℕ
 lacking judging degree = lacking_in judging.tally.sums degree
 

@@ -7,6 +7,7 @@ pub mod CountedTotals
 pub mod Counting
 pub mod EarlyWeeks
 pub mod Events
+pub mod ExtensionTruths
 pub mod FirstUnmet
 pub mod HardRows
 pub mod ItemConstraints
@@ -19,6 +20,7 @@ pub mod Judged
 pub mod Judging
 pub mod Limits
 pub mod Linear
+pub mod LiteralTakes
 pub mod ModelWords
 pub mod Objective
 pub mod Penalty
@@ -27,6 +29,7 @@ pub mod RuleCharges
 pub mod RunItemParts
 pub mod RunItems
 pub mod Runs
+pub mod SlackValues
 pub mod Standing
 pub mod Takes
 pub mod Truths

@@ -5,6 +5,8 @@
 mod count_laws;
 // What weeks that follow one another pay with `--early` for what is above a greatest total.
 mod early_weeks;
+// What the literals of an extension say.
+mod extension_laws;
 // What items mean: their constraints, their slacks and their shortages.
 mod item_laws;
 // What the model of a week means: its assignments stand for the rosters that keep the hard rules,
@@ -21,6 +23,7 @@ mod worked_weeks;
 
 pub use count_laws::{counter_counts_models, counter_counts_rows};
 pub use early_weeks::{early_excess, early_weeks_charge_what_they_add};
+pub use extension_laws::extension_truths_are_those_of_the_variables;
 pub use item_laws::{
     extension_satisfies_items, item_holds_from_its_shortage_on, numbered_items_lack_the_same,
     satisfied_items_cost_their_shortages,

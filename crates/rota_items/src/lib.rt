@@ -37,11 +37,15 @@ mod counting;
 // The judge: a taker that evaluates.
 mod judge;
 
+// The extension of a roster, variable by variable, handed to a taker of literals.
+mod extended;
+
 // The laws: what all this means.
 pub mod laws;
 
 pub use counting::{Counter, Counts, counts, patterns_of, windows_of};
 pub use driving::drive_constraints;
+pub use extended::{LiteralTaker, drive_extension};
 pub use judge::{Judge, Verdict, verdict_of};
 pub use laws::early_excess;
 pub use objective::drive_objective;

@@ -1,12 +1,8 @@
 pub mod DecodedAnswer
-pub mod ExtensionLaws
+pub mod ExtensionAnswer
 pub mod Feeding
 pub mod GivenFiles
 pub mod Runs
 pub mod SinkLoops
-pub mod SlackRows
-pub mod SlackSteps
-pub mod SlackWeek
 pub mod SolutionPieces
-pub mod ValuesText
 pub mod WholeFiles

@@ -1,6 +1,5 @@
 -- What a run that extends writes.
-use Rattle.std.specs.Prelude.{◌≡◌, ℕ, ◌+◌, ◌<◌, ◌≤◌, pos, Bool, List, [], ◌∷◌, Some, Result, Ok}
-use Rattle.rota_core.specs.Lists.{each_below}
+use Rattle.std.specs.Prelude.{◌≡◌, ℕ, ◌<◌, ◌≤◌, pos, List, Some, Result, Ok}
 use Rattle.rota_core.specs.Week.{Week}
 use Rattle.rota_core.specs.InstanceTables.{InstanceTables, IsInstance, week_of}
 use Rattle.rota_core.specs.RosterTables.{set_of}
@@ -9,6 +8,7 @@ use Rattle.rota_core.specs.declared.fault.FileName.TheVariants as names
 use Rattle.rota_core.specs.Roster.{Roster, InWeek}
 use Rattle.rota_core.specs.HardRules.{KeepsHardRules}
 use Rattle.rota_items.specs.FirstUnmet.{FirstBroken}
+use Rattle.rota_items.specs.ExtensionTruths.{extension_truths}
 use Rattle.rota_items.specs.Penalty.{penalty}
 use Rattle.rota_items.specs.Variables.{roster_of}
 use Rattle.rota_items.specs.Truths.{truth_of}
@@ -22,14 +22,6 @@ use Rattle.rota_pb.specs.declared.week_files.Choice.{Choice}
 use Rattle.rota_pb.specs.RunPorts.{Reader, WeekReaders, Writer}
 use Rattle.rota_pb.specs.Runs.{Run, ◌>>=◌, ◌>>◌, check, send}
 use Rattle.rota_pb.specs.WeekFiles.{read_roster, read_week}
-
--- the truth values of the variables from 1 to count
-abbrev pub truths_to : ℕ → (ℕ → Bool) → List Bool
-truths_to count assignment = each_below count (λ place. assignment (place + 1) ∷ [])
-
--- those of all variables of the week's model, in the roster's extension
-abbrev pub extension_truths : Week → Roster → List Bool
-extension_truths week roster = truths_to (model_of week).variables (extension_of week roster)
 
 -- the answer of the roster's extension with this objective
 unfoldable pub extension_answer : ℕ → Week → Roster → List ℕ

@@ -4,6 +4,7 @@ pub mod Decoding
 pub mod Encoding
 pub mod ExactModel
 pub mod Extending
+pub mod ExtensionAnswer
 pub mod FaultTexts
 pub mod Feeding
 pub mod Meaning
@@ -11,7 +12,6 @@ pub mod Report
 pub mod RunParts
 pub mod RunPorts
 pub mod Runs
-pub mod SlackTaker
 pub mod Statuses
 pub mod WeekFiles
 pub mod Words

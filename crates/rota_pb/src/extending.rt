@@ -1,36 +1,16 @@
 //! Runs that extend a roster to an answer of its week's model.
 ghost use Rattle.rota_core.specs.InstanceTables.{week_of};
 ghost use Rattle.rota_core.specs.RosterTables.{HasShapeOf, set_of};
-ghost use Rattle.rota_pb.specs.Extending.{ExtendOutcome, extend_roster, extension_answer};
+ghost use Rattle.rota_pb.specs.Extending.{ExtendOutcome, extend_roster};
 ghost use Rattle.rota_pb.specs.RunPorts.{reader_of, week_readers, writer_of};
-ghost use Rattle.rota_pb.specs.RunParts.{SendsText};
 
+use crate::extension_answer::send_extension;
 use crate::fault::Fault;
 use crate::given_roster::read_roster;
-use crate::slack_taker::SlackTaker;
 use crate::week_files::{Choice, read_instance};
-use opb_text::Sink;
-use rota_core::{Instance, PortFault, Roster, Source, Target};
+use rota_core::{Instance, Roster, Source, Target};
 use rota_items::{Judge, verdict_of};
-use solver_text::AnswerWriter;
 use std::alloc::Global;
-
-// Sends the answer of the roster's extension with this objective, and makes it flushed.
-fn send_extension<W: Target>(
-    instance: &Instance,
-    roster: &Roster,
-    objective: u64,
-    out: &mut W,
-) -> Result<(), PortFault>
-    requires shape { HasShapeOf (week_of instance.now) roster.now }
-    ensures { SendsText (writer_of W.Target out.old out.new)
-        (extension_answer objective (week_of instance.now) (set_of roster.now)) result }
-{
-    let mut judge = Judge::of_roster(instance, roster);
-    let writer = AnswerWriter::new(Sink::new(out));
-    let mut taker = SlackTaker::new(&mut judge, writer);
-    taker.send_extension(instance, roster, objective)
-}
 
 /// Writes the answer that a solver would give for the roster, in the output format of the
 /// Pseudo-Boolean Competition: an `o` line with its penalty, the line `s SATISFIABLE`, and `v` lines

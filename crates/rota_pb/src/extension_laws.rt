@@ -1,6 +1,10 @@
 //! What the answer of a roster's extension says.
 ghost use Rattle.rota_pb.specs.Extending.{ExtensionIsReadBack};
 
+use rota_items::laws::{
+    extension_truths_are_those_of_the_variables, instances_are_within_limits, penalty_is_small,
+    variables_are_few,
+};
 use solver_text::written_answer_is_read;
 
 /// The answer that is written for a roster that keeps the hard rules is read as `SATISFIABLE`, with the
@@ -8,5 +12,9 @@ use solver_text::written_answer_is_read;
 pub fn extension_is_read_back()
     ensures { ExtensionIsReadBack }
 {
+    extension_truths_are_those_of_the_variables();
+    instances_are_within_limits();
+    variables_are_few();
+    penalty_is_small();
     written_answer_is_read();
 }

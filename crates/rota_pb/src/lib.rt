@@ -31,6 +31,8 @@ mod decoding;
 mod encoding;
 // Runs that extend a roster to an answer.
 mod extending;
+// A taker that puts the literals of an extension into an answer.
+mod extension_answer;
 // What the answer of a roster's extension says.
 mod extension_laws;
 // Why a run fails, and the status of each fault.
@@ -39,12 +41,8 @@ mod fault;
 mod given_roster;
 // What the text of a week's model says.
 mod model_text;
-// Values of variables that are put into an answer.
-mod put_values;
 // The report on a decoded answer.
 mod report;
-// A taker that puts slacks into an answer.
-mod slack_taker;
 // The files of a week, checked one after the other, and what is asked of a run beside them.
 mod week_files;
 // A file read whole.

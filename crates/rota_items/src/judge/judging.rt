@@ -4,14 +4,14 @@ ghost use Rattle.rota_core.specs.InstanceTables.{week_of};
 ghost use Rattle.rota_core.specs.RosterTables.{HasShapeOf};
 ghost use Rattle.rota_core.specs.Rules.{soft_rules};
 ghost use Rattle.rota_items.specs.Variables.{unit_number};
-ghost use Rattle.rota_items.specs.Judging.{SettlesModel, WasDriven, assigned, assignment_in, counts_for, extended, fresh, judged, lacking, open_slacks, roster_in, with_constants};
+ghost use Rattle.rota_items.specs.Judging.{SettlesModel, WasDriven, assigned, assignment_in, counts_for, extended, fresh, judged, lacking, roster_in, with_constants};
 ghost use Rattle.rota_items.specs.Charges.{constant};
 ghost use Rattle.rota_items.specs.Verdicts.{Judges, JudgesTheRules};
 ghost use Rattle.rota_items.specs.WeekModel.{model_of};
 
 use crate::counting::counts;
 use crate::judge::subjects::Subject;
-use crate::judge::tallies::{RowSums, Tally, charge, positive_part};
+use crate::judge::tallies::{RowSums, Tally, charge};
 use crate::judge::verdicts::Verdict;
 use crate::part::Part;
 use crate::rules::{constant, constant_of_rule};
@@ -83,16 +83,8 @@ impl<'a> Judge<'a> {
         }
     }
 
-    /// How many slacks of the open row count, each of which is there with 1: of a roster's extension
-    /// all that were taken.
-    pub fn open_slacks(&self) -> u64
-        ensures { result ≡ open_slacks self.now }
-    {
-        positive_part(self.tally.sums.slacks)
-    }
-
     /// What the terms of the open row other than those at slacks lack of the degree.
-    pub fn lacking(&self, degree: i64) -> u64
+    pub(crate) fn lacking(&self, degree: i64) -> u64
         ensures { result ≡ lacking self.now degree }
     {
         self.tally.sums.lacking(degree)

@@ -1,0 +1,120 @@
+//! The answer of a roster's extension, by a taker of its literals.
+ghost use Rattle.std.specs.Prelude.{◌≡◌, length, OnOk};
+ghost use Rattle.rota_core.specs.InstanceTables.{week_of};
+ghost use Rattle.rota_core.specs.RosterTables.{HasShapeOf, set_of};
+ghost use Rattle.rota_items.specs.ExtensionTruths.{extension_truths};
+ghost use Rattle.opb_text.specs.Sink.{FinishesSink, PutsText};
+ghost use Rattle.solver_text.specs.AnswerWriter.{literals_of, literals_text, phase_of, sink_of};
+ghost use Rattle.solver_text.specs.declared.answer_writer.Phase.TheVariants.{New, Started};
+ghost use Rattle.rota_pb.specs.Extending.{extension_answer};
+ghost use Rattle.rota_pb.specs.RunParts.{SendsText};
+ghost use Rattle.rota_pb.specs.RunPorts.{writer_of};
+
+use opb_text::Sink;
+use rota_core::{Instance, PortFault, Roster, Target};
+use rota_items::laws::{
+    extension_truths_are_those_of_the_variables, instances_are_within_limits, variables_are_few,
+};
+use rota_items::{LiteralTaker, drive_extension};
+use solver_text::{AnswerWriter, calls_write_the_answer};
+
+// Puts each literal that it takes into an answer, of which the head was put. It fails only where the
+// target does.
+#[derive(Drop)]
+struct ExtensionAnswer<'w, 'a, W: Target> {
+    writer: &'w mut AnswerWriter<'a, W>,
+    ghost started: { phase_of writer.now ≡ Started },
+}
+
+impl<'w, 'a, W: Target> LiteralTaker for ExtensionAnswer<'w, 'a, W> {
+    type Fault = PortFault;
+
+    ghost use Rattle.opb_text.specs.SinkTaker.{Writing, with_event, writing_into};
+    ghost use Rattle.solver_text.specs.AnswerWriter.{sink_of};
+    ghost use Rattle.rota_pb.specs.ExtensionAnswer.{FailsAt, Putting, answer_writer, literal_texts, putting_of};
+
+    ghost Value = { Writing W Putting };
+
+    ghost value = { λ answer. writing_into (sink_of (answer_writer answer)) (putting_of answer) };
+
+    ghost step = { with_event literal_texts };
+
+    ghost left = { λ before truth answer. FailsAt before truth answer };
+
+    fn literal(&mut self, positive: bool) -> Result<(), PortFault> {
+        self.writer.literal(positive)
+    }
+}
+
+// Takes the literals of all variables, by rising number, in the roster's extension.
+fn take_extension<W: Target>(
+    instance: &Instance,
+    roster: &Roster,
+    answer: &mut ExtensionAnswer<'_, '_, W>,
+) -> Result<(), PortFault>
+    requires shape { HasShapeOf (week_of instance.now) roster.now }
+    requires none { literals_of answer.old.writer.now ≡ 0 }
+    ensures same_writer { answer.new.writer.ghost_name ≡ answer.old.writer.ghost_name }
+    ensures takes { PutsText (sink_of answer.old.writer.now) result
+        (literals_text 0 (extension_truths (week_of instance.now) (set_of roster.now))) (sink_of answer.new.writer.now) }
+    ensures literals { OnOk result (literals_of answer.new.writer.now ≡
+        length (extension_truths (week_of instance.now) (set_of roster.now))) }
+{
+    extension_truths_are_those_of_the_variables();
+    instances_are_within_limits();
+    variables_are_few();
+    let _nurses = instance.nurses();
+    drive_extension(instance, roster, answer)
+}
+
+// Puts the literals of the roster's extension.
+fn put_literals<W: Target>(
+    instance: &Instance,
+    roster: &Roster,
+    writer: &mut AnswerWriter<'_, W>,
+) -> Result<(), PortFault>
+    requires shape { HasShapeOf (week_of instance.now) roster.now }
+    requires phase { phase_of writer.old ≡ Started }
+    requires none { literals_of writer.old ≡ 0 }
+    ensures phase { phase_of writer.new ≡ Started }
+    ensures takes { PutsText (sink_of writer.old) result
+        (literals_text 0 (extension_truths (week_of instance.now) (set_of roster.now))) (sink_of writer.new) }
+    ensures literals { OnOk result (literals_of writer.new ≡
+        length (extension_truths (week_of instance.now) (set_of roster.now))) }
+{
+    let mut answer = ExtensionAnswer { writer };
+    take_extension(instance, roster, &mut answer)
+}
+
+// Puts the answer of the roster's extension with this objective, and finishes the sink.
+fn put_answer<W: Target>(
+    instance: &Instance,
+    roster: &Roster,
+    objective: u64,
+    writer: &mut AnswerWriter<'_, W>,
+) -> Result<(), PortFault>
+    requires shape { HasShapeOf (week_of instance.now) roster.now }
+    requires phase { phase_of writer.old ≡ New }
+    ensures { FinishesSink (sink_of writer.old) result
+        (extension_answer objective (week_of instance.now) (set_of roster.now)) (sink_of writer.new) }
+{
+    calls_write_the_answer();
+    writer.start(objective)?;
+    put_literals(instance, roster, writer)?;
+    writer.finish()
+}
+
+/// Sends the answer of the roster's extension with this objective, and makes it flushed.
+pub(crate) fn send_extension<W: Target>(
+    instance: &Instance,
+    roster: &Roster,
+    objective: u64,
+    out: &mut W,
+) -> Result<(), PortFault>
+    requires shape { HasShapeOf (week_of instance.now) roster.now }
+    ensures { SendsText (writer_of W.Target out.old out.new)
+        (extension_answer objective (week_of instance.now) (set_of roster.now)) result }
+{
+    let mut writer = AnswerWriter::new(Sink::new(out));
+    put_answer(instance, roster, objective, &mut writer)
+}
