@@ -178,7 +178,7 @@ takes_contracts() {
     local modules
     begins_case 'lemma modules that a crate takes from another'
     modules=$(tests/doors.py | cut -d ' ' -f 2,3 | sort -u | wc -l)
-    [ "$modules" -le 17 ] || complain "$modules, and 17 before: $(tests/doors.py)"
+    [ "$modules" -le 2 ] || complain "$modules, and 2 before: $(tests/doors.py)"
 }
 
 for page in README.md CONTRIBUTING.md CHANGELOG.md bench/README.md docs/*.md; do

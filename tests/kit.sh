@@ -171,6 +171,7 @@ misused() {
     run "$1" 2 nothing text "${@:3}"
     told=$(head -n 1 "$room/err")
     [ "$told" = "error: $2" ] || complain "told: $told"
+    [ -z "$(tail -c 1 "$room/err")" ] || complain 'the last line has no end'
 }
 lacking='the following required arguments were not provided:'
 

@@ -42,6 +42,11 @@ asks_for_help() {
     tells_options encode --sce --his --week --fix --opb
     tells_options decode --sce --his --week --fix --sol --answer
     tells_options extend --sce --his --week --fix --from
+    run 'what encode does' 0 text nothing encode --help
+    head -n 1 "$room/out" | grep -qx 'Writes the week as a pseudo-Boolean model' || complain 'another sentence'
+    grep -q '^Usage: inrc2pb encode ' "$room/out" || complain 'another usage'
+    grep -q -e '--his <FILE>  *The history before the week$' "$room/out" || complain 'another line for --his'
+    grep -q -e '--week <FILE>  *The requirements and requests of the week$' "$room/out" || complain 'another line for --week'
     run 'the version' 0 version nothing --version
     out=/dev/full refuses 'help that cannot be written' 3 'write failed' --help
     out=/dev/full refuses 'a version that cannot be written' 3 'write failed' --version
