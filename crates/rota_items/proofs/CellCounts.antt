@@ -58,15 +58,13 @@ pub any-on_cells : (week : Week) (roster : Roster) (n s d : ℕ) →
     list_any roster (on_cells week n s d) ≡ is_on week roster n s d
 any-on_cells week roster n s d =
     list_any-each roster week.skills (λ k. cell n d s k ∷ []) ∙
-    any_below-same week.skills (λ k. list_any roster (cell n d s k ∷ [])) (λ k. roster (cell n d s k))
-    (λ k. or-false (roster (cell n d s k)))
+    any_below-same week.skills _ (λ k. roster (cell n d s k)) (λ k. or-false (roster (cell n d s k)))
 
 pub any-work_cells : (week : Week) (roster : Roster) (n d : ℕ) →
     list_any roster (work_cells week n d) ≡ works week roster n d
 any-work_cells week roster n d =
     list_any-each roster week.shifts (λ s. on_cells week n s d) ∙
-    any_below-same week.shifts (λ s. list_any roster (on_cells week n s d)) (λ s. is_on week roster n s d)
-    (λ s. any-on_cells week roster n s d)
+    any_below-same week.shifts _ (λ s. is_on week roster n s d) (λ s. any-on_cells week roster n s d)
 
 -- the same for all days at once
 pub any-on : (week : Week) (roster : Roster) (n s : ℕ) →

@@ -1,5 +1,5 @@
 -- What a taker of rows takes by the items that are handed on to it.
-use Rattle.rota_items.proofs.Common.Words.{◌≡◌, ℕ, ◌+◌, ◌<◌, List, [], ◌∷◌, ◌++◌, Result, Ok, Err, refl, sym, ap, subst, ◌∙◌, arith, append_assoc, fold, fold-append, MatchResult-weaker, InstanceTables, IsInstance, week_of, soft_items, Item, item_rows, slack_count, slack_weights, first_slack, numbered_items, cell_number, word_limit, Event, events, term_events, Handing, StopsAt, row_of_item, slacks_within, weights_of_item, with_item, within_numbers, Took, Refused, Takes, TookAll, RefusedOne, TakesAll, Ghosts}
+use Rattle.rota_items.proofs.Common.Words.{◌≡◌, ℕ, ◌+◌, ◌<◌, List, [], ◌∷◌, ◌++◌, Result, Ok, Err, refl, sym, ap, subst, ◌∙◌, arith, append_assoc, fold, fold-append, InstanceTables, IsInstance, week_of, soft_items, Item, item_rows, slack_count, slack_weights, first_slack, numbered_items, cell_number, word_limit, Event, events, term_events, Handing, StopsAt, row_of_item, slacks_within, weights_of_item, with_item, within_numbers, Took, Refused, Takes, TookAll, RefusedOne, TakesAll, Ghosts}
 use Rattle.rota_items.proofs.InstanceLimits.{instance-within_limits}
 use Rattle.rota_items.proofs.ItemEventLists.{slack_count-cons, slack_count-append, slack_count-numbered, term_events-append}
 use Rattle.rota_items.proofs.SlackBound.{variables_fit}
@@ -139,12 +139,10 @@ module _ {events_of : Item ℕ → ℕ → List Event} {all : ℕ → List (Item
           let week = week_of tables in
           omega (arith, variables_fit week (instance-within_limits tables valid), slack_count-numbered (cell_number week) (soft_items week), first)
 
-      pub rows_given : {R : Type 0} (r : Result R F) → TakesAll handing_of (with_item T.step events_of) stops_at items old new r →
-          Takes T (all (first_slack (week_of tables)) items) (taker_of old) (taker_of new) r
-      rows_given r takes =
-          subst (λ n. Takes T (all n items) (taker_of old) (taker_of new) r) first
-          (MatchResult-weaker r takes (λ _ took. (took_all items fit took).1) (λ _ refused. (refused_one items fit refused).1))
-
-      pub same_taker : {R : Type 0} (r : Result R F) → TakesAll handing_of (with_item T.step events_of) stops_at items old new r → name_of new ≡ name_of old
-      same_taker (Ok x) takes = (took_all items fit takes).0
-      same_taker (Err e) takes = (refused_one items fit takes).0
+      pub handed_on : {R : Type 0} (r : Result R F) → TakesAll handing_of (with_item T.step events_of) stops_at items old new r →
+          (name_of new ≡ name_of old) × Takes T (all (first_slack (week_of tables)) items) (taker_of old) (taker_of new) r
+      handed_on (Ok x) takes =
+          let took = took_all items fit takes in (took.0, subst (λ n. Took T (all n items) (taker_of old) (taker_of new)) first took.1)
+      handed_on (Err e) takes =
+          let refused = refused_one items fit takes in
+          (refused.0, subst (λ n. Refused T (all n items) (taker_of old) (taker_of new)) first refused.1)

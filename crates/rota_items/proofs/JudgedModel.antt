@@ -11,7 +11,7 @@ use Rattle.rota_items.proofs.ItemSizes.{slacks-few}
 use Rattle.rota_items.proofs.JudgedRows.{Comes, IsHardRow, rows-come, same}
 use Rattle.rota_items.proofs.JudgedTerms.{AtSlacks, counted-before, counted_other, others-at_slacks, others-before, row-tallied}
 use Rattle.rota_items.proofs.Lists.{all-both, all-map, sum_by-each-same, sum_by-flat_map, sum_by-map}
-use Rattle.rota_items.proofs.ObjectiveBound.{objective-below}
+use Rattle.rota_items.proofs.ObjectiveBound.{objective-below, IsPositive, coefficients-positive}
 use Rattle.rota_items.proofs.RuleSizes.{each-small}
 use Rattle.rota_items.proofs.SlackBound.{rows-below, variables-below}
 use Rattle.rota_items.proofs.SmallSums.{spread}
@@ -20,7 +20,6 @@ use Rattle.rota_items.proofs.SoftRules.EachRule.{cell_terms-are, each-item, soun
 use Rattle.rota_items.proofs.SoftRules.ShiftOffRequests.{value_of-request_terms}
 use Rattle.rota_items.proofs.SoftRules.Sound.{IsItemSound}
 use Rattle.rota_items.proofs.SoundTerms.{spread-sound, OnTerms, OnCoefficients}
-use Rattle.rota_items.proofs.Weights.{IsPositive, coefficients-positive}
 
 -- ---- how large the rows are
 

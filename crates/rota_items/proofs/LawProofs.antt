@@ -1,6 +1,5 @@
 -- The lemmas that the laws state, by the file of the laws.
-use Rattle.rota_items.proofs.Counted.{counted-rows}
-use Rattle.rota_items.proofs.CountedModel.{counted-constraints, counted-model}
+use Rattle.rota_items.proofs.Counted.{counted-rows, counted-constraints, counted-model}
 use Rattle.rota_items.proofs.EachPattern.{days-follow}
 use Rattle.rota_items.proofs.EarlyCharges.{charges-sum}
 use Rattle.rota_items.proofs.Extension.{charges, extension-objective, extension-roster}
@@ -10,9 +9,9 @@ use Rattle.rota_items.proofs.InstanceLimits.{instance-within_limits}
 use Rattle.rota_items.proofs.ItemLaw.{extension_satisfies, item_law, shortage-numbered, value_of-extension, weighted_shortages-le}
 use Rattle.rota_items.proofs.Lists.{sum_below-zero}
 use Rattle.rota_items.proofs.NurseRuns.{weighted-off_runs, weighted-on_runs, weighted-work_runs}
-use Rattle.rota_items.proofs.ObjectiveBound.{objective-below}
+use Rattle.rota_items.proofs.ObjectiveBound.{objective-below, objective_value-positive}
 use Rattle.rota_items.proofs.PenaltyBound.{penalty-below}
-use Rattle.rota_items.proofs.RisingTerms.{rises-objective}
+use Rattle.rota_items.proofs.ModelTerms.{rises-objective}
 use Rattle.rota_items.proofs.RunLaw.{shortages-run_items, weighted_shortages-day_items, weighted_shortages-run_items}
 use Rattle.rota_items.proofs.SlackBound.{constraints-below, variables-below}
 use Rattle.rota_items.proofs.SoftRules.NurseProperties.{one-at_work}
@@ -20,7 +19,6 @@ use Rattle.rota_items.proofs.SoftRules.OptimalCoverage.{weighted-optimum_items}
 use Rattle.rota_items.proofs.SoftRules.ShiftOffRequests.{value_of-request_terms}
 use Rattle.rota_items.proofs.SoundTerms.{run_items-below}
 use Rattle.rota_items.proofs.Standing.{stands-exactly}
-use Rattle.rota_items.proofs.Weights.{objective_value-positive}
 
 pub ruleset counts = (counted-rows, counted-constraints, counted-model)
 

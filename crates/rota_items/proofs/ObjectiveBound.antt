@@ -1,15 +1,86 @@
--- How large the objective of any assignment is.
-use Rattle.rota_items.proofs.Common.Words.{◌*◌, ◌≤◌, arith, ℕ, ◌+◌, Bool, List, [], ◌∷◌, ap, sum_by-cons, count_by-le-length, pos, ◌≤ℤ◌, sum_by, count_by, ints, mul-le-mul_left, Week, Item, constant, soft_items, cell_number, unit_number, first_slack, value_of, times, slack_variables, slack_weights, numbered, numbered_items, objective_terms, cell_terms, roster_of, IsWithinLimits, most_objective, most_weight}
+-- The coefficients of the objective are positive and small, and how large it is of any assignment.
+use Rattle.rota_items.proofs.Common.Words.{◌≡◌, ℕ, ◌+◌, ◌<◌, Bool, true, false, cond, List, [], ◌∷◌, map, arith, ℤ, pos, ◌+ℤ◌, ◌≤ℤ◌, ◌<ℤ◌, nat_lt, All, AllByRecursion, ints, All-from_recursion, AllByRecursion-append, AllByRecursion-only_if, Week, Cell, cell_number, first_slack, Item, numbered, Term, times, value_of, objective_value, constant_terms, slack_variables, slack_weights, cell_terms, constant, soft_items, numbered_terms, numbered_items, objective_terms, model_of, IsWithinLimits, most_coefficient, ◌*◌, ◌≤◌, ap, sum_by-cons, count_by-le-length, sum_by, count_by, mul-le-mul_left, unit_number, roster_of, most_objective, most_weight}
+use Rattle.rota_items.proofs.Lists.{all-weaker, sum_by-map, where_in}
+use Rattle.rota_items.proofs.PenaltyBound.{constant-few}
+use Rattle.rota_items.proofs.RuleSizes.{each-small, request_cost-le}
+use Rattle.rota_items.proofs.SoftRules.AllItems.{sound-cell_terms}
+use Rattle.rota_items.proofs.SoftRules.EachRule.{each-item, cell_terms-are}
+use Rattle.rota_items.proofs.SoftRules.ShiftOffRequests.{IsTermSound, value_of-request_terms}
+use Rattle.rota_items.proofs.SoundTerms.{OnCoefficients, coefficients-times, coefficients-numbered}
 use Rattle.std.proofs.lemmas.List.FromFn.{length-range_with_len as length-range}
 use Rattle.rota_items.proofs.Extension.{value_of-objective}
 use Rattle.rota_items.proofs.ItemLaw.{value_of-weight, value_of-numbered}
-use Rattle.rota_items.proofs.Lists.{sum_by-map, where_in}
 use Rattle.rota_items.proofs.PatternItems.{value_of-append}
-use Rattle.rota_items.proofs.PenaltyBound.{constant-few}
-use Rattle.rota_items.proofs.RuleSizes.{request_cost-le}
 use Rattle.rota_items.proofs.SlackBound.{soft_items-le}
-use Rattle.rota_items.proofs.SoftRules.EachRule.{cell_terms-are}
-use Rattle.rota_items.proofs.SoftRules.ShiftOffRequests.{value_of-request_terms}
+
+some_of_test : (n : ℕ) → nat_lt 0 n ≡ true → 0 < n
+some_of_test n test = grind arith
+
+module _ (week : Week) (P : ℤ → Type 0) where
+  abbrev OnWeight : Item Cell → Type 0
+  OnWeight item = P (pos item.weight)
+
+  on-slack_weights : (first : ℕ) (items : List (Item Cell)) → AllByRecursion OnWeight items →
+      OnCoefficients P (slack_weights first (map (numbered (cell_number week)) items))
+  on-slack_weights first [] all = tt
+  on-slack_weights first (item ∷ items) all =
+      AllByRecursion-append (λ (term : Term ℕ). P term.0)
+      (times (pos item.weight) (slack_variables (numbered (cell_number week) item) first))
+      (slack_weights (first + item.slacks) (map (numbered (cell_number week)) items))
+      (coefficients-times P (pos item.weight) (slack_variables (numbered (cell_number week) item) first) all.0)
+      (on-slack_weights (first + item.slacks) items all.1)
+
+  -- P holds of each coefficient of the objective
+  on-objective : ((term : Term Cell) → IsTermSound week term → P term.0) → (0 < constant week → P (pos (constant week))) →
+      AllByRecursion OnWeight (soft_items week) → OnCoefficients P (objective_terms week)
+  on-objective of_term of_constant of_items =
+      AllByRecursion-append (λ (term : Term ℕ). P term.0) (numbered_terms week (cell_terms week)) _
+      (coefficients-numbered P (cell_number week) (cell_terms week) (all-weaker (IsTermSound week) (λ (term : Term Cell). P term.0) of_term (cell_terms week) (sound-cell_terms week)))
+      (AllByRecursion-append (λ (term : Term ℕ). P term.0) (constant_terms week)
+      (slack_weights (first_slack week) (numbered_items week))
+      (AllByRecursion-only_if (λ (term : Term ℕ). P term.0) _ _ (λ test. of_constant (some_of_test (constant week) test)))
+      (on-slack_weights (first_slack week) (soft_items week) of_items))
+
+-- ---- positive
+
+abbrev pub IsPositive : ℤ → Type 0
+IsPositive coefficient = pos 0 <ℤ coefficient
+
+pub coefficients-positive : (week : Week) → OnCoefficients IsPositive (objective_terms week)
+coefficients-positive week =
+    on-objective week IsPositive (λ term sound. sound.positive) (λ some. omega (arith, ints, some))
+    (each-item week (OnWeight week IsPositive) (λ rule item _ sound. omega (arith, ints, sound.weighs)))
+
+pub objective-positive : (week : Week) → All (λ (term : Term ℕ). pos 0 <ℤ term.0) (model_of week).objective
+objective-positive week =
+    All-from_recursion (λ (term : Term ℕ). pos 0 <ℤ term.0) (objective_terms week) (coefficients-positive week)
+
+pub value_of-positive : (assignment : ℕ → Bool) (terms : List (Term ℕ)) → OnCoefficients IsPositive terms →
+    pos 0 ≤ℤ value_of assignment terms
+value_of-positive assignment [] all = omega (arith, ints)
+value_of-positive assignment (t ∷ ts) all =
+    one_more (assignment t.1) t.0 (value_of assignment ts) all.0 (value_of-positive assignment ts all.1)
+  where
+    one_more : (is : Bool) (coefficient sum : ℤ) → IsPositive coefficient → pos 0 ≤ℤ sum →
+        pos 0 ≤ℤ (cond is coefficient (pos 0) +ℤ sum)
+    one_more true coefficient sum above from = omega (arith, ints)
+    one_more false coefficient sum above from = omega (arith, ints)
+
+pub objective_value-positive : (week : Week) (assignment : ℕ → Bool) → pos 0 ≤ℤ objective_value assignment (model_of week)
+objective_value-positive week assignment = value_of-positive assignment (objective_terms week) (coefficients-positive week)
+
+-- ---- small
+
+abbrev IsSmall : ℤ → Type 0
+IsSmall coefficient = coefficient ≤ℤ pos most_coefficient
+
+pub objective-small : (week : Week) → IsWithinLimits week → All (λ (term : Term ℕ). IsSmall term.0) (model_of week).objective
+objective-small week limits =
+    All-from_recursion (λ (term : Term ℕ). IsSmall term.0) (objective_terms week)
+    (on-objective week IsSmall (λ term sound. omega (arith, ints, sound.small limits)) (λ _. omega (arith, ints, constant-few week limits))
+    (each-small week limits (OnWeight week IsSmall) (λ rule item small. omega (arith, ints, small.weight))))
+
+-- ---- of any assignment
 
 -- what all slacks of an item weigh
 abbrev all_slacks : {X : Type 0} → Item X → ℕ

@@ -1,5 +1,6 @@
 -- How large the penalty, the constant and the shortages are.
-use Rattle.rota_items.proofs.Common.Words.{ℕ, ◌*◌, ◌<◌, ◌≤◌, arith, sum_by-le-sum_by, mul-le, Roster, soft_rules, Week, Rule, shortage, weighted_shortages, constant, constant_of_rule, items_of_rule, penalty, rule_cost, nurse_constant, IsWithinLimits, S1, S2, S6, S7, most_constant, most_constant_of_rule, most_cost, most_items, most_items_of_any, most_shortage, most_weight, penalty_limit}
+use Rattle.rota_items.proofs.Common.Words.{ℕ, ◌*◌, ◌<◌, ◌≤◌, arith, sum_by-le-sum_by, mul-le, Roster, soft_rules, Week, Rule, shortage, weighted_shortages, constant, constant_of_rule, items_of_rule, penalty, rule_cost, nurse_constant, IsWithinLimits, S1, S2, S6, S7, most_constant, most_constant_of_rule, most_cost, most_items, most_items_of_any, most_shortage, most_weight, penalty_limit, InstanceTables, IsInstance, week_of}
+use Rattle.rota_items.proofs.InstanceLimits.{instance-within_limits}
 use Rattle.rota_items.proofs.RuleSizes.{small-nurse_rule, small-rule}
 use Rattle.rota_items.proofs.SlackBound.{items-le}
 use Rattle.rota_items.proofs.SmallSums.{shortage-least}
@@ -39,3 +40,14 @@ module _ (week : Week) (limits : IsWithinLimits week) where
 pub penalty-below : (week : Week) (roster : Roster) → IsWithinLimits week → penalty week roster < penalty_limit
 penalty-below week roster limits =
     omega (arith, sum_by-le-sum_by (rule_cost week roster) (λ _. most_cost) soft_rules (λ rule. (small-rule week limits rule).cost roster))
+
+-- ---- of an instance
+
+module _ (tables : InstanceTables) (valid : IsInstance tables) where
+  pub few-constant_of_rule : (rule : Rule) → constant_of_rule (week_of tables) rule ≤ most_constant
+  few-constant_of_rule rule = constant_of_rule-few (week_of tables) (instance-within_limits tables valid) rule
+
+  pub few-nurse_constant : (rule : Rule) (n : ℕ) → nurse_constant (week_of tables) rule n ≤ most_constant
+  few-nurse_constant rule n = nurse_constant-few (week_of tables) (instance-within_limits tables valid) rule n
+
+pub ruleset few_constants = (few-constant_of_rule, few-nurse_constant)

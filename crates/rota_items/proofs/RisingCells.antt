@@ -32,8 +32,7 @@ module _ (week : Week) where
       RisesWithin (cell_number week) (day_start n d) (day_start n (d + 1)) (on_cells week n s d)
   on-keeps n s d s_in =
       let later : (n * 7 + d) * week.shifts + (s + 1) ≤ (n * 7 + (d + 1)) * week.shifts = omega arith in
-      rises-in (cell_number week) _ (shift_start n d s) (shift_start n d (s + 1)) _ (on_cells week n s d) (omega arith)
-      (omega (arith, mul-le-mul_right week.skills later)) (rises-on_cells n s d)
+      rises-in (cell_number week) _ _ _ _ _ (omega arith) (omega (arith, mul-le-mul_right week.skills later)) (rises-on_cells n s d)
 
   pub rises-demand_cells : (d s k : ℕ) → d < 7 → s < week.shifts → k < week.skills →
       RisesWithin (cell_number week) (day_start 0 0) (day_start week.nurses 0) (demand_cells week d s k)
@@ -84,11 +83,9 @@ module _ (week : Week) where
   rises-days n property keeps first end (day ∷ days) days_are up_to =
       let here : day.day ≡ first = cc in
       let rest : map (λ (day : PatternDay). day.day) days ≡ range_with_len (first + 1) (length days) = cc in
-      rises-append at (day_start n first) (day_start n (first + 1)) (day_start n end)
-      (day_terms property day) (flat_map (day_terms property) days)
-      (rises-times (day_start n first) (day_start n (first + 1)) _ (variables_on property day.day)
-      (subst (λ d. RisesWithin (cell_number week) (day_start n d) (day_start n (d + 1)) (variables_on property day.day))
-      here (keeps day.day)))
+      rises-append at _ (day_start n (first + 1)) _ (day_terms property day) (flat_map (day_terms property) days)
+      (rises-times _ _ _ (variables_on property day.day)
+      (subst (λ d. RisesWithin (cell_number week) (day_start n d) (day_start n (d + 1)) (variables_on property day.day)) here (keeps day.day)))
       (rises-days n property keeps (first + 1) end days rest (omega arith))
 
   pub first_day-from : (n first : ℕ) → 1 ≤ day_start n first
@@ -104,6 +101,5 @@ module _ (week : Week) where
       (first : ℕ) (days : List PatternDay) → map (λ (day : PatternDay). day.day) days ≡ range_with_len first (length days) →
       first + length days ≤ 7 → within (flat_map (day_terms property) days)
   rises-pattern n property n_in keeps first days days_are in_week =
-      within-block (day_start n first) (day_start n (first + length days)) (flat_map (day_terms property) days)
-      (first_day-from n first) (last_day-le n (first + length days) n_in in_week)
+      within-block _ _ _ (first_day-from n first) (last_day-le n (first + length days) n_in in_week)
       (rises-days n property keeps first (first + length days) days days_are refl)

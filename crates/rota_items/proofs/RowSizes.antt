@@ -1,5 +1,6 @@
 -- How many rows the hard rules have in a week within the limits: none has more than there are cells.
-use Rattle.rota_items.proofs.Common.Words.{ℕ, ◌*◌, ◌≤◌, length, arith, length-append, length-map, length-only_if, length-flat_map, sum_by-le-sum_by, each_below, Week, Rule, hard_rules, rows_of_hard_rule, rule_rows, cells_of, h5_row, h3_monday_rows, h3_rows_between, h3_rows_of, IsWithinLimits, H1, H2, H3, H4, H5, most_cells, most_cells_of_nurse, most_nurses, most_shifts, most_skills}
+use Rattle.rota_items.proofs.Common.Words.{InstanceTables, IsInstance, week_of, ℕ, ◌*◌, ◌≤◌, length, arith, length-append, length-map, length-only_if, length-flat_map, sum_by-le-sum_by, each_below, Week, Rule, hard_rules, rows_of_hard_rule, rule_rows, cells_of, h5_row, h3_monday_rows, h3_rows_between, h3_rows_of, IsWithinLimits, H1, H2, H3, H4, H5, most_cells, most_cells_of_nurse, most_nurses, most_shifts, most_skills}
+use Rattle.rota_items.proofs.InstanceLimits.{instance-within_limits}
 use Rattle.rota_items.proofs.Lists.{length-at_most}
 
 module _ (week : Week) (limits : IsWithinLimits week) where
@@ -48,3 +49,11 @@ module _ (week : Week) (limits : IsWithinLimits week) where
         length-flat_map (rows_of_hard_rule week) hard_rules,
         sum_by-le-sum_by (λ rule. length (rows_of_hard_rule week rule)) (λ _. most_cells) hard_rules rows-few,
       )
+
+-- ---- of an instance
+
+module _ (tables : InstanceTables) (valid : IsInstance tables) where
+  pub few-rows : (rule : Rule) → length (rows_of_hard_rule (week_of tables) rule) ≤ most_cells
+  few-rows rule = rows-few (week_of tables) (instance-within_limits tables valid) rule
+
+pub ruleset few_rows = (few-rows)

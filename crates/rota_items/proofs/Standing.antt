@@ -4,7 +4,7 @@ use Rattle.rota_core.specs.RisingLists.{RisesWithin}
 use Rattle.rota_items.proofs.ItemEventLists.{slack_count-numbered}
 use Rattle.rota_items.proofs.Lists.{all-weaker, all-back}
 use Rattle.rota_items.proofs.Numbers.{cell_of_number-in, cell_number-of}
-use Rattle.rota_items.proofs.RisingTerms.{RisesTo, variable_of, rises-to_last}
+use Rattle.rota_items.proofs.ModelTerms.{RisesTo, variable_of, rises-to_last}
 use Rattle.rota_items.proofs.SoundTerms.{OnTerms}
 
 abbrev pub at_variable : ℕ → Term ℕ → Bool

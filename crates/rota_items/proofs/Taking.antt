@@ -1,5 +1,5 @@
 -- How what a taker took grows, call by call and loop by loop.
-use Rattle.rota_items.proofs.Common.Words.{◌≡◌, ℕ, ◌<◌, Bool, true, false, List, [], ◌∷◌, ◌++◌, map, Result, MatchResult, refl, sym, ap, ◌∙◌, append_assoc, append-nil, map-append, flat_map-append, fold-append, MatchResult-from_err, MatchResult-weaker, fold, ℤ, IsErr, each_below-zero, each_below-more, only_if-holds, only_if-fails, each_below, only_if, Week, Cell, cell_number, Term, times, LinearRow, numbered_row, numbered_terms, cell_term_events, cell_row_events, coefficient_of, sum_events, start_row, term, close_row, row_events, term_events, events, TookAll, RefusedOne, TakesAll, Took, Refused, Takes, Sign, Ghosts, in_turn}
+use Rattle.rota_items.proofs.Common.Words.{◌≡◌, ℕ, ◌<◌, Bool, true, false, List, [], ◌∷◌, ◌++◌, map, Result, MatchResult, refl, sym, ap, ◌∙◌, append_assoc, append-nil, map-append, flat_map-append, fold-append, MatchResult-from_err, MatchResult-weaker, fold, ℤ, IsErr, each_below-zero, each_below-more, only_if-holds, only_if-fails, each_below, only_if, Week, Cell, cell_number, Term, times, LinearRow, numbered_row, numbered_terms, cell_term_events, cell_row_events, coefficient_of, sum_events, start_row, term, close_row, row_events, term_events, events, TookAll, RefusedOne, TakesAll, Took, Refused, Takes, Sign, Ghosts, in_turn, Event, Part}
 
 -- ---- what makes events of a list, element by element
 
@@ -56,9 +56,22 @@ terms-append week = (terms_join week).append
 
 pub ruleset taking = (each_below-zero, each_below-more, rows-none, rows-append, terms-none, terms-append, map-append, fold-append)
 
-events-one : (row : LinearRow ℕ) → events (row ∷ []) ≡ row_events row
+-- the list is the events of one row: it begins, these terms follow, and the degree ends it
+pub record IsRow (all : List Event) (part : Part) (terms : List Event) (degree : ℤ) : Type 0 where
+  pub are : all ≡ start_row part ∷ (terms ++ close_row degree ∷ [])
+
+pub lone_row : (row : LinearRow ℕ) → IsRow (events (row ∷ [])) row.part (term_events row.terms) row.degree
 unfolding events
-events-one row = append-nil (row_events row)
+lone_row row = record { are = append-nil (row_events row) }
+
+pub cell_row : (week : Week) (row : LinearRow Cell) →
+    IsRow (cell_row_events week (row ∷ [])) row.part (cell_term_events week row.terms) row.degree
+unfolding cell_row_events cell_term_events
+cell_row week row = lone_row (numbered_row week row)
+
+pub row_where : (week : Week) (test : Bool) (row : LinearRow Cell) → test ≡ true →
+    IsRow (cell_row_events week (only_if test row)) row.part (cell_term_events week row.terms) row.degree
+row_where week test row holds = rw (only_if-holds test row holds) (cell_row week row)
 
 -- ---- a taker of anything: one list, then another
 
@@ -164,12 +177,6 @@ module _ {S F : Type 0} (T : Ghosts S F) where
     unfolding cell_term_events
     cell_taken sign cell variable s t r same taken = term_takes (coefficient_of sign) (cell_number week cell) s t r (rw same at taken)
 
-    -- ---- where a test holds
-
-    pub row_where : {R : Type 0} (test : Bool) (row : LinearRow Cell) (s t : S) (r : Result R F) → test ≡ true →
-        Takes T (cell_row_events week (row ∷ [])) s t r → Takes T (cell_row_events week (only_if test row)) s t r
-    row_where test row s t r holds taken = rw (only_if-holds test row holds) taken
-
     pub row_nowhere : (test : Bool) (row : LinearRow Cell) (s : S) → test ≡ false → Took T (cell_row_events week (only_if test row)) s s
     row_nowhere test row s fails = rw (only_if-fails test row fails, (rows_join week).none) (Took-none s)
 
@@ -194,38 +201,23 @@ module _ {S F : Type 0} (T : Ghosts S F) where
         (Takes-then (term_events row.terms) (close_row row.degree ∷ []) t u v r taken
         (MatchResult-weaker r closes (λ _ e. Took-one _ u v e) (λ _ refused. Refused-one _ u v refused)))
 
-  -- ---- a row whose terms have their variables
+  -- ---- a list of one row
 
-  module _ (row : LinearRow ℕ) where
-    pub row_refused_at_start : (s t : S) → T.left (T.value s) (start_row row.part) t → Refused T (events (row ∷ [])) s t
-    row_refused_at_start s t h = rw (events-one row) (refused_at_start row s t h)
+  module _ {all : List Event} {part : Part} {terms : List Event} {degree : ℤ} (is : IsRow all part terms degree) where
+    pub row_unstarted : {R : Type 0} (s t : S) (r : Result R F) → IsErr r → T.left (T.value s) (start_row part) t → Takes T all s t r
+    row_unstarted s t r err h = rw is.are (exits _ s t r err (Refused-before (start_row part ∷ []) _ s t (Refused-one _ s t h)))
 
-    pub row_refused_at_terms : (s t u : S) → T.value t ≡ T.step (T.value s) (start_row row.part) →
-        Refused T (term_events row.terms) t u → Refused T (events (row ∷ [])) s u
-    row_refused_at_terms s t u started refused = rw (events-one row) (refused_at_terms row s t u started refused)
+    pub row_refused : {R : Type 0} (s t u : S) (r : Result R F) → IsErr r → T.value t ≡ T.step (T.value s) (start_row part) →
+        Refused T terms t u → Takes T all s u r
+    row_refused s t u r err started refused =
+        rw is.are
+        (exits _ s u r err (Refused-after (start_row part ∷ []) _ s t u (Took-one _ s t started) (Refused-before terms _ t u refused)))
 
-    pub row_closed : (s t u v : S) (r : Result (Unit {0}) F) → T.value t ≡ T.step (T.value s) (start_row row.part) →
-        Took T (term_events row.terms) t u →
-        MatchResult r (λ _. T.value v ≡ T.step (T.value u) (close_row row.degree)) (λ _. T.left (T.value u) (close_row row.degree) v) →
-        Takes T (events (row ∷ [])) s v r
-    row_closed s t u v r started taken closes = rw (events-one row) (closed row s t u v r started taken closes)
-
-  -- ---- a row over cells
-
-  module _ (week : Week) (row : LinearRow Cell) where
-    pub cell_row_refused_at_start : (s t : S) → T.left (T.value s) (start_row row.part) t →
-        Refused T (cell_row_events week (row ∷ [])) s t
-    unfolding cell_row_events
-    cell_row_refused_at_start = row_refused_at_start (numbered_row week row)
-
-    pub cell_row_refused_at_terms : (s t u : S) → T.value t ≡ T.step (T.value s) (start_row row.part) →
-        Refused T (cell_term_events week row.terms) t u → Refused T (cell_row_events week (row ∷ [])) s u
-    unfolding cell_row_events cell_term_events
-    cell_row_refused_at_terms = row_refused_at_terms (numbered_row week row)
-
-    pub cell_row_closed : (s t u v : S) (r : Result (Unit {0}) F) → T.value t ≡ T.step (T.value s) (start_row row.part) →
-        Took T (cell_term_events week row.terms) t u →
-        MatchResult r (λ _. T.value v ≡ T.step (T.value u) (close_row row.degree)) (λ _. T.left (T.value u) (close_row row.degree) v) →
-        Takes T (cell_row_events week (row ∷ [])) s v r
-    unfolding cell_row_events cell_term_events
-    cell_row_closed = row_closed (numbered_row week row)
+    pub row_closed : (s t u v : S) (r : Result (Unit {0}) F) → T.value t ≡ T.step (T.value s) (start_row part) → Took T terms t u →
+        MatchResult r (λ _. T.value v ≡ T.step (T.value u) (close_row degree)) (λ _. T.left (T.value u) (close_row degree) v) →
+        Takes T all s v r
+    row_closed s t u v r started taken closes =
+        rw is.are
+        (Takes-then (start_row part ∷ []) _ s t v r (Took-one (start_row part) s t started)
+        (Takes-then terms (close_row degree ∷ []) t u v r taken
+        (MatchResult-weaker r closes (λ _ e. Took-one _ u v e) (λ _ refused. Refused-one _ u v refused))))

@@ -1,7 +1,40 @@
--- How a walk over items goes on, item by item and loop by loop.
-use Rattle.rota_items.proofs.Common.Words.{◌≡◌, List, [], ◌∷◌, ◌++◌, Result, MatchResult, refl, map-append, fold-append, MatchResult-weaker, each_below-zero, each_below-more, Week, Cell, cell_number, Item, numbered, TakesItems, numbered_list}
+-- How what a taker took grows in a loop over a list and in one over held cells, and how a walk over items goes on.
+use Rattle.rota_items.proofs.Common.Words.{◌≡◌, ℕ, suc, ◌+◌, ◌<◌, List, [], ◌∷◌, ◌++◌, map, get_or, take, drop, length, refl, ap, ◌∙◌, subst, arith, take-suc, append-nil, map-append, take-append-drop, flat_map-append, flat_map, Week, h5_row, cell_row_events, TookAll, RefusedOne, Result, MatchResult, fold-append, MatchResult-weaker, each_below-zero, each_below-more, Cell, cell_number, Item, numbered, TakesItems, numbered_list}
+use Rattle.rota_items.proofs.Taking.{Joins, go_on, rows_join, stop, Took-one, Refused-one}
 use Rattle.rota_items.specs.declared.items.item_takers.ItemTaker.{Ghosts}
-use Rattle.rota_items.proofs.Taking.{Joins, Took-one, Refused-one}
+
+-- the lists of the elements before one, of it, and of those after it
+pub flat_map-next : {X A : Type 0} (f : X → List A) (xs : List X) (i : ℕ) (other : X) → i < length xs →
+    flat_map f (take (i + 1) xs) ≡ flat_map f (take i xs) ++ f (get_or xs i other)
+flat_map-next f xs i other below =
+    let next : i + 1 ≡ suc i = omega arith in
+    rw (next, take-suc xs i other below, flat_map-append f (take i xs) (get_or xs i other ∷ []), append-nil (f (get_or xs i other))) refl
+
+-- what holds of the lists of the elements before one, with its own, and of each longer list, holds of all the lists
+pub in_list : {X A : Type 0} (P : List A → Type 0) → ((xs ys : List A) → P xs → P (xs ++ ys)) → (f : X → List A) (xs : List X) (i : ℕ) (other : X) →
+    i < length xs → P (flat_map f (take i xs) ++ f (get_or xs i other)) → P (flat_map f xs)
+in_list P longer f xs i other below here =
+    subst (λ ys. P (flat_map f ys)) (take-append-drop (i + 1) xs)
+    (rw (flat_map-append f (take (i + 1) xs) (drop (i + 1) xs))
+    (longer (flat_map f (take (i + 1) xs)) (flat_map f (drop (i + 1) xs)) (rw (flat_map-next f xs i other below) here)))
+
+module _ {S V E : Type 0} {value : S → V} {step : V → E → V} {left : V → E → S → Type 0}
+    {A : Type 0} {h : List A → List E} (joins : Joins h) {X : Type 0} (f : X → List A) (xs : List X) where
+  pub list_refused : (i : ℕ) (other : X) (s t u : S) → i < length xs → TookAll value step left (h (flat_map f (take i xs))) s t →
+      RefusedOne value step left (h (f (get_or xs i other))) t u → RefusedOne value step left (h (flat_map f xs)) s u
+  list_refused i other s t u below before here =
+      in_list (λ ys. RefusedOne value step left (h ys) s u) (λ ys zs. stop joins ys zs s u) f xs i other below
+      (go_on joins (flat_map f (take i xs)) (f (get_or xs i other)) s t u before here)
+
+-- what makes events of held cells, cell by cell
+pub held_join : (week : Week) → Joins (λ cells. cell_row_events week (map h5_row cells))
+held_join week = record {
+  none = (rows_join week).none;
+  append = λ xs ys.
+      ap (cell_row_events week) (map-append h5_row xs ys) ∙ (rows_join week).append (map h5_row xs) (map h5_row ys);
+}
+
+-- ---- a walk over items
 
 pub items_join : (week : Week) → Joins (numbered_list week)
 unfolding numbered_list

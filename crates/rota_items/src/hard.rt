@@ -85,6 +85,7 @@ fn count_rows_of(instance: &Instance, rule: Rule) -> u32
 }
 
 /// The number of rows of the hard rules.
+#[tactic(auto, using(crate::proofs::Lists::listing, crate::proofs::Lists::counting, crate::proofs::RowSizes::few_rows))]
 pub fn count_rule_rows(instance: &Instance) -> u32
     requires limits { IsInstance instance.now }
     ensures number { result ≡ length (rule_rows (week_of instance.now)) }

@@ -70,7 +70,7 @@ fn walk_nurses<T: RunTaker>(instance: &Instance, taker: &mut T, rule: Rule) -> R
 }
 
 // The items of a rule.
-#[tactic(auto, using(crate::proofs::NurseItemLists::items_of_nurses))]
+#[tactic(auto, using(crate::proofs::ItemLists::items_of_nurses))]
 fn walk_rule<T: RunTaker>(instance: &Instance, taker: &mut T, rule: Rule) -> Result<(), T::Fault>
     ensures { let week = week_of instance.now in
         TakesItems T.ItemTaker week (items_of_rule week rule) taker.old taker.new result }
@@ -135,7 +135,7 @@ fn nurse_constant(instance: &Instance, rule: Rule, nurse: u16) -> u64
 }
 
 /// What no roster of the week can avoid of a rule: the sum of the nurses' parts.
-#[tactic(auto, using(crate::proofs::Lists::counting))]
+#[tactic(auto, using(crate::proofs::Lists::counting, crate::proofs::PenaltyBound::few_constants))]
 pub fn constant_of_rule(instance: &Instance, rule: Rule) -> u64
     ensures sum { result ≡ constant_of_rule (week_of instance.now) rule }
     ensures limits { IsInstance instance.now }

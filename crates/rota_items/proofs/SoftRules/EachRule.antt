@@ -61,15 +61,11 @@ module _ (week : Week) where
         AllByRecursion-append P (items_of_rule week rule) (flat_map (items_of_rule week) rules) (each rule both.0)
         (on-items each rules both.1)
 
-    pub of_sound : (rule : Rule) → ((item : Item Cell) → IsItemSound week rule item → P item) →
-        (items : List (Item Cell)) → AllByRecursion (IsItemSound week rule) items → AllByRecursion P items
-    of_sound rule = all-weaker (IsItemSound week rule) P
-
     -- what sound items of soft rules have
     pub each-item : ((rule : Rule) (item : Item Cell) → is_soft rule ≡ true → IsItemSound week rule item → P item) →
         AllByRecursion P (soft_items week)
     each-item each =
-        on-items (λ rule soft. of_sound rule (λ item. each rule item soft) (items_of_rule week rule) (sound-rule rule).items)
+        on-items (λ rule soft. all-weaker (IsItemSound week rule) P (λ item. each rule item soft) (items_of_rule week rule) (sound-rule rule).items)
         soft_rules refl
 
   -- ---- sums

@@ -1,10 +1,10 @@
 -- The terms on cells charge the request rows that are not granted.
-use Rattle.rota_items.proofs.Common.Words.{◌≡◌, ℕ, zero, suc, ◌+◌, ◌*◌, ◌<◌, ◌≤◌, Bool, true, false, cond, List, [], refl, ap, ◌∙◌, arith, pos, ◌+ℤ◌, ◌<ℤ◌, ◌≤ℤ◌, nat_lt, AllByRecursion, ltb-false, ltb-true, ints, AllByRecursion-each_below, AllByRecursion-only_if, sum_below, each_below, only_if, Roster, InWeek, cell, Week, Cell, Term, value_of, items_of_rule, IsWithinLimits, S4, most_weight, request_cost, request_weight, request_terms, request_terms_on}
+use Rattle.rota_items.proofs.Common.Words.{◌≡◌, ℕ, zero, suc, ◌+◌, ◌*◌, ◌<◌, ◌≤◌, Bool, true, false, cond, List, refl, ap, ◌∙◌, arith, pos, ◌+ℤ◌, ◌<ℤ◌, ◌≤ℤ◌, nat_lt, AllByRecursion, ltb-false, ltb-true, ints, AllByRecursion-each_below, AllByRecursion-only_if, sum_below, each_below, only_if, Roster, InWeek, cell, Week, Cell, Term, value_of, IsWithinLimits, S4, most_weight, request_cost, request_weight, request_terms, request_terms_on}
 use Rattle.rota_core.specs.RisingLists.{RisesWithin}
 use Rattle.rota_core.proofs.LogicWords.{weaken, widen, rises-each, rises-only_if}
 use Rattle.rota_items.proofs.AlikeRosters.{same_cell}
 use Rattle.rota_items.proofs.SoundTerms.{in-cell}
-use Rattle.rota_items.proofs.NurseItemLists.{none-each_below}
+use Rattle.rota_items.proofs.ItemLists.{none-each_below}
 use Rattle.rota_items.proofs.PatternItems.{value_of-append}
 use Rattle.rota_items.proofs.RisingCells.{at, day_start, shift_start, within, within-block}
 use Rattle.rota_items.proofs.SoftRules.Sound.{IsSoftRuleSound, no_constant}
@@ -93,33 +93,27 @@ module _ (week : Week) where
   rises-on_shift : (n d s : ℕ) →
       RisesWithin (at week) (shift_start week n d s) (shift_start week n d (s + 1)) (request_terms_on week n d s)
   rises-on_shift n d s =
-      block (shift_start week n d s) (shift_start week n d s + 0) (shift_start week n d s + week.skills)
-      (shift_start week n d (s + 1)) (request_terms_on week n d s) (omega arith) (omega arith)
+      block _ (shift_start week n d s + 0) (shift_start week n d s + week.skills) _ _ (omega arith) (omega arith)
       (rises-each (at week) week.skills (request n d s) (λ k. shift_start week n d s + k) (λ k k_in.
-      rises-only_if (at week) (shift_start week n d s + k) (shift_start week n d s + (k + 1)) (nat_lt 0 (week.requests n d s))
-      (pos (request_weight * week.requests n d s), cell n d s k) (omega arith) (omega arith)))
+      rises-only_if (at week) _ _ (nat_lt 0 (week.requests n d s)) _ (omega arith) (omega arith)))
 
   rises-on_day : (n d : ℕ) → RisesWithin (at week) (day_start week n d) (day_start week n (d + 1)) (requests_on n d)
   rises-on_day n d =
-      block (day_start week n d) (shift_start week n d 0) (shift_start week n d week.shifts) (day_start week n (d + 1))
-      (requests_on n d) (omega arith) (omega arith)
+      block _ (shift_start week n d 0) (shift_start week n d week.shifts) _ _ (omega arith) (omega arith)
       (rises-each (at week) week.shifts (request_terms_on week n d) (shift_start week n d) (λ s s_in. rises-on_shift n d s))
 
   pub rise-request_terms : within week (request_terms week)
   rise-request_terms =
-      within-block week (day_start week 0 0) (day_start week week.nurses 0) (request_terms week) (omega arith) (omega arith)
+      within-block week (day_start week 0 0) (day_start week week.nurses 0) _ (omega arith) (omega arith)
       (rises-each (at week) week.nurses (λ n. each_below 7 (requests_on n)) (λ n. day_start week n 0) (λ n n_in.
-      widen (at week) (day_start week n 0) (day_start week n 7) (day_start week (n + 1) 0) (each_below 7 (requests_on n)) (omega arith)
+      widen (at week) _ (day_start week n 7) _ _ (omega arith)
       (rises-each (at week) 7 (requests_on n) (day_start week n) (λ d d_in. rises-on_day n d))))
-
-  no_items : [] ≡ items_of_rule week S4
-  no_items = none-each_below week.nurses
 
   pub sound-shift_off_requests : IsSoftRuleSound week S4
   sound-shift_off_requests = record {
-    items = rw (← no_items) tt;
+    items = rw (← none-each_below week.nurses) tt;
     charges = λ roster keeps.
-        rw (← no_items) (omega (arith, ints, value_of-request_terms roster, no_constant week S4 (λ _. refl)));
+        rw (← none-each_below week.nurses) (omega (arith, ints, value_of-request_terms roster, no_constant week S4 (λ _. refl)));
     alike = λ one other same.
         ap (λ sum. request_weight * sum)
         (sum_below-same week.nurses _ _ (λ n n_in. sum_below-same 7 _ _ (λ d d_in. sum_below-same week.shifts _ _ (λ s s_in.

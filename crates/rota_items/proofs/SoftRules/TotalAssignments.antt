@@ -46,10 +46,7 @@ module _ (week : Week) where
 
     assignments-le : KeepsOneCell week roster → n < week.nurses → assignments_of week roster n ≤ 7
     assignments-le one n_in =
-        omega (
-          arith,
-          sum_below-within 7 1 (work_count week roster n) (λ d d_in. work_count-le week roster one n d n_in d_in),
-        )
+        omega (arith, sum_below-within 7 1 (work_count week roster n) (λ d d_in. work_count-le week roster one n d n_in d_in))
 
   -- ---- the items
 
@@ -98,12 +95,10 @@ module _ (week : Week) where
           sum_by-append (weighted roster) (least_totals_of week n) (greatest_totals_of week n),
           sum_by-only_if (weighted roster) (is_wanted n) (least_total_item week n),
           sum_by-only_if (weighted roster) (is_limited n) (greatest_total_item week n),
-          least_charged (least_totals_count week) (week.contract n).total.min (week.past n).assignments
-              (assignments_of week roster n) (shortage roster (least_total_item week n)) (assignments-le roster n one n_in)
-              (shortage-least roster n),
-          greatest_charged week (week.contract n).total.max (week.past n).assignments
-              (assignments_of week roster n) (shortage roster (greatest_total_item week n)) (assignments-le roster n one n_in)
-              (shortage-greatest roster n),
+          least_charged (least_totals_count week) (week.contract n).total.min (week.past n).assignments _ _
+              (assignments-le roster n one n_in) (shortage-least roster n),
+          greatest_charged week (week.contract n).total.max (week.past n).assignments _ _
+              (assignments-le roster n one n_in) (shortage-greatest roster n),
         );
     alike = λ one other same n n_in.
         let now : assignments_of week one n ≡ assignments_of week other n =

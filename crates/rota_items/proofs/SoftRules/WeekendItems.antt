@@ -59,8 +59,7 @@ module _ (week : Week) (rule : Rule) (weight n : ℕ) (alone : Bool) (are : AreO
       weighted-items_where true =
           omega (
             arith,
-            sum_by-cons (weighted roster) (weekend_item on_saturday)
-                (weekend_item only_sunday ∷ []),
+            sum_by-cons (weighted roster) (weekend_item on_saturday) (weekend_item only_sunday ∷ []),
             sum_by-cons (weighted roster) (weekend_item only_sunday) [],
             weighted-item on_saturday are,
             weighted-item only_sunday (refl, omega arith),

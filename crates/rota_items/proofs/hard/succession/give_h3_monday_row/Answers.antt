@@ -1,21 +1,18 @@
-use Rattle.rota_items.proofs.Common.{rules, exits, cell_row_refused_at_start, cell_row_refused_at_terms, cell_row_closed, row_where, row_nowhere}
+use Rattle.rota_items.proofs.Common.{rules, row_closed, row_nowhere, row_refused, row_unstarted, row_where}
 use Rattle.rota_items.proofs.hard.succession.give_h3_monday_row.Goals as goal
 
 pub returns-in_err-start_row : goal.returns-in_err-start_row
 returns-in_err-start_row g c =
-    row_where g.T.Taker _ _ _ _ _ _ (search rules)
-    (exits _ _ _ _ c.from_residual.ensures.0 (cell_row_refused_at_start g.T.Taker _ _ _ _ c.in_err-start_row.ensures))
+    row_unstarted g.T.Taker (row_where _ _ _ (search rules)) _ _ _ c.from_residual.ensures.0 c.in_err-start_row.ensures
 
 pub returns-in_err-give_on : goal.returns-in_err-give_on
 returns-in_err-give_on g c =
-    row_where g.T.Taker _ _ _ _ _ _ (search rules)
-    (exits _ _ _ _ c.from_residual-in_err-give_on.ensures.0
-    (cell_row_refused_at_terms g.T.Taker _ _ _ _ _ c.in_ok-start_row.ensures c.in_err-give_on.ensures))
+    row_refused g.T.Taker (row_where _ _ _ (search rules)) _ _ _ _ c.from_residual-in_err-give_on.ensures.0
+    c.in_ok-start_row.ensures c.in_err-give_on.ensures
 
 pub returns : goal.returns
 returns g c =
-    row_where g.T.Taker _ _ _ _ _ _ (search rules)
-    (cell_row_closed g.T.Taker _ _ _ _ _ _ _ c.in_ok-start_row.ensures c.in_ok-give_on.ensures c.close_row.ensures)
+    row_closed g.T.Taker (row_where _ _ _ (search rules)) _ _ _ _ _ c.in_ok-start_row.ensures c.in_ok-give_on.ensures c.close_row.ensures
 
 pub returns-then-not-forbidden_on_monday : goal.returns-then-not-forbidden_on_monday
 returns-then-not-forbidden_on_monday g c = row_nowhere g.T.Taker _ _ _ _ (search rules)

@@ -1,15 +1,10 @@
 use Rattle.rota_items.proofs.Common.{numbered_list}
-use Rattle.rota_items.proofs.ItemRows.{gives_rows, rows_given, same_taker}
+use Rattle.rota_items.proofs.ItemRows.{gives_rows, handed_on}
 use Rattle.rota_items.proofs.items.item_rows.give_rows.Goals as goal
 
-pub returns-clause-same_taker : goal.returns-clause-same_taker
+pub returns : goal.returns
 unfolding numbered_list
-returns-clause-same_taker g c =
-    same_taker gives_rows g.T.Taker c.args.rows.now c.walk_soft_items.new.taker (λ it. it.taker.ghost_name) (λ it. it.taker.now) (λ it. it.next)
-    c.args.instance.now c.requires.limits c.requires.next c.walk_soft_items.result c.walk_soft_items.ensures
-
-pub returns-clause-takes : goal.returns-clause-takes
-unfolding numbered_list
-returns-clause-takes g c =
-    rows_given gives_rows g.T.Taker c.args.rows.now c.walk_soft_items.new.taker (λ it. it.taker.ghost_name) (λ it. it.taker.now) (λ it. it.next)
-    c.args.instance.now c.requires.limits c.requires.next c.walk_soft_items.result c.walk_soft_items.ensures
+returns g c =
+    let given = handed_on gives_rows g.T.Taker c.args.rows.now c.walk_soft_items.new.taker (λ it. it.taker.ghost_name) (λ it. it.taker.now)
+    (λ it. it.next) c.args.instance.now c.requires.limits c.requires.next c.walk_soft_items.result c.walk_soft_items.ensures in
+    record { same_taker = given.0; takes = given.1 }

@@ -1,4 +1,4 @@
-use Rattle.rota_items.proofs.Coefficients.{units-constraints}
+use Rattle.rota_items.proofs.ModelTerms.{units-constraints}
 use Rattle.rota_items.proofs.laws.size_laws.constraint_coefficients_are_units.Goals as goal
 
 pub returns : goal.returns

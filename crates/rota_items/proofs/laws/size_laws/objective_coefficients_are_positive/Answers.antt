@@ -1,4 +1,4 @@
-use Rattle.rota_items.proofs.Weights.{objective-positive}
+use Rattle.rota_items.proofs.ObjectiveBound.{objective-positive}
 use Rattle.rota_items.proofs.laws.size_laws.objective_coefficients_are_positive.Goals as goal
 
 pub returns : goal.returns

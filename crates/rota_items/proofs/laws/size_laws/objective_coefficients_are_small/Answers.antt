@@ -1,4 +1,4 @@
-use Rattle.rota_items.proofs.Weights.{objective-small}
+use Rattle.rota_items.proofs.ObjectiveBound.{objective-small}
 use Rattle.rota_items.proofs.laws.size_laws.objective_coefficients_are_small.Goals as goal
 
 pub returns : goal.returns

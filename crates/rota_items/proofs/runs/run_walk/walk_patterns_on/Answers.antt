@@ -1,5 +1,5 @@
 use Rattle.rota_items.proofs.Common.{arith, week_of, runs_of, exits, goes_on, loop_ended, loop_refused, stop, items_join}
-use Rattle.rota_items.proofs.RunItemLists.{pattern_items-on}
+use Rattle.rota_items.proofs.ItemLists.{pattern_items-on}
 use Rattle.rota_items.proofs.runs.run_walk.walk_patterns_on.Goals as goal
 
 pub returns-in_err-walk_pattern : goal.returns-in_err-walk_pattern

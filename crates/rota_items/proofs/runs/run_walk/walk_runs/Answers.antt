@@ -1,5 +1,5 @@
 use Rattle.rota_items.proofs.Common.{week_of, runs_of, each_below, exits, goes_on, stop, items_join, window_items_on, pattern_items_on}
-use Rattle.rota_items.proofs.RunItemLists.{run_items-are}
+use Rattle.rota_items.proofs.ItemLists.{run_items-are}
 use Rattle.rota_items.proofs.runs.run_walk.walk_runs.Goals as goal
 
 pub returns-in_err-walk_windows : goal.returns-in_err-walk_windows

@@ -1,12 +1,31 @@
--- The terms of the model are by rising variable number.
-use Rattle.rota_items.proofs.Common.Words.{◌≡◌, ℕ, zero, suc, ◌+◌, ◌≤◌, List, [], ◌∷◌, ◌++◌, arith, ℤ, pos, nat_lt, All, AllByRecursion, range_with_len, All-from_recursion, sum_by-cons, Week, unit_number, first_slack, slack_count, constant_terms, cell_terms, constant, Item, Term, Constraint, times, linear_constraint, slack_weights, soft_items, cell_number, numbered_terms, objective_terms, numbered_items, model_of, RisesFrom, HasRisingTerms}
+-- The terms of the model are by rising variable number, and the coefficients of its constraints are 1 and -1.
+use Rattle.rota_items.proofs.Common.Words.{ℕ, inl, refl, pos, All, All-from_recursion, AllByRecursion-append, Week, cell_number, unit_number, numbered, Term, times, LinearRow, linear_constraint, item_row, slack_variables, numbered_row, numbered_terms, model_of, unit_row, IsUnit, HasUnitCoefficients, ◌≡◌, zero, suc, ◌+◌, ◌≤◌, List, [], ◌∷◌, ◌++◌, arith, ℤ, nat_lt, AllByRecursion, range_with_len, sum_by-cons, first_slack, slack_count, constant_terms, cell_terms, constant, Item, Constraint, slack_weights, soft_items, objective_terms, numbered_items, RisesFrom, HasRisingTerms}
+use Rattle.rota_items.proofs.ModelRows.{each-constraint, each-model_row}
+use Rattle.rota_items.proofs.SoundTerms.{AreUnits, coefficients-numbered, units-times}
 use Rattle.rota_items.proofs.ItemEventLists.{slack_count-numbered}
 use Rattle.rota_items.proofs.Lists.{all-weaker}
-use Rattle.rota_items.proofs.ModelRows.{each-constraint, each-model_row}
 use Rattle.rota_core.specs.RisingLists.{RisesWithin}
 use Rattle.rota_core.proofs.LogicWords.{widen, rises-append, rises-only_if}
 use Rattle.rota_items.proofs.RisingCells.{rises-numbered}
 use Rattle.rota_items.proofs.SoftRules.AllItems.{rise-cell_terms}
+
+-- ---- coefficients
+
+pub units-constraints : (week : Week) → All HasUnitCoefficients (model_of week).constraints
+units-constraints week =
+    All-from_recursion HasUnitCoefficients (model_of week).constraints
+    (each-constraint week HasUnitCoefficients
+    (each-model_row week (λ row. HasUnitCoefficients (linear_constraint row)) (held (unit_row (unit_number week)) (inl refl, tt))
+    (λ rule row sound. held (numbered_row week row) (coefficients-numbered IsUnit (cell_number week) row.terms sound.terms.units))
+    (λ rule item first sound after up_to.
+    held (item_row (numbered (cell_number week) item) first)
+    (AllByRecursion-append (λ (term : Term ℕ). IsUnit term.0) (numbered_terms week item.terms)
+    (times (pos 1) (slack_variables (numbered (cell_number week) item) first))
+    (coefficients-numbered IsUnit (cell_number week) item.terms sound.terms.units)
+    (units-times (slack_variables (numbered (cell_number week) item) first))))))
+  where
+    held : (row : LinearRow ℕ) → AreUnits row.terms → HasUnitCoefficients (linear_constraint row)
+    held row units = All-from_recursion (λ (term : Term ℕ). IsUnit term.0) row.terms units
 
 abbrev pub variable_of : Term ℕ → ℕ
 variable_of term = term.1
@@ -33,14 +52,11 @@ module _ (week : Week) where
       each-constraint week (RisesTo end)
       (each-model_row week (λ row. RisesTo end (linear_constraint row)) (omega arith, omega arith)
       (λ rule row sound.
-      widen variable_of 1 (unit_number week) end (numbered_terms week row.terms) (omega arith)
-      (rises-numbered week 1 (unit_number week) row.terms sound.terms.rise))
+      widen variable_of 1 (unit_number week) end _ (omega arith) (rises-numbered week 1 _ row.terms sound.terms.rise))
       (λ rule item first sound after up_to.
       widen variable_of 1 (first + item.slacks) end _ up_to
-      (rises-append variable_of 1 first (first + item.slacks) (numbered_terms week item.terms)
-      (times (pos 1) (range_with_len first item.slacks))
-      (widen variable_of 1 (unit_number week) first (numbered_terms week item.terms) (omega (arith, after))
-      (rises-numbered week 1 (unit_number week) item.terms sound.terms.rise))
+      (rises-append variable_of 1 first _ (numbered_terms week item.terms) _
+      (widen variable_of 1 (unit_number week) first _ (omega (arith, after)) (rises-numbered week 1 _ item.terms sound.terms.rise))
       (rises-range first (first + item.slacks) item.slacks (pos 1) (omega arith)))))
 
   pub rises-constraints : All HasRisingTerms (model_of week).constraints
