@@ -1,5 +1,5 @@
 -- Lists: what holds of each element, their sums, their lengths, and what loops make and add up.
-use Rattle.rota_items.proofs.Common.Words.{List, [], ◌∷◌, map, AllByRecursion, flat_map, AllByRecursion-append, ◌≡◌, ℕ, ◌+◌, Bool, true, false, cond, refl, ap, arith, zero-add, sum_by, fold-map, sum_by-append, sum_by-cons, only_if, zero, suc, ◌*◌, ◌<◌, ◌≤◌, inl, inr, length, ◌∙◌, count_by, list_any, list_any-append, cases_lt, mul-le, sum_below, count_below, any_below, length-each_below, each_below, ◌++◌, length-append, add-one, each_below-more, append-nil, take_all, flat_map-append, take_at_read, map-append, get_or, take, take-suc, length-flat_map}
+use Rattle.rota_items.proofs.Common.Words.{List, [], ◌∷◌, map, AllByRecursion, flat_map, AllByRecursion-append, AllByRecursion-each_below, AllByRecursion-only_if, length-only_if, ◌≡◌, ℕ, ◌+◌, Bool, true, false, cond, refl, ap, arith, zero-add, sum_by, fold-map, sum_by-append, sum_by-cons, only_if, zero, suc, ◌*◌, ◌<◌, ◌≤◌, inl, inr, length, ◌∙◌, count_by, list_any, list_any-append, cases_lt, mul-le, sum_below, count_below, any_below, length-each_below, each_below, ◌++◌, length-append, add-one, each_below-more, append-nil, take_all, flat_map-append, take_at_read, map-append, get_or, take, take-suc, length-flat_map}
 pub use Rattle.rota_core.proofs.LogicWords.{all-weaker}
 
 -- ---- what holds of each element of a list
@@ -22,6 +22,28 @@ pub all-flat_map : {X Y : Type 0} (P : Y → Type 0) (f : X → List Y) (xs : Li
     AllByRecursion P (flat_map f xs)
 all-flat_map P f [] each = tt
 all-flat_map P f (x ∷ xs) each = AllByRecursion-append P (f x) (flat_map f xs) (each x) (all-flat_map P f xs each)
+
+-- no more than the most, and P holds of each
+pub record AreFew {X : Type 0} (P : X → Type 0) (most : ℕ) (xs : List X) : Type 0 where
+  pub each : AllByRecursion P xs
+  pub few : length xs ≤ most
+
+module _ {X : Type 0} {P : X → Type 0} where
+  pub few-append : {a b most : ℕ} {xs ys : List X} → a + b ≤ most → AreFew P a xs → AreFew P b ys → AreFew P most (xs ++ ys)
+  few-append {xs} {ys} within one other = record {
+    each = AllByRecursion-append P xs ys one.each other.each;
+    few = omega (arith, length-append xs ys);
+  }
+
+  pub few-each_below : {n m : ℕ} (most : ℕ) → n ≤ most → (f : ℕ → List X) → ((i : ℕ) → i < n → AreFew P m (f i)) →
+      AreFew P (most * m) (each_below n f)
+  few-each_below {n} {m} most within f all = record {
+    each = AllByRecursion-each_below P n f (λ i below. (all i below).each);
+    few = omega (arith, length-each_below n m f (λ i below. (all i below).few), mul-le n m most m within (omega arith));
+  }
+
+  pub few-only_if : (test : Bool) (x : X) → (test ≡ true → P x) → AreFew P 1 (only_if test x)
+  few-only_if test x holds = record { each = AllByRecursion-only_if P test x holds; few = length-only_if test x }
 
 -- ---- sums and tests over lists
 

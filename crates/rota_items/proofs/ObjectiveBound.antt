@@ -1,8 +1,8 @@
 -- The coefficients of the objective are positive and small, and how large it is of any assignment.
 use Rattle.rota_items.proofs.Common.Words.{◌≡◌, ℕ, ◌+◌, ◌<◌, Bool, true, false, cond, List, [], ◌∷◌, map, arith, ℤ, pos, ◌+ℤ◌, ◌≤ℤ◌, ◌<ℤ◌, nat_lt, All, AllByRecursion, ints, All-from_recursion, AllByRecursion-append, AllByRecursion-only_if, Week, Cell, cell_number, first_slack, Item, numbered, Term, times, value_of, objective_value, constant_terms, slack_variables, slack_weights, cell_terms, constant, soft_items, numbered_terms, numbered_items, objective_terms, model_of, IsWithinLimits, most_coefficient, ◌*◌, ◌≤◌, ap, sum_by-cons, count_by-le-length, sum_by, count_by, mul-le-mul_left, unit_number, roster_of, most_objective, most_weight}
 use Rattle.rota_items.proofs.Lists.{all-weaker, sum_by-map, where_in}
-use Rattle.rota_items.proofs.PenaltyBound.{constant-few}
-use Rattle.rota_items.proofs.RuleSizes.{each-small, request_cost-le}
+use Rattle.rota_items.proofs.ItemSizes.{each-small, soft_items-le}
+use Rattle.rota_items.proofs.PenaltyBound.{constant-few, request_cost-le}
 use Rattle.rota_items.proofs.SoftRules.AllItems.{sound-cell_terms}
 use Rattle.rota_items.proofs.SoftRules.EachRule.{each-item, cell_terms-are}
 use Rattle.rota_items.proofs.SoftRules.ShiftOffRequests.{IsTermSound, value_of-request_terms}
@@ -11,7 +11,6 @@ use Rattle.std.proofs.lemmas.List.FromFn.{length-range_with_len as length-range}
 use Rattle.rota_items.proofs.Extension.{value_of-objective}
 use Rattle.rota_items.proofs.ItemLaw.{value_of-weight, value_of-numbered}
 use Rattle.rota_items.proofs.PatternItems.{value_of-append}
-use Rattle.rota_items.proofs.SlackBound.{soft_items-le}
 
 some_of_test : (n : ℕ) → nat_lt 0 n ≡ true → 0 < n
 some_of_test n test = grind arith
@@ -78,7 +77,8 @@ pub objective-small : (week : Week) → IsWithinLimits week → All (λ (term : 
 objective-small week limits =
     All-from_recursion (λ (term : Term ℕ). IsSmall term.0) (objective_terms week)
     (on-objective week IsSmall (λ term sound. omega (arith, ints, sound.small limits)) (λ _. omega (arith, ints, constant-few week limits))
-    (each-small week limits (OnWeight week IsSmall) (λ rule item small. omega (arith, ints, small.weight))))
+    (each-small week limits (OnWeight week IsSmall) (λ rule item small sound.
+    omega (arith, ints, small.all_slacks, mul-le-mul_left item.weight sound.has_slack))))
 
 -- ---- of any assignment
 
@@ -117,5 +117,5 @@ module _ (week : Week) (assignment : ℕ → Bool) (limits : IsWithinLimits week
         constant-few week limits,
         value_of-slack_weights assignment (first_slack week) (numbered_items week),
         sum_by-map all_slacks (numbered (cell_number week)) (soft_items week),
-        soft_items-le week limits all_slacks (λ _. most_weight) (λ rule item small. small.all_slacks),
+        soft_items-le week limits all_slacks (λ _. most_weight) (λ rule item small sound. small.all_slacks),
       )
