@@ -1,5 +1,5 @@
 -- How large the penalty, the constant and the shortages are.
-use Rattle.rota_items.proofs.Common.Words.{ℕ, ◌+◌, ◌-◌, ◌*◌, ◌<◌, ◌≤◌, Bool, ◌||◌, cond, arith, count_by-le-length, sum_by-le-sum_by, mul-le, sum_below, Roster, cell, soft_rules, Week, Rule, Span, nurses_at, works, is_on, is_off, history_on, shift_run_cost, shortage, weighted_shortages, constant, constant_of_rule, items_of_rule, penalty, rule_cost, nurse_constant, ends_run, is_over, missing_on, run_cost, run_length_before, run_over, run_under, week_days, charged_excess, request_cost, request_weight, assignments_of, worked_weekend, IsWithinLimits, S1, S2, S3, S4, S5, S6, S7, half_limit, most_cells, most_constant, most_constant_of_nurse, most_constant_of_rule, most_cost, most_cost_of_nurse, most_items, most_number, most_nurses, most_shifts, most_skills, most_shortage, most_weight, penalty_limit, InstanceTables, IsInstance, week_of}
+use Rattle.rota_items.proofs.Common.Words.{ℕ, ◌+◌, ◌-◌, ◌*◌, ◌<◌, ◌≤◌, Bool, cond, arith, count_by-le-length, sum_by-le-sum_by, mul-le, sum_below, Roster, cell, soft_rules, Week, Rule, Span, nurses_at, works, is_on, is_off, history_on, shift_run_cost, shortage, weighted_shortages, constant, constant_of_rule, items_of_rule, penalty, rule_cost, nurse_constant, is_over, missing_on, run_cost, run_over, run_under, week_days, request_cost, request_weight, IsWithinLimits, S1, S2, S3, S4, S5, S6, S7, half_limit, most_cells, most_constant, most_constant_of_nurse, most_constant_of_rule, most_cost, most_cost_of_nurse, most_items, most_number, most_nurses, most_shifts, most_skills, most_shortage, most_weight, penalty_limit, InstanceTables, IsInstance, week_of}
 use Rattle.rota_items.proofs.InstanceLimits.{instance-within_limits}
 use Rattle.rota_items.proofs.ItemSizes.{items-le}
 use Rattle.rota_items.proofs.Lists.{sum_below-at_most, where_in}
@@ -16,11 +16,8 @@ run_cost-le has history limits =
       arith,
       count_by-le-length (is_over has history limits.max) week_days,
       sum_by-le-sum_by (missing_on has history limits.min) (λ _. limits.min) week_days
-          (λ d. omega (arith, where_in (ends_run has history d) (limits.min - run_length_before has history d))),
+          (λ d. grind arith),
     )
-
-charged_excess-le : (week : Week) (most before now : ℕ) → charged_excess week most before now ≤ before + now
-charged_excess-le week most before now = grind arith
 
 items-of_any : (rule : Rule) → most_items rule ≤ most_cells
 items-of_any S1 = omega arith
@@ -102,15 +99,8 @@ module _ (week : Week) (limits : IsWithinLimits week) where
         limits.totals n,
         limits.assignments n,
         sum-cells 1 (λ d s k. cond (roster (cell n d s k)) 1 0) (λ d s k. where_in (roster (cell n d s k)) 1),
-        charged_excess-le week (week.contract n).total.max (week.past n).assignments (assignments_of week roster n),
       )
-  nurse_cost-le roster S7 n =
-      omega (
-        arith,
-        limits.weekends n,
-        where_in (works week roster n 5 || works week roster n 6) 1,
-        charged_excess-le week (week.contract n).weekends (week.past n).weekends (worked_weekend week roster n),
-      )
+  nurse_cost-le roster S7 n = grind (arith, limits.weekends n)
   nurse_cost-le roster _ n = omega arith
 
   cost_of_nurses-le : (roster : Roster) (rule : Rule) → sum_below week.nurses (nurse_cost week roster rule) ≤ most_cost
@@ -123,13 +113,8 @@ module _ (week : Week) (limits : IsWithinLimits week) where
         sum-cells most_number (λ d s k. (week.demand d s k).optimal - nurses_at week roster d s k)
             (λ d s k. omega (arith, limits.optimal d s k)),
       )
-  rule_cost-le roster S2 = cost_of_nurses-le roster S2
-  rule_cost-le roster S3 = cost_of_nurses-le roster S3
   rule_cost-le roster S4 = omega (arith, request_cost-le roster)
-  rule_cost-le roster S5 = cost_of_nurses-le roster S5
-  rule_cost-le roster S6 = cost_of_nurses-le roster S6
-  rule_cost-le roster S7 = cost_of_nurses-le roster S7
-  rule_cost-le roster _ = omega arith
+  rule_cost-le roster rule = omega (arith, cost_of_nurses-le roster rule)
 
 pub penalty-below : (week : Week) (roster : Roster) → IsWithinLimits week → penalty week roster < penalty_limit
 penalty-below week roster limits =

@@ -1,5 +1,5 @@
 -- How many slacks the items of a week have, and how many rows its model has.
-use Rattle.rota_items.proofs.Common.Words.{◌≡◌, ℕ, ◌+◌, ◌*◌, ◌<◌, ◌≤◌, List, [], ◌∷◌, length, refl, arith, sum_by, length-append, length-map, length-flat_map, sum_by-le-sum_by, mul-le-mul, Week, cell_number, first_slack, rule_rows, Item, numbered, linear_constraint, item_rows, slack_count, soft_rules, items_of_rule, soft_items, hard_rows, numbered_items, numbered_row, rows_of, model_of, cell_count, IsWithinLimits, count_limit, most_cells, most_items, most_slacks, most_nurses, word_limit}
+use Rattle.rota_items.proofs.Common.Words.{◌≡◌, ℕ, ◌+◌, ◌*◌, ◌<◌, ◌≤◌, List, [], ◌∷◌, length, refl, arith, sum_by, length-append, length-map, length-flat_map, sum_by-le-sum_by, mul-le-mul, Week, cell_number, first_slack, rule_rows, Item, numbered, linear_constraint, item_rows, slack_count, soft_rules, items_of_rule, soft_items, hard_rows, numbered_items, numbered_row, rows_of, model_of, cell_count, IsWithinLimits, count_limit, most_cells, most_items, most_slacks, most_nurses}
 use Rattle.rota_items.proofs.ItemSizes.{small-rule, soft_items-le}
 use Rattle.rota_items.proofs.RowSizes.{rule_rows-few}
 
@@ -30,14 +30,11 @@ module _ (week : Week) (limits : IsWithinLimits week) where
       omega (arith, mul-le-mul (mul-le-mul days limits.shifts) limits.skills)
 
   -- the number after that of the last slack
-  pub slack_end-below : first_slack week + slack_count (soft_items week) < count_limit
-  slack_end-below = omega (arith, cells-few, slacks-few)
-
-  pub variables_fit : first_slack week + slack_count (soft_items week) < word_limit
-  variables_fit = omega (arith, slack_end-below)
+  pub variables_fit : first_slack week + slack_count (soft_items week) < count_limit
+  variables_fit = omega (arith, cells-few, slacks-few)
 
   pub variables-below : (model_of week).variables < count_limit
-  variables-below = omega (arith, slack_end-below)
+  variables-below = omega (arith, variables_fit)
 
   -- ---- rows
 
