@@ -1,5 +1,5 @@
 -- What a judge makes of the model of a week.
-use Rattle.rota_items.proofs.Common.Words.{◌≡◌, ℕ, ◌+◌, ◌*◌, ◌<◌, ◌≤◌, Bool, true, List, [], ◌∷◌, ◌++◌, refl, ap, ◌∙◌, cond, arith, pos, negsuc, nat_abs, if◌then◌else◌, AllByRecursion, fold, sum_by, ints, fold-append, sum_by-cons, AllByRecursion-append, Roster, InWeek, set_of, soft_rules, Week, Rule, Cell, cell_number, unit_number, first_slack, Item, numbered, positive_part, shortage, weighted_shortages, Term, value_of, times, LinearRow, objective_rows, item_rows, slack_variables, slack_weights, cell_terms, constant, items_of_rule, soft_items, rule_rows, hard_rows, numbered_items, numbered_row, numbered_terms, objective_terms, rows_of, first_unmet, IsWithinLimits, most_objective, request_cost, half_limit, signed_limit, Objective, events, row_events, RowSums, Tally, Subject, assigned, extended, assignment_in, roster_in, capped, no_sums, no_tally, tallied}
+use Rattle.rota_items.proofs.Common.Words.{mul-le-mul_right, ◌≡◌, ℕ, ◌+◌, ◌*◌, ◌<◌, ◌≤◌, Bool, true, List, [], ◌∷◌, ◌++◌, refl, ap, ◌∙◌, cond, arith, pos, negsuc, nat_abs, if◌then◌else◌, AllByRecursion, fold, sum_by, ints, fold-append, sum_by-cons, AllByRecursion-append, Roster, InWeek, set_of, soft_rules, Week, Rule, Cell, cell_number, unit_number, first_slack, Item, numbered, shortage, weighted_shortages, Term, value_of, times, LinearRow, objective_rows, item_rows, slack_variables, slack_weights, cell_terms, constant, items_of_rule, soft_items, rule_rows, hard_rows, numbered_items, numbered_row, numbered_terms, objective_terms, rows_of, first_unmet, IsWithinLimits, most_objective, request_cost, signed_limit, Objective, events, row_events, RowSums, Tally, Subject, assigned, extended, assignment_in, roster_in, capped, no_sums, no_tally, tallied}
 use Rattle.rota_core.specs.declared.rule.Rule.TheVariants.{Unit as UnitRule}
 use Rattle.rota_items.proofs.Extension.{extension-roster, shortage-of_item, terms-below, value_of-objective, value_of-of_terms}
 use Rattle.rota_items.proofs.FirstUnmet.{later-zero}
@@ -7,28 +7,24 @@ use Rattle.rota_items.proofs.HardRules.EachRule.{each-row}
 use Rattle.rota_items.proofs.ItemEventLists.{slack_count-numbered}
 use Rattle.rota_items.proofs.ItemLaw.{extension-extends}
 use Rattle.rota_items.proofs.JudgedItems.{Follows, IsFit, at_slacks, charge_of, items-come, paid_for, paid_for-is}
-use Rattle.rota_items.proofs.ItemSizes.{slacks-few}
+use Rattle.rota_items.proofs.ItemSizes.{each-small}
 use Rattle.rota_items.proofs.JudgedRows.{Comes, IsHardRow, rows-come, same}
 use Rattle.rota_items.proofs.JudgedTerms.{AtSlacks, counted-before, counted_other, others-at_slacks, others-before, row-tallied}
-use Rattle.rota_items.proofs.Lists.{all-both, all-map, sum_by-each-same, sum_by-flat_map, sum_by-map}
+use Rattle.rota_items.proofs.Lists.{all-map, sum_by-each-same, sum_by-flat_map, sum_by-map}
 use Rattle.rota_items.proofs.ObjectiveBound.{objective-below, IsPositive, coefficients-positive}
-use Rattle.rota_items.proofs.RuleSizes.{each-small}
 use Rattle.rota_items.proofs.SlackBound.{rows-below, variables-below}
 use Rattle.rota_items.proofs.SmallSums.{spread}
 use Rattle.rota_items.proofs.SoftRules.AllItems.{in-cell_terms}
-use Rattle.rota_items.proofs.SoftRules.EachRule.{cell_terms-are, each-item, sound-rule}
+use Rattle.rota_items.proofs.SoftRules.EachRule.{cell_terms-are, sound-rule}
 use Rattle.rota_items.proofs.SoftRules.ShiftOffRequests.{value_of-request_terms}
 use Rattle.rota_items.proofs.SoftRules.Sound.{IsItemSound}
-use Rattle.rota_items.proofs.SoundTerms.{spread-sound, OnTerms, OnCoefficients}
+use Rattle.rota_items.proofs.SoundTerms.{spread-sound, OnCoefficients}
 
 -- ---- how large the rows are
 
 spread-numbered : (week : Week) (terms : List (Term Cell)) → spread (numbered_terms week terms) ≡ spread terms
 spread-numbered week terms =
     sum_by-map (λ (term : Term ℕ). nat_abs term.0) (λ (term : Term Cell). (term.0, cell_number week term.1)) terms
-
-abbrev FitsIn : Item Cell → Type 0
-FitsIn item = spread item.terms + item.slacks + positive_part item.degree < half_limit
 
 spread-positive : (terms : List (Term ℕ)) → OnCoefficients IsPositive terms → value_of (λ v. true) terms ≡ pos (spread terms)
 spread-positive [] all = refl
@@ -155,12 +151,19 @@ module _ (week : Week) (subject : Subject) (limits : IsWithinLimits week) where
   pub items-fit : AllByRecursion (IsFit week subject) (numbered_items week)
   items-fit =
       all-map (IsFit week subject) (numbered (cell_number week)) (soft_items week)
-      (all-both (λ item. OnTerms (InWeek week) item.terms) FitsIn (λ item. IsFit week subject (numbered (cell_number week) item))
-      (λ item in_week fits. record {
-        before = terms-below week item.terms in_week;
-        small = omega (arith, spread-numbered week item.terms, fits);
-      }) (soft_items week) (each-item week (λ item. OnTerms (InWeek week) item.terms) (λ _ _ _ sound. sound.terms.in_week))
-      (each-small week limits FitsIn (λ rule item small. omega (arith, small.terms, small.slacks, slacks-few rule, small.degree))))
+      (each-small week limits (λ item. IsFit week subject (numbered (cell_number week) item)) (λ rule item small sound. record {
+        before = terms-below week item.terms sound.terms.in_week;
+        small =
+            omega (
+              arith,
+              spread-numbered week item.terms,
+              spread-sound week item.terms sound.terms,
+              variables-below week limits,
+              mul-le-mul_right item.slacks sound.weighs,
+              small.all_slacks,
+              small.degree,
+            );
+      }))
 
   -- ---- the judge finds what is there
 

@@ -43,7 +43,6 @@ pub mod PatternItems
 pub mod PenaltyBound
 pub mod RisingCells
 pub mod RowSizes
-pub mod RuleSizes
 pub mod RunLaw
 pub mod Satisfied
 pub mod SlackBound

@@ -1,6 +1,9 @@
 -- Lists: what holds of each element, their sums, their lengths, and what loops make and add up.
-use Rattle.rota_items.proofs.Common.Words.{List, [], ◌∷◌, map, AllByRecursion, flat_map, AllByRecursion-append, ◌≡◌, ℕ, ◌+◌, Bool, true, false, cond, refl, ap, arith, zero-add, sum_by, fold-map, sum_by-append, sum_by-cons, only_if, zero, suc, ◌*◌, ◌<◌, ◌≤◌, inl, inr, length, ◌∙◌, count_by, list_any, list_any-append, cases_lt, mul-le, sum_below, count_below, any_below, length-each_below, each_below, ◌++◌, length-append, add-one, each_below-more, append-nil, take_all, flat_map-append, take_at_read, map-append, get_or, take, take-suc, length-flat_map}
+use Rattle.rota_items.proofs.Common.Words.{List, [], ◌∷◌, map, AllByRecursion, flat_map, AllByRecursion-append, AllByRecursion-each_below, AllByRecursion-only_if, length-only_if, ◌≡◌, ℕ, ◌+◌, Bool, true, false, cond, refl, ap, arith, zero-add, sum_by, fold-map, sum_by-append, sum_by-cons, only_if, zero, suc, ◌*◌, ◌<◌, ◌≤◌, inl, inr, length, ◌∙◌, count_by, list_any, list_any-append, cases_lt, mul-le, sum_below, count_below, any_below, length-each_below, each_below, ◌++◌, length-append, add-one, each_below-more, append-nil, take_all, flat_map-append, take_at_read, map-append}
+use Rattle.rota_core.proofs.LogicWords.{each_below-zero}
 pub use Rattle.rota_core.proofs.LogicWords.{all-weaker}
+use Rattle.std.proofs.lemmas.List.Concat.{flat_map-cons}
+use Rattle.std.proofs.lemmas.List.Sums.{sum_by_push}
 
 -- ---- what holds of each element of a list
 
@@ -22,6 +25,28 @@ pub all-flat_map : {X Y : Type 0} (P : Y → Type 0) (f : X → List Y) (xs : Li
     AllByRecursion P (flat_map f xs)
 all-flat_map P f [] each = tt
 all-flat_map P f (x ∷ xs) each = AllByRecursion-append P (f x) (flat_map f xs) (each x) (all-flat_map P f xs each)
+
+-- no more than the most, and P holds of each
+pub record AreFew {X : Type 0} (P : X → Type 0) (most : ℕ) (xs : List X) : Type 0 where
+  pub each : AllByRecursion P xs
+  pub few : length xs ≤ most
+
+module _ {X : Type 0} {P : X → Type 0} where
+  pub few-append : {a b most : ℕ} {xs ys : List X} → a + b ≤ most → AreFew P a xs → AreFew P b ys → AreFew P most (xs ++ ys)
+  few-append {xs} {ys} within one other = record {
+    each = AllByRecursion-append P xs ys one.each other.each;
+    few = omega (arith, length-append xs ys);
+  }
+
+  pub few-each_below : {n m : ℕ} (most : ℕ) → n ≤ most → (f : ℕ → List X) → ((i : ℕ) → i < n → AreFew P m (f i)) →
+      AreFew P (most * m) (each_below n f)
+  few-each_below {n} {m} most within f all = record {
+    each = AllByRecursion-each_below P n f (λ i below. (all i below).each);
+    few = omega (arith, length-each_below n m f (λ i below. (all i below).few), mul-le n m most m within (omega arith));
+  }
+
+  pub few-only_if : (test : Bool) (x : X) → (test ≡ true → P x) → AreFew P 1 (only_if test x)
+  few-only_if test x holds = record { each = AllByRecursion-only_if P test x holds; few = length-only_if test x }
 
 -- ---- sums and tests over lists
 
@@ -160,8 +185,6 @@ unfolding each_below any_below
 list_any-each p zero g = refl
 list_any-each p (suc n) g = rw (list_any-append, list_any-each p n g) refl
 
--- ---- the lengths of lists made by loops
-
 -- ---- what a loop counts or adds up
 
 -- the length of what a loop gave in some turns, each of which gives no more than the most
@@ -172,13 +195,6 @@ LengthOfEach start turns most f sum = (sum ≡ start + length (each_below turns 
 abbrev pub SumOfEach : ℕ → ℕ → (ℕ → ℕ) → ℕ → Type 0
 SumOfEach turns most number sum = (sum ≡ sum_below turns number) × (sum ≤ turns * most)
 
-pub length-each_none : {A : Type 0} (f : ℕ → List A) → length (each_below 0 f) ≡ 0
-unfolding each_below
-length-each_none f = refl
-
-pub length-each_more : {A : Type 0} (n : ℕ) (f : ℕ → List A) → length (each_below (n + 1) f) ≡ length (each_below n f) + length (f n)
-length-each_more n f = rw (each_below-more n f, length-append (each_below n f) (f n)) refl
-
 pub sum_below-none : (number : ℕ → ℕ) → sum_below 0 number ≡ 0
 unfolding sum_below
 sum_below-none number = refl
@@ -187,7 +203,7 @@ pub sum_below-more : (n : ℕ) (number : ℕ → ℕ) → sum_below (n + 1) numb
 unfolding sum_below
 sum_below-more n number = rw add-one refl
 
-pub ruleset counting = (length-append, length-each_none, length-each_more, sum_below-none, sum_below-more)
+pub ruleset counting = (length-append, each_below-zero, each_below-more, sum_below-none, sum_below-more)
 
 -- ---- lengths and slacks
 
@@ -208,43 +224,10 @@ length-each_below_both (suc n) f g = simp length-append (omega (arith, length-ea
 
 -- ---- what a loop over a list adds up
 
-pub flat_map-one : {X A : Type 0} (f : X → List A) (x : X) → flat_map f (x ∷ []) ≡ f x
-flat_map-one f x = append-nil (f x)
-
-pub sum_by-one : {X : Type 0} (g : X → ℕ) (x : X) → sum_by g (x ∷ []) ≡ g x
-sum_by-one g x = omega (arith, sum_by-cons g x [])
-
 -- what a loop over a list needs
-pub ruleset listing = (take_at_read, take_all, flat_map-append, flat_map-one, sum_by-append, sum_by-one)
+pub ruleset listing = (take_at_read, take_all, flat_map-append, flat_map-cons, append-nil, sum_by_push)
 
 pub map-each_below : {A B : Type 0} (f : A → B) (n : ℕ) (g : ℕ → List A) → map f (each_below n g) ≡ each_below n (λ i. map f (g i))
 unfolding each_below
 map-each_below f zero g = refl
 map-each_below f (suc n) g = map-append f (each_below n g) (g n) ∙ ap (λ xs. xs ++ map f (g n)) (map-each_below f n g)
-
-module _ {X : Type 0} (xs : List X) where
-  pub sum-more : (g : X → ℕ) (i : ℕ) (other : X) (sum one : ℕ) → i < length xs → sum ≡ sum_by g (take i xs) →
-      one ≡ g (get_or xs i other) → sum + one ≡ sum_by g (take (i + 1) xs)
-  sum-more g i other sum one below before here =
-      let next : i + 1 ≡ suc i = omega arith in
-      rw (next, take-suc xs i other below)
-      (omega (
-        arith,
-        before,
-        here,
-        sum_by-append g (take i xs) (get_or xs i other ∷ []),
-        sum_by-cons g (get_or xs i other) [],
-      ))
-
-  pub sum-all : (g : X → ℕ) (i sum : ℕ) → length xs ≤ i → sum ≡ sum_by g (take i xs) → sum ≡ sum_by g xs
-  sum-all g i sum all is = rw (take_all i xs all) at is
-
-  pub lengths-more : {A : Type 0} (f : X → List A) (i : ℕ) (other : X) (sum one : ℕ) → i < length xs →
-      sum ≡ length (flat_map f (take i xs)) → one ≡ length (f (get_or xs i other)) → sum + one ≡ length (flat_map f (take (i + 1) xs))
-  lengths-more f i other sum one below before here =
-      omega (
-        arith,
-        length-flat_map f (take i xs),
-        length-flat_map f (take (i + 1) xs),
-        sum-more (λ x. length (f x)) i other sum one below (omega (arith, before, length-flat_map f (take i xs))) here,
-      )

@@ -1,8 +1,8 @@
 -- The coefficients of the objective are positive and small, and how large it is of any assignment.
-use Rattle.rota_items.proofs.Common.Words.{◌≡◌, ℕ, ◌+◌, ◌<◌, Bool, true, false, cond, List, [], ◌∷◌, map, arith, ℤ, pos, ◌+ℤ◌, ◌≤ℤ◌, ◌<ℤ◌, nat_lt, All, AllByRecursion, ints, All-from_recursion, AllByRecursion-append, AllByRecursion-only_if, Week, Cell, cell_number, first_slack, Item, numbered, Term, times, value_of, objective_value, constant_terms, slack_variables, slack_weights, cell_terms, constant, soft_items, numbered_terms, numbered_items, objective_terms, model_of, IsWithinLimits, most_coefficient, ◌*◌, ◌≤◌, ap, sum_by-cons, count_by-le-length, sum_by, count_by, mul-le-mul_left, unit_number, roster_of, most_objective, most_weight}
+use Rattle.rota_items.proofs.Common.Words.{request_cost, ◌≡◌, ℕ, ◌+◌, ◌<◌, Bool, true, cond, List, [], ◌∷◌, map, arith, ℤ, pos, ◌+ℤ◌, ◌≤ℤ◌, ◌<ℤ◌, nat_lt, All, AllByRecursion, ints, All-from_recursion, AllByRecursion-append, AllByRecursion-only_if, Week, Cell, cell_number, first_slack, Item, numbered, Term, times, value_of, objective_value, constant_terms, slack_variables, slack_weights, cell_terms, constant, soft_items, numbered_terms, numbered_items, objective_terms, model_of, IsWithinLimits, most_coefficient, ◌*◌, ◌≤◌, ap, sum_by-cons, count_by-le-length, sum_by, count_by, mul-le-mul_left, unit_number, roster_of, most_objective, most_weight}
 use Rattle.rota_items.proofs.Lists.{all-weaker, sum_by-map, where_in}
-use Rattle.rota_items.proofs.PenaltyBound.{constant-few}
-use Rattle.rota_items.proofs.RuleSizes.{each-small, request_cost-le}
+use Rattle.rota_items.proofs.ItemSizes.{each-small, soft_items-le}
+use Rattle.rota_items.proofs.PenaltyBound.{constant-few, request_cost-le}
 use Rattle.rota_items.proofs.SoftRules.AllItems.{sound-cell_terms}
 use Rattle.rota_items.proofs.SoftRules.EachRule.{each-item, cell_terms-are}
 use Rattle.rota_items.proofs.SoftRules.ShiftOffRequests.{IsTermSound, value_of-request_terms}
@@ -11,7 +11,6 @@ use Rattle.std.proofs.lemmas.List.FromFn.{length-range_with_len as length-range}
 use Rattle.rota_items.proofs.Extension.{value_of-objective}
 use Rattle.rota_items.proofs.ItemLaw.{value_of-weight, value_of-numbered}
 use Rattle.rota_items.proofs.PatternItems.{value_of-append}
-use Rattle.rota_items.proofs.SlackBound.{soft_items-le}
 
 some_of_test : (n : ℕ) → nat_lt 0 n ≡ true → 0 < n
 some_of_test n test = grind arith
@@ -55,20 +54,6 @@ pub objective-positive : (week : Week) → All (λ (term : Term ℕ). pos 0 <ℤ
 objective-positive week =
     All-from_recursion (λ (term : Term ℕ). pos 0 <ℤ term.0) (objective_terms week) (coefficients-positive week)
 
-pub value_of-positive : (assignment : ℕ → Bool) (terms : List (Term ℕ)) → OnCoefficients IsPositive terms →
-    pos 0 ≤ℤ value_of assignment terms
-value_of-positive assignment [] all = omega (arith, ints)
-value_of-positive assignment (t ∷ ts) all =
-    one_more (assignment t.1) t.0 (value_of assignment ts) all.0 (value_of-positive assignment ts all.1)
-  where
-    one_more : (is : Bool) (coefficient sum : ℤ) → IsPositive coefficient → pos 0 ≤ℤ sum →
-        pos 0 ≤ℤ (cond is coefficient (pos 0) +ℤ sum)
-    one_more true coefficient sum above from = omega (arith, ints)
-    one_more false coefficient sum above from = omega (arith, ints)
-
-pub objective_value-positive : (week : Week) (assignment : ℕ → Bool) → pos 0 ≤ℤ objective_value assignment (model_of week)
-objective_value-positive week assignment = value_of-positive assignment (objective_terms week) (coefficients-positive week)
-
 -- ---- small
 
 abbrev IsSmall : ℤ → Type 0
@@ -78,7 +63,8 @@ pub objective-small : (week : Week) → IsWithinLimits week → All (λ (term : 
 objective-small week limits =
     All-from_recursion (λ (term : Term ℕ). IsSmall term.0) (objective_terms week)
     (on-objective week IsSmall (λ term sound. omega (arith, ints, sound.small limits)) (λ _. omega (arith, ints, constant-few week limits))
-    (each-small week limits (OnWeight week IsSmall) (λ rule item small. omega (arith, ints, small.weight))))
+    (each-small week limits (OnWeight week IsSmall) (λ rule item small sound.
+    omega (arith, ints, small.all_slacks, mul-le-mul_left item.weight sound.has_slack))))
 
 -- ---- of any assignment
 
@@ -86,25 +72,26 @@ objective-small week limits =
 abbrev all_slacks : {X : Type 0} → Item X → ℕ
 all_slacks item = item.weight * item.slacks
 
+-- the slacks cost at least 0, and at most what all of them weigh
 value_of-slack_weights : (assignment : ℕ → Bool) (first : ℕ) (some : List (Item ℕ)) →
-    value_of assignment (slack_weights first some) ≤ℤ pos (sum_by all_slacks some)
-value_of-slack_weights assignment first [] = omega (arith, ints)
+    (pos 0 ≤ℤ value_of assignment (slack_weights first some)) ×
+    (value_of assignment (slack_weights first some) ≤ℤ pos (sum_by all_slacks some))
+value_of-slack_weights assignment first [] = (omega (arith, ints), omega (arith, ints))
 value_of-slack_weights assignment first (x ∷ xs) =
     let few : count_by assignment (slack_variables x first) ≤ x.slacks =
     omega (arith, count_by-le-length assignment (slack_variables x first), length-range first x.slacks) in
-    omega (
-      arith,
-      ints,
-      value_of-append assignment (times (pos x.weight) (slack_variables x first)) (slack_weights (first + x.slacks) xs),
-      value_of-weight assignment x.weight (slack_variables x first),
-      mul-le-mul_left x.weight few,
-      sum_by-cons {X = Item ℕ} all_slacks x xs,
-      value_of-slack_weights assignment (first + x.slacks) xs,
+    let parts = value_of-append assignment (times (pos x.weight) (slack_variables x first)) (slack_weights (first + x.slacks) xs) in
+    let here = value_of-weight assignment x.weight (slack_variables x first) in
+    let rest = value_of-slack_weights assignment (first + x.slacks) xs in (
+      omega (arith, ints, parts, here, rest.0),
+      omega (arith, ints, parts, here, rest.1, mul-le-mul_left x.weight few, sum_by-cons {X = Item ℕ} all_slacks x xs),
     )
 
-module _ (week : Week) (assignment : ℕ → Bool) (limits : IsWithinLimits week) where
-  pub objective-below : value_of assignment (objective_terms week) ≤ℤ pos most_objective
-  objective-below =
+module _ (week : Week) (assignment : ℕ → Bool) where
+  objective-is : value_of assignment (objective_terms week) ≡
+      pos (request_cost week (roster_of week assignment) + cond (assignment (unit_number week)) (constant week) 0) +ℤ
+      value_of assignment (slack_weights (first_slack week) (numbered_items week))
+  objective-is =
       omega (
         arith,
         ints,
@@ -112,10 +99,22 @@ module _ (week : Week) (assignment : ℕ → Bool) (limits : IsWithinLimits week
         value_of-numbered (cell_number week) assignment (cell_terms week),
         ap (value_of (roster_of week assignment)) (cell_terms-are week),
         value_of-request_terms week (roster_of week assignment),
+      )
+
+  pub objective_value-positive : pos 0 ≤ℤ objective_value assignment (model_of week)
+  objective_value-positive =
+      omega (arith, ints, objective-is, (value_of-slack_weights assignment (first_slack week) (numbered_items week)).0)
+
+  pub objective-below : IsWithinLimits week → value_of assignment (objective_terms week) ≤ℤ pos most_objective
+  objective-below limits =
+      omega (
+        arith,
+        ints,
+        objective-is,
         request_cost-le week limits (roster_of week assignment),
         where_in (assignment (unit_number week)) (constant week),
         constant-few week limits,
-        value_of-slack_weights assignment (first_slack week) (numbered_items week),
+        (value_of-slack_weights assignment (first_slack week) (numbered_items week)).1,
         sum_by-map all_slacks (numbered (cell_number week)) (soft_items week),
-        soft_items-le week limits all_slacks (λ _. most_weight) (λ rule item small. small.all_slacks),
+        soft_items-le week limits all_slacks (λ _. most_weight) (λ rule item small sound. small.all_slacks),
       )

@@ -1,11 +1,25 @@
 -- How large the penalty, the constant and the shortages are.
-use Rattle.rota_items.proofs.Common.Words.{ℕ, ◌*◌, ◌<◌, ◌≤◌, arith, sum_by-le-sum_by, mul-le, Roster, soft_rules, Week, Rule, shortage, weighted_shortages, constant, constant_of_rule, items_of_rule, penalty, rule_cost, nurse_constant, IsWithinLimits, S1, S2, S6, S7, most_constant, most_constant_of_rule, most_cost, most_items, most_items_of_any, most_shortage, most_weight, penalty_limit, InstanceTables, IsInstance, week_of}
+use Rattle.rota_items.proofs.Common.Words.{ℕ, ◌+◌, ◌-◌, ◌*◌, ◌<◌, ◌≤◌, Bool, cond, arith, count_by-le-length, sum_by-le-sum_by, mul-le, sum_below, Roster, cell, soft_rules, Week, Rule, Span, nurses_at, works, is_on, is_off, history_on, shift_run_cost, shortage, weighted_shortages, constant, constant_of_rule, items_of_rule, penalty, rule_cost, nurse_constant, is_over, missing_on, run_cost, run_over, run_under, week_days, request_cost, request_weight, IsWithinLimits, S1, S2, S3, S4, S5, S6, S7, half_limit, most_cells, most_constant, most_constant_of_nurse, most_constant_of_rule, most_cost, most_cost_of_nurse, most_items, most_number, most_nurses, most_shifts, most_skills, most_shortage, most_weight, penalty_limit, InstanceTables, IsInstance, week_of}
 use Rattle.rota_items.proofs.InstanceLimits.{instance-within_limits}
-use Rattle.rota_items.proofs.RuleSizes.{small-nurse_rule, small-rule}
-use Rattle.rota_items.proofs.SlackBound.{items-le}
+use Rattle.rota_items.proofs.ItemSizes.{items-le}
+use Rattle.rota_items.proofs.Lists.{sum_below-at_most, where_in}
+use Rattle.rota_items.proofs.NurseCosts.{nurse_cost}
+use Rattle.rota_items.proofs.SlackBound.{cells-few}
 use Rattle.rota_items.proofs.SmallSums.{shortage-least}
+use Rattle.rota_items.proofs.SoundTerms.{spread-sound}
 
-items-of_any : (rule : Rule) → most_items rule ≤ most_items_of_any
+-- on each day of the week, one day too many and as many as the minimum missing
+run_cost-le : (has : ℕ → Bool) (history : ℕ) (limits : Span) → run_cost has history limits ≤ 7 * (1 + limits.min)
+unfolding run_over run_under
+run_cost-le has history limits =
+    omega (
+      arith,
+      count_by-le-length (is_over has history limits.max) week_days,
+      sum_by-le-sum_by (missing_on has history limits.min) (λ _. limits.min) week_days
+          (λ d. grind arith),
+    )
+
+items-of_any : (rule : Rule) → most_items rule ≤ most_cells
 items-of_any S1 = omega arith
 items-of_any S2 = omega arith
 items-of_any _ = omega arith
@@ -16,30 +30,95 @@ constants-of_any S7 = omega arith
 constants-of_any _ = omega arith
 
 module _ (week : Week) (limits : IsWithinLimits week) where
+  -- ---- the constant
+
+  nurse_constant-le : (rule : Rule) (n : ℕ) → nurse_constant week rule n ≤ most_constant_of_nurse rule
+  nurse_constant-le S6 n = grind (arith, limits.totals n, limits.assignments n)
+  nurse_constant-le S7 n = grind (arith, limits.weekends n)
+  nurse_constant-le _ n = omega arith
+
+  constant_of_rule-le : (rule : Rule) → constant_of_rule week rule ≤ most_constant_of_rule rule
+  constant_of_rule-le rule = sum_below-at_most week.nurses most_nurses _ _ limits.nurses (nurse_constant-le rule)
+
   pub constant_of_rule-few : (rule : Rule) → constant_of_rule week rule ≤ most_constant
-  constant_of_rule-few rule = omega (arith, (small-rule week limits rule).constant, constants-of_any rule)
+  constant_of_rule-few rule = omega (arith, constant_of_rule-le rule, constants-of_any rule)
 
   pub nurse_constant-few : (rule : Rule) (n : ℕ) → nurse_constant week rule n ≤ most_constant
-  nurse_constant-few rule n = omega (arith, (small-nurse_rule week limits rule).constant n, constants-of_any rule)
+  nurse_constant-few rule n = omega (arith, nurse_constant-le rule n, constants-of_any rule)
 
   pub constant-few : constant week ≤ most_constant
-  constant-few =
-      sum_by-le-sum_by (constant_of_rule week) most_constant_of_rule soft_rules (λ rule. (small-rule week limits rule).constant)
+  constant-few = sum_by-le-sum_by (constant_of_rule week) most_constant_of_rule soft_rules constant_of_rule-le
 
-  pub shortages-few : (roster : Roster) (rule : Rule) →
-      weighted_shortages roster (items_of_rule week rule) ≤ most_items_of_any * (most_weight * most_shortage)
+  -- ---- shortages
+
+  pub shortages-few : (roster : Roster) (rule : Rule) → weighted_shortages roster (items_of_rule week rule) ≤ half_limit
   shortages-few roster rule =
       omega (
         arith,
         items-of_any rule,
-        items-le week limits (λ item. item.weight * shortage roster item) (λ _. most_weight * most_shortage) rule (λ item small.
-            mul-le item.weight (shortage roster item) most_weight most_shortage small.weight
-            (omega (arith, shortage-least roster item, small.degree, small.terms))),
+        items-le week limits (λ item. item.weight * shortage roster item) (λ _. most_weight * most_shortage) rule (λ item small sound.
+            mul-le item.weight (shortage roster item) most_weight most_shortage
+            (omega (arith, small.all_slacks, mul-le item.weight 1 item.weight item.slacks (omega arith) sound.has_slack))
+            (omega (arith, shortage-least roster item, small.degree, spread-sound week item.terms sound.terms, cells-few week limits))),
       )
+
+  -- ---- what the rules cost
+
+  -- a number for each shift type and skill of each day
+  sum-cells : (m : ℕ) (f : ℕ → ℕ → ℕ → ℕ) → ((d s k : ℕ) → f d s k ≤ m) →
+      sum_below 7 (λ d. sum_below week.shifts (λ s. sum_below week.skills (f d s))) ≤ 7 * (most_shifts * (most_skills * m))
+  sum-cells m f small =
+      sum_below-at_most 7 7 _ _ (omega arith) (λ d.
+      sum_below-at_most week.shifts most_shifts _ _ limits.shifts (λ s.
+      sum_below-at_most week.skills most_skills m (f d s) limits.skills (small d s)))
+
+  pub request_cost-le : (roster : Roster) → request_cost week roster ≤ request_weight * (most_cells * most_number)
+  request_cost-le roster =
+      omega (
+        arith,
+        sum_below-at_most week.nurses most_nurses _ _ limits.nurses (λ n.
+            sum-cells most_number (λ d s k. cond (roster (cell n d s k)) (week.requests n d s) 0) (λ d s k.
+            omega (arith, limits.requests n d s, where_in (roster (cell n d s k)) (week.requests n d s)))),
+      )
+
+  nurse_cost-le : (roster : Roster) (rule : Rule) (n : ℕ) → nurse_cost week roster rule n ≤ most_cost_of_nurse
+  nurse_cost-le roster S2 n =
+      omega (
+        arith,
+        sum_below-at_most week.shifts most_shifts (7 * (1 + most_number)) (shift_run_cost week roster n) limits.shifts (λ s.
+            omega (arith, limits.limits s, run_cost-le (is_on week roster n s) (history_on week n s) (week.limits s))),
+        run_cost-le (works week roster n) (week.past n).work_run (week.contract n).work,
+        limits.work_limits n,
+      )
+  nurse_cost-le roster S3 n =
+      omega (arith, run_cost-le (is_off week roster n) (week.past n).off_run (week.contract n).off, limits.off_limits n)
+  nurse_cost-le roster S5 n = grind arith
+  nurse_cost-le roster S6 n =
+      grind (
+        arith,
+        limits.totals n,
+        limits.assignments n,
+        sum-cells 1 (λ d s k. cond (roster (cell n d s k)) 1 0) (λ d s k. where_in (roster (cell n d s k)) 1),
+      )
+  nurse_cost-le roster S7 n = grind (arith, limits.weekends n)
+  nurse_cost-le roster _ n = omega arith
+
+  cost_of_nurses-le : (roster : Roster) (rule : Rule) → sum_below week.nurses (nurse_cost week roster rule) ≤ most_cost
+  cost_of_nurses-le roster rule = sum_below-at_most week.nurses most_nurses _ _ limits.nurses (nurse_cost-le roster rule)
+
+  rule_cost-le : (roster : Roster) (rule : Rule) → rule_cost week roster rule ≤ most_cost
+  rule_cost-le roster S1 =
+      omega (
+        arith,
+        sum-cells most_number (λ d s k. (week.demand d s k).optimal - nurses_at week roster d s k)
+            (λ d s k. omega (arith, limits.optimal d s k)),
+      )
+  rule_cost-le roster S4 = omega (arith, request_cost-le roster)
+  rule_cost-le roster rule = omega (arith, cost_of_nurses-le roster rule)
 
 pub penalty-below : (week : Week) (roster : Roster) → IsWithinLimits week → penalty week roster < penalty_limit
 penalty-below week roster limits =
-    omega (arith, sum_by-le-sum_by (rule_cost week roster) (λ _. most_cost) soft_rules (λ rule. (small-rule week limits rule).cost roster))
+    omega (arith, sum_by-le-sum_by (rule_cost week roster) (λ _. most_cost) soft_rules (rule_cost-le week limits roster))
 
 -- ---- of an instance
 

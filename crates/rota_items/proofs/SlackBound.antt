@@ -1,9 +1,7 @@
 -- How many slacks the items of a week have, and how many rows its model has.
-use Rattle.rota_items.proofs.Common.Words.{◌≡◌, ℕ, ◌+◌, ◌*◌, ◌<◌, ◌≤◌, List, [], ◌∷◌, length, refl, arith, sum_by, length-append, length-map, All-from_recursion, sum_by-le, length-flat_map, sum_by-le-sum_by, mul-le, mul-le-mul, Week, Rule, Cell, cell_number, first_slack, rule_rows, Item, numbered, linear_constraint, item_rows, slack_count, soft_rules, items_of_rule, soft_items, hard_rows, numbered_items, numbered_row, rows_of, model_of, cell_count, IsWithinLimits, count_limit, most_cells, most_items, most_slacks, most_nurses, word_limit}
-use Rattle.rota_items.proofs.ItemSizes.{IsItemSmall}
-use Rattle.rota_items.proofs.Lists.{all-weaker, sum_by-flat_map}
+use Rattle.rota_items.proofs.Common.Words.{◌≡◌, ℕ, ◌+◌, ◌*◌, ◌<◌, ◌≤◌, List, [], ◌∷◌, length, refl, arith, sum_by, length-append, length-map, length-flat_map, sum_by-le-sum_by, mul-le-mul, Week, cell_number, first_slack, rule_rows, Item, numbered, linear_constraint, item_rows, slack_count, soft_rules, items_of_rule, soft_items, hard_rows, numbered_items, numbered_row, rows_of, model_of, cell_count, IsWithinLimits, count_limit, most_cells, most_items, most_slacks, most_nurses}
+use Rattle.rota_items.proofs.ItemSizes.{small-rule, soft_items-le}
 use Rattle.rota_items.proofs.RowSizes.{rule_rows-few}
-use Rattle.rota_items.proofs.RuleSizes.{small-rule}
 
 pub length-item_rows : (first : ℕ) (items : List (Item ℕ)) → length (item_rows first items) ≡ length items
 length-item_rows first [] = refl
@@ -21,7 +19,24 @@ length-rows_of week =
     )
 
 module _ (week : Week) (limits : IsWithinLimits week) where
-  -- ---- items
+  -- ---- variables
+
+  slacks-few : slack_count (soft_items week) ≤ sum_by (λ rule. most_items rule * most_slacks rule) soft_rules
+  slacks-few = soft_items-le week limits (λ item. item.slacks) most_slacks (λ rule item small sound. small.slacks)
+
+  pub cells-few : cell_count week ≤ most_cells
+  cells-few =
+      let days : 7 * week.nurses ≤ 7 * most_nurses = omega (arith, limits.nurses) in
+      omega (arith, mul-le-mul (mul-le-mul days limits.shifts) limits.skills)
+
+  -- the number after that of the last slack
+  pub variables_fit : first_slack week + slack_count (soft_items week) < count_limit
+  variables_fit = omega (arith, cells-few, slacks-few)
+
+  pub variables-below : (model_of week).variables < count_limit
+  variables-below = omega (arith, variables_fit)
+
+  -- ---- rows
 
   pub items-few : length (soft_items week) ≤ sum_by most_items soft_rules
   items-few =
@@ -30,52 +45,6 @@ module _ (week : Week) (limits : IsWithinLimits week) where
         length-flat_map (items_of_rule week) soft_rules,
         sum_by-le-sum_by (λ rule. length (items_of_rule week rule)) most_items soft_rules (λ rule. (small-rule week limits rule).few),
       )
-
-  module _ (f : Item Cell → ℕ) (most : Rule → ℕ) where
-    -- numbers of items that are no greater than the most sum to no more than so many times the most
-    pub items-le : (rule : Rule) → ((item : Item Cell) → IsItemSmall rule item → f item ≤ most rule) →
-        sum_by f (items_of_rule week rule) ≤ most_items rule * most rule
-    items-le rule each =
-        let items : List (Item Cell) = items_of_rule week rule in
-        let small = small-rule week limits rule in
-        omega (
-          arith,
-          sum_by-le f (most rule) items
-              (All-from_recursion _ items (all-weaker (IsItemSmall rule) (λ item. f item ≤ most rule) each items small.items)),
-          mul-le (length items) (most rule) (most_items rule) (most rule) small.few (omega arith),
-        )
-
-    pub soft_items-le : ((rule : Rule) (item : Item Cell) → IsItemSmall rule item → f item ≤ most rule) →
-        sum_by f (soft_items week) ≤ sum_by (λ rule. most_items rule * most rule) soft_rules
-    soft_items-le each =
-        omega (
-          arith,
-          sum_by-flat_map f (items_of_rule week) soft_rules,
-          sum_by-le-sum_by (λ rule. sum_by f (items_of_rule week rule)) (λ rule. most_items rule * most rule) soft_rules
-              (λ rule. items-le rule (each rule)),
-        )
-
-  slacks-few : slack_count (soft_items week) ≤ sum_by (λ rule. most_items rule * most_slacks rule) soft_rules
-  slacks-few = soft_items-le (λ item. item.slacks) most_slacks (λ rule item small. small.slacks)
-
-  -- ---- variables
-
-  cells-few : cell_count week ≤ most_cells
-  cells-few =
-      let days : 7 * week.nurses ≤ 7 * most_nurses = omega (arith, limits.nurses) in
-      omega (arith, mul-le-mul (mul-le-mul days limits.shifts) limits.skills)
-
-  -- the number after that of the last slack
-  pub slack_end-below : first_slack week + slack_count (soft_items week) < count_limit
-  slack_end-below = omega (arith, cells-few, slacks-few)
-
-  pub variables_fit : first_slack week + slack_count (soft_items week) < word_limit
-  variables_fit = omega (arith, slack_end-below)
-
-  pub variables-below : (model_of week).variables < count_limit
-  variables-below = omega (arith, slack_end-below)
-
-  -- ---- rows
 
   pub rows-below : length (rows_of week) < count_limit
   rows-below = omega (arith, length-rows_of week, rule_rows-few week limits, items-few)

@@ -38,10 +38,7 @@ abbrev pub most_items_of_nurse : Rule → ℕ
 most_items_of_nurse S2 = (most_shifts + 1) * most_run_items
 most_items_of_nurse _ = most_run_items
 
--- those of any one soft rule, and of each
-abbrev pub most_items_of_any : ℕ
-most_items_of_any = most_nurses * ((most_shifts + 1) * most_run_items)
-
+-- those of each soft rule
 abbrev pub most_items : Rule → ℕ
 most_items S1 = most_cells_of_nurse
 most_items rule = most_nurses * most_items_of_nurse rule
@@ -50,10 +47,6 @@ most_items rule = most_nurses * most_items_of_nurse rule
 abbrev pub most_slacks : Rule → ℕ
 most_slacks S1 = most_number
 most_slacks _ = 7
-
--- the cells in an item's sum: of one demand, or of one nurse
-abbrev pub most_terms : ℕ
-most_terms = max most_nurses most_cells_of_nurse
 
 -- ---- weights
 
@@ -68,7 +61,7 @@ most_weight = heaviest * most_number
 
 -- what an item can lack on a roster that keeps no rule
 abbrev pub most_shortage : ℕ
-most_shortage = most_number + most_terms
+most_shortage = most_number + (most_cells + 1)
 
 -- what no roster can avoid
 abbrev pub most_constant_of_nurse : Rule → ℕ

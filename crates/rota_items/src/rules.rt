@@ -148,6 +148,7 @@ pub fn constant_of_rule(instance: &Instance, rule: Rule) -> u64
 }
 
 /// What no roster of the week can avoid: the sum of the rules' parts.
+#[tactic(auto, using(crate::proofs::Lists::listing, crate::proofs::PenaltyBound::few_constants))]
 pub fn constant(instance: &Instance) -> u64
     ensures { result ≡ constant (week_of instance.now) }
 {
