@@ -1,5 +1,5 @@
 -- The rows of each hard rule mean the rule: H1, H2, H4 and H5 one by one, and what is shown of each holds of all their rows.
-use Rattle.rota_items.proofs.Common.Words.{◌≡◌, ◌↔◌, ◌∙◌, ℕ, ◌<◌, Bool, not, true, false, cond, inl, inr, refl, sym, ap, arith, pos, negsuc, ◌+ℤ◌, ◌≤ℤ◌, ints, nat_lt, cases_Bool, true≢false, ltb-false, not-true, false_from_ne_true, List, [], ◌∷◌, AllByRecursion, flat_map, KeepsHardRules, InWeek, Roster, Has, cell, hard_rules, Week, Rule, Cell, cells_of, demand_cells, skill_cells, work_cells, h1_row, h2_row, h4_row, h5_row, h5_rows, rows_of_hard_rule, rule_rows, LinearRow, H1, H2, H3, H4, H5}
+use Rattle.rota_items.proofs.Common.Words.{◌≡◌, ◌↔◌, ◌∙◌, ℕ, ◌<◌, Bool, not, true, false, cond, inl, inr, refl, sym, ap, arith, pos, negsuc, ◌+ℤ◌, ◌≤ℤ◌, ints, nat_lt, cases_Bool, true≢false, ltb-false, not-true, false_from_ne_true, List, [], ◌∷◌, AllByRecursion, flat_map, KeepsHardRules, InWeek, Roster, Has, cell, hard_rules, Week, Rule, Cell, cells_of, demand_cells, skill_cells, work_cells, h1_row, h1_rows, h2_row, h4_row, h5_row, h5_rows, rows_of_hard_rule, rule_rows, LinearRow, H1, H2, H3, H4, H5}
 use Rattle.rota_items.proofs.CellCounts.{count-none, none-pass, one-work, the_one}
 use Rattle.rota_items.proofs.HardRules.Sound.{at_least, at_most, AllHold, Holds, IsHardRuleSound, IsRowSound, Keeps}
 use Rattle.rota_items.proofs.HardRules.Succession.{succession}
@@ -12,26 +12,28 @@ use Rattle.rota_items.proofs.SoundTerms.{in-work_cells, sound-cells, sound-deman
 module _ (week : Week) where
   -- ---- H1: at most one cell of a nurse's day
 
+  pub h1-are : Are (h1_rows week) (λ P. (n : ℕ) → n < week.nurses → (d : ℕ) → d < 7 → P (h1_row week n d))
+  h1-are = in-turns (λ n. in-turns (λ d. alone))
+
   pub one_cell : IsHardRuleSound week H1
-  one_cell =
-      let rows-are = in-turns {n = week.nurses} (λ n. in-turns {n = 7} (λ d. alone {x = h1_row week n d})) in record {
-        rows = rows-are.all (IsRowSound week H1) (λ n n_in d d_in. record {
-          part_is = refl;
-          terms = sound-cells week (negsuc 0) (inr refl) _ _ (work_cells week n d) (omega arith) (in-work_cells week n d n_in d_in)
-              (rises-work_cells week n d);
-          holds = λ roster one _. (at_most roster (work_cells week n d) 1).1 (one-work week roster one n d n_in d_in);
-        });
-        mean = λ roster all one other has_one has_other nurse_same day_same.
-            let this = has_one.in_week in
-            let that = has_other.in_week in
-            let few = (at_most roster (work_cells week one.nurse one.day) 1).0 (rows-are.each (Holds roster) all one.nurse this.nurse_in one.day this.day_in) in
-            let (it, same) = the_one roster one (work_cells week one.nurse one.day) few in
-            let each = (work-are week one.nurse one.day).each (λ c. roster c ≡ true → c ≡ it) same in
-            let moved : ◌≡◌ {A = Cell} (cell one.nurse one.day other.shift other.skill) other =
-            λ i. cell (nurse_same i) (day_same i) other.shift other.skill in
-            each one.shift this.shift_in one.skill this.skill_in has_one.in_roster ∙
-            (sym (each other.shift that.shift_in other.skill that.skill_in (ap roster moved ∙ has_other.in_roster)) ∙ moved);
-      }
+  one_cell = record {
+    rows = h1-are.all (IsRowSound week H1) (λ n n_in d d_in. record {
+      part_is = refl;
+      terms = sound-cells week (negsuc 0) (inr refl) _ _ (work_cells week n d) (omega arith) (in-work_cells week n d n_in d_in)
+          (rises-work_cells week n d);
+      holds = λ roster one _. (at_most roster (work_cells week n d) 1).1 (one-work week roster one n d n_in d_in);
+    });
+    mean = λ roster all one other has_one has_other nurse_same day_same.
+        let this = has_one.in_week in
+        let that = has_other.in_week in
+        let few = (at_most roster (work_cells week one.nurse one.day) 1).0 (h1-are.each (Holds roster) all one.nurse this.nurse_in one.day this.day_in) in
+        let (it, same) = the_one roster one (work_cells week one.nurse one.day) few in
+        let each = (work-are week one.nurse one.day).each (λ c. roster c ≡ true → c ≡ it) same in
+        let moved : ◌≡◌ {A = Cell} (cell one.nurse one.day other.shift other.skill) other =
+        λ i. cell (nurse_same i) (day_same i) other.shift other.skill in
+        each one.shift this.shift_in one.skill this.skill_in has_one.in_roster ∙
+        (sym (each other.shift that.shift_in other.skill that.skill_in (ap roster moved ∙ has_other.in_roster)) ∙ moved);
+  }
 
   -- ---- H2: the least number of nurses, where one is asked for
 
