@@ -3,10 +3,11 @@ use Rattle.rota_items.proofs.Common.Words.{◌≡◌, ℕ, ◌+◌, ◌≤◌, m
 use Rattle.rota_items.specs.declared.counting.counter.Counts.{Counts}
 use Rattle.rota_items.proofs.ModelRows.{each-model_row}
 use Rattle.rota_core.specs.RisingLists.{RisesWithin}
+use Rattle.rota_core.proofs.LogicWords.{length-rising}
 use Rattle.rota_items.proofs.ModelTerms.{RisesTo, variable_of, objective-to_last, rises-to_last}
 use Rattle.rota_items.proofs.InstanceLimits.{instance-within_limits}
 use Rattle.rota_items.proofs.SlackBound.{length-rows_of, rows-below, variables_fit}
-use Rattle.rota_items.proofs.Standing.{at_variable, rises-end, stands-exactly}
+use Rattle.rota_items.proofs.Standing.{at_variable, stands-exactly}
 
 abbrev pub counts_row : LinearRow ℕ → Bool
 counts_row row = is_constraint row.part
@@ -101,7 +102,7 @@ greatest-rises : (first end : ℕ) (terms : List (Term ℕ)) → 0 < first → R
     greatest (variables_of terms) < end
 greatest-rises first end [] some rises = omega (arith, rises)
 greatest-rises first end (t ∷ ts) some rises =
-    omega (arith, rises.0, rises-end (t.1 + 1) end ts rises.1, greatest-rises (t.1 + 1) end ts (omega arith) rises.1)
+    omega (arith, rises.0, length-rising variable_of (t.1 + 1) end ts rises.1, greatest-rises (t.1 + 1) end ts (omega arith) rises.1)
 
 greatest-below : (end : ℕ) → 0 < end → (rows : List (LinearRow ℕ)) →
     AllByRecursion (RisesTo end) (map linear_constraint rows) → greatest (variables_in rows) < end

@@ -2,10 +2,7 @@
 use Rattle.rota_items.proofs.Common.Words.{◌≡◌, ℕ, Bool, true, cond, inl, inr, List, [], ◌∷◌, ◌++◌, map, refl, Some, None, pos, ◌+ℤ◌, int_le, AllByRecursion, KeepsOneCell, KeepsCompetitionRules, FirstBroken, InWeek, Roster, Week, Rule, Cell, cell_number, unit_number, rows_of_hard_rule, value_of, LinearRow, extension_of, hard_rows, numbered_row, numbered_terms, roster_of, NamesFirstBroken, first_unmet, later, H1, H2, H3, H4, H5}
 use Rattle.rota_items.proofs.Extension.{extension-roster, extension-unit, value_of-of_terms}
 use Rattle.rota_items.proofs.FirstUnmet.{Named, le_or_not}
-use Rattle.rota_items.proofs.HardRules.Held.{held}
-use Rattle.rota_items.proofs.HardRules.Minimum.{minimum}
-use Rattle.rota_items.proofs.HardRules.OneCell.{one_cell}
-use Rattle.rota_items.proofs.HardRules.Skills.{skills}
+use Rattle.rota_items.proofs.HardRules.EachRule.{held, minimum, one_cell, skills}
 use Rattle.rota_items.proofs.HardRules.Sound.{AllHold, IsHardRuleSound, IsRowSound, Keeps}
 use Rattle.rota_items.proofs.HardRules.Succession.{succession}
 

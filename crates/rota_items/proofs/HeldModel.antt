@@ -1,9 +1,7 @@
 -- Holding cells adds to the model only that each of them is true.
 use Rattle.rota_items.proofs.Common.Words.{◌≡◌, ◌↔◌, ℕ, ◌+◌, Bool, [], map, length, ap, arith, length-map, length-flat_map, KeepsHeld, Roster, hard_rules, Week, rows_of_hard_rule, rule_rows, SatisfiesModel, linear_constraint, model_of, roster_of, rows_of, cells_of, h5_row, h5_rows, without_held, H5, List, ◌∷◌, refl, sym, true≢false, AllByRecursion}
 use Rattle.rota_items.proofs.SlackBound.{length-rows_of}
-use Rattle.rota_items.proofs.HardRules.EachRule.{rows-are}
-use Rattle.rota_items.proofs.HardRules.Held.{cells-are, held}
-use Rattle.rota_items.proofs.HardRules.OneCell.{one_cell}
+use Rattle.rota_items.proofs.HardRules.EachRule.{cells-are, held, one_cell, rows-are}
 use Rattle.rota_items.proofs.HardRules.Sound.{AllHold, Holds, IsRowSound}
 use Rattle.rota_items.proofs.Lists.{all-weaker}
 use Rattle.rota_items.proofs.ModelParts.{satisfies-parts}

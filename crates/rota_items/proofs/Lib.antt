@@ -30,6 +30,7 @@ pub mod JudgedVerdict
 pub mod LawProofs
 pub mod Least
 pub mod Lists
+pub mod ListsAre
 pub mod LiteralTaking
 pub mod ModelParts
 pub mod ModelRows

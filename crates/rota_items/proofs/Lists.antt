@@ -107,36 +107,6 @@ unfolding sum_below
 term-le-sum_below zero f i below = absurd (omega arith)
 term-le-sum_below (suc n) f i below = grind (arith, term-le-sum_below n f i)
 
--- a sum that is not 0 has a term that is not
-pub found : (n : ℕ) (f : ℕ → ℕ) → 0 < sum_below n f → (i : ℕ) × (i < n) × (0 < f i)
-unfolding sum_below
-found zero f some = absurd (omega arith)
-found (suc n) f some =
-    elim (cases_lt 0 (f n)) [
-      | inl here ↦ (n, omega arith, here)
-      | inr none ↦ let before : (i : ℕ) × (i < n) × (0 < f i) = found n f (omega arith) in (before.0, omega arith, before.2)
-    ]
-
--- at most one term of 1 gives a sum of at most 1
-pub sum_below-one : (n : ℕ) (f : ℕ → ℕ) → ((i : ℕ) → i < n → f i ≤ 1) →
-    ((i j : ℕ) → i < n → j < n → 0 < f i → 0 < f j → i ≡ j) → sum_below n f ≤ 1
-unfolding sum_below
-sum_below-one zero f small same = omega arith
-sum_below-one (suc n) f small same =
-    elim (cases_lt 0 (f n)) [
-      | inl here ↦
-          omega (arith, small n (omega arith), sum_below-within n 0 f (λ i below. grind (arith, same i n)))
-      | inr none ↦
-          omega (arith, sum_below-one n f (λ i below. small i (omega arith)) (λ i j i_in j_in. same i j (omega arith) (omega arith)))
-    ]
-
--- where a sum is at most 1, two terms that are not 0 are the same
-pub one-sum_below : (n : ℕ) (f : ℕ → ℕ) → sum_below n f ≤ 1 → (i j : ℕ) → i < n → j < n → 0 < f i → 0 < f j → i ≡ j
-unfolding sum_below
-one-sum_below zero f one i j i_below j_below some other = absurd (omega arith)
-one-sum_below (suc n) f one i j i_below j_below some other =
-    grind (arith, term-le-sum_below n f, one-sum_below n f)
-
 -- ---- how large
 
 pub sum_below-at_most : (n most m : ℕ) (f : ℕ → ℕ) → n ≤ most → ((i : ℕ) → f i ≤ m) → sum_below n f ≤ most * m

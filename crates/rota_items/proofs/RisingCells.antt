@@ -1,9 +1,34 @@
--- The cells of sums, and the terms of patterns, are by rising number.
-use Rattle.rota_items.proofs.Common.Words.{◌≡◌, ℕ, ◌+◌, ◌*◌, ◌<◌, ◌≤◌, List, [], ◌∷◌, map, length, refl, subst, arith, ℤ, range_with_len, flat_map, mul-add-lt, mul-le-mul_right, each_below, cell, Week, Cell, on_cells, work_cells, nurse_cells, demand_cells, skill_cells, cell_number, unit_number, Term, times, numbered_terms, Property, variables_on, day_terms, PatternDay}
+-- The cells of sums: which they are, and that they, and the terms of patterns, are by rising number.
+use Rattle.rota_items.proofs.Common.Words.{◌≡◌, ℕ, ◌+◌, ◌*◌, ◌<◌, ◌≤◌, List, [], ◌∷◌, map, length, subst, arith, ℤ, range_with_len, flat_map, mul-add-lt, mul-le-mul_right, each_below, AllByRecursion, InWeek, cell, Week, Cell, on_cells, work_cells, nurse_cells, demand_cells, skill_cells, cell_number, unit_number, Term, times, numbered_terms, Property, variables_on, day_terms, PatternDay}
 use Rattle.rota_core.specs.RisingLists.{RisesWithin}
-use Rattle.rota_core.proofs.LogicWords.{rises-append, rises-blocks, rises-each, rises-in, rises-map}
+use Rattle.rota_core.proofs.LogicWords.{all-weaker, length-rising, rises-append, rises-blocks, rises-each, rises-in, rises-map}
+use Rattle.rota_items.proofs.ListsAre.{Are, alone, in-turns}
+
+-- numbers that rise are between the first and the end
+pub rises-between : {X : Type 0} (number : X → ℕ) (first end : ℕ) (xs : List X) → RisesWithin number first end xs →
+    AllByRecursion (λ x. (first ≤ number x) × (number x < end)) xs
+rises-between number first end [] rises = tt
+rises-between number first end (x ∷ xs) rises = (
+  (rises.0, omega (arith, length-rising number (number x + 1) end xs rises.1)),
+  all-weaker _ _ (λ y later. (omega (arith, rises.0, later.0), later.1)) xs (rises-between number (number x + 1) end xs rises.1),
+)
 
 module _ (week : Week) where
+  pub in-cell : (n d s k : ℕ) → n < week.nurses → d < 7 → s < week.shifts → k < week.skills → InWeek week (cell n d s k)
+  in-cell n d s k n_in d_in s_in k_in =
+      record { nurse_in = n_in; day_in = d_in; shift_in = s_in; skill_in = k_in }
+
+  pub on-are : (n s d : ℕ) → Are (on_cells week n s d) (λ P. (k : ℕ) → k < week.skills → P (cell n d s k))
+  on-are n s d = in-turns (λ k. alone)
+
+  pub work-are : (n d : ℕ) → Are (work_cells week n d) (λ P. (s : ℕ) → s < week.shifts → (k : ℕ) → k < week.skills → P (cell n d s k))
+  work-are n d = in-turns (λ s. on-are n s d)
+
+  pub skill-are : (n k : ℕ) → Are (skill_cells week n k) (λ P. (d : ℕ) → d < 7 → (s : ℕ) → s < week.shifts → P (cell n d s k))
+  skill-are n k = in-turns (λ d. in-turns (λ s. alone))
+
+  -- ---- their numbers
+
   -- the first number of a nurse's day
   abbrev pub day_start : ℕ → ℕ → ℕ
   day_start n d = (n * 7 + d) * week.shifts * week.skills + 1
@@ -65,18 +90,13 @@ module _ (week : Week) where
   rises-numbered first end terms rises =
       rises-map (λ (term : Term ℕ). term.1) (λ (term : Term Cell). (term.0, cell_number week term.1)) first end terms rises
 
-  pub within-block : (first end : ℕ) (terms : List (Term Cell)) → 1 ≤ first → end ≤ unit_number week →
-      RisesWithin at first end terms → within terms
-  within-block first end terms from up_to rises =
-      rises-in at 1 first end (unit_number week) terms from up_to rises
-
   -- ---- patterns
 
   abbrev KeepsToDays : ℕ → Property Cell → Type 0
   KeepsToDays n property =
       (d : ℕ) → RisesWithin (cell_number week) (day_start n d) (day_start n (d + 1)) (variables_on property d)
 
-  rises-days : (n : ℕ) (property : Property Cell) → KeepsToDays n property → (first end : ℕ) (days : List PatternDay) →
+  pub rises-days : (n : ℕ) (property : Property Cell) → KeepsToDays n property → (first end : ℕ) (days : List PatternDay) →
       map (λ (day : PatternDay). day.day) days ≡ range_with_len first (length days) → end ≡ first + length days →
       RisesWithin at (day_start n first) (day_start n end) (flat_map (day_terms property) days)
   rises-days n property keeps first end [] days_are up_to = rw up_to (omega arith)
@@ -87,19 +107,3 @@ module _ (week : Week) where
       (rises-times _ _ _ (variables_on property day.day)
       (subst (λ d. RisesWithin (cell_number week) (day_start n d) (day_start n (d + 1)) (variables_on property day.day)) here (keeps day.day)))
       (rises-days n property keeps (first + 1) end days rest (omega arith))
-
-  pub first_day-from : (n first : ℕ) → 1 ≤ day_start n first
-  first_day-from n first = omega arith
-
-  -- the end of the last day of the last nurse is the unit variable
-  pub last_day-le : (n e : ℕ) → n < week.nurses → e ≤ 7 → day_start n e ≤ unit_number week
-  last_day-le n e n_in in_week =
-      let days : n * 7 + e ≤ week.nurses * 7 = omega arith in
-      omega (arith, mul-le-mul_right week.skills (mul-le-mul_right week.shifts days))
-
-  pub rises-pattern : (n : ℕ) (property : Property Cell) → n < week.nurses → KeepsToDays n property →
-      (first : ℕ) (days : List PatternDay) → map (λ (day : PatternDay). day.day) days ≡ range_with_len first (length days) →
-      first + length days ≤ 7 → within (flat_map (day_terms property) days)
-  rises-pattern n property n_in keeps first days days_are in_week =
-      within-block _ _ _ (first_day-from n first) (last_day-le n (first + length days) n_in in_week)
-      (rises-days n property keeps first (first + length days) days days_are refl)

@@ -1,11 +1,12 @@
 -- Terms: what holds of their variables and coefficients, and those within the week, rising, of coefficients of 1 and -1.
-use Rattle.rota_items.proofs.Common.Words.{◌≡◌, ℕ, ◌<◌, Bool, cond, List, [], ◌∷◌, refl, ap, ◌∙◌, ℤ, pos, ◌+ℤ◌, All, AllByRecursion, flat_map, All-from_recursion, recursion_from_All, AllByRecursion-append, ◌≤◌, true, false, inl, inr, map, length, arith, negsuc, nat_abs, if◌then◌else◌, sum_by-cons, AllByRecursion-each_below, each_below, ◌+◌, Item, Term, times, value_of, StandBelow, IsUnit, cell, InWeek, Week, on_cells, work_cells, nurse_cells, demand_cells, skill_cells, Cell, cell_number, unit_number, Property, Runs, variables_on, day_terms, run_items, PatternDay, is_plain}
+use Rattle.rota_items.proofs.Common.Words.{◌≡◌, ℕ, ◌<◌, Bool, cond, List, [], ◌∷◌, refl, ap, ◌∙◌, ℤ, pos, ◌+ℤ◌, All, AllByRecursion, flat_map, All-from_recursion, recursion_from_All, AllByRecursion-append, ◌≤◌, true, false, inl, inr, map, length, arith, negsuc, nat_abs, if◌then◌else◌, sum_by-cons, AllByRecursion-each_below, ◌+◌, Item, Term, times, value_of, StandBelow, IsUnit, InWeek, Week, on_cells, work_cells, nurse_cells, demand_cells, Cell, cell_number, unit_number, Property, Runs, variables_on, day_terms, run_items, PatternDay, is_plain}
 use Rattle.rota_items.proofs.EachPattern.{OnDays, on-pattern, each-run_item}
 use Rattle.rota_items.proofs.Lists.{all-map}
 use Rattle.rota_items.proofs.SmallSums.{spread}
 use Rattle.rota_core.specs.RisingLists.{RisesWithin}
 use Rattle.rota_core.proofs.LogicWords.{length-rising}
-use Rattle.rota_items.proofs.RisingCells.{at, day_start, first_day-from, last_day-le, on-keeps, rises-demand_cells, rises-skill_cells, rises-times, rises-work_cells, within, within-block}
+use Rattle.rota_items.proofs.Numbers.{cell_number-below}
+use Rattle.rota_items.proofs.RisingCells.{at, in-cell, on-are, rises-demand_cells, rises-times, within, work-are}
 
 -- ---- what holds of the variables of a property's days holds of its items' variables
 
@@ -93,33 +94,15 @@ spread-units {X} (t ∷ ts) all =
 -- ---- the cells of the model's sums lie within the week's numbers
 
 module _ (week : Week) where
-  pub in-cell : (n d s k : ℕ) → n < week.nurses → d < 7 → s < week.shifts → k < week.skills → InWeek week (cell n d s k)
-  in-cell n d s k n_in d_in s_in k_in =
-      record { nurse_in = n_in; day_in = d_in; shift_in = s_in; skill_in = k_in }
-
   pub in-on_cells : (n s d : ℕ) → n < week.nurses → s < week.shifts → d < 7 → AllByRecursion (InWeek week) (on_cells week n s d)
-  in-on_cells n s d n_in s_in d_in =
-      AllByRecursion-each_below (InWeek week) week.skills (λ k. cell n d s k ∷ []) (λ k k_in.
-      (in-cell n d s k n_in d_in s_in k_in, tt))
+  in-on_cells n s d n_in s_in d_in = (on-are week n s d).all (InWeek week) (λ k k_in. in-cell week n d s k n_in d_in s_in k_in)
 
   pub in-work_cells : (n d : ℕ) → n < week.nurses → d < 7 → AllByRecursion (InWeek week) (work_cells week n d)
-  in-work_cells n d n_in d_in =
-      AllByRecursion-each_below (InWeek week) week.shifts (λ s. on_cells week n s d) (λ s s_in. in-on_cells n s d n_in s_in d_in)
+  in-work_cells n d n_in d_in = (work-are week n d).all (InWeek week) (λ s s_in k k_in. in-cell week n d s k n_in d_in s_in k_in)
 
   pub in-nurse_cells : (n : ℕ) → n < week.nurses → AllByRecursion (InWeek week) (nurse_cells week n)
   in-nurse_cells n n_in =
-      AllByRecursion-each_below (InWeek week) 7 (λ d. work_cells week n d) (λ d d_in. in-work_cells n d n_in d_in)
-
-  pub in-demand_cells : (d s k : ℕ) → d < 7 → s < week.shifts → k < week.skills → AllByRecursion (InWeek week) (demand_cells week d s k)
-  in-demand_cells d s k d_in s_in k_in =
-      AllByRecursion-each_below (InWeek week) week.nurses (λ n. cell n d s k ∷ []) (λ n n_in.
-      (in-cell n d s k n_in d_in s_in k_in, tt))
-
-  pub in-skill_cells : (n k : ℕ) → n < week.nurses → k < week.skills → AllByRecursion (InWeek week) (skill_cells week n k)
-  in-skill_cells n k n_in k_in =
-      AllByRecursion-each_below (InWeek week) 7 (λ d. each_below week.shifts (λ s. cell n d s k ∷ [])) (λ d d_in.
-      AllByRecursion-each_below (InWeek week) week.shifts (λ s. cell n d s k ∷ []) (λ s s_in.
-      (in-cell n d s k n_in d_in s_in k_in, tt)))
+      AllByRecursion-each_below (InWeek week) 7 (work_cells week n) (λ d d_in. in-work_cells n d n_in d_in)
 
 -- ---- sums of cells whose terms are within the week, rise, and have coefficients of 1 and -1
 
@@ -138,44 +121,31 @@ module _ (week : Week) where
         length-rising (at week) 1 (unit_number week) terms sound.rise,
       )
 
-  -- the cells of a nurse on these days, plain or negated
-  pub sound-days : (coefficient : ℤ) → IsUnit coefficient → (n first end : ℕ) (cells : List Cell) → n < week.nurses → end ≤ 7 →
-      AllByRecursion (InWeek week) cells → RisesWithin (cell_number week) (day_start week n first) (day_start week n end) cells →
-      AreSound week (times coefficient cells)
-  sound-days coefficient unit n first end cells n_in up_to inside rises = record {
-    in_week = on-times (InWeek week) coefficient cells inside;
-    rise = within-block week (day_start week n first) (day_start week n end) (times coefficient cells)
-        (first_day-from week n first) (last_day-le week n end n_in up_to)
-        (rises-times week (day_start week n first) (day_start week n end) coefficient cells rises);
-    units = coefficients-times IsUnit coefficient cells unit;
-  }
+  -- terms that rise do so within the week's numbers where their cells are the week's
+  rises-from : (from first end : ℕ) (terms : List (Term Cell)) → from ≤ unit_number week → from ≤ first → RisesWithin (at week) first end terms →
+      OnTerms (InWeek week) terms → RisesWithin (at week) from (unit_number week) terms
+  rises-from from first end [] up_to before rises inside = up_to
+  rises-from from first end (t ∷ ts) up_to before rises inside = (
+    omega (arith, rises.0),
+    rises-from (at week t + 1) (at week t + 1) end ts (omega (arith, cell_number-below week t.1 inside.0)) (omega arith) rises.1 inside.1,
+  )
 
-  pub sound-minus : (n first end : ℕ) (cells : List Cell) → n < week.nurses → end ≤ 7 → AllByRecursion (InWeek week) cells →
-      RisesWithin (cell_number week) (day_start week n first) (day_start week n end) cells →
-      AreSound week (times (negsuc 0) cells)
-  sound-minus = sound-days (negsuc 0) (inr refl)
+  pub rises-inside : (first end : ℕ) (terms : List (Term Cell)) → 1 ≤ first → RisesWithin (at week) first end terms →
+      OnTerms (InWeek week) terms → within week terms
+  rises-inside first end terms = rises-from 1 first end terms (omega arith)
 
-  pub sound-on : (n s d : ℕ) → n < week.nurses → s < week.shifts → d < 7 → AreSound week (times (negsuc 0) (on_cells week n s d))
-  sound-on n s d n_in s_in d_in =
-      sound-minus n d (d + 1) (on_cells week n s d) n_in (omega arith) (in-on_cells week n s d n_in s_in d_in)
-      (on-keeps week n s d s_in)
-
-  pub sound-work : (n d : ℕ) → n < week.nurses → d < 7 → AreSound week (times (negsuc 0) (work_cells week n d))
-  sound-work n d n_in d_in =
-      sound-minus n d (d + 1) (work_cells week n d) n_in (omega arith) (in-work_cells week n d n_in d_in)
-      (rises-work_cells week n d)
-
-  pub sound-skill : (n k : ℕ) → n < week.nurses → k < week.skills → AreSound week (times (negsuc 0) (skill_cells week n k))
-  sound-skill n k n_in k_in =
-      sound-minus n 0 7 (skill_cells week n k) n_in (omega arith) (in-skill_cells week n k n_in k_in)
-      (rises-skill_cells week n k k_in)
+  -- rising cells of the week, each with the coefficient
+  pub sound-cells : (coefficient : ℤ) → IsUnit coefficient → (first end : ℕ) (cells : List Cell) → 1 ≤ first →
+      AllByRecursion (InWeek week) cells → RisesWithin (cell_number week) first end cells → AreSound week (times coefficient cells)
+  sound-cells coefficient unit first end cells from inside rises =
+      let in_week = on-times (InWeek week) coefficient cells inside in record {
+        in_week = in_week;
+        rise = rises-inside first end _ from (rises-times week first end coefficient cells rises) in_week;
+        units = coefficients-times IsUnit coefficient cells unit;
+      }
 
   pub sound-demand : (d s k : ℕ) → d < 7 → s < week.shifts → k < week.skills → AreSound week (times (pos 1) (demand_cells week d s k))
-  sound-demand d s k d_in s_in k_in = record {
-    in_week = on-times (InWeek week) (pos 1) (demand_cells week d s k) (in-demand_cells week d s k d_in s_in k_in);
-    rise = within-block week (day_start week 0 0) (day_start week week.nurses 0) (times (pos 1) (demand_cells week d s k))
-        (omega arith) (omega arith)
-        (rises-times week (day_start week 0 0) (day_start week week.nurses 0) (pos 1) (demand_cells week d s k)
-        (rises-demand_cells week d s k d_in s_in k_in));
-    units = units-times (demand_cells week d s k);
-  }
+  sound-demand d s k d_in s_in k_in =
+      sound-cells (pos 1) (inl refl) _ _ (demand_cells week d s k) (omega arith)
+      (AllByRecursion-each_below (InWeek week) week.nurses _ (λ n n_in. (in-cell week n d s k n_in d_in s_in k_in, tt)))
+      (rises-demand_cells week d s k d_in s_in k_in)

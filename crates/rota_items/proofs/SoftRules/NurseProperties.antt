@@ -1,12 +1,12 @@
 -- The items of patterns of a nurse's days are sound.
 use Rattle.rota_items.proofs.Common.Words.{ℕ, ◌+◌, ◌<◌, ◌≤◌, List, refl, arith, count_by, AllByRecursion, mul-le, KeepsOneCell, Roster, InWeek, Week, Rule, Cell, cell_number, on_cells, work_cells, AtMostOneADay, DaysFollow, has_property, Property, Present, Runs, pattern_item, run_items, variables_on, Pattern}
 use Rattle.rota_core.specs.RisingLists.{RisesWithin}
-use Rattle.rota_items.proofs.CellCounts.{cond-le, count-on_cells, count-work_cells, on_count-le, work_count-le}
-use Rattle.rota_items.proofs.SoundTerms.{in-on_cells, in-work_cells, OnVariables, on-days, units-days}
+use Rattle.rota_items.proofs.CellCounts.{cond-le, one-on, one-work}
+use Rattle.rota_items.proofs.SoundTerms.{in-on_cells, in-work_cells, OnVariables, on-days, rises-inside, units-days}
 use Rattle.rota_items.proofs.DayLaw.{matches}
 use Rattle.rota_items.proofs.EachPattern.{on-pattern, each-run_item}
 use Rattle.rota_items.proofs.PatternItems.{shortage-pattern_item}
-use Rattle.rota_items.proofs.RisingCells.{day_start, on-keeps, rises-pattern, rises-work_cells}
+use Rattle.rota_items.proofs.RisingCells.{day_start, on-keeps, rises-days, rises-work_cells}
 use Rattle.rota_items.proofs.SoftRules.Sound.{IsItemSound}
 
 -- the cells are those of a nurse's days, at most one a day true on a roster
@@ -22,12 +22,11 @@ module _ (week : Week) (n : ℕ) (n_in : n < week.nurses) where
     nurse_in = n_in;
     cells_in = λ d d_in. in-on_cells week n s d n_in s_in d_in;
     cells_rise = λ d. on-keeps week n s d s_in;
-    one = λ roster one d d_in.
-        omega (arith, count-on_cells week roster n s d, on_count-le week roster one n d n_in d_in s s_in);
+    one = λ roster one d d_in. one-on week roster one n d n_in d_in s s_in;
   }
 
   pub one-at_work : (roster : Roster) → KeepsOneCell week roster → AtMostOneADay (Present (work_cells week n)) roster
-  one-at_work roster one d d_in = omega (arith, count-work_cells week roster n d, work_count-le week roster one n d n_in d_in)
+  one-at_work roster one d d_in = one-work week roster one n d n_in d_in
 
   pub of_nurse-work : IsOfNurse week n (work_cells week n)
   of_nurse-work = record {
@@ -40,24 +39,26 @@ module _ (week : Week) (n : ℕ) (n_in : n < week.nurses) where
 module _ (week : Week) (rule : Rule) (weight n : ℕ) (property : Property Cell) (is : IsOfNurse week n (variables_on property)) where
   pub sound-pattern : (pattern : Pattern) → DaysFollow pattern → 1 ≤ weight → 1 ≤ pattern.units →
       IsItemSound week rule (pattern_item rule weight property pattern)
-  sound-pattern pattern follows weighs some = record {
-    rule_is = refl;
-    terms = record {
-      in_week = on-days (InWeek week) property pattern.days
-          (on-pattern (OnVariables (InWeek week) property) is.cells_in pattern follows);
-      rise = rises-pattern week n property is.nurse_in is.cells_rise follows.first pattern.days follows.days_are follows.in_week;
-      units = units-days property pattern.days;
-    };
-    weighs = omega (arith, mul-le 1 1 weight pattern.units weighs some);
-    has_slack = omega arith;
-    enough = λ roster keeps.
-        omega (
-          arith,
-          shortage-pattern_item rule weight property roster pattern
-              (on-pattern (λ d. count_by roster (variables_on property d) ≤ 1) (is.one roster keeps.one_cell) pattern follows),
-          cond-le (matches (has_property property roster) pattern.days),
-        );
-  }
+  sound-pattern pattern follows weighs some =
+      let inside = on-days (InWeek week) property pattern.days
+      (on-pattern (OnVariables (InWeek week) property) is.cells_in pattern follows) in record {
+        rule_is = refl;
+        terms = record {
+          in_week = inside;
+          rise = rises-inside week _ _ _ (omega arith)
+              (rises-days week n property is.cells_rise follows.first _ pattern.days follows.days_are refl) inside;
+          units = units-days property pattern.days;
+        };
+        weighs = omega (arith, mul-le 1 1 weight pattern.units weighs some);
+        has_slack = omega arith;
+        enough = λ roster keeps.
+            omega (
+              arith,
+              shortage-pattern_item rule weight property roster pattern
+                  (on-pattern (λ d. count_by roster (variables_on property d) ≤ 1) (is.one roster keeps.one_cell) pattern follows),
+              cond-le (matches (has_property property roster) pattern.days),
+            );
+      }
 
 module _ (week : Week) (n : ℕ) (runs : Runs Cell) where
   pub sound-run_items : IsOfNurse week n (variables_on runs.property) → 1 ≤ runs.weight →

@@ -1,12 +1,11 @@
 -- The terms on cells charge the request rows that are not granted.
-use Rattle.rota_items.proofs.Common.Words.{◌≡◌, ℕ, zero, suc, ◌+◌, ◌*◌, ◌<◌, ◌≤◌, Bool, true, false, cond, List, refl, ap, ◌∙◌, arith, pos, ◌+ℤ◌, ◌<ℤ◌, ◌≤ℤ◌, nat_lt, AllByRecursion, ltb-false, ltb-true, ints, AllByRecursion-each_below, AllByRecursion-only_if, sum_below, each_below, only_if, Roster, InWeek, cell, Week, Cell, Term, value_of, IsWithinLimits, S4, most_weight, request_cost, request_weight, request_terms, request_terms_on}
+use Rattle.rota_items.proofs.Common.Words.{◌≡◌, ℕ, zero, suc, ◌+◌, ◌*◌, ◌<◌, ◌≤◌, Bool, true, false, cond, List, refl, ap, ◌∙◌, arith, pos, ◌+ℤ◌, ◌<ℤ◌, ◌≤ℤ◌, nat_lt, AllByRecursion, ltb-false, ltb-true, ints, AllByRecursion-each_below, AllByRecursion-only_if, sum_below, each_below, only_if, Roster, InWeek, cell, Week, Cell, unit_number, Term, value_of, IsWithinLimits, S4, most_weight, request_cost, request_weight, request_terms, request_terms_on}
 use Rattle.rota_core.specs.RisingLists.{RisesWithin}
-use Rattle.rota_core.proofs.LogicWords.{weaken, widen, rises-each, rises-only_if}
+use Rattle.rota_core.proofs.LogicWords.{rises-in, weaken, widen, rises-each, rises-only_if}
 use Rattle.rota_items.proofs.AlikeRosters.{same_cell}
-use Rattle.rota_items.proofs.SoundTerms.{in-cell}
 use Rattle.rota_items.proofs.ItemLists.{none-each_below}
 use Rattle.rota_items.proofs.PatternItems.{value_of-append}
-use Rattle.rota_items.proofs.RisingCells.{at, day_start, shift_start, within, within-block}
+use Rattle.rota_items.proofs.RisingCells.{at, day_start, in-cell, shift_start, within}
 use Rattle.rota_items.proofs.SoftRules.Sound.{IsSoftRuleSound, no_constant}
 use Rattle.rota_items.proofs.Lists.{sum_below-same}
 
@@ -104,7 +103,7 @@ module _ (week : Week) where
 
   pub rise-request_terms : within week (request_terms week)
   rise-request_terms =
-      within-block week (day_start week 0 0) (day_start week week.nurses 0) _ (omega arith) (omega arith)
+      rises-in (at week) 1 (day_start week 0 0) (day_start week week.nurses 0) (unit_number week) _ (omega arith) (omega arith)
       (rises-each (at week) week.nurses (λ n. each_below 7 (requests_on n)) (λ n. day_start week n 0) (λ n n_in.
       widen (at week) _ (day_start week n 7) _ _ (omega arith)
       (rises-each (at week) 7 (requests_on n) (day_start week n) (λ d d_in. rises-on_day n d))))
