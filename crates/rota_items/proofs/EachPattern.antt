@@ -1,6 +1,6 @@
 -- What holds of each window and pattern that charges a property's runs. Their days follow one another.
-use Rattle.rota_items.proofs.Common.Words.{◌≡◌, ℕ, zero, suc, ◌+◌, ◌-◌, ◌<◌, ◌≤◌, List, [], ◌∷◌, ◌++◌, length, map, refl, sym, ap, ◌∙◌, true, arith, length-append, nat_lt, nat_le, max, ◌&&◌, All, AllByRecursion, range_with_len, length-map, All-from_recursion, All-weaker, length-range_with_len, AllByRecursion-append, AllByRecursion-each_below, AllByRecursion-only_if, length-each_below, length-only_if, each_below, Item, Span, PatternDay, Pattern, with_property, without_property, window, windows_on, windows, closed_pattern, closed_patterns_at, closed_patterns_on, edge_pattern, edge_patterns_on, patterns_on, patterns, DaysFollow, Runs, pattern_item, run_items, most_run_items}
-use Rattle.rota_items.proofs.Lists.{length-each_below_both, all-map, all-weaker}
+use Rattle.rota_items.proofs.Common.Words.{◌≡◌, ℕ, zero, suc, ◌+◌, ◌-◌, ◌<◌, ◌≤◌, List, [], ◌∷◌, ◌++◌, length, map, refl, sym, ap, ◌∙◌, subst, true, arith, length-append, nat_lt, nat_le, max, ◌&&◌, All, AllByRecursion, range_with_len, length-map, All-from_recursion, length-range_with_len, AllByRecursion-append, AllByRecursion-each_below, AllByRecursion-only_if, length-each_below, length-only_if, each_below, Item, Span, PatternDay, Pattern, with_property, without_property, window, windows_on, windows, closed_pattern, closed_patterns_at, closed_patterns_on, edge_pattern, edge_patterns_on, patterns_on, patterns, DaysFollow, Runs, pattern_item, run_items, most_run_items}
+use Rattle.rota_items.proofs.Lists.{length-each_below_both, all-back, all-map, all-weaker}
 
 -- ---- the days
 
@@ -17,13 +17,6 @@ numbers-ended : (first n end : ℕ) → first + n ≡ end →
 numbers-ended first zero end same = let last : end ≡ first = omega arith in ap (λ d. d ∷ []) last
 numbers-ended first (suc n) end same = ap (λ xs. first ∷ xs) (numbers-ended (first + 1) n end (omega arith))
 
-follow : (pattern : Pattern) (first n : ℕ) → map number pattern.days ≡ range_with_len first n → first + n ≤ 7 →
-    DaysFollow pattern
-follow pattern first n numbers_are in_week =
-    let long : length pattern.days ≡ n =
-    sym (length-map pattern.days number) ∙ ap length numbers_are ∙ length-range_with_len first n in
-    record { first = first; days_are = numbers_are ∙ ap (range_with_len first) (sym long); in_week = omega arith }
-
 -- ---- the windows and patterns
 
 -- the days follow one another, and cost at most what lacks of the minimum
@@ -32,49 +25,45 @@ pub record IsRunPattern (limits : Span) (pattern : Pattern) : Type 0 where
   pub some : 1 ≤ pattern.units
   pub few : pattern.units ≤ max 1 limits.min
 
-short_of_test : (k m : ℕ) → (nat_le 1 k && nat_lt k m) ≡ true → k < m
-short_of_test k m test = grind arith
-
 module _ (history : ℕ) (limits : Span) where
   abbrev Is : Pattern → Type 0
   Is pattern = IsRunPattern limits pattern
 
+  is_run : (pattern : Pattern) (first n : ℕ) → map number pattern.days ≡ range_with_len first n → first + n ≤ 7 →
+      1 ≤ pattern.units → pattern.units ≤ max 1 limits.min → Is pattern
+  is_run pattern first n are in_week some few =
+      let long : length pattern.days ≡ n = omega (arith, length-map pattern.days number, ap length are, length-range_with_len first n) in record {
+        follows = record { first = first; days_are = rw long are; in_week = omega arith };
+        some = some;
+        few = few;
+      }
+
   module _ (d : ℕ) (d_in : d < 7) where
     each-windows_on : AllByRecursion Is (windows_on history limits d)
     each-windows_on =
-        AllByRecursion-only_if Is (nat_lt limits.max (history + d + 1)) (window limits.max d) (λ _. record {
-          follows = follow (window limits.max d) (d - limits.max) (d + 1 - (d - limits.max)) (numbers-with _ _) (omega arith);
-          some = omega arith;
-          few = omega arith;
-        })
+        AllByRecursion-only_if Is _ (window limits.max d) (λ _.
+        is_run (window limits.max d) (d - limits.max) _ (numbers-with _ _) (omega arith) (omega arith) (omega arith))
 
-    is-closed : (k : ℕ) → k < d → k < limits.min → Is (closed_pattern limits.min d k)
-    is-closed k room short =
+    is-closed : (k : ℕ) → k < d → (nat_le 1 k && nat_lt k limits.min) ≡ true → Is (closed_pattern limits.min d k)
+    is-closed k room test =
+        let short : k < limits.min = grind arith in
         let before : d - k ≡ d - k - 1 + 1 = omega arith in
-        let n : ℕ = suc (d - (d - k)) in record {
-          follows = follow (closed_pattern limits.min d k) (d - k - 1) (suc n)
-              (ap (λ xs. (d - k - 1) ∷ xs)
-              (numbers-ended (d - k) (d - (d - k)) d (omega arith) ∙ ap (λ first. range_with_len first n) before))
-              (omega arith);
-          some = omega arith;
-          few = omega arith;
-        }
+        is_run (closed_pattern limits.min d k) (d - k - 1) (suc (suc (d - (d - k))))
+        (ap (λ xs. (d - k - 1) ∷ xs)
+        (numbers-ended (d - k) (d - (d - k)) d (omega arith) ∙ ap (λ first. range_with_len first (suc (d - (d - k)))) before))
+        (omega arith) (omega arith) (omega arith)
 
-    is-edge : history + d < limits.min → Is (edge_pattern history limits.min d)
-    is-edge short = record {
-      follows = follow (edge_pattern history limits.min d) 0 (suc (d - 0)) (numbers-ended 0 (d - 0) d (omega arith)) (omega arith);
-      some = omega arith;
-      few = omega arith;
-    }
+    is-edge : (nat_le 1 (history + d) && nat_lt (history + d) limits.min) ≡ true → Is (edge_pattern history limits.min d)
+    is-edge test =
+        let short : history + d < limits.min = grind arith in
+        is_run (edge_pattern history limits.min d) 0 (suc (d - 0)) (numbers-ended 0 (d - 0) d (omega arith)) (omega arith) (omega arith) (omega arith)
 
     each-patterns_on : AllByRecursion Is (patterns_on history limits d)
     each-patterns_on =
         AllByRecursion-append Is (closed_patterns_on limits.min d) (edge_patterns_on history limits.min d)
         (AllByRecursion-each_below Is d (closed_patterns_at limits.min d) (λ k room.
-        AllByRecursion-only_if Is (nat_le 1 k && nat_lt k limits.min) (closed_pattern limits.min d k)
-        (λ test. is-closed k room (short_of_test k limits.min test))))
-        (AllByRecursion-only_if Is (nat_le 1 (history + d) && nat_lt (history + d) limits.min)
-        (edge_pattern history limits.min d) (λ test. is-edge (short_of_test (history + d) limits.min test)))
+        AllByRecursion-only_if Is _ (closed_pattern limits.min d k) (is-closed k room)))
+        (AllByRecursion-only_if Is _ (edge_pattern history limits.min d) is-edge)
 
     pub each-on : AllByRecursion Is (windows_on history limits d ++ patterns_on history limits d)
     each-on =
@@ -87,9 +76,7 @@ module _ (history : ℕ) (limits : Span) where
       (AllByRecursion-each_below Is 7 (patterns_on history limits) each-patterns_on)
 
   pub days-follow : All DaysFollow (windows history limits ++ patterns history limits)
-  days-follow =
-      All-weaker Is DaysFollow (λ _ is. is.follows) (windows history limits ++ patterns history limits)
-      (All-from_recursion Is (windows history limits ++ patterns history limits) each-pattern)
+  days-follow = All-from_recursion DaysFollow _ (all-weaker Is DaysFollow (λ _ is. is.follows) _ each-pattern)
 
   -- ---- how many
 
@@ -98,27 +85,22 @@ module _ (history : ℕ) (limits : Span) where
       omega (
         arith,
         length-each_below 7 1 (windows_on history limits) (λ d _. length-only_if _ _),
-        length-each_below 7 7 (patterns_on history limits) few_on,
+        length-each_below 7 7 (patterns_on history limits) (λ d d_in.
+            omega (
+              arith,
+              length-append (closed_patterns_on limits.min d) (edge_patterns_on history limits.min d),
+              length-each_below d 1 (closed_patterns_at limits.min d) (λ k _. length-only_if _ _),
+              length-only_if (nat_le 1 (history + d) && nat_lt (history + d) limits.min) (edge_pattern history limits.min d),
+            )),
       )
-    where
-      few_on : (d : ℕ) → d < 7 → length (patterns_on history limits d) ≤ 7
-      few_on d d_in =
-          omega (
-            arith,
-            length-append (closed_patterns_on limits.min d) (edge_patterns_on history limits.min d),
-            length-each_below d 1 (closed_patterns_at limits.min d) (λ k _. length-only_if _ _),
-            length-only_if (nat_le 1 (history + d) && nat_lt (history + d) limits.min) (edge_pattern history limits.min d),
-          )
 
 -- what holds of the item of each window and pattern holds of the items of the runs
 pub each-run_item : {X : Type 0} (runs : Runs X) (P : Item X → Type 0) →
     ((pattern : Pattern) → IsRunPattern runs.limits pattern → P (pattern_item runs.rule runs.weight runs.property pattern)) →
     AllByRecursion P (run_items runs)
-each-run_item {X} runs P each =
-    let item : Pattern → Item X = pattern_item runs.rule runs.weight runs.property in
-    let all : List Pattern = windows runs.history runs.limits ++ patterns runs.history runs.limits in
-    all-map P item all
-    (all-weaker (IsRunPattern runs.limits) (λ pattern. P (item pattern)) each all (each-pattern runs.history runs.limits))
+each-run_item runs P each =
+    all-map P (pattern_item runs.rule runs.weight runs.property) (windows runs.history runs.limits ++ patterns runs.history runs.limits)
+    (all-weaker (IsRunPattern runs.limits) _ each _ (each-pattern runs.history runs.limits))
 
 -- the closed patterns of the week and its edge patterns
 pub length-patterns : (history : ℕ) (limits : Span) →
@@ -134,13 +116,11 @@ abbrev pub OnDays : (ℕ → Type 0) → List PatternDay → Type 0
 OnDays P days = AllByRecursion (λ day. P day.day) days
 
 module _ (P : ℕ → Type 0) (each : (d : ℕ) → d < 7 → P d) where
-  on-days_from : (first : ℕ) (days : List PatternDay) → map number days ≡ range_with_len first (length days) →
-      first + length days ≤ 7 → OnDays P days
-  on-days_from first [] days_are inside = tt
-  on-days_from first (day ∷ days) days_are inside =
-      let here : day.day ≡ first = cc in
-      let rest : map number days ≡ range_with_len (first + 1) (length days) = cc in
-      (each day.day (omega (arith, here)), on-days_from (first + 1) days rest (omega arith))
+  on-range : (first n : ℕ) → first + n ≤ 7 → AllByRecursion P (range_with_len first n)
+  on-range first zero inside = tt
+  on-range first (suc n) inside = (each first (omega arith), on-range (first + 1) n (omega arith))
 
   pub on-pattern : (pattern : Pattern) → DaysFollow pattern → OnDays P pattern.days
-  on-pattern pattern follows = on-days_from follows.first pattern.days follows.days_are follows.in_week
+  on-pattern pattern follows =
+      all-back P number pattern.days
+      (subst (AllByRecursion P) (sym follows.days_are) (on-range follows.first (length pattern.days) follows.in_week))

@@ -28,7 +28,6 @@ pub mod JudgedRows
 pub mod JudgedTerms
 pub mod JudgedVerdict
 pub mod LawProofs
-pub mod Least
 pub mod Lists
 pub mod ListsAre
 pub mod LiteralTaking

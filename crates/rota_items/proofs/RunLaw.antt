@@ -1,83 +1,65 @@
 -- The items of a property's runs charge the cost of the runs.
-use Rattle.rota_items.proofs.Common.Words.{◌≡◌, ℕ, ◌*◌, ◌<◌, ◌≤◌, Bool, cond, List, [], ◌∷◌, ◌++◌, refl, ap, ◌∙◌, arith, All, count_by, sum_by, AllByRecursion, sum_by-cons, sum_by-append, sum_below, All-from_recursion, Item, shortage, weighted_shortages, Span, Runs, variables_on, pattern_item, run_items, pattern_items, Pattern, windows_on, patterns_on, windows, patterns, has_property, day_items, AtMostOneADay, DaysFollow, day_cost, week_days, is_over, missing_on, run_over, run_under, run_cost}
+use Rattle.rota_items.proofs.Common.Words.{◌≡◌, ℕ, ◌*◌, ◌<◌, ◌≤◌, Bool, cond, List, [], ◌∷◌, ◌++◌, refl, ap, arith, All, count_by, sum_below, AllByRecursion, sum_by-cons, sum_by-append, All-from_recursion, Item, shortage, weighted_shortages, Span, Runs, variables_on, pattern_item, run_items, pattern_items, Pattern, windows_on, patterns_on, windows, patterns, has_property, day_items, AtMostOneADay, DaysFollow, day_cost, is_over, missing_on, run_over, run_under, run_cost}
 use Rattle.rota_items.proofs.CellCounts.{cond-le}
 use Rattle.rota_items.proofs.DayLaw.{matches, units_of, units, units-windows_on, units-patterns_on}
 use Rattle.rota_items.proofs.EachPattern.{IsRunPattern, each-on, each-pattern, on-pattern, each-run_item}
 use Rattle.rota_items.proofs.Lists.{sum_by-each-is}
 use Rattle.rota_items.proofs.PatternItems.{AtMostOneOn, weighted-pattern_item, shortage-pattern_item}
 
-sum_by-week_days : (f : ℕ → ℕ) → sum_below 7 f ≡ sum_by f week_days
-unfolding sum_below
-sum_by-week_days f = refl
-
-module _ (has : ℕ → Bool) (history : ℕ) (limits : Span) where
-  units-run : units has (windows history limits ++ patterns history limits) ≡ run_cost has history limits
-  unfolding run_over run_under
-  units-run =
-      let over : ℕ → ℕ = λ d. cond (is_over has history limits.max d) 1 0 in
-      let under : ℕ → ℕ = missing_on has history limits.min in
-      omega (
-        arith,
-        sum_by-append (units_of has) (windows history limits) (patterns history limits),
-        sum_by-each-is (units_of has) 7 (windows_on history limits) over (λ d _. units-windows_on has history d limits),
-        sum_by-each-is (units_of has) 7 (patterns_on history limits) under (λ d _. units-patterns_on has history d limits),
-        sum_by-week_days over,
-        sum_by-week_days under,
-      )
-
-  units-day : (d : ℕ) → units has (windows_on history limits d ++ patterns_on history limits d) ≡ day_cost has history limits d
-  units-day d =
-      omega (
-        arith,
-        sum_by-append (units_of has) (windows_on history limits d) (patterns_on history limits d),
-        units-windows_on has history d limits,
-        units-patterns_on has history d limits,
-      )
-
 module _ {X : Type 0} (runs : Runs X) (assignment : X → Bool) (one : AtMostOneADay runs.property assignment) where
   abbrev has : ℕ → Bool
   has = has_property runs.property assignment
 
-  abbrev item_of_pattern : Pattern → Item X
-  item_of_pattern = pattern_item runs.rule runs.weight runs.property
+  abbrev history : ℕ
+  history = runs.history
 
-  abbrev weight : Item X → ℕ
-  weight item = item.weight * shortage assignment item
+  abbrev limits : Span
+  limits = runs.limits
 
   at_most_one : (pattern : Pattern) → DaysFollow pattern → AtMostOneOn runs.property assignment pattern.days
-  at_most_one pattern follows =
-      on-pattern (λ d. count_by assignment (variables_on runs.property d) ≤ 1) one pattern follows
+  at_most_one = on-pattern (λ d. count_by assignment (variables_on runs.property d) ≤ 1) one
 
-  weighted_shortages-pattern_items : (all : List Pattern) → AllByRecursion (IsRunPattern runs.limits) all →
+  weighted_shortages-pattern_items : (all : List Pattern) → AllByRecursion (IsRunPattern limits) all →
       weighted_shortages assignment (pattern_items runs all) ≡ runs.weight * units has all
   weighted_shortages-pattern_items [] are = omega arith
   weighted_shortages-pattern_items (p ∷ ps) are =
       omega (
         arith,
-        sum_by-cons weight (item_of_pattern p) (pattern_items runs ps),
+        sum_by-cons (λ (item : Item X). item.weight * shortage assignment item)
+            (pattern_item runs.rule runs.weight runs.property p) (pattern_items runs ps),
         ap (λ n. runs.weight * n) (sum_by-cons (units_of has) p ps),
         weighted-pattern_item runs.rule runs.weight runs.property assignment p (at_most_one p are.0.follows),
         weighted_shortages-pattern_items ps are.1,
       )
 
-  pub weighted_shortages-run_items :
-      weighted_shortages assignment (run_items runs) ≡ runs.weight * run_cost has runs.history runs.limits
+  pub weighted_shortages-run_items : weighted_shortages assignment (run_items runs) ≡ runs.weight * run_cost has history limits
+  unfolding run_over run_under sum_below
   weighted_shortages-run_items =
-      weighted_shortages-pattern_items (windows runs.history runs.limits ++ patterns runs.history runs.limits)
-      (each-pattern runs.history runs.limits) ∙
-      ap (λ n. runs.weight * n) (units-run has runs.history runs.limits)
+      rw (
+        weighted_shortages-pattern_items (windows history limits ++ patterns history limits) (each-pattern history limits),
+        sum_by-append (units_of has) (windows history limits) (patterns history limits),
+        sum_by-each-is (units_of has) 7 (windows_on history limits) (λ d. cond (is_over has history limits.max d) 1 0)
+            (λ d _. units-windows_on has history d limits),
+        sum_by-each-is (units_of has) 7 (patterns_on history limits) (missing_on has history limits.min)
+            (λ d _. units-patterns_on has history d limits),
+      )
+      refl
 
   pub weighted_shortages-day_items : (d : ℕ) → d < 7 →
-      weighted_shortages assignment (day_items runs d) ≡ runs.weight * day_cost has runs.history runs.limits d
+      weighted_shortages assignment (day_items runs d) ≡ runs.weight * day_cost has history limits d
   weighted_shortages-day_items d d_in =
-      weighted_shortages-pattern_items (windows_on runs.history runs.limits d ++ patterns_on runs.history runs.limits d)
-      (each-on runs.history runs.limits d d_in) ∙
-      ap (λ n. runs.weight * n) (units-day has runs.history runs.limits d)
+      rw (
+        weighted_shortages-pattern_items (windows_on history limits d ++ patterns_on history limits d) (each-on history limits d d_in),
+        sum_by-append (units_of has) (windows_on history limits d) (patterns_on history limits d),
+        units-windows_on has history d limits,
+        units-patterns_on has history d limits,
+      )
+      refl
 
   pub shortages-run_items : All (λ item. shortage assignment item ≤ item.slacks) (run_items runs)
   shortages-run_items =
-      All-from_recursion (λ (item : Item X). shortage assignment item ≤ item.slacks) (run_items runs)
-      (each-run_item runs (λ (item : Item X). shortage assignment item ≤ item.slacks) (λ p is.
+      let HasEnough : Item X → Type 0 = λ item. shortage assignment item ≤ item.slacks in
+      All-from_recursion HasEnough (run_items runs) (each-run_item runs HasEnough (λ p is.
       omega (
         arith,
         shortage-pattern_item runs.rule runs.weight runs.property assignment p (at_most_one p is.follows),

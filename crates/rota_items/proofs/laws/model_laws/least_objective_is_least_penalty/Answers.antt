@@ -1,8 +1,17 @@
-use Rattle.rota_items.proofs.Least.{least, none}
+use Rattle.rota_items.proofs.Common.{arith, ints, extension_of, roster_of}
+use Rattle.rota_items.proofs.Extension.{extension-satisfies, extension-objective, satisfying-keeps, satisfying-objective}
 use Rattle.rota_items.proofs.laws.model_laws.least_objective_is_least_penalty.Goals as goal
 
 pub returns-clause-least : goal.returns-clause-least
-returns-clause-least c = least
+returns-clause-least c = λ week least. (
+  λ bound roster keeps.
+      omega (arith, ints, bound _ (extension-satisfies week roster keeps), extension-objective week roster keeps),
+  λ bound assignment all.
+      omega (arith, ints, bound _ (satisfying-keeps week assignment all), satisfying-objective week assignment all),
+)
 
 pub returns-clause-none : goal.returns-clause-none
-returns-clause-none c = none
+returns-clause-none c = λ week. (
+  λ no_assignment roster keeps. no_assignment _ (extension-satisfies week roster keeps),
+  λ no_roster assignment all. no_roster _ (satisfying-keeps week assignment all),
+)
