@@ -102,7 +102,7 @@ module _ (week : Week) (subject : Subject) where
 
   -- ---- what each rule is charged
 
-  abbrev charges : Rule → ℕ
+  abbrev pub charges : Rule → ℕ
   charges rule = sum_by (charge_of week subject rule) (numbered_items week)
 
   pub charges-are : (rule : Rule) → charges rule ≡ of_rule (λ own. weighted_shortages roster (items_of_rule week own)) rule
