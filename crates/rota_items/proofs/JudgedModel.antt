@@ -2,13 +2,12 @@
 use Rattle.rota_items.proofs.Common.Words.{mul-le-mul_right, ◌≡◌, ℕ, ◌+◌, ◌*◌, ◌<◌, ◌≤◌, Bool, true, List, [], ◌∷◌, ◌++◌, refl, ap, ◌∙◌, cond, arith, pos, negsuc, nat_abs, if◌then◌else◌, AllByRecursion, fold, sum_by, ints, fold-append, sum_by-cons, AllByRecursion-append, Roster, InWeek, set_of, soft_rules, Week, Rule, Cell, cell_number, unit_number, first_slack, Item, numbered, shortage, weighted_shortages, Term, value_of, times, LinearRow, objective_rows, item_rows, slack_variables, slack_weights, cell_terms, constant, items_of_rule, soft_items, rule_rows, hard_rows, numbered_items, numbered_row, numbered_terms, objective_terms, rows_of, first_unmet, IsWithinLimits, most_objective, request_cost, signed_limit, Objective, events, row_events, RowSums, Tally, Subject, assigned, extended, assignment_in, roster_in, capped, no_sums, no_tally, tallied}
 use Rattle.rota_core.specs.declared.rule.Rule.TheVariants.{Unit as UnitRule}
 use Rattle.rota_items.proofs.Extension.{extension-roster, shortage-of_item, terms-below, value_of-objective, value_of-of_terms}
-use Rattle.rota_items.proofs.FirstUnmet.{later-zero}
 use Rattle.rota_items.proofs.HardRules.EachRule.{each-row}
 use Rattle.rota_items.proofs.ItemEventLists.{slack_count-numbered}
 use Rattle.rota_items.proofs.ItemLaw.{extension-extends}
 use Rattle.rota_items.proofs.JudgedItems.{Follows, IsFit, at_slacks, charge_of, items-come, paid_for, paid_for-is}
 use Rattle.rota_items.proofs.ItemSizes.{each-small}
-use Rattle.rota_items.proofs.JudgedRows.{Comes, IsHardRow, rows-come, same}
+use Rattle.rota_items.proofs.JudgedRows.{Comes, IsHardRow, rows-come, same, later-zero}
 use Rattle.rota_items.proofs.JudgedTerms.{AtSlacks, counted-before, counted_other, others-at_slacks, others-before, row-tallied}
 use Rattle.rota_items.proofs.Lists.{all-map, sum_by-each-same, sum_by-flat_map, sum_by-map}
 use Rattle.rota_items.proofs.ObjectiveBound.{objective-below, IsPositive, coefficients-positive}
@@ -99,7 +98,7 @@ module _ (week : Week) (subject : Subject) where
 
   -- ---- what each rule is charged
 
-  abbrev charges : Rule → ℕ
+  abbrev pub charges : Rule → ℕ
   charges rule = sum_by (charge_of week subject rule) (numbered_items week)
 
   pub charges-are : (rule : Rule) → charges rule ≡ of_rule (λ own. weighted_shortages roster (items_of_rule week own)) rule

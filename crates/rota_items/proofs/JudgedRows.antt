@@ -1,7 +1,7 @@
 -- What a judge makes of rows, one after the other.
 use Rattle.rota_items.proofs.Common.Words.{◌≡◌, ℕ, ◌+◌, ◌-◌, ◌*◌, ◌<◌, ◌≤◌, Bool, true, false, List, [], ◌∷◌, ◌++◌, map, length, refl, sym, ap, ◌∙◌, arith, min, w64, Option, Some, None, add-zero, inl, inr, ℤ, pos, negsuc, ◌+ℤ◌, ◌-ℤ◌, ◌==◌, int_le, nat_le, if◌then◌else◌, fold, AllByRecursion, ints, fold-append, saturate_signed, option_or, leb_tells, one-mul, zero-mul, soft_rules, Week, Rule, positive_part, LinearRow, is_satisfied, first_unmet, later, rule_of_part, greatest_count, half_limit, signed_limit, Hard, row_events, events, RowSums, Tally, Subject, assigned, extended, assignment_in, capped, closed, constraint_closed, lacking_in, tallied, true_slacks, with_cost, soft_place}
 use Rattle.rota_core.specs.declared.rule.Rule.TheVariants.{Unit as UnitRule}
-use Rattle.rota_items.proofs.FirstUnmet.{Named, later-later}
+use Rattle.rota_items.proofs.FirstUnmet.{Named}
 use Rattle.rota_items.proofs.JudgedTerms.{Before, opened, others-before, row-tallied, slacks-before, sums_of}
 use Rattle.rota_items.proofs.SmallSums.{positive_part-parts, spread}
 
@@ -27,6 +27,15 @@ cost-raised UnitRule more f = simp (zero-mul, add-zero)
 cost-raised _ more f = simp (capped-sum, one-mul, zero-mul, add-zero)
 
 -- ---- what is unmet
+
+pub later-zero : (found : Named) → later 0 found ≡ found
+later-zero None = refl
+later-zero (Some (number, rule)) = let same : 0 + number ≡ number = omega arith in ap (λ (n : ℕ). Some (n, rule)) same
+
+later-later : (m n : ℕ) (found : Named) → later m (later n found) ≡ later (m + n) found
+later-later m n None = refl
+later-later m n (Some (number, rule)) =
+    let same : m + (n + number) ≡ m + n + number = omega arith in ap (λ (n : ℕ). Some (n, rule)) same
 
 pub or_else-none : (found : Named) → option_or found None ≡ found
 or_else-none (Some x) = refl

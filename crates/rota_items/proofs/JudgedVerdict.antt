@@ -1,7 +1,7 @@
 -- A judge that was driven has the verdict of its assignment.
 use Rattle.rota_items.proofs.Common.Words.{◌≡◌, ℕ, ◌+◌, ◌-◌, ◌*◌, ◌≤◌, Bool, List, [], ◌∷◌, ◌++◌, map, refl, sym, ap, subst, ◌∙◌, arith, pos, if◌then◌else◌, AllByRecursion, fold, sum_by, ints, sum_by-cons, soft_rules, Week, Rule, unit_number, weighted_shortages, IsWithinLimits, value_of, objective_rows, cell_terms_of_rule, charged, constant, constant_of_rule, items_of_rule, objective_terms, rows_of, InstanceTables, IsInstance, week_of, S4, Tally, Event, events, Subject, Judging, assignment_in, roster_in, capped, counts_for, fresh, judged, no_tally, tallied, WasDriven, with_constants, with_cost, greatest_sum, request_cost, Judges}
 use Rattle.rota_items.proofs.InstanceLimits.{instance-within_limits}
-use Rattle.rota_items.proofs.JudgedModel.{charges-are, few, given, model-comes, objective-judged, of_rule}
+use Rattle.rota_items.proofs.JudgedModel.{charges, charges-are, few, given, model-comes, objective-judged, of_rule}
 use Rattle.rota_items.proofs.JudgedRows.{cost-raised, costs_of, or_else-none, same}
 use Rattle.rota_items.proofs.JudgedTerms.{counts-before}
 use Rattle.rota_items.proofs.PenaltyBound.{constant_of_rule-few, shortages-few}
@@ -29,22 +29,6 @@ StandsOnce rule = (f : Rule → ℕ) → of_rule f rule ≡ f rule
 stand-once : AllByRecursion StandsOnce soft_rules
 stand-once = omega arith
 
-is-capped : (n : ℕ) → n ≤ greatest_sum → n ≡ capped n
-is-capped n few = omega arith
-
-module _ (week : Week) (within : IsWithinLimits week) where
-  constants-raised : (rules : List Rule) (f at_last : Rule → ℕ) →
-      ((rule : Rule) → f rule + sum_by (λ own. same own rule * constant_of_rule week own) rules ≡ at_last rule) →
-      with_constants week rules (costs_of f) ≡ costs_of at_last
-  constants-raised [] f at_last sums =
-      let are : (rule : Rule) → f rule ≡ at_last rule = λ rule. omega (arith, sums rule) in λ i. costs_of (λ rule. are rule i)
-  constants-raised (own ∷ rules) f at_last sums =
-      ap (with_constants week rules)
-      (ap (λ n. with_cost own n (costs_of f)) (is-capped (constant_of_rule week own) (omega (arith, constant_of_rule-few week within own))) ∙
-      cost-raised own (constant_of_rule week own) f) ∙
-      constants-raised rules (λ rule. f rule + same own rule * constant_of_rule week own) at_last
-      (λ rule. omega (arith, sums rule, sum_by-cons (λ other. same other rule * constant_of_rule week other) own rules))
-
 module _ (week : Week) (within : IsWithinLimits week) (subject : Subject) where
   -- requests are all that is in the objective at cells
   abbrev requests : ℕ
@@ -57,32 +41,29 @@ module _ (week : Week) (within : IsWithinLimits week) (subject : Subject) where
 
   -- what is charged to each rule at last
   abbrev at_last : Rule → ℕ
-  at_last rule =
-      of_rule (λ own. weighted_shortages (roster_in week subject) (items_of_rule week own)) rule + same S4 rule * requests +
-      of_rule (constant_of_rule week) rule
+  at_last rule = capped (capped (charges week subject rule + same S4 rule * requests) + constant_of_rule week rule)
 
-  charged-last : (rule : Rule) → StandsOnce rule → pos (capped (at_last rule)) ≡ charged week (roster_in week subject) rule
+  charged-last : (rule : Rule) → StandsOnce rule → pos (at_last rule) ≡ charged week (roster_in week subject) rule
   charged-last rule once =
       omega (
         arith,
         ints,
         few week subject within,
+        charges-are week subject rule,
         once (λ own. weighted_shortages (roster_in week subject) (items_of_rule week own)),
-        once (constant_of_rule week),
         cells-charged rule,
         shortages-few week within (roster_in week subject) rule,
         constant_of_rule-few week within rule,
       )
 
   charges-last : (rules : List Rule) → AllByRecursion StandsOnce rules →
-      map pos (map (λ rule. capped (at_last rule)) rules) ≡ map (charged week (roster_in week subject)) rules
+      map pos (map at_last rules) ≡ map (charged week (roster_in week subject)) rules
   charges-last [] all = refl
   charges-last (rule ∷ rules) all = λ i. charged-last rule all.0 i ∷ charges-last rules all.1 i
 
-  costs-raised : (tally : Tally) (before : Rule → ℕ) → tally.requests_and_constant ≡ given week subject → tally.shortages ≡ costs_of before →
-      ((rule : Rule) → before rule ≡ of_rule (λ own. weighted_shortages (roster_in week subject) (items_of_rule week own)) rule) →
-      costs_in week tally (at_unit_in week subject) ≡ costs_of at_last
-  costs-raised tally before given_is before_is are =
+  costs-last : (tally : Tally) (before : Rule → ℕ) → tally.requests_and_constant ≡ given week subject → tally.shortages ≡ costs_of before →
+      ((rule : Rule) → before rule ≡ charges week subject rule) → costs_in week tally (at_unit_in week subject) ≡ map at_last soft_rules
+  costs-last tally before given_is before_is are =
       let own : tally.requests_and_constant - at_unit_in week subject ≡ capped requests = omega (
         arith,
         given_is,
@@ -91,7 +72,7 @@ module _ (week : Week) (within : IsWithinLimits week) (subject : Subject) where
       ) in
       (λ i. with_constants week soft_rules (with_cost S4 (own i) (before_is i))) ∙
       ap (with_constants week soft_rules) (cost-raised S4 requests before) ∙
-      constants-raised week within soft_rules (λ rule. before rule + same S4 rule * requests) at_last (λ rule. omega (arith, are rule))
+      (λ i. with_constants week soft_rules (costs_of (λ rule. are rule i + same S4 rule * requests)))
 
 pub driven-judges : (judging : Judging) → IsInstance judging.instance → WasDriven judging → (objective : ℕ) (costs : List ℕ) →
     objective ≡ objective_in judging.tally → costs ≡ costs_in (week_of judging.instance) judging.tally (at_unit_in (week_of judging.instance) judging.subject) →
@@ -108,8 +89,8 @@ driven-judges judging limits driven objective costs objective_is costs_are =
       costs =
           ap (map pos)
           (costs_are ∙
-          costs-raised week limits_of judging.subject judging.tally comes.before comes.requests_are comes.shortages
-          (λ rule. omega (arith, comes.totals rule, charges-are week judging.subject rule))) ∙
+          costs-last week limits_of judging.subject judging.tally comes.before comes.requests_are comes.shortages
+          (λ rule. omega (arith, comes.totals rule))) ∙
           charges-last week limits_of judging.subject soft_rules stand-once;
     }
 
@@ -122,16 +103,15 @@ pub tally-driven : (judging : Judging) (all : List Event) →
 tally-driven judging [] = refl
 tally-driven judging (event ∷ all) = tally-driven (judged judging event) all
 
-module _ (instance : InstanceTables) (subject : Subject) (old new : Judging) (begun : old ≡ fresh instance subject)
-    (driven : new ≡ fold judged old (model_events instance)) where
-  new_is : new ≡ record (fresh instance subject) { tally = fold (tallied (week_of instance) subject) no_tally (model_events instance) }
-  new_is =
-      driven ∙ ap (λ (j : Judging). fold judged j (model_events instance)) begun ∙
-      tally-driven (fresh instance subject) (model_events instance)
+abbrev pub driven_judge : InstanceTables → Subject → Judging
+driven_judge instance subject =
+    record (fresh instance subject) { tally = fold (tallied (week_of instance) subject) no_tally (model_events instance) }
 
-  pub was-driven : WasDriven new
-  was-driven = subst WasDriven (sym new_is) refl
+pub driven-is : (instance : InstanceTables) (subject : Subject) (old new : Judging) → old ≡ fresh instance subject →
+    new ≡ fold judged old (model_events instance) → new ≡ driven_judge instance subject
+driven-is instance subject old new begun driven =
+    driven ∙ ap (λ (j : Judging). fold judged j (model_events instance)) begun ∙
+    tally-driven (fresh instance subject) (model_events instance)
 
-  -- what holds of its week and subject holds of those that it was made of
-  pub same-judged : (P : Week → Subject → Type 0) → P (week_of new.instance) new.subject → P (week_of instance) subject
-  same-judged P = subst (λ (j : Judging). P (week_of j.instance) j.subject) new_is
+pub was-driven : (instance : InstanceTables) (subject : Subject) (new : Judging) → new ≡ driven_judge instance subject → WasDriven new
+was-driven instance subject new is = subst WasDriven (sym is) refl

@@ -6,7 +6,7 @@ use Rattle.rota_items.proofs.Counted.{counted-rows, counted-constraints, counted
 use Rattle.rota_items.proofs.EachPattern.{days-follow}
 use Rattle.rota_items.proofs.EarlyCharges.{charges-sum}
 use Rattle.rota_items.proofs.Extension.{charges, extension-objective, extension-roster}
-use Rattle.rota_items.proofs.FirstBroken.{extension-first_broken, first_broken}
+use Rattle.rota_items.proofs.FirstUnmet.{extension-first_broken, first_broken}
 use Rattle.rota_items.proofs.HeldModel.{length-with_held}
 use Rattle.rota_items.proofs.InstanceLimits.{instance-within_limits}
 use Rattle.rota_items.proofs.ItemLaw.{extension_satisfies, item_law, shortage-numbered, value_of-extension, weighted_shortages-le}

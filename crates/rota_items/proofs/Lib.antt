@@ -11,7 +11,6 @@ pub mod EachPattern
 pub mod EarlyCharges
 pub mod Extension
 pub mod ExtensionTruths
-pub mod FirstBroken
 pub mod FirstUnmet
 pub mod HardRules
 pub mod HeldModel

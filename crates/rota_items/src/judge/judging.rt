@@ -180,6 +180,7 @@ impl<'a> Taker for Judge<'a> {
 }
 
 // Charges each soft rule what no roster can avoid of it.
+#[tactic(auto, using(std::proofs::lemmas::List::Sums::fold_more))]
 fn charge_constants(costs: &mut [u64; SOFT_RULES], instance: &Instance)
     ensures { costs.new ≡ with_constants (week_of instance.now) soft_rules costs.old }
 {

@@ -7,7 +7,7 @@ pub use Rattle.std.proofs.lemmas.Bool.{cases_Bool, lt-ltb, true≢false, le-ltb,
 pub use Rattle.std.proofs.lemmas.Bool.Decides.{nat_tests, leb_tells}
 pub use Rattle.std.proofs.lemmas.Grind.{take_at_read}
 pub use Rattle.std.proofs.lemmas.Int.{ints, to_z-of_z, to_z_pos}
-pub use Rattle.std.proofs.lemmas.List.{length-map, length-append, map-append, append-nil, take_all, nil_from_length, take-append-drop}
+pub use Rattle.std.proofs.lemmas.List.{length-map, length-append, map-append, map-id, append-nil, take_all, nil_from_length, take-append-drop}
 pub use Rattle.std.proofs.lemmas.List.Concat.{flat_map-append, length-flat_map}
 pub use Rattle.std.proofs.lemmas.List.Elements.{All-from_recursion, recursion_from_All, All-cons, All-head, All-nil, All-tail, All-weaker}
 pub use Rattle.std.proofs.lemmas.List.Folds.{Any-from_list_any, fold-map, list_all-append, list_any-append, list_any_at}
