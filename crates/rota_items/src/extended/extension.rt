@@ -1,5 +1,5 @@
 //! The drive: all values of an extension.
-ghost use Rattle.rota_core.specs.InstanceTables.{week_of};
+ghost use Rattle.rota_core.specs.InstanceTables.{IsInstance, week_of};
 ghost use Rattle.rota_core.specs.RosterTables.{HasShapeOf, set_of};
 ghost use Rattle.rota_items.specs.ExtensionTruths.{extension_truths, truths_to};
 ghost use Rattle.rota_items.specs.LiteralTakes.{TakesLiterals};
@@ -11,13 +11,15 @@ use crate::extended::slack_values::give_slack_values;
 use rota_core::{Instance, Roster};
 
 // The literals of the cells, and that of the unit variable.
+#[tactic(auto, using(crate::proofs::Taking::taking))]
 fn give_assigned<T: LiteralTaker>(
     instance: &Instance,
     roster: &Roster,
     taker: &mut T,
 ) -> Result<(), T::Fault>
     requires shape { HasShapeOf (week_of instance.now) roster.now }
-    ensures { let week = week_of instance.now in
+    ensures limits { IsInstance instance.now }
+    ensures takes { let week = week_of instance.now in
         TakesLiterals T.LiteralTaker (truths_to (unit_number week) (assignment_of week (set_of roster.now)))
         taker.old taker.new result }
 {
@@ -41,7 +43,6 @@ pub fn drive_extension<T: LiteralTaker>(
     ensures { TakesLiterals T.LiteralTaker (extension_truths (week_of instance.now) (set_of roster.now))
         taker.old taker.new result }
 {
-    let _nurses = instance.nurses();
     give_assigned(instance, roster, taker)?;
     give_slack_values(instance, roster, taker)
 }

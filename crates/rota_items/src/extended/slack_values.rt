@@ -21,6 +21,7 @@ use rota_core::{Instance, Roster};
 use std::convert::Infallible;
 
 // The literals of `count` variables, of which the first `most` are true, or all, where these are more.
+#[tactic(auto, using(crate::proofs::Taking::taking))]
 fn give_first_true<T: LiteralTaker>(taker: &mut T, count: u32, most: u64) -> Result<(), T::Fault>
     ensures { TakesLiterals T.LiteralTaker (first_true count most) taker.old taker.new result }
 {

@@ -13,11 +13,11 @@ returns-in_err-give_assigned g c =
     let roster = set_of c.args.roster.now in
     exits _ _ _ _ c.from_residual.ensures.0
     (rw (← truths-parts week roster)
-    (stop literals_join (truths_to (unit_number week) (assignment_of week roster)) (slack_truths week roster) _ _ c.in_err-give_assigned.ensures))
+    (stop literals_join (truths_to (unit_number week) (assignment_of week roster)) (slack_truths week roster) _ _ c.in_err-give_assigned.ensures.takes))
 
 pub returns : goal.returns
 returns g c =
     let week = week_of c.args.instance.now in
     let roster = set_of c.args.roster.now in
     rw (← truths-parts week roster)
-    (goes_on literals_join (truths_to (unit_number week) (assignment_of week roster)) (slack_truths week roster) _ _ _ _ c.in_ok-give_assigned.ensures c.give_slack_values.ensures)
+    (goes_on literals_join (truths_to (unit_number week) (assignment_of week roster)) (slack_truths week roster) _ _ _ _ c.in_ok-give_assigned.ensures.takes c.give_slack_values.ensures)
