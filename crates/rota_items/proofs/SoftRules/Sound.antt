@@ -58,3 +58,6 @@ module _ (week : Week) (rule : Rule) (sound : IsNurseRuleSound week rule) (roste
       sum_below week.nurses (nurse_cost week roster rule)
   charges-items none =
       omega (arith, charges-nurses, no_constant week rule none)
+
+-- what the sum of the rules' parts of the constant needs: most rules have none
+pub ruleset constants = (sum_below-zero)
