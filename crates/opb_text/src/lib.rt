@@ -29,8 +29,6 @@ mod head;
 mod opb_taker;
 // A buffer of fixed size before a target.
 mod sink;
-// Bytes in an array of fixed size.
-mod text;
 // Text that waits to be sent.
 mod text_buffer;
 // What the text of a model says of the model and of its rows.
