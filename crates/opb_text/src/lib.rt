@@ -21,8 +21,6 @@
 
 // How many digits a number has, and the last two of them.
 mod digits;
-// The text of an event of a row, in the linear format of the Pseudo-Boolean Competition.
-mod event_text;
 // What the terms of a hundred variables have in common.
 mod head;
 // A taker of rows that puts their text into a sink.
