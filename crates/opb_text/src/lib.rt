@@ -21,16 +21,12 @@
 
 // How many digits a number has, and the last two of them.
 mod digits;
-// The text of an event of a row, in the linear format of the Pseudo-Boolean Competition.
-mod event_text;
 // What the terms of a hundred variables have in common.
 mod head;
 // A taker of rows that puts their text into a sink.
 mod opb_taker;
 // A buffer of fixed size before a target.
 mod sink;
-// Bytes in an array of fixed size.
-mod text;
 // Text that waits to be sent.
 mod text_buffer;
 // What the text of a model says of the model and of its rows.

@@ -1,9 +1,8 @@
 //! A taker of rows that puts their text into a sink.
 ghost use Rattle.std.specs.Prelude.{◌≡◌, [], true, false, IsErr};
-ghost use Rattle.opb_text.specs.ModelText.{first_line};
+ghost use Rattle.opb_text.specs.ModelText.{first_line, term_text};
 
-use crate::event_text::{put_close, put_first_line, put_start, put_term};
-use crate::sink::Sink;
+use crate::sink::{Piece, Sink};
 use rota_core::{PortFault, Target};
 use rota_items::{Counts, Part, Taker};
 
@@ -42,7 +41,13 @@ impl<'a, W: Target> OpbTaker<'a, W> {
         ensures takes { PutsText (sink_of self.old) result (first_line counts.variables counts.constraints) (sink_of self.new) }
         ensures for_good { sink_failed (sink_of self.old) ≡ true → IsErr result }
     {
-        put_first_line(&mut self.sink, counts)
+        self.sink.put_all(&[
+            Piece::Bytes(b"* #variable= "),
+            Piece::Natural(u64::from(counts.variables)),
+            Piece::Bytes(b" #constraint= "),
+            Piece::Natural(u64::from(counts.constraints)),
+            Piece::Bytes(b"\n"),
+        ])
     }
 
     /// Finishes the sink: Ok says that all that was put is out and flushed. It fails only where the
@@ -60,6 +65,18 @@ impl<'a, W: Target> OpbTaker<'a, W> {
     {
         let OpbTaker { sink, .. } = self;
         sink
+    }
+
+    // Puts a term and a blank.
+    fn weighted_term(&mut self, coefficient: i64, variable: u32) -> Result<(), PortFault>
+        ensures same_row { in_objective self.new ≡ in_objective self.old }
+        ensures takes { PutsText (sink_of self.old) result (term_text (coefficient, variable)) (sink_of self.new) }
+        ensures for_good { sink_failed (sink_of self.old) ≡ true → IsErr result }
+    {
+        let sign: &[u8] = if coefficient < 0 { b"-" } else { b"+" };
+        self.sink
+            .number_between(sign, coefficient.unsigned_abs(), b" x")?;
+        self.sink.number_between(b"", u64::from(variable), b" ")
     }
 }
 
@@ -86,7 +103,8 @@ impl<'a, W: Target> Taker for OpbTaker<'a, W> {
         ensures for_good { sink_failed (sink_of self.old) ≡ true → IsErr result }
     {
         self.in_objective = matches!(part, Part::Objective);
-        put_start(&mut self.sink, self.in_objective)
+        let text: &[u8] = if self.in_objective { b"min: " } else { b"" };
+        self.sink.put(text)
     }
 
     #[inline(always)]
@@ -94,13 +112,22 @@ impl<'a, W: Target> Taker for OpbTaker<'a, W> {
         ensures takes { TakesEvent (term coefficient variable) self.old self.new result }
         ensures for_good { sink_failed (sink_of self.old) ≡ true → IsErr result }
     {
-        put_term(&mut self.sink, coefficient, variable)
+        match coefficient {
+            1 => self.sink.unit_term(true, variable),
+            -1 => self.sink.unit_term(false, variable),
+            _ => self.weighted_term(coefficient, variable),
+        }
     }
 
     fn close_row(&mut self, degree: i64) -> Result<(), PortFault>
         ensures takes { TakesEvent (close_row degree) self.old self.new result }
         ensures for_good { sink_failed (sink_of self.old) ≡ true → IsErr result }
     {
-        put_close(&mut self.sink, self.in_objective, degree)
+        if self.in_objective {
+            return self.sink.put(b";\n");
+        }
+        let relation: &[u8] = if degree < 0 { b">= -" } else { b">= " };
+        self.sink
+            .number_between(relation, degree.unsigned_abs(), b" ;\n")
     }
 }

@@ -6,7 +6,7 @@ ghost use Rattle.rota_core.specs.Ports.{Begins};
 ghost use Rattle.opb_text.specs.Pieces.{piece_text, pieces_text};
 ghost use Rattle.opb_text.specs.TermText.{unit_text};
 
-use crate::text_buffer::{MOST_DIGITS, MOST_TERM, TextBuffer};
+use crate::text_buffer::{MOST_DIGITS, MOST_TERM, TextBuffer, front};
 use itoa::Buffer;
 use rota_core::{PortFault, Target};
 
@@ -194,8 +194,7 @@ impl<'a, W: Target> Sink<'a, W> {
         ensures takes { PutsText self.old result (unit_text positive variable) self.new }
         ensures for_good { sink_failed self.old ≡ true → IsErr result }
     {
-        let sign: &[u8] = if positive { b"+1 x" } else { b"-1 x" };
-        self.number_in_pieces(sign, u64::from(variable), b" ")
+        self.number_in_pieces(front(positive), u64::from(variable), b" ")
     }
 
     // Appends a piece for which the buffer has no room.

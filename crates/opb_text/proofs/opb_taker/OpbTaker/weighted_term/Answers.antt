@@ -5,8 +5,8 @@ use Rattle.std.proofs.lemmas.Int.{ints, to_z-of_z}
 use Rattle.rota_core.specs.Numeral.{numeral}
 use Rattle.opb_text.specs.ModelText.{coefficient_text, term_text}
 use Rattle.opb_text.proofs.LogicWords.{puts_exit, puts_same, puts_stop, puts_then}
-use Rattle.opb_text.proofs.event_text.put_weighted_term.Goals.{then-coefficient-lt0, else-coefficient-lt0}
-use Rattle.opb_text.proofs.event_text.put_weighted_term.Goals as goal
+use Rattle.opb_text.proofs.opb_taker.OpbTaker.weighted_term.Goals.{then-coefficient-lt0, else-coefficient-lt0}
+use Rattle.opb_text.proofs.opb_taker.OpbTaker.weighted_term.Goals as goal
 
 minus : (z : ℤ) → z <ℤ pos 0 → coefficient_text z ≡ 45 ∷ numeral (nat_abs z)
 minus (pos n) negative = absurd (omega (arith, ints))

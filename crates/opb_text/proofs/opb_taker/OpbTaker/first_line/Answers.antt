@@ -3,7 +3,7 @@ use Rattle.std.specs.Prelude.{codes}
 use Rattle.rota_core.specs.Numeral.{numeral}
 use Rattle.opb_text.specs.ModelText.{first_line}
 use Rattle.opb_text.proofs.LogicWords.{puts_same}
-use Rattle.opb_text.proofs.event_text.put_first_line.Goals as goal
+use Rattle.opb_text.proofs.opb_taker.OpbTaker.first_line.Goals as goal
 
 pieces : (variables constraints : ℕ) → first_line variables constraints ≡
     codes "* #variable= " ++ (numeral variables ++ (codes " #constraint= " ++ (numeral constraints ++ codes "\n")))

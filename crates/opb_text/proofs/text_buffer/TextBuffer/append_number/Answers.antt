@@ -2,7 +2,7 @@ use Rattle.std.proofs.Common.{◌≡◌, ◌+◌, ◌≤◌, ℕ, List, length, 
 use Rattle.std.proofs.lemmas.List.{length-take-le}
 use Rattle.std.proofs.lemmas.Fmt.{length-decimal-le}
 use Rattle.opb_text.proofs.Pieces.{digits_behind, front_of_refill}
-use Rattle.opb_text.proofs.text.Text.append_number.Goals as goal
+use Rattle.opb_text.proofs.text_buffer.TextBuffer.append_number.Goals as goal
 
 pub overflow_add-end : goal.overflow_add-end
 overflow_add-end c =
