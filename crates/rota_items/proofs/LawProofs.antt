@@ -1,7 +1,7 @@
 -- The lemmas that the laws state, by the file of the laws.
 use Rattle.rota_items.proofs.Common.Words.{◌≡◌, ◌+◌, pos, refl, KeepsCompetitionRules, KeepsOneCell, Roster, Rule, Week, charged, rule_cost, weighted_shortages, S2, S3, S5, S6, S7}
 use Rattle.rota_items.specs.RuleCharges.{complete_weekend_items, consecutive_assignment_items, consecutive_day_off_items, assignment_items, constant_of_assignments, worked_weekend_items, constant_of_weekends}
-use Rattle.rota_items.proofs.CellCounts.{count-on_cells, count-work_cells, on_count-le, work_count-le}
+use Rattle.rota_items.proofs.CellCounts.{count-on_cells, count-work_cells, one-on, one-work}
 use Rattle.rota_items.proofs.Counted.{counted-rows, counted-constraints, counted-model}
 use Rattle.rota_items.proofs.EachPattern.{days-follow}
 use Rattle.rota_items.proofs.EarlyCharges.{charges-sum}
@@ -53,7 +53,7 @@ pub ruleset items = (extension_satisfies, item_law, shortage-numbered, value_of-
 
 pub ruleset models = (cell_number-below, cell_of-cell_number, cell_of_number-in, cell_number-of, extension-first_broken, first_broken, extension-objective, extension-roster, length-with_held, objective-below, rises-objective, stands-exactly)
 
-pub ruleset rules_charged = (charges, penalty-below, weighted-optimum_items, value_of-request_terms, sum_below-zero, count-on_cells, on_count-le, count-work_cells, work_count-le, charged-rule, charged-s2, charged-s3, charged-s5, charged-s6, charged-s7)
+pub ruleset rules_charged = (charges, penalty-below, weighted-optimum_items, value_of-request_terms, sum_below-zero, count-on_cells, one-on, count-work_cells, one-work, charged-rule, charged-s2, charged-s3, charged-s5, charged-s6, charged-s7)
 
 pub ruleset runs = (weighted_shortages-run_items, shortages-run_items, weighted_shortages-day_items, run_items-below, days-follow, weighted-off_runs, weighted-on_runs, weighted-work_runs)
 
