@@ -43,6 +43,7 @@ pub mod PatternItems
 pub mod PenaltyBound
 pub mod RisingCells
 pub mod RowSizes
+pub mod RowTaking
 pub mod RuleSizes
 pub mod RunLaw
 pub mod Satisfied
