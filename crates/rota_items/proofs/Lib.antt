@@ -42,6 +42,8 @@ pub mod PatternItems
 pub mod PenaltyBound
 pub mod RisingCells
 pub mod RowSizes
+pub mod RowTaking
+pub mod RuleSizes
 pub mod RunLaw
 pub mod Satisfied
 pub mod SlackBound

@@ -1,5 +1,5 @@
 -- How what a taker took grows, call by call and loop by loop.
-use Rattle.rota_items.proofs.Common.Words.{◌≡◌, ℕ, ◌<◌, Bool, true, false, List, [], ◌∷◌, ◌++◌, map, Result, MatchResult, refl, sym, ap, ◌∙◌, append_assoc, append-nil, map-append, flat_map-append, fold-append, MatchResult-from_err, MatchResult-weaker, fold, ℤ, IsErr, each_below-zero, each_below-more, only_if-holds, only_if-fails, each_below, only_if, Week, Cell, cell_number, Term, times, LinearRow, numbered_row, numbered_terms, cell_term_events, cell_row_events, coefficient_of, sum_events, start_row, term, close_row, row_events, term_events, events, TookAll, RefusedOne, TakesAll, Took, Refused, Takes, Sign, Ghosts, in_turn, Event, Part}
+use Rattle.rota_items.proofs.Common.Words.{◌≡◌, ℕ, ◌<◌, Bool, true, false, List, [], ◌∷◌, ◌++◌, map, Result, MatchResult, refl, sym, ap, ◌∙◌, append_assoc, append-nil, map-append, flat_map-append, fold-append, MatchResult-from_err, MatchResult-weaker, fold, ℤ, IsErr, each_below-zero, each_below-more, only_if-holds, only_if-fails, each_below, only_if, Week, Cell, cell_number, Term, times, LinearRow, numbered_row, numbered_terms, cell_term_events, numbered_rows, coefficient_of, sum_events, start_row, term, close_row, row_events, term_events, events, TookAll, RefusedOne, TakesAll, Took, Refused, Takes, Sign, Ghosts, in_turn, Event, Part}
 
 -- ---- what makes events of a list, element by element
 
@@ -32,21 +32,11 @@ pub events_join : Joins events
 unfolding events
 events_join = record { none = refl; append = flat_map-append row_events }
 
-pub rows_join : (week : Week) → Joins (cell_row_events week)
-unfolding cell_row_events
-rows_join week = record {
-  none = events_join.none;
-  append = λ xs ys.
-      ap events (map-append (numbered_row week) xs ys) ∙ events_join.append (map (numbered_row week) xs) (map (numbered_row week) ys);
-}
+pub rows_join : (week : Week) → Joins (numbered_rows week)
+unfolding numbered_rows
+rows_join week = record { none = refl; append = map-append (numbered_row week) }
 
 -- what a loop that hands over rows, terms or cells needs: each law is said of what makes the events
-
-pub rows-none : (week : Week) → cell_row_events week [] ≡ []
-rows-none week = (rows_join week).none
-
-pub rows-append : (week : Week) (xs ys : List (LinearRow Cell)) → cell_row_events week (xs ++ ys) ≡ cell_row_events week xs ++ cell_row_events week ys
-rows-append week = (rows_join week).append
 
 pub terms-none : (week : Week) → cell_term_events week [] ≡ []
 terms-none week = (terms_join week).none
@@ -54,24 +44,18 @@ terms-none week = (terms_join week).none
 pub terms-append : (week : Week) (xs ys : List (Term Cell)) → cell_term_events week (xs ++ ys) ≡ cell_term_events week xs ++ cell_term_events week ys
 terms-append week = (terms_join week).append
 
-pub ruleset taking = (each_below-zero, each_below-more, rows-none, rows-append, terms-none, terms-append, map-append, fold-append)
+pub ruleset taking = (each_below-zero, each_below-more, terms-none, terms-append, map-append, fold-append)
 
 -- the list is the events of one row: it begins, these terms follow, and the degree ends it
 pub record IsRow (all : List Event) (part : Part) (terms : List Event) (degree : ℤ) : Type 0 where
   pub are : all ≡ start_row part ∷ (terms ++ close_row degree ∷ [])
 
+pub row-is : (row : LinearRow ℕ) → IsRow (row_events row) row.part (term_events row.terms) row.degree
+row-is row = record { are = refl }
+
 pub lone_row : (row : LinearRow ℕ) → IsRow (events (row ∷ [])) row.part (term_events row.terms) row.degree
 unfolding events
 lone_row row = record { are = append-nil (row_events row) }
-
-pub cell_row : (week : Week) (row : LinearRow Cell) →
-    IsRow (cell_row_events week (row ∷ [])) row.part (cell_term_events week row.terms) row.degree
-unfolding cell_row_events cell_term_events
-cell_row week row = lone_row (numbered_row week row)
-
-pub row_where : (week : Week) (test : Bool) (row : LinearRow Cell) → test ≡ true →
-    IsRow (cell_row_events week (only_if test row)) row.part (cell_term_events week row.terms) row.degree
-row_where week test row holds = rw (only_if-holds test row holds) (cell_row week row)
 
 -- ---- a taker of anything: one list, then another
 
@@ -176,30 +160,6 @@ module _ {S F : Type 0} (T : Ghosts S F) where
         Takes T (sum_events week sign (cell ∷ [])) s t r
     unfolding cell_term_events
     cell_taken sign cell variable s t r same taken = term_takes (coefficient_of sign) (cell_number week cell) s t r (rw same at taken)
-
-    pub row_nowhere : (test : Bool) (row : LinearRow Cell) (s : S) → test ≡ false → Took T (cell_row_events week (only_if test row)) s s
-    row_nowhere test row s fails = rw (only_if-fails test row fails, (rows_join week).none) (Took-none s)
-
-  -- ---- a row
-
-  module _ (row : LinearRow ℕ) where
-    pub refused_at_start : (s t : S) → T.left (T.value s) (start_row row.part) t → Refused T (row_events row) s t
-    refused_at_start s t h = Refused-before (start_row row.part ∷ []) _ s t (Refused-one _ s t h)
-
-    pub refused_at_terms : (s t u : S) → T.value t ≡ T.step (T.value s) (start_row row.part) →
-        Refused T (term_events row.terms) t u → Refused T (row_events row) s u
-    refused_at_terms s t u started refused =
-        Refused-after (start_row row.part ∷ []) _ s t u (Took-one _ s t started)
-        (Refused-before (term_events row.terms) _ t u refused)
-
-    pub closed : (s t u v : S) (r : Result (Unit {0}) F) → T.value t ≡ T.step (T.value s) (start_row row.part) →
-        Took T (term_events row.terms) t u →
-        MatchResult r (λ _. T.value v ≡ T.step (T.value u) (close_row row.degree)) (λ _. T.left (T.value u) (close_row row.degree) v) →
-        Takes T (row_events row) s v r
-    closed s t u v r started taken closes =
-        Takes-then (start_row row.part ∷ []) _ s t v r (Took-one (start_row row.part) s t started)
-        (Takes-then (term_events row.terms) (close_row row.degree ∷ []) t u v r taken
-        (MatchResult-weaker r closes (λ _ e. Took-one _ u v e) (λ _ refused. Refused-one _ u v refused)))
 
   -- ---- a list of one row
 

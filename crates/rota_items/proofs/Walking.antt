@@ -1,5 +1,5 @@
 -- How what a taker took grows in a loop over a list and in one over held cells, and how a walk over items goes on.
-use Rattle.rota_items.proofs.Common.Words.{◌≡◌, ℕ, suc, ◌+◌, ◌<◌, List, [], ◌∷◌, ◌++◌, map, get_or, take, drop, length, refl, ap, ◌∙◌, subst, arith, take-suc, append-nil, map-append, take-append-drop, flat_map-append, flat_map, Week, h5_row, cell_row_events, TookAll, RefusedOne, Result, MatchResult, fold-append, MatchResult-weaker, each_below-zero, each_below-more, Cell, cell_number, Item, numbered, TakesItems, numbered_list}
+use Rattle.rota_items.proofs.Common.Words.{◌≡◌, ℕ, suc, ◌+◌, ◌<◌, List, [], ◌∷◌, ◌++◌, map, get_or, take, drop, length, refl, ap, ◌∙◌, subst, arith, take-suc, append-nil, map-append, take-append-drop, flat_map-append, flat_map, Week, h5_row, numbered_rows, numbered_row, LinearRow, TookAll, RefusedOne, Result, MatchResult, fold-append, MatchResult-weaker, each_below-zero, each_below-more, Cell, cell_number, Item, numbered, TakesItems, numbered_list}
 use Rattle.rota_items.proofs.Taking.{Joins, go_on, rows_join, stop, Took-one, Refused-one}
 use Rattle.rota_items.specs.declared.items.item_takers.ItemTaker.{Ghosts}
 
@@ -26,13 +26,25 @@ module _ {S V E : Type 0} {value : S → V} {step : V → E → V} {left : V →
       in_list (λ ys. RefusedOne value step left (h ys) s u) (λ ys zs. stop joins ys zs s u) f xs i other below
       (go_on joins (flat_map f (take i xs)) (f (get_or xs i other)) s t u before here)
 
--- what makes events of held cells, cell by cell
-pub held_join : (week : Week) → Joins (λ cells. cell_row_events week (map h5_row cells))
-held_join week = record {
-  none = (rows_join week).none;
-  append = λ xs ys.
-      ap (cell_row_events week) (map-append h5_row xs ys) ∙ (rows_join week).append (map h5_row xs) (map h5_row ys);
-}
+-- ---- a walk over the rows of the hard rules
+
+pub rows-none : (week : Week) → numbered_rows week [] ≡ []
+rows-none week = (rows_join week).none
+
+pub rows-append : (week : Week) (xs ys : List (LinearRow Cell)) → numbered_rows week (xs ++ ys) ≡ numbered_rows week xs ++ numbered_rows week ys
+rows-append week = (rows_join week).append
+
+pub rows-one : (week : Week) (row : LinearRow Cell) → numbered_rows week (row ∷ []) ≡ numbered_row week row ∷ []
+unfolding numbered_rows
+rows-one week row = refl
+
+-- the rows of held cells, cell by cell
+pub held_join : (week : Week) → Joins (λ cells. numbered_rows week (map h5_row cells))
+unfolding numbered_rows
+held_join week = record { none = refl; append = λ xs ys. simp map-append }
+
+-- what a loop that walks over rows needs
+pub ruleset walking_rows = (each_below-zero, each_below-more, rows-none, rows-append, rows-one, fold-append)
 
 -- ---- a walk over items
 

@@ -1,16 +1,18 @@
 -- What the values that a walk hands over stand for.
-use Rattle.std.specs.Prelude.{ℕ, ◌-◌, ◌<◌, ◌≤◌, pos, Bool, not, IsTrue, Option, Some, None, IfSome, List, [], ◌∷◌, ◌++◌, map, flat_map, ⊤}
+use Rattle.std.specs.Prelude.{ℕ, ◌+◌, ◌-◌, ◌<◌, ◌≤◌, pos, negsuc, Bool, not, IsTrue, Option, Some, None, IfSome, List, [], ◌∷◌, ◌++◌, map, flat_map, ⊤}
 use Rattle.rota_core.specs.declared.values.Cell.{Cell}
+use Rattle.rota_core.specs.Roster.{InWeek}
 use Rattle.rota_core.specs.Week.{Week}
 use Rattle.rota_items.specs.CellEvents.{coefficient_of}
-use Rattle.rota_items.specs.ModelWords.{on_cells, work_cells, nurse_cells, demand_cells, Item, times}
+use Rattle.rota_items.specs.ModelWords.{on_cells, work_cells, nurse_cells, demand_cells, skill_cells, Item, times, LinearRow, Hard}
 use Rattle.rota_items.specs.Linear.{Term}
 use Rattle.rota_core.specs.Lists.{only_if}
 use Rattle.rota_items.specs.RunItems.{Property, Present, Absent, Runs, day_terms, pattern_item, PatternDay, Pattern, without_property, days_with}
+use Rattle.rota_items.specs.declared.hard.row_takers.HardRow.{HardRow}
 use Rattle.rota_items.specs.declared.items.soft_item.RunCharge.{RunCharge}
 use Rattle.rota_items.specs.declared.items.soft_item.DayPattern.{DayPattern}
 use Rattle.rota_items.specs.declared.items.soft_item.ItemSum.{ItemSum}
-use Rattle.rota_items.specs.declared.items.soft_item.ItemSum.TheVariants.{Demand, Days, Total}
+use Rattle.rota_items.specs.declared.items.soft_item.ItemSum.TheVariants.{Day, OnDay, InTurn, Skill, One, Demand, Days, Total}
 use Rattle.rota_items.specs.declared.items.soft_item.NurseRuns.{NurseRuns}
 use Rattle.rota_items.specs.declared.items.soft_item.DayProperty.{DayProperty}
 use Rattle.rota_items.specs.declared.items.soft_item.DayProperty.TheVariants.{Shift, Work, Off}
@@ -65,9 +67,33 @@ patterns_given None = []
 patterns_given (Some pattern) = pattern_of pattern ∷ []
 
 abbrev pub sum_terms : Week → ItemSum → List (Term Cell)
+sum_terms week (Day n d) = times (negsuc 0) (work_cells week n d)
+sum_terms week (OnDay n s d) = times (negsuc 0) (on_cells week n s d)
+sum_terms week (InTurn n d s t) = times (negsuc 0) (on_cells week n s d ++ on_cells week n t (d + 1))
+sum_terms week (Skill n k) = times (negsuc 0) (skill_cells week n k)
+sum_terms week (One cell) = times (pos 1) (cell ∷ [])
 sum_terms week (Demand d s k) = times (pos 1) (demand_cells week d s k)
 sum_terms week (Days n property pattern) = flat_map (day_terms (property_of week n property)) (days_of pattern)
 sum_terms week (Total n sign) = times (coefficient_of sign) (nurse_cells week n)
+
+pub record IsDayOf (week : Week) (n d : ℕ) : Type 0 where
+  pub nurse_in : n < week.nurses
+  pub day_in : d < 7
+
+pub record IsOnDayOf (week : Week) (n s d : ℕ) : Type 0 where
+  pub nurse_in : n < week.nurses
+  pub shift_in : s < week.shifts
+  pub day_in : d < 7
+
+pub record AreInTurn (week : Week) (n d s t : ℕ) : Type 0 where
+  pub nurse_in : n < week.nurses
+  pub day_in : d + 1 < 7
+  pub first_in : s < week.shifts
+  pub second_in : t < week.shifts
+
+pub record IsSkillOf (week : Week) (n k : ℕ) : Type 0 where
+  pub nurse_in : n < week.nurses
+  pub skill_in : k < week.skills
 
 pub record IsDemandOf (week : Week) (d s k : ℕ) : Type 0 where
   pub day_in : d < 7
@@ -81,6 +107,11 @@ pub record AreDaysOf (week : Week) (n : ℕ) (property : DayProperty) (pattern :
 
 -- the sum's numbers are some of the week's
 abbrev pub IsSumOf : Week → ItemSum → Type 0
+IsSumOf week (Day n d) = IsDayOf week n d
+IsSumOf week (OnDay n s d) = IsOnDayOf week n s d
+IsSumOf week (InTurn n d s t) = AreInTurn week n d s t
+IsSumOf week (Skill n k) = IsSkillOf week n k
+IsSumOf week (One cell) = InWeek week cell
 IsSumOf week (Demand d s k) = IsDemandOf week d s k
 IsSumOf week (Days n property pattern) = AreDaysOf week n property pattern
 IsSumOf week (Total n sign) = n < week.nurses
@@ -93,6 +124,10 @@ item_of week item = record {
   terms = sum_terms week item.sum;
   degree = item.degree;
 }
+
+-- the row of a hard rule
+abbrev pub hard_row_of : Week → HardRow → LinearRow Cell
+hard_row_of week row = record { part = Hard row.rule; terms = sum_terms week row.sum; degree = row.degree }
 
 -- the charge's nurse and shift type are some of the week's
 pub record IsChargeOf (week : Week) (charge : RunCharge) : Type 0 where

@@ -25,6 +25,8 @@ pub mod ModelWords
 pub mod Objective
 pub mod Penalty
 pub mod RisingTerms
+pub mod RowTakes
+pub mod RowValues
 pub mod RuleCharges
 pub mod RunItemParts
 pub mod RunItems

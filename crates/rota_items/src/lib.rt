@@ -17,6 +17,7 @@
 mod days;
 mod hard;
 mod part;
+mod rows;
 mod sums;
 mod takers;
 mod variables;

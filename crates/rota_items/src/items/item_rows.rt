@@ -5,17 +5,16 @@ ghost use Rattle.rota_items.specs.Events.{events};
 ghost use Rattle.rota_items.specs.ItemRows.{row_of_item};
 ghost use Rattle.rota_items.specs.ItemTaking.{numbered_item};
 ghost use Rattle.rota_items.specs.ItemValues.{IsSumOf};
+ghost use Rattle.rota_items.specs.Limits.{word_limit};
 ghost use Rattle.rota_items.specs.WeekModel.{item_rows, first_slack, numbered_items};
 ghost use Rattle.rota_items.specs.Takes.{Takes};
-ghost use Rattle.rota_items.specs.Limits.{word_limit};
 
-use crate::items::item_sums::give_sum;
 use crate::items::item_takers::{ItemTaker, RunTaker};
 use crate::items::soft_item::{NurseRuns, SoftItem};
 use crate::part::Part;
+use crate::rows::{Row, give_row};
 use crate::rules::walk_soft_items;
 use crate::runs::run_walk::walk_runs;
-use crate::sums::give_range;
 use crate::takers::Taker;
 use crate::variables::unit_var;
 use rota_core::Instance;
@@ -32,10 +31,14 @@ fn give_item_row<T: Taker>(
     ensures { Takes T.Taker (row_of_item (numbered_item (week_of instance.now) item) first)
         taker.old taker.new result }
 {
-    taker.start_row(Part::Soft(item.rule, u64::from(item.weight)))?;
-    give_sum(instance, taker, item.sum)?;
-    give_range(taker, 1, first, item.slacks)?;
-    taker.close_row(item.degree)
+    let row = Row {
+        part: Part::Soft(item.rule, u64::from(item.weight)),
+        sum: item.sum,
+        first,
+        slacks: item.slacks,
+        degree: item.degree,
+    };
+    give_row(instance, taker, row)
 }
 
 // Hands a taker of rows the row of each item, whose slacks follow those of the item before.

@@ -2,13 +2,15 @@
 ghost use Rattle.std.specs.Prelude.{◌≡◌, ◌<◌, ◌≤◌, IsTrue, flat_map, if◌then◌else◌, pos, negsuc, count_by};
 ghost use Rattle.rota_core.specs.InstanceTables.{week_of};
 ghost use Rattle.rota_items.specs.CellEvents.{cell_term_events, coefficient_of, sum_events};
-ghost use Rattle.rota_items.specs.ItemValues.{IsInWeek, IsPropertyOf, IsSumOf, days_of, is_plain_of, property_cells, property_of, sum_terms};
+ghost use Rattle.rota_items.specs.ItemValues.{AreInTurn, IsInWeek, IsPropertyOf, IsSumOf, days_of, is_plain_of, property_cells, property_of, sum_terms};
 ghost use Rattle.rota_core.specs.Lists.{only_if};
 ghost use Rattle.rota_items.specs.RunItems.{day_terms, days_with, without_property};
 ghost use Rattle.rota_items.specs.Takes.{Takes};
 
 use crate::items::soft_item::{DayPattern, DayProperty, ItemSum};
-use crate::sums::{Sign, give_demand_cells, give_nurse_cells, give_on, give_work};
+use crate::sums::{
+    Sign, give_cell, give_demand_cells, give_nurse_cells, give_on, give_skill_cells, give_work,
+};
 use crate::takers::Taker;
 use rota_core::Instance;
 
@@ -152,7 +154,25 @@ fn give_pattern_days<T: Taker>(
     )
 }
 
-/// The terms of an item.
+// The cells of a nurse's day on a shift type and of the next day on another, each with -1.
+fn give_in_turn<T: Taker>(
+    instance: &Instance,
+    taker: &mut T,
+    nurse: u16,
+    day: u8,
+    first: u8,
+    second: u8,
+) -> Result<(), T::Fault>
+    requires { AreInTurn (week_of instance.now) nurse day first second }
+    ensures { let week = week_of instance.now in
+        Takes T.Taker (cell_term_events week (sum_terms week (ItemSum.InTurn nurse day first second)))
+        taker.old taker.new result }
+{
+    give_on(instance, taker, Sign::Minus, nurse, first, day)?;
+    give_on(instance, taker, Sign::Minus, nurse, second, day + 1)
+}
+
+/// The terms at cells of an item, or of a row of a hard rule.
 pub fn give_sum<T: Taker>(instance: &Instance, taker: &mut T, sum: ItemSum) -> Result<(), T::Fault>
     requires { IsSumOf (week_of instance.now) sum }
     ensures { let week = week_of instance.now in
@@ -168,5 +188,17 @@ pub fn give_sum<T: Taker>(instance: &Instance, taker: &mut T, sum: ItemSum) -> R
             pattern,
         } => give_pattern_days(instance, taker, nurse, property, pattern),
         ItemSum::Total { nurse, sign } => give_nurse_cells(instance, taker, sign, nurse),
+        ItemSum::Day { nurse, day } => give_work(instance, taker, Sign::Minus, nurse, day),
+        ItemSum::OnDay { nurse, shift, day } => {
+            give_on(instance, taker, Sign::Minus, nurse, shift, day)
+        }
+        ItemSum::InTurn {
+            nurse,
+            day,
+            first,
+            second,
+        } => give_in_turn(instance, taker, nurse, day, first, second),
+        ItemSum::Skill { nurse, skill } => give_skill_cells(instance, taker, nurse, skill),
+        ItemSum::One(cell) => give_cell(instance, taker, Sign::Plus, cell),
     }
 }

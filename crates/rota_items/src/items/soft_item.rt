@@ -4,7 +4,7 @@ ghost use Rattle.rota_items.specs.ItemRows.{slacks_within};
 ghost use Rattle.rota_items.specs.Limits.{word_limit};
 
 use crate::sums::Sign;
-use rota_core::{Rule, Span};
+use rota_core::{Cell, Rule, Span};
 
 /// What a nurse's run is made of: days on a shift type, days of work, or days off.
 #[derive(Clone, Copy)]
@@ -26,9 +26,34 @@ pub struct DayPattern {
     pub units: u16,
 }
 
-/// The terms of an item.
+/// The terms at cells of an item, or of a row of a hard rule.
 #[derive(Clone, Copy)]
 pub enum ItemSum {
+    /// A nurse's day: its cells, each with -1.
+    Day {
+        nurse: u16,
+        day: u8,
+    },
+    /// A nurse's day on a shift type: its cells, each with -1.
+    OnDay {
+        nurse: u16,
+        shift: u8,
+        day: u8,
+    },
+    /// A nurse's day on a shift type and the next day on another: their cells, each with -1.
+    InTurn {
+        nurse: u16,
+        day: u8,
+        first: u8,
+        second: u8,
+    },
+    /// The cells of a nurse that need the skill, each with -1.
+    Skill {
+        nurse: u16,
+        skill: u8,
+    },
+    /// One cell, with 1.
+    One(Cell),
     /// The cells of a day's shift type and skill, each with 1.
     Demand {
         day: u8,

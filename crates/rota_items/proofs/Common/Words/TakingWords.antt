@@ -6,6 +6,9 @@ unfoldable pub use Rattle.rota_items.specs.Events.{term_events, events}
 pub use Rattle.rota_items.specs.ItemRows.{row_of_item, Handing, StopsAt, slacks_within, weights_of_item, with_item, within_numbers}
 pub use Rattle.rota_items.specs.ItemTakes.{TookItems, TakesItems}
 unfoldable pub use Rattle.rota_items.specs.ItemTaking.{numbered_list}
+pub use Rattle.rota_items.specs.RowTakes.{TakesRows, TookRows}
+pub use Rattle.rota_items.specs.RowValues.{RefusesRow, one_row_more, row_of, with_row}
+unfoldable pub use Rattle.rota_items.specs.RowValues.{numbered_rows}
 pub use Rattle.rota_items.specs.Takes.{Took, Refused, Takes, RefusedOne, TookAll, TakesAll}
 pub use Rattle.rota_items.specs.declared.part.Part.{Part}
 pub use Rattle.rota_items.specs.declared.part.Part.TheVariants.{Objective, Hard, Soft}

@@ -1,0 +1,9 @@
+use Rattle.rota_items.proofs.Common.{rules, w64, to_z-of_z, arith, exits, loop_refused, rows_join}
+use Rattle.rota_items.proofs.hard.minimum.walk.Goals as goal
+
+pub returns-in_err-row_where : goal.returns-in_err-row_where
+returns-in_err-row_where g c =
+    exits _ _ _ _ c.from_residual.ensures.0
+    (loop_refused (rows_join _) _ _ _ _ _ _ (omega arith) c.loop-day.invariant
+    (loop_refused (rows_join _) _ _ _ _ _ _ (omega arith) c.loop-shift.invariant
+    (loop_refused (rows_join _) _ _ _ _ _ _ (omega arith) c.loop-skill.invariant (rw (to_z-of_z w64 c.from.result (search rules), c.from.ensures, c.demand-minimum.ensures) at c.in_err-row_where.ensures))))

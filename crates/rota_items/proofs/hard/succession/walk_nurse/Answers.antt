@@ -1,0 +1,12 @@
+use Rattle.rota_items.proofs.Common.{arith, exits, go_on, loop_refused, rows_join, stop}
+use Rattle.rota_items.proofs.hard.succession.walk_nurse.Goals as goal
+
+pub returns-in_err-walk_monday : goal.returns-in_err-walk_monday
+returns-in_err-walk_monday g c =
+    exits _ _ _ _ c.from_residual.ensures.0 (stop (rows_join _) _ _ _ _ c.in_err-walk_monday.ensures)
+
+pub returns-in_err-walk_between : goal.returns-in_err-walk_between
+returns-in_err-walk_between g c =
+    exits _ _ _ _ c.from_residual-in_err-walk_between.ensures.0
+    (go_on (rows_join _) _ _ _ _ _ c.in_ok-walk_monday.ensures
+    (loop_refused (rows_join _) _ _ _ _ _ _ (omega arith) c.loop-day.invariant c.in_err-walk_between.ensures))

@@ -1,0 +1,25 @@
+use Rattle.rota_items.proofs.Common.{◌≡◌, w64, to_z, of_z, rules, to_z-of_z, cell_term_events, both, go_on, numbers_join, row-is, row_closed, row_refused, row_unstarted, stop}
+use Rattle.rota_items.proofs.rows.give_row.Goals as goal
+
+pub returns-in_err-start_row : goal.returns-in_err-start_row
+returns-in_err-start_row g c = row_unstarted g.T.Taker (row-is _) _ _ _ c.from_residual.ensures.0 c.in_err-start_row.ensures
+
+pub returns-in_err-give_sum : goal.returns-in_err-give_sum
+unfolding cell_term_events
+returns-in_err-give_sum g c =
+    row_refused g.T.Taker (row-is _) _ _ _ _ c.from_residual-in_err-give_sum.ensures.0 c.in_ok-start_row.ensures
+    (stop numbers_join _ _ _ _ c.in_err-give_sum.ensures)
+
+pub returns-in_err-give_range : goal.returns-in_err-give_range
+unfolding cell_term_events
+returns-in_err-give_range g c =
+    row_refused g.T.Taker (row-is _) _ _ _ _ c.from_residual-in_err-give_range.ensures.0 c.in_ok-start_row.ensures
+    (go_on numbers_join _ _ _ _ _ c.in_ok-give_sum.ensures c.in_err-give_range.ensures)
+
+pub returns : goal.returns
+unfolding cell_term_events
+returns g c =
+    let degree = c.args.row.degree in
+    let exact : to_z w64 (of_z w64 degree) ≡ degree = to_z-of_z w64 degree (search rules) in
+    row_closed g.T.Taker (row-is _) _ _ _ _ _ c.in_ok-start_row.ensures
+    (both numbers_join _ _ _ _ _ c.in_ok-give_sum.ensures c.in_ok-give_range.ensures) (rw exact at c.close_row.ensures)
