@@ -1,5 +1,5 @@
 -- What a judge makes of the rows of items.
-use Rattle.rota_items.proofs.Common.Words.{◌≡◌, ℕ, zero, suc, ◌+◌, ◌*◌, ◌<◌, ◌≤◌, Bool, List, [], ◌∷◌, refl, sym, ap, ◌∙◌, arith, min, ltb, w64, ℤ, pos, nat_abs, ◌-ℤ◌, int_le, nat_le, AllByRecursion, count_by, count_by-le-length, length-map, range_with_len, sum_by, fold, fold-append, lt-ltb, le-leb, ints, sum_by-append, sum_by-cons, set_of, Week, Rule, unit_number, Item, positive_part, shortage, Term, value_of, times, LinearRow, item_row, item_rows, slack_count, slack_variables, slack_weights, assignment_of, extension_of, model_of, saturate_signed, nat_tests, RosterTables, Subject, assigned, extended, assignment_in, counts_for, lacking_in, tallied, true_slacks, truth_of, Tally, row_events, events, half_limit, signed_limit}
+use Rattle.rota_items.proofs.Common.Words.{◌≡◌, ℕ, zero, suc, ◌+◌, ◌*◌, ◌<◌, ◌≤◌, Bool, List, [], ◌∷◌, refl, sym, ap, ◌∙◌, arith, min, ltb, w64, ℤ, pos, nat_abs, ◌-ℤ◌, int_le, nat_le, AllByRecursion, count_by, count_by-le-length, range_with_len, sum_by, fold, fold-append, lt-ltb, le-leb, ints, sum_by-append, sum_by-cons, set_of, Week, Rule, unit_number, Item, positive_part, shortage, Term, value_of, times, LinearRow, item_row, item_rows, slack_count, slack_variables, slack_weights, assignment_of, extension_of, model_of, saturate_signed, nat_tests, RosterTables, Subject, assigned, extended, assignment_in, counts_for, lacking_in, tallied, true_slacks, truth_of, Tally, row_events, events, half_limit, signed_limit}
 use Rattle.rota_items.proofs.Extension.{extension-below}
 use Rattle.rota_items.proofs.ItemLaw.{IsExtension, count-front, needed-first, needed-after, value_of-item_constraint, value_of-weight}
 use Rattle.rota_items.proofs.FirstUnmet.{Named}
@@ -8,12 +8,10 @@ use Rattle.rota_items.proofs.JudgedTerms.{AtSlacks, Before, others-of, slacks-of
 use Rattle.std.proofs.lemmas.List.FromFn.{length-range_with_len as length-range}
 use Rattle.rota_items.proofs.PatternItems.{value_of-append}
 use Rattle.rota_items.proofs.SmallSums.{positive_part-parts, shortage-least, spread}
-use Rattle.rota_items.proofs.SoundTerms.{value_of-agree, spread-units, units-times}
+use Rattle.rota_items.proofs.SoundTerms.{value_of-agree, on-times}
+use Rattle.rota_items.proofs.ItemSizes.{spread-times}
 
 -- ---- the slacks of an item
-
-front-min : (o n k : ℕ) → o < n → ltb o k ≡ ltb o (min n k)
-front-min o n k below = grind (arith, nat_tests)
 
 module _ (week : Week) where
   -- a roster's extension has slacks for these items from this number on
@@ -29,21 +27,6 @@ module _ (week : Week) where
       let further : first + item.slacks + o ≡ first + (item.slacks + o) = omega arith in
       ap (extension_of week (set_of roster)) further ∙ follows (item.slacks + o) ∙
       needed-after (assignment_of week (set_of roster)) item items o
-
-  -- of a roster's extension all slacks of an item count, and the item lacks what it lacks on the roster
-  pub slacks-counted : (roster : RosterTables) (item : Item ℕ) (first : ℕ) → unit_number week < first →
-      first + item.slacks ≤ (model_of week).variables + 1 →
-      value_of (counts_for week (extended roster)) (times (pos 1) (slack_variables item first)) ≡ pos item.slacks
-  slacks-counted roster item first after in_model =
-      omega (
-        arith,
-        ints,
-        value_of-weight (counts_for week (extended roster)) 1 (slack_variables item first),
-        count-front (counts_for week (extended roster)) first item.slacks item.slacks (omega arith)
-            (λ o within.
-            rw (lt-ltb (unit_number week) (first + o) (omega arith), le-leb (first + o) (model_of week).variables (omega arith), lt-ltb o item.slacks within)
-            refl),
-      )
 
   pub shortage-extended : (roster : RosterTables) (item : Item ℕ) → Before week (extended roster) item.terms →
       shortage (extension_of week (set_of roster)) item ≡ shortage (assignment_of week (set_of roster)) item
@@ -66,10 +49,14 @@ module _ (week : Week) where
       let own : ℕ → Bool = assignment_of week (set_of roster) in
       omega (
         arith,
-        ap positive_part (slacks-counted roster item first after in_model),
+        ints,
+        positive_part-parts,
+        value_of-weight (counts_for week (extended roster)) 1 (slack_variables item first),
+        count-front (counts_for week (extended roster)) first item.slacks item.slacks (omega arith)
+            (λ o within. grind (arith, nat_tests)),
         shortage-extended roster item before,
         count-front (extension_of week (set_of roster)) first item.slacks (min item.slacks (shortage own item)) (omega arith)
-            (λ o within. follows o ∙ needed-first own item items o within ∙ front-min o item.slacks (shortage own item) within),
+            (λ o within. follows o ∙ needed-first own item items o within ∙ grind (arith, nat_tests)),
       )
 
 -- ---- the rows
@@ -82,13 +69,13 @@ module _ (week : Week) (subject : Subject) where
     pub before : Before week subject item.terms
     pub small : spread item.terms + item.slacks + positive_part item.degree < half_limit
 
+  range-above : (first n : ℕ) → unit_number week < first → AllByRecursion (λ v. unit_number week < v) (range_with_len first n)
+  range-above first zero after = tt
+  range-above first (suc n) after = (after, range-above (first + 1) n (omega arith))
+
   pub at_slacks : (coefficient : ℤ) (item : Item ℕ) (first : ℕ) → unit_number week < first →
       AtSlacks week subject (times coefficient (slack_variables item first))
-  at_slacks coefficient item first after = each first item.slacks after
-    where
-      each : (first n : ℕ) → unit_number week < first → AtSlacks week subject (times coefficient (range_with_len first n))
-      each first zero after = tt
-      each first (suc n) after = (after, each (first + 1) n (omega arith))
+  at_slacks coefficient item first after = on-times _ coefficient (slack_variables item first) (range-above first item.slacks after)
 
   module _ (item : Item ℕ) (first : ℕ) (fit : IsFit item) where
     abbrev slacks : List (Term ℕ)
@@ -97,13 +84,12 @@ module _ (week : Week) (subject : Subject) where
     abbrev paid_slacks : ℕ
     paid_slacks = count_by A (slack_variables item first)
 
-    pub item-spread : spread (item_row item first).terms < signed_limit
+    item-spread : spread (item_row item first).terms < signed_limit
     item-spread =
         omega (
           arith,
           sum_by-append (λ (term : Term ℕ). nat_abs term.0) item.terms slacks,
-          spread-units slacks (units-times (slack_variables item first)),
-          length-map {B = Term ℕ} (slack_variables item first) (λ v. (pos 1, v)),
+          spread-times (pos 1) (slack_variables item first) (omega arith),
           length-range first item.slacks,
           fit.small,
         )

@@ -1,5 +1,5 @@
 -- What a judge makes of the model of a week.
-use Rattle.rota_items.proofs.Common.Words.{◌≡◌, ℕ, ◌+◌, ◌*◌, ◌<◌, ◌≤◌, Bool, true, List, [], ◌∷◌, ◌++◌, refl, ap, ◌∙◌, cond, arith, pos, negsuc, nat_abs, if◌then◌else◌, AllByRecursion, fold, sum_by, ints, fold-append, sum_by-cons, AllByRecursion-append, Roster, InWeek, set_of, soft_rules, Week, Rule, Cell, cell_number, unit_number, first_slack, Item, numbered, positive_part, shortage, weighted_shortages, Term, value_of, times, LinearRow, objective_rows, item_rows, slack_variables, slack_weights, cell_terms, constant, items_of_rule, soft_items, rule_rows, hard_rows, numbered_items, numbered_row, numbered_terms, objective_terms, rows_of, first_unmet, IsWithinLimits, most_objective, request_cost, half_limit, signed_limit, Objective, events, row_events, RowSums, Tally, Subject, assigned, extended, assignment_in, roster_in, capped, no_sums, no_tally, tallied}
+use Rattle.rota_items.proofs.Common.Words.{◌≡◌, ℕ, ◌+◌, ◌*◌, ◌<◌, ◌≤◌, Bool, true, List, [], ◌∷◌, ◌++◌, refl, ap, ◌∙◌, cond, arith, pos, negsuc, nat_abs, if◌then◌else◌, AllByRecursion, fold, sum_by, ints, fold-append, flat_map-append, sum_by-cons, AllByRecursion-append, Roster, InWeek, set_of, soft_rules, Week, Rule, Cell, cell_number, unit_number, first_slack, Item, numbered, positive_part, shortage, weighted_shortages, Term, value_of, times, LinearRow, objective_rows, item_rows, slack_variables, slack_weights, cell_terms, constant, items_of_rule, soft_items, rule_rows, hard_rows, unit_row, numbered_items, numbered_row, numbered_terms, objective_terms, rows_of, first_unmet, IsWithinLimits, most_objective, request_cost, half_limit, signed_limit, Objective, events, row_events, RowSums, Tally, Subject, assigned, extended, assignment_in, roster_in, capped, no_sums, no_tally, tallied}
 use Rattle.rota_core.specs.declared.rule.Rule.TheVariants.{Unit as UnitRule}
 use Rattle.rota_items.proofs.Extension.{extension-roster, shortage-of_item, terms-below, value_of-objective, value_of-of_terms}
 use Rattle.rota_items.proofs.HardRules.EachRule.{each-row}
@@ -7,7 +7,7 @@ use Rattle.rota_items.proofs.ItemEventLists.{slack_count-numbered}
 use Rattle.rota_items.proofs.ItemLaw.{extension-extends}
 use Rattle.rota_items.proofs.JudgedItems.{Follows, IsFit, at_slacks, charge_of, items-come, paid_for, paid_for-is}
 use Rattle.rota_items.proofs.ItemSizes.{slacks-few}
-use Rattle.rota_items.proofs.JudgedRows.{Comes, IsHardRow, later-zero, rows-come, same}
+use Rattle.rota_items.proofs.JudgedRows.{Comes, IsHardRow, hard-judged, later-zero, rows-come, same}
 use Rattle.rota_items.proofs.JudgedTerms.{AtSlacks, counted-before, counted_other, others-at_slacks, others-before, row-tallied}
 use Rattle.rota_items.proofs.Lists.{all-both, all-map, sum_by-each-same, sum_by-flat_map, sum_by-map}
 use Rattle.rota_items.proofs.ObjectiveBound.{objective-below, IsPositive, coefficients-positive}
@@ -136,19 +136,12 @@ module _ (week : Week) (subject : Subject) (limits : IsWithinLimits week) where
 
   pub hard-fit : AllByRecursion (IsHardRow week subject) (hard_rows week)
   hard-fit = (
-    record {
-      rule = UnitRule;
-      part_is = refl;
-      before = (omega arith, tt);
-      small = omega (arith, sum_by-cons (λ (term : Term ℕ). nat_abs term.0) (pos 1, unit_number week) []);
-    },
+    hard-judged week subject (unit_row (unit_number week)) UnitRule refl (omega arith, tt)
+        (omega (arith, sum_by-cons (λ (term : Term ℕ). nat_abs term.0) (pos 1, unit_number week) [])),
     all-map (IsHardRow week subject) (numbered_row week) (rule_rows week)
-        (each-row week (λ row. IsHardRow week subject (numbered_row week row)) (λ rule row sound. record {
-          rule = rule;
-          part_is = sound.part_is;
-          before = terms-below week row.terms sound.terms.in_week;
-          small = omega (arith, spread-numbered week row.terms, spread-sound week row.terms sound.terms, variables-below week limits);
-        })),
+        (each-row week (λ row. IsHardRow week subject (numbered_row week row)) (λ rule row sound.
+        hard-judged week subject (numbered_row week row) rule sound.part_is (terms-below week row.terms sound.terms.in_week)
+        (omega (arith, spread-numbered week row.terms, spread-sound week row.terms sound.terms, variables-below week limits)))),
   )
 
   pub items-fit : AllByRecursion (IsFit week subject) (numbered_items week)
@@ -199,6 +192,7 @@ module _ (week : Week) (subject : Subject) (limits : IsWithinLimits week) where
 
   pub model-comes :
       ComesTo (fold (tallied week subject) no_tally (events (objective_rows (objective_terms week)) ++ events (rows_of week))) [] 0 (λ rule. 0)
+  unfolding events
   model-comes =
       let soft : List (LinearRow ℕ) = item_rows (first_slack week) (numbered_items week) in
       let small : spread (objective_terms week) < signed_limit = omega (
@@ -207,9 +201,13 @@ module _ (week : Week) (subject : Subject) (limits : IsWithinLimits week) where
         objective-below week (λ v. true) limits,
         spread-positive (objective_terms week) (coefficients-positive week),
       ) in
-      rw (fold-append (tallied week subject) no_tally (events (objective_rows (objective_terms week))) (events (rows_of week)))
-      (rows-come week subject _ _ _ _ (λ tally. ComesTo tally [] 0 (λ rule. 0)) _ (hard_rows week) soft _ _ hard-fit
-      (λ left comes.
-      items-come week subject _ _ _ _ left (first_slack week) (numbered_items week) items-fit (omega arith)
-      (omega (arith, slack_count-numbered (cell_number week) (soft_items week))) (follows-model subject) comes)
-      (objective-comes (objective_terms week) small (given-is week subject)))
+      let start : Tally = fold (tallied week subject) no_tally (events (objective_rows (objective_terms week))) in
+      rw (
+        fold-append (tallied week subject) no_tally (events (objective_rows (objective_terms week))) (events (rows_of week)),
+        flat_map-append row_events (hard_rows week) soft,
+        fold-append (tallied week subject) start (events (hard_rows week)) (events soft),
+      ) (items-come week subject _ _ _ _ (fold (tallied week subject) start (events (hard_rows week))) (first_slack week)
+      (numbered_items week) items-fit (omega arith)
+      (omega (arith, slack_count-numbered (cell_number week) (soft_items week))) (follows-model subject)
+      (rows-come week subject _ _ _ _ start (hard_rows week) soft _ _ hard-fit
+      (objective-comes (objective_terms week) small (given-is week subject))))
