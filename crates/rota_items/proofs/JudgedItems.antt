@@ -1,49 +1,28 @@
 -- What a judge makes of the rows of items.
-use Rattle.rota_items.proofs.Common.Words.{◌≡◌, ℕ, zero, suc, ◌+◌, ◌*◌, ◌<◌, ◌≤◌, Bool, List, [], ◌∷◌, refl, sym, ap, ◌∙◌, arith, min, ltb, w64, ℤ, pos, nat_abs, ◌-ℤ◌, int_le, nat_le, AllByRecursion, count_by, count_by-le-length, length-map, range_with_len, sum_by, fold, fold-append, lt-ltb, le-leb, ints, sum_by-append, sum_by-cons, set_of, Week, Rule, unit_number, Item, positive_part, shortage, Term, value_of, times, LinearRow, item_row, item_rows, slack_count, slack_variables, slack_weights, assignment_of, extension_of, model_of, saturate_signed, nat_tests, RosterTables, Subject, assigned, extended, assignment_in, counts_for, lacking_in, tallied, true_slacks, truth_of, Tally, row_events, events, half_limit, signed_limit}
+use Rattle.rota_items.proofs.Common.Words.{◌≡◌, ℕ, zero, suc, ◌+◌, ◌*◌, ◌<◌, ◌≤◌, Bool, List, [], ◌∷◌, refl, sym, ap, ◌∙◌, arith, min, w64, ℤ, pos, nat_abs, ◌-ℤ◌, int_le, nat_le, AllByRecursion, count_by, count_by-le-length, range_with_len, sum_by, fold, fold-append, lt-ltb, ints, sum_by-append, sum_by-cons, Roster, set_of, Week, Rule, unit_number, Item, positive_part, shortage, Term, value_of, times, LinearRow, item_row, item_rows, slack_count, slack_variables, slack_weights, assignment_of, extension_of, model_of, saturate_signed, nat_tests, RosterTables, Subject, assigned, extended, assignment_in, counts_for, roster_in, tallied, true_slacks, truth_of, Tally, row_events, events, half_limit, signed_limit}
 use Rattle.rota_items.proofs.Extension.{extension-below}
 use Rattle.rota_items.proofs.ItemLaw.{IsExtension, count-front, needed-first, needed-after, value_of-item_constraint, value_of-weight}
 use Rattle.rota_items.proofs.FirstUnmet.{Named}
 use Rattle.rota_items.proofs.JudgedRows.{Comes, IsJudged, covers, positive-saturated, row-comes, same}
-use Rattle.rota_items.proofs.JudgedTerms.{AtSlacks, Before, others-of, slacks-of, sums_of}
+use Rattle.rota_items.proofs.JudgedTerms.{Before, counted_other, counted_slack, others-before, slacks-before, sums_of}
 use Rattle.std.proofs.lemmas.List.FromFn.{length-range_with_len as length-range}
 use Rattle.rota_items.proofs.PatternItems.{value_of-append}
 use Rattle.rota_items.proofs.SmallSums.{positive_part-parts, shortage-least, spread}
-use Rattle.rota_items.proofs.SoundTerms.{value_of-agree, spread-units, units-times}
+use Rattle.rota_items.proofs.SoundTerms.{value_of-agree, on-times}
+use Rattle.rota_items.proofs.ItemSizes.{spread-times}
 
 -- ---- the slacks of an item
 
-front-min : (o n k : ℕ) → o < n → ltb o k ≡ ltb o (min n k)
-front-min o n k below = grind (arith, nat_tests)
-
 module _ (week : Week) where
   -- a roster's extension has slacks for these items from this number on
-  abbrev pub Follows : Subject → ℕ → List (Item ℕ) → Type 0
-  Follows (assigned bits) first items = Unit {0}
-  Follows (extended roster) first items =
-      IsExtension (extension_of week (set_of roster)) (assignment_of week (set_of roster)) first items
+  abbrev pub Follows : Roster → ℕ → List (Item ℕ) → Type 0
+  Follows roster = IsExtension (extension_of week roster) (assignment_of week roster)
 
-  follows-after : (given : Subject) (item : Item ℕ) (items : List (Item ℕ)) (first : ℕ) → Follows given first (item ∷ items) →
-      Follows given (first + item.slacks) items
-  follows-after (assigned bits) item items first follows = tt
-  follows-after (extended roster) item items first follows = λ o.
+  follows-after : (roster : Roster) (item : Item ℕ) (items : List (Item ℕ)) (first : ℕ) → Follows roster first (item ∷ items) →
+      Follows roster (first + item.slacks) items
+  follows-after roster item items first follows o =
       let further : first + item.slacks + o ≡ first + (item.slacks + o) = omega arith in
-      ap (extension_of week (set_of roster)) further ∙ follows (item.slacks + o) ∙
-      needed-after (assignment_of week (set_of roster)) item items o
-
-  -- of a roster's extension all slacks of an item count, and the item lacks what it lacks on the roster
-  pub slacks-counted : (roster : RosterTables) (item : Item ℕ) (first : ℕ) → unit_number week < first →
-      first + item.slacks ≤ (model_of week).variables + 1 →
-      value_of (counts_for week (extended roster)) (times (pos 1) (slack_variables item first)) ≡ pos item.slacks
-  slacks-counted roster item first after in_model =
-      omega (
-        arith,
-        ints,
-        value_of-weight (counts_for week (extended roster)) 1 (slack_variables item first),
-        count-front (counts_for week (extended roster)) first item.slacks item.slacks (omega arith)
-            (λ o within.
-            rw (lt-ltb (unit_number week) (first + o) (omega arith), le-leb (first + o) (model_of week).variables (omega arith), lt-ltb o item.slacks within)
-            refl),
-      )
+      ap (extension_of week roster) further ∙ follows (item.slacks + o) ∙ needed-after (assignment_of week roster) item items o
 
   pub shortage-extended : (roster : RosterTables) (item : Item ℕ) → Before week (extended roster) item.terms →
       shortage (extension_of week (set_of roster)) item ≡ shortage (assignment_of week (set_of roster)) item
@@ -52,24 +31,40 @@ module _ (week : Week) where
       (value_of-agree (extension_of week (set_of roster)) (assignment_of week (set_of roster)) (λ v. v < unit_number week + 1) item.terms
       (extension-below week (set_of roster)) before)
 
+  range-above : (first n : ℕ) → unit_number week < first → AllByRecursion (λ v. unit_number week < v) (range_with_len first n)
+  range-above first zero after = tt
+  range-above first (suc n) after = (after, range-above (first + 1) n (omega arith))
+
   -- as many of an item's slacks are true as the judge counts
-  slacks-paid : (given : Subject) (item : Item ℕ) (items : List (Item ℕ)) (first : ℕ) (others : ℤ) →
-      Before week given item.terms → unit_number week < first → first + item.slacks ≤ (model_of week).variables + 1 →
-      Follows given first (item ∷ items) →
-      true_slacks given (record {
-        others = others;
-        slacks = value_of (counts_for week given) (times (pos 1) (slack_variables item first));
-      }) (shortage (assignment_in week given) item) ≡ count_by (assignment_in week given) (slack_variables item first)
-  slacks-paid (assigned bits) item items first others before after in_model follows =
-      omega (arith, ints, positive_part-parts, value_of-weight (truth_of bits) 1 (slack_variables item first))
-  slacks-paid (extended roster) item items first others before after in_model follows =
+  slacks-paid : (given : Subject) (item : Item ℕ) (items : List (Item ℕ)) (first : ℕ) → Before week given item.terms →
+      unit_number week < first → first + item.slacks ≤ (model_of week).variables + 1 → Follows (roster_in week given) first (item ∷ items) →
+      true_slacks given (sums_of week given (item_row item first).terms) (shortage (assignment_in week given) item) ≡
+      count_by (assignment_in week given) (slack_variables item first)
+  slacks-paid (assigned bits) item items first before after in_model follows =
+      omega (
+        arith,
+        ints,
+        positive_part-parts,
+        value_of-append (counted_slack week (assigned bits)) item.terms (times (pos 1) (slack_variables item first)),
+        slacks-before week (assigned bits) item.terms before,
+        value_of-agree (counted_slack week (assigned bits)) (truth_of bits) (λ v. unit_number week < v) _
+            (λ v above. rw (lt-ltb (unit_number week) v above) refl)
+            (on-times (λ v. unit_number week < v) (pos 1) (slack_variables item first) (range-above first item.slacks after)),
+        value_of-weight (truth_of bits) 1 (slack_variables item first),
+      )
+  slacks-paid (extended roster) item items first before after in_model follows =
       let own : ℕ → Bool = assignment_of week (set_of roster) in
       omega (
         arith,
-        ap positive_part (slacks-counted roster item first after in_model),
+        ints,
+        positive_part-parts,
+        value_of-append (counted_slack week (extended roster)) item.terms (times (pos 1) (slack_variables item first)),
+        slacks-before week (extended roster) item.terms before,
+        value_of-weight (counted_slack week (extended roster)) 1 (slack_variables item first),
+        count-front (counted_slack week (extended roster)) first item.slacks item.slacks (omega arith) (λ o within. grind (arith, nat_tests)),
         shortage-extended roster item before,
         count-front (extension_of week (set_of roster)) first item.slacks (min item.slacks (shortage own item)) (omega arith)
-            (λ o within. follows o ∙ needed-first own item items o within ∙ front-min o item.slacks (shortage own item) within),
+            (λ o within. follows o ∙ needed-first own item items o within ∙ grind (arith, nat_tests)),
       )
 
 -- ---- the rows
@@ -78,17 +73,31 @@ module _ (week : Week) (subject : Subject) where
   abbrev A : ℕ → Bool
   A = assignment_in week subject
 
+  -- no slack is one of the other terms
+  no-others : (w first n : ℕ) → unit_number week < first → value_of (counted_other week subject) (times (pos w) (range_with_len first n)) ≡ pos 0
+  no-others w first n after =
+      omega (
+        arith,
+        ints,
+        value_of-weight (counted_other week subject) w (range_with_len first n),
+        ap (λ k. w * k) (count-front (counted_other week subject) first n 0 (omega arith) (λ o within. grind (arith, nat_tests))),
+      )
+
+  pub no-weights : (first : ℕ) (items : List (Item ℕ)) → unit_number week < first →
+      value_of (counted_other week subject) (slack_weights first items) ≡ pos 0
+  no-weights first [] after = refl
+  no-weights first (item ∷ items) after =
+      omega (
+        arith,
+        ints,
+        value_of-append (counted_other week subject) (times (pos item.weight) (slack_variables item first)) (slack_weights (first + item.slacks) items),
+        no-others item.weight first item.slacks after,
+        no-weights (first + item.slacks) items (omega arith),
+      )
+
   pub record IsFit (item : Item ℕ) : Type 0 where
     pub before : Before week subject item.terms
     pub small : spread item.terms + item.slacks + positive_part item.degree < half_limit
-
-  pub at_slacks : (coefficient : ℤ) (item : Item ℕ) (first : ℕ) → unit_number week < first →
-      AtSlacks week subject (times coefficient (slack_variables item first))
-  at_slacks coefficient item first after = each first item.slacks after
-    where
-      each : (first n : ℕ) → unit_number week < first → AtSlacks week subject (times coefficient (range_with_len first n))
-      each first zero after = tt
-      each first (suc n) after = (after, each (first + 1) n (omega arith))
 
   module _ (item : Item ℕ) (first : ℕ) (fit : IsFit item) where
     abbrev slacks : List (Term ℕ)
@@ -97,45 +106,36 @@ module _ (week : Week) (subject : Subject) where
     abbrev paid_slacks : ℕ
     paid_slacks = count_by A (slack_variables item first)
 
-    pub item-spread : spread (item_row item first).terms < signed_limit
-    item-spread =
-        omega (
-          arith,
-          sum_by-append (λ (term : Term ℕ). nat_abs term.0) item.terms slacks,
-          spread-units slacks (units-times (slack_variables item first)),
-          length-map {B = Term ℕ} (slack_variables item first) (λ v. (pos 1, v)),
-          length-range first item.slacks,
-          fit.small,
-        )
-
     pub not_cut : positive_part (saturate_signed w64 (item.degree -ℤ value_of A item.terms)) ≡ shortage A item
     not_cut = omega (arith, positive-saturated (item.degree -ℤ value_of A item.terms), fit.small, shortage-least A item)
 
-    module _ (after : unit_number week < first) where
-      -- what the row of an item lacks
-      pub item-lacks : lacking_in (sums_of week subject (item_row item first).terms) item.degree ≡ shortage A item
-      item-lacks =
-          ap (λ z. positive_part (saturate_signed w64 (item.degree -ℤ z)))
-          (others-of week subject item.terms slacks fit.before (at_slacks (pos 1) item first after)) ∙ not_cut
-
-      item-judged : (items : List (Item ℕ)) → first + item.slacks ≤ (model_of week).variables + 1 →
-          Follows week subject first (item ∷ items) →
-          IsJudged week subject (item_row item first) item.weight (shortage A item) paid_slacks
-      item-judged items in_model follows =
-          let others : ℤ = (sums_of week subject (item_row item first).terms).others in record {
-            closes = λ tally. refl;
-            small = item-spread;
-            lacks_is = item-lacks;
-            slacks_are =
-                ap (λ z. true_slacks subject (record { others = others; slacks = z }) (shortage A item))
-                (slacks-of week subject item.terms slacks fit.before (at_slacks (pos 1) item first after)) ∙
-                slacks-paid week subject item items first others fit.before after in_model follows;
-            met =
-                ap (λ lacks. nat_le lacks paid_slacks) (sym not_cut) ∙
-                covers item.degree (value_of A item.terms) paid_slacks
-                (omega (arith, fit.small, count_by-le-length A (slack_variables item first), length-range first item.slacks)) ∙
-                ap (int_le item.degree) (sym (value_of-item_constraint A item first));
-          }
+    item-judged : (items : List (Item ℕ)) → unit_number week < first → first + item.slacks ≤ (model_of week).variables + 1 →
+        Follows week (roster_in week subject) first (item ∷ items) →
+        IsJudged week subject (item_row item first) item.weight (shortage A item) paid_slacks
+    item-judged items after in_model follows =
+        let others : value_of (counted_other week subject) (item_row item first).terms ≡ value_of A item.terms = omega (
+          arith,
+          ints,
+          value_of-append (counted_other week subject) item.terms slacks,
+          others-before week subject item.terms fit.before,
+          no-others 1 first item.slacks after,
+        ) in record {
+          closes = λ tally. refl;
+          small = omega (
+            arith,
+            sum_by-append (λ (term : Term ℕ). nat_abs term.0) item.terms slacks,
+            spread-times (pos 1) (slack_variables item first) (omega arith),
+            length-range first item.slacks,
+            fit.small,
+          );
+          lacks_is = ap (λ z. positive_part (saturate_signed w64 (item.degree -ℤ z))) others ∙ not_cut;
+          slacks_are = slacks-paid week subject item items first fit.before after in_model follows;
+          met =
+              ap (λ lacks. nat_le lacks paid_slacks) (sym not_cut) ∙
+              covers item.degree (value_of A item.terms) paid_slacks
+              (omega (arith, fit.small, count_by-le-length A (slack_variables item first), length-range first item.slacks)) ∙
+              ap (int_le item.degree) (sym (value_of-item_constraint A item first));
+        }
 
   -- what is paid for the true slacks of items, and what an item is charged if it is one of the rule
   abbrev pub paid_for : ℕ → List (Item ℕ) → ℕ
@@ -158,7 +158,7 @@ module _ (week : Week) (subject : Subject) where
 
   module _ (named : Named) (paid : ℕ) (total : Rule → ℕ) (requests : ℕ) where
     pub items-come : (tally : Tally) (first : ℕ) (items : List (Item ℕ)) → AllByRecursion IsFit items → unit_number week < first →
-        first + slack_count items ≤ (model_of week).variables + 1 → Follows week subject first items →
+        first + slack_count items ≤ (model_of week).variables + 1 → Follows week (roster_in week subject) first items →
         Comes week subject named paid total requests tally (item_rows first items) (paid_for first items) (λ rule. sum_by (charge_of rule) items) →
         Comes week subject named paid total requests (fold (tallied week subject) tally (events (item_rows first items))) [] 0 (λ rule. 0)
     unfolding events
@@ -169,7 +169,7 @@ module _ (week : Week) (subject : Subject) where
         let more : slack_count (item ∷ items) ≡ item.slacks + slack_count items = sum_by-cons (λ (item : Item ℕ). item.slacks) item items in
         rw (fold-append (tallied week subject) tally (row_events row) (events rows))
         (items-come (fold (tallied week subject) tally (row_events row)) (first + item.slacks) items all.1 (omega (arith, after))
-        (omega (arith, more, in_model)) (follows-after week subject item items first follows)
+        (omega (arith, more, in_model)) (follows-after week (roster_in week subject) item items first follows)
         (row-comes week subject named paid total requests tally row item.weight _ _ rows _ _ _ _
-        (item-judged item first all.0 after items (omega (arith, more, in_model)) follows) refl
+        (item-judged item first all.0 items after (omega (arith, more, in_model)) follows) refl
         (λ other. sum_by-cons (charge_of other) item items) comes))

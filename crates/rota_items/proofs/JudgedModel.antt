@@ -1,15 +1,15 @@
 -- What a judge makes of the model of a week.
-use Rattle.rota_items.proofs.Common.Words.{mul-le-mul_right, ◌≡◌, ℕ, ◌+◌, ◌*◌, ◌<◌, ◌≤◌, Bool, true, List, [], ◌∷◌, ◌++◌, refl, ap, ◌∙◌, cond, arith, pos, negsuc, nat_abs, if◌then◌else◌, AllByRecursion, fold, sum_by, ints, fold-append, sum_by-cons, AllByRecursion-append, Roster, InWeek, set_of, soft_rules, Week, Rule, Cell, cell_number, unit_number, first_slack, Item, numbered, shortage, weighted_shortages, Term, value_of, times, LinearRow, objective_rows, item_rows, slack_variables, slack_weights, cell_terms, constant, items_of_rule, soft_items, rule_rows, hard_rows, numbered_items, numbered_row, numbered_terms, objective_terms, rows_of, first_unmet, IsWithinLimits, most_objective, request_cost, signed_limit, Objective, events, row_events, RowSums, Tally, Subject, assigned, extended, assignment_in, roster_in, capped, no_sums, no_tally, tallied}
+use Rattle.rota_items.proofs.Common.Words.{mul-le-mul_right, ◌≡◌, ℕ, ◌+◌, ◌*◌, ◌<◌, ◌≤◌, Bool, true, List, [], ◌∷◌, ◌++◌, refl, ap, ◌∙◌, cond, arith, pos, negsuc, nat_abs, if◌then◌else◌, AllByRecursion, fold, sum_by, ints, fold-append, sum_by-cons, AllByRecursion-append, Roster, InWeek, set_of, soft_rules, Week, Rule, Cell, cell_number, unit_number, first_slack, Item, numbered, shortage, weighted_shortages, Term, value_of, times, LinearRow, objective_rows, item_rows, slack_variables, slack_weights, cell_terms, constant, items_of_rule, soft_items, rule_rows, hard_rows, numbered_items, numbered_row, numbered_terms, objective_terms, rows_of, first_unmet, IsWithinLimits, most_objective, request_cost, signed_limit, Objective, events, row_events, RowSums, Tally, Subject, assigned, extended, assignment_in, roster_in, capped, no_sums, no_tally, tallied, flat_map-append, positive_part, unit_row, half_limit}
 use Rattle.rota_core.specs.declared.rule.Rule.TheVariants.{Unit as UnitRule}
 use Rattle.rota_items.proofs.Extension.{extension-roster, shortage-of_item, terms-below, value_of-objective, value_of-of_terms}
 use Rattle.rota_items.proofs.HardRules.EachRule.{each-row}
 use Rattle.rota_items.proofs.ItemEventLists.{slack_count-numbered}
 use Rattle.rota_items.proofs.ItemLaw.{extension-extends}
-use Rattle.rota_items.proofs.JudgedItems.{Follows, IsFit, at_slacks, charge_of, items-come, paid_for, paid_for-is}
+use Rattle.rota_items.proofs.JudgedItems.{Follows, IsFit, charge_of, items-come, paid_for, paid_for-is, no-weights}
 use Rattle.rota_items.proofs.ItemSizes.{each-small}
-use Rattle.rota_items.proofs.JudgedRows.{Comes, IsHardRow, rows-come, same, later-zero}
-use Rattle.rota_items.proofs.JudgedTerms.{AtSlacks, counted-before, counted_other, others-at_slacks, others-before, row-tallied}
-use Rattle.rota_items.proofs.Lists.{all-map, sum_by-each-same, sum_by-flat_map, sum_by-map}
+use Rattle.rota_items.proofs.JudgedRows.{Comes, IsHardRow, rows-come, same, later-zero, hard-judged}
+use Rattle.rota_items.proofs.JudgedTerms.{counted-before, counted_other, others-before, row-tallied}
+use Rattle.rota_items.proofs.Lists.{all-map, sum_by-each-same, sum_by-flat_map, sum_by-map, all-both, all-weaker, sum_by-same}
 use Rattle.rota_items.proofs.ObjectiveBound.{objective-below, IsPositive, coefficients-positive}
 use Rattle.rota_items.proofs.SlackBound.{rows-below, variables-below}
 use Rattle.rota_items.proofs.SmallSums.{spread}
@@ -30,6 +30,11 @@ spread-positive [] all = refl
 spread-positive ((pos n, v) ∷ ts) all =
     omega (arith, ints, sum_by-cons (λ (term : Term ℕ). nat_abs term.0) (pos n, v) ts, spread-positive ts all.1)
 spread-positive ((negsuc n, v) ∷ ts) all = absurd (omega (arith, ints, all.0))
+
+sum_by-times : {X : Type 0} (w : ℕ) (f : X → ℕ) (xs : List X) → sum_by (λ x. w * f x) xs ≡ w * sum_by f xs
+sum_by-times w f [] = omega arith
+sum_by-times w f (x ∷ xs) =
+    omega (arith, sum_by-cons (λ x. w * f x) x xs, ap (λ n. w * n) (sum_by-cons f x xs), sum_by-times w f xs)
 
 -- what each soft rule has of its own
 abbrev pub of_rule : (Rule → ℕ) → Rule → ℕ
@@ -76,13 +81,6 @@ module _ (week : Week) (subject : Subject) where
         paid_for-is week subject (first_slack week) (numbered_items week),
       )
 
-  weights-at_slacks : (first : ℕ) (items : List (Item ℕ)) → unit_number week < first → AtSlacks week subject (slack_weights first items)
-  weights-at_slacks first [] after = tt
-  weights-at_slacks first (item ∷ items) after =
-      AllByRecursion-append (λ (term : Term ℕ). unit_number week < term.1) (times (pos item.weight) (slack_variables item first))
-      (slack_weights (first + item.slacks) items)
-      (at_slacks week subject (pos item.weight) item first after) (weights-at_slacks (first + item.slacks) items (omega arith))
-
   given-is : value_of (counted_other week subject) (objective_terms week) ≡ pos given
   given-is =
       omega (
@@ -92,8 +90,7 @@ module _ (week : Week) (subject : Subject) where
         others-before week subject requests (terms-below week (cell_terms week) (in-cell_terms week)),
         requests-are,
         ap (λ (b : Bool). cond b (constant week) 0) (counted-before week subject (unit_number week) (omega arith)),
-        others-at_slacks week subject (slack_weights (first_slack week) (numbered_items week))
-            (weights-at_slacks (first_slack week) (numbered_items week) (omega arith)),
+        no-weights week subject (first_slack week) (numbered_items week) (omega arith),
       )
 
   -- ---- what each rule is charged
@@ -110,41 +107,24 @@ module _ (week : Week) (subject : Subject) where
       of_own : (own : Rule) →
           sum_by (λ item. charge_of week subject rule (numbered (cell_number week) item)) (items_of_rule week own) ≡
           same own rule * weighted_shortages roster (items_of_rule week own)
-      of_own own = each (items_of_rule week own) (sound-rule week own).items
-        where
-          each : (items : List (Item Cell)) → AllByRecursion (IsItemSound week own) items →
-              sum_by (λ item. charge_of week subject rule (numbered (cell_number week) item)) items ≡
-              same own rule * weighted_shortages roster items
-          each [] all = omega arith
-          each (item ∷ items) all =
-              let here : charge_of week subject rule (numbered (cell_number week) item) ≡ same own rule * (item.weight * shortage roster item) =
-              λ i. same (all.0.rule_is i) rule * (item.weight * shortage-of_item week A roster agrees item all.0.terms.in_week i) in
-              omega (
-                arith,
-                sum_by-cons (λ one. charge_of week subject rule (numbered (cell_number week) one)) item items,
-                ap (λ n. same own rule * n) (sum_by-cons (λ (one : Item Cell). one.weight * shortage roster one) item items),
-                here,
-                each items all.1,
-              )
+      of_own own =
+          sum_by-same _ (λ (item : Item Cell). same own rule * (item.weight * shortage roster item)) (items_of_rule week own)
+          (all-weaker (IsItemSound week own) _ (λ item sound i.
+          same (sound.rule_is i) rule * (item.weight * shortage-of_item week A roster agrees item sound.terms.in_week i))
+          (items_of_rule week own) (sound-rule week own).items) ∙
+          sum_by-times (same own rule) (λ (item : Item Cell). item.weight * shortage roster item) (items_of_rule week own)
 
 module _ (week : Week) (subject : Subject) (limits : IsWithinLimits week) where
   -- ---- each row is small
 
   pub hard-fit : AllByRecursion (IsHardRow week subject) (hard_rows week)
   hard-fit = (
-    record {
-      rule = UnitRule;
-      part_is = refl;
-      before = (omega arith, tt);
-      small = omega (arith, sum_by-cons (λ (term : Term ℕ). nat_abs term.0) (pos 1, unit_number week) []);
-    },
+    hard-judged week subject (unit_row (unit_number week)) UnitRule refl (omega arith, tt)
+        (omega (arith, sum_by-cons (λ (term : Term ℕ). nat_abs term.0) (pos 1, unit_number week) [])),
     all-map (IsHardRow week subject) (numbered_row week) (rule_rows week)
-        (each-row week (λ row. IsHardRow week subject (numbered_row week row)) (λ rule row sound. record {
-          rule = rule;
-          part_is = sound.part_is;
-          before = terms-below week row.terms sound.terms.in_week;
-          small = omega (arith, spread-numbered week row.terms, spread-sound week row.terms sound.terms, variables-below week limits);
-        })),
+        (each-row week (λ row. IsHardRow week subject (numbered_row week row)) (λ rule row sound.
+        hard-judged week subject (numbered_row week row) rule sound.part_is (terms-below week row.terms sound.terms.in_week)
+        (omega (arith, spread-numbered week row.terms, spread-sound week row.terms sound.terms, variables-below week limits)))),
   )
 
   pub items-fit : AllByRecursion (IsFit week subject) (numbered_items week)
@@ -196,12 +176,9 @@ module _ (week : Week) (subject : Subject) (limits : IsWithinLimits week) where
       rw (fold-append (tallied week subject) no_tally (row_events row) [], row-tallied week subject no_tally row small, is)
       (none-closed _ (capped (0 + given week subject)) (omega (arith, few)))
 
-  follows-model : (given : Subject) → Follows week given (first_slack week) (numbered_items week)
-  follows-model (assigned bits) = tt
-  follows-model (extended tables) = extension-extends _ (first_slack week) (numbered_items week)
-
   pub model-comes :
       ComesTo (fold (tallied week subject) no_tally (events (objective_rows (objective_terms week)) ++ events (rows_of week))) [] 0 (λ rule. 0)
+  unfolding events
   model-comes =
       let soft : List (LinearRow ℕ) = item_rows (first_slack week) (numbered_items week) in
       let small : spread (objective_terms week) < signed_limit = omega (
@@ -210,9 +187,13 @@ module _ (week : Week) (subject : Subject) (limits : IsWithinLimits week) where
         objective-below week (λ v. true) limits,
         spread-positive (objective_terms week) (coefficients-positive week),
       ) in
-      rw (fold-append (tallied week subject) no_tally (events (objective_rows (objective_terms week))) (events (rows_of week)))
-      (rows-come week subject _ _ _ _ (λ tally. ComesTo tally [] 0 (λ rule. 0)) _ (hard_rows week) soft _ _ hard-fit
-      (λ left comes.
-      items-come week subject _ _ _ _ left (first_slack week) (numbered_items week) items-fit (omega arith)
-      (omega (arith, slack_count-numbered (cell_number week) (soft_items week))) (follows-model subject) comes)
-      (objective-comes (objective_terms week) small (given-is week subject)))
+      let start : Tally = fold (tallied week subject) no_tally (events (objective_rows (objective_terms week))) in
+      rw (
+        fold-append (tallied week subject) no_tally (events (objective_rows (objective_terms week))) (events (rows_of week)),
+        flat_map-append row_events (hard_rows week) soft,
+        fold-append (tallied week subject) start (events (hard_rows week)) (events soft),
+      ) (items-come week subject _ _ _ _ (fold (tallied week subject) start (events (hard_rows week))) (first_slack week)
+      (numbered_items week) items-fit (omega arith)
+      (omega (arith, slack_count-numbered (cell_number week) (soft_items week))) (extension-extends _ (first_slack week) (numbered_items week))
+      (rows-come week subject _ _ _ _ start (hard_rows week) soft _ _ hard-fit
+      (objective-comes (objective_terms week) small (given-is week subject))))

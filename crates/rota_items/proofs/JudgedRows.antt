@@ -80,28 +80,24 @@ module _ (week : Week) (subject : Subject) where
 
   -- ---- rows without slacks
 
-  pub record IsHardRow (row : LinearRow ℕ) : Type 0 where
-    pub rule : Rule
-    pub part_is : row.part ≡ Hard rule
-    pub before : Before week subject row.terms
-    pub small : spread row.terms < signed_limit
+  abbrev pub IsHardRow : LinearRow ℕ → Type 0
+  IsHardRow row = IsJudged row 0 (lacking_in (sums_of week subject row.terms) row.degree) 0
 
   no-slacks : (given : Subject) (sums : RowSums) (lacks : ℕ) → sums.slacks ≡ pos 0 → true_slacks given sums lacks ≡ 0
   no-slacks (assigned bits) sums lacks none = ap positive_part none
   no-slacks (extended roster) sums lacks none = omega (arith, ap positive_part none)
 
-  hard-judged : (row : LinearRow ℕ) (hard : IsHardRow row) →
-      IsJudged row 0 (lacking_in (sums_of week subject row.terms) row.degree) 0
-  hard-judged row hard =
-      let value : ℤ = (sums_of week subject row.terms).others in record {
-        closes = λ tally. rw hard.part_is refl;
-        small = hard.small;
-        lacks_is = refl;
-        slacks_are = no-slacks subject (sums_of week subject row.terms) _ (slacks-before week subject row.terms hard.before);
-        met =
-            covers row.degree value 0 (omega arith) ∙
-            ap (int_le row.degree) (omega (arith, ints, others-before week subject row.terms hard.before));
-      }
+  pub hard-judged : (row : LinearRow ℕ) (rule : Rule) → row.part ≡ Hard rule → Before week subject row.terms →
+      spread row.terms < signed_limit → IsHardRow row
+  hard-judged row rule part_is before small = record {
+    closes = λ tally. rw part_is refl;
+    small = small;
+    lacks_is = refl;
+    slacks_are = no-slacks subject (sums_of week subject row.terms) _ (slacks-before week subject row.terms before);
+    met =
+        covers row.degree (sums_of week subject row.terms).others 0 (omega arith) ∙
+        ap (int_le row.degree) (omega (arith, ints, others-before week subject row.terms before));
+  }
 
   module _ (named : Named) (paid : ℕ) (total : Rule → ℕ) (requests : ℕ) where
     -- With these rows to come, which pay and charge this, the judge finds what it is to find. Its sums stay at the
@@ -137,14 +133,11 @@ module _ (week : Week) (subject : Subject) where
           requests_are = comes.requests_are;
         })
 
-    pub rows-come : (Q : Tally → Type 0) (tally : Tally) (done more : List (LinearRow ℕ)) (pays : ℕ) (charges : Rule → ℕ) →
-        AllByRecursion IsHardRow done →
-        ((left : Tally) → Comes left more pays charges → Q (fold (tallied week subject) left (events more))) →
-        Comes tally (done ++ more) pays charges → Q (fold (tallied week subject) tally (events (done ++ more)))
+    pub rows-come : (tally : Tally) (done more : List (LinearRow ℕ)) (pays : ℕ) (charges : Rule → ℕ) → AllByRecursion IsHardRow done →
+        Comes tally (done ++ more) pays charges → Comes (fold (tallied week subject) tally (events done)) more pays charges
     unfolding events
-    rows-come Q tally [] more pays charges all finish comes = finish tally comes
-    rows-come Q tally (row ∷ rows) more pays charges all finish comes =
-        rw (fold-append (tallied week subject) tally (row_events row) (events (rows ++ more)))
-        (rows-come Q (fold (tallied week subject) tally (row_events row)) rows more pays charges all.1 finish
-        (row-comes tally row 0 _ 0 (rows ++ more) pays pays charges charges (hard-judged row all.0) (omega arith)
-        (λ other. omega arith) comes))
+    rows-come tally [] more pays charges all comes = comes
+    rows-come tally (row ∷ rows) more pays charges all comes =
+        rw (fold-append (tallied week subject) tally (row_events row) (events rows))
+        (rows-come (fold (tallied week subject) tally (row_events row)) rows more pays charges all.1
+        (row-comes tally row 0 _ 0 (rows ++ more) pays pays charges charges all.0 (omega arith) (λ other. omega arith) comes))

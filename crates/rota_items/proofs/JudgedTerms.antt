@@ -93,13 +93,10 @@ module _ (week : Week) (subject : Subject) where
       fold-append (tallied week subject) tally (start_row row.part ∷ term_events row.terms) (close_row row.degree ∷ []) ∙
       ap (λ (j : Tally). closed subject j j.part row.degree) (row-opened tally row small)
 
-  -- ---- terms below the slacks, and terms at slacks
+  -- ---- terms below the slacks
 
   abbrev pub Before : List (Term ℕ) → Type 0
   Before terms = OnTerms (λ v. v < first_slack week) terms
-
-  abbrev pub AtSlacks : List (Term ℕ) → Type 0
-  AtSlacks terms = OnTerms (λ v. unit_number week < v) terms
 
   -- below the slacks what counts is the assignment
   pub counts-before : (v : ℕ) → v < first_slack week → counts v ≡ assignment_in week subject v
@@ -120,25 +117,3 @@ module _ (week : Week) (subject : Subject) where
   slacks-before terms before =
       value_of-agree counted_slack (λ v. false) (λ v. v < first_slack week) terms
       (λ v below. rw (le-ltb (unit_number week) v (omega arith)) refl) before ∙ value_of-none terms
-
-  pub others-at_slacks : (terms : List (Term ℕ)) → AtSlacks terms → value_of counted_other terms ≡ pos 0
-  others-at_slacks terms after =
-      value_of-agree counted_other (λ v. false) (λ v. unit_number week < v) terms
-      (λ v above. rw (lt-ltb (unit_number week) v above) refl) after ∙ value_of-none terms
-
-  -- the sums of a row whose slacks come last
-  pub others-of : (early late : List (Term ℕ)) → Before early → AtSlacks late →
-      value_of counted_other (early ++ late) ≡ value_of (assignment_in week subject) early
-  others-of early late before after =
-      omega (arith, ints, value_of-append counted_other early late, others-before early before, others-at_slacks late after)
-
-  pub slacks-of : (early late : List (Term ℕ)) → Before early → AtSlacks late →
-      value_of counted_slack (early ++ late) ≡ value_of counts late
-  slacks-of early late before after =
-      omega (
-        arith,
-        ints,
-        value_of-append counted_slack early late,
-        slacks-before early before,
-        value_of-agree counted_slack counts (λ v. unit_number week < v) late (λ v above. rw (lt-ltb (unit_number week) v above) refl) after,
-      )
