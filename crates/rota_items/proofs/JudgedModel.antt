@@ -15,8 +15,7 @@ use Rattle.rota_items.proofs.ObjectiveBound.{objective-below, IsPositive, coeffi
 use Rattle.rota_items.proofs.RuleSizes.{each-small}
 use Rattle.rota_items.proofs.SlackBound.{rows-below, variables-below}
 use Rattle.rota_items.proofs.SmallSums.{spread}
-use Rattle.rota_items.proofs.SoftRules.AllItems.{in-cell_terms}
-use Rattle.rota_items.proofs.SoftRules.EachRule.{cell_terms-are, each-item, sound-rule}
+use Rattle.rota_items.proofs.SoftRules.EachRule.{cell_terms-are, each-item, in-cell_terms, sound-rule}
 use Rattle.rota_items.proofs.SoftRules.ShiftOffRequests.{value_of-request_terms}
 use Rattle.rota_items.proofs.SoftRules.Sound.{IsItemSound}
 use Rattle.rota_items.proofs.SoundTerms.{spread-sound, OnTerms, OnCoefficients}

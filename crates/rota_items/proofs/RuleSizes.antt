@@ -3,7 +3,7 @@ use Rattle.rota_items.proofs.Common.Words.{◌≡◌, ℕ, ◌+◌, ◌-◌, ◌
 use Rattle.rota_items.proofs.ItemSizes.{IsItemSmall, few-run_items, few-weekend, length-demand, length-nurse, length-on, length-work, small-runs, small-weekend, spread-times}
 use Rattle.rota_items.proofs.Lists.{all-flat_map, all-weaker, length-at_most, sum_below-at_most, where_in}
 use Rattle.rota_items.proofs.SmallSums.{positive_part-parts}
-use Rattle.rota_items.proofs.NurseCosts.{nurse_cost}
+use Rattle.rota_items.proofs.SoftRules.Sound.{nurse_cost}
 
 -- the rule's items, its part of the constant and its cost are small
 pub record IsRuleSmall (week : Week) (rule : Rule) : Type 0 where

@@ -1,5 +1,5 @@
 use Rattle.rota_items.proofs.Common.{All-from_recursion, soft_items}
-use Rattle.rota_items.proofs.SoftRules.AllItems.{HasEnough, enough-items}
+use Rattle.rota_items.proofs.SoftRules.EachRule.{HasEnough, enough-items}
 use Rattle.rota_items.proofs.laws.rule_laws.no_item_lacks_more_than_its_slacks.Goals as goal
 
 pub returns : goal.returns
