@@ -1,5 +1,5 @@
 -- The items of a nurse's runs charge the cost of those runs: on the shift types, of working days and of days off.
-use Rattle.rota_items.proofs.Common.Words.{◌≡◌, ℕ, ◌*◌, ◌<◌, not, List, arith, ap, ◌∙◌, refl, sum_by-append, AllByRecursion-append, AllByRecursion-each_below, each_below, KeepsOneCell, is_off, is_on, works, Roster, Week, Rule, Cell, Item, on_cells, work_cells, weighted_shortages, Span, Property, Present, Absent, Runs, run_items, run_cost, S2, S3, history_on, off_run_weight, off_runs, shift_run_cost, shift_run_weight, work_run_weight, shift_runs, work_runs}
+use Rattle.rota_items.proofs.Common.Words.{◌≡◌, ℕ, ◌*◌, ◌<◌, Bool, not, List, arith, ap, ◌∙◌, refl, sum_by-append, AllByRecursion-append, AllByRecursion-each_below, each_below, KeepsOneCell, is_off, is_on, works, Roster, Week, Rule, Cell, Item, on_cells, work_cells, weighted_shortages, Span, Property, Present, Absent, Runs, run_items, run_cost, S2, S3, history_on, off_run_weight, off_runs, shift_run_cost, shift_run_weight, work_run_weight, shift_runs, work_runs}
 use Rattle.rota_items.proofs.AlikeRosters.{on-alike, run_cost-alike, works-alike}
 use Rattle.rota_items.proofs.CellCounts.{any-on, any-works}
 use Rattle.rota_items.proofs.Lists.{sum_by-each-times, sum_below-same}
@@ -9,34 +9,29 @@ use Rattle.rota_items.proofs.SoftRules.Sound.{IsItemSound, IsNurseRuleSound, wei
 
 -- ---- the cost of runs, on a roster with one cell a day
 
-abbrev runs_with : Rule → ℕ → Property Cell → ℕ → Span → Runs Cell
-runs_with rule weight property history limits =
-    record { rule = rule; weight = weight; property = property; history = history; limits = limits }
+module _ (week : Week) (roster : Roster) (one : KeepsOneCell week roster) (n : ℕ) (n_in : n < week.nurses) (rule : Rule) (weight history : ℕ)
+    (limits : Span) where
+  abbrev runs : Property Cell → Runs Cell
+  runs property = record { rule = rule; weight = weight; property = property; history = history; limits = limits }
 
-module _ (week : Week) (roster : Roster) (one : KeepsOneCell week roster) (n : ℕ) (n_in : n < week.nurses) (rule : Rule) (weight : ℕ) where
-  pub weighted-on_runs : (s : ℕ) → s < week.shifts → (history : ℕ) (limits : Span) →
-      weighted_shortages roster (run_items (runs_with rule weight (Present (on_cells week n s)) history limits)) ≡
-      weight * run_cost (is_on week roster n s) history limits
-  weighted-on_runs s s_in history limits =
-      weighted_shortages-run_items (runs_with rule weight (Present (on_cells week n s)) history limits) roster
-      ((of_nurse-on week n n_in s s_in).one roster one) ∙
-      ap (λ has. weight * run_cost has history limits) (any-on week roster n s)
+  abbrev cost : (ℕ → Bool) → ℕ
+  cost has = weight * run_cost has history limits
 
-  pub weighted-work_runs : (history : ℕ) (limits : Span) →
-      weighted_shortages roster (run_items (runs_with rule weight (Present (work_cells week n)) history limits)) ≡
-      weight * run_cost (works week roster n) history limits
-  weighted-work_runs history limits =
-      weighted_shortages-run_items (runs_with rule weight (Present (work_cells week n)) history limits) roster
-      (one-at_work week n n_in roster one) ∙
-      ap (λ has. weight * run_cost has history limits) (any-works week roster n)
+  pub weighted-on_runs : (s : ℕ) → s < week.shifts →
+      weighted_shortages roster (run_items (runs (Present (on_cells week n s)))) ≡ cost (is_on week roster n s)
+  weighted-on_runs s s_in =
+      weighted_shortages-run_items (runs (Present (on_cells week n s))) roster ((of_nurse-on week n n_in s s_in).one roster one) ∙
+      ap cost (any-on week roster n s)
 
-  pub weighted-off_runs : (history : ℕ) (limits : Span) →
-      weighted_shortages roster (run_items (runs_with rule weight (Absent (work_cells week n)) history limits)) ≡
-      weight * run_cost (is_off week roster n) history limits
-  weighted-off_runs history limits =
-      weighted_shortages-run_items (runs_with rule weight (Absent (work_cells week n)) history limits) roster
-      (one-at_work week n n_in roster one) ∙
-      ap (λ has. weight * run_cost (λ d. not (has d)) history limits) (any-works week roster n)
+  pub weighted-work_runs : weighted_shortages roster (run_items (runs (Present (work_cells week n)))) ≡ cost (works week roster n)
+  weighted-work_runs =
+      weighted_shortages-run_items (runs (Present (work_cells week n))) roster (one-at_work week n n_in roster one) ∙
+      ap cost (any-works week roster n)
+
+  pub weighted-off_runs : weighted_shortages roster (run_items (runs (Absent (work_cells week n)))) ≡ cost (is_off week roster n)
+  weighted-off_runs =
+      weighted_shortages-run_items (runs (Absent (work_cells week n))) roster (one-at_work week n n_in roster one) ∙
+      ap (λ has. cost (λ d. not (has d))) (any-works week roster n)
 
 -- ---- the rules
 
@@ -56,7 +51,7 @@ module _ (week : Week) where
           arith,
           sum_by-append (weighted roster) (each_below week.shifts (shift_items n)) (run_items (work_runs week n)),
           sum_by-each-times (weighted roster) week.shifts shift_run_weight (shift_items n) (shift_run_cost week roster n) (λ s s_in.
-              weighted-on_runs week roster one n n_in S2 shift_run_weight s s_in (history_on week n s) (week.limits s)),
+              weighted-on_runs week roster one n n_in S2 shift_run_weight (history_on week n s) (week.limits s) s s_in),
           weighted-work_runs week roster one n n_in S2 work_run_weight (week.past n).work_run (week.contract n).work,
         );
     alike = λ one other same n n_in.

@@ -82,9 +82,6 @@ module _ (week : Week) where
   pub soft_items-soft : AllByRecursion SoftItem (soft_items week)
   soft_items-soft = each-item SoftItem (λ _ _ soft sound. ap is_soft sound.rule_is ∙ soft)
 
-  pub enough-items : (roster : Roster) → KeepsCompetitionRules week roster → AllByRecursion (HasEnough roster) (soft_items week)
-  enough-items roster keeps = each-item (HasEnough roster) (λ _ _ _ sound. sound.enough roster keeps)
-
   -- ---- the terms on cells
 
   pub cell_terms-are : cell_terms week ≡ request_terms week

@@ -1,13 +1,12 @@
 -- The terms on cells charge the request rows that are not granted.
-use Rattle.rota_items.proofs.Common.Words.{◌≡◌, ℕ, ◌+◌, ◌*◌, ◌<◌, Bool, true, false, cond, List, [], ◌∷◌, refl, ap, ◌∙◌, arith, pos, negsuc, ◌+ℤ◌, ◌<ℤ◌, ◌≤ℤ◌, nat_lt, AllByRecursion, ltb-true, nat_tests, ints, sum_by, sum_by-cons, positive_part, AllByRecursion-each_below, AllByRecursion-only_if, each_below, only_if, Roster, InWeek, cell, Week, Cell, Term, value_of, IsWithinLimits, S4, most_weight, request_cost, request_weight, request_terms, request_terms_on}
-use Rattle.rota_core.specs.RisingLists.{RisesWithin}
+use Rattle.rota_items.proofs.Common.Words.{◌≡◌, ℕ, ◌+◌, ◌*◌, ◌<◌, Bool, true, false, cond, List, [], ◌∷◌, refl, ap, ◌∙◌, arith, pos, negsuc, ◌+ℤ◌, ◌<ℤ◌, ◌≤ℤ◌, nat_lt, AllByRecursion, ltb-true, nat_tests, ints, sum_by, sum_by-cons, positive_part, AllByRecursion-each_below, AllByRecursion-only_if, only_if, Roster, InWeek, cell, Week, Cell, Term, value_of, IsWithinLimits, nurse_constant, S4, most_weight, request_cost, request_weight, request_terms, request_terms_on}
 use Rattle.rota_core.proofs.LogicWords.{rises-blocks, rises-only_if}
 use Rattle.rota_items.proofs.AlikeRosters.{same_cell}
 use Rattle.rota_items.proofs.SoundTerms.{OnCoefficients, in-cell}
 use Rattle.rota_items.proofs.ItemLists.{none-each_below}
 use Rattle.rota_items.proofs.RisingCells.{at, day_start, shift_start, within}
-use Rattle.rota_items.proofs.SoftRules.Sound.{IsSoftRuleSound, no_constant}
-use Rattle.rota_items.proofs.Lists.{all-weaker, sum_below-same, sum_by-each-times, sum_by-only_if}
+use Rattle.rota_items.proofs.SoftRules.Sound.{IsSoftRuleSound}
+use Rattle.rota_items.proofs.Lists.{all-weaker, sum_below-same, sum_below-zero, sum_by-each-times, sum_by-only_if}
 
 -- ---- what terms are worth
 
@@ -50,29 +49,14 @@ module _ (week : Week) where
         small = λ limits. omega (arith, ints, limits.requests n d s);
       })))))
 
-  abbrev request : ℕ → ℕ → ℕ → ℕ → List (Term Cell)
-  request n d s k =
-      only_if (nat_lt 0 (week.requests n d s)) (pos (request_weight * week.requests n d s), cell n d s k)
-
-  abbrev requests_on : ℕ → ℕ → List (Term Cell)
-  requests_on n d = each_below week.shifts (request_terms_on week n d)
-
-  rises-on_shift : (n d s : ℕ) →
-      RisesWithin (at week) (shift_start week n d s) (shift_start week n d (s + 1)) (request_terms_on week n d s)
-  rises-on_shift n d s =
-      rises-blocks (at week) _ _ week.skills (request n d s) (λ k. shift_start week n d s + k) (omega arith) (omega arith)
-      (λ k k_in. rises-only_if (at week) _ _ (nat_lt 0 (week.requests n d s)) _ (omega arith) (omega arith))
-
-  rises-on_day : (n d : ℕ) → RisesWithin (at week) (day_start week n d) (day_start week n (d + 1)) (requests_on n d)
-  rises-on_day n d =
-      rises-blocks (at week) _ _ week.shifts (request_terms_on week n d) (shift_start week n d) (omega arith) (omega arith)
-      (λ s s_in. rises-on_shift n d s)
-
+  -- the terms of a nurse, of her day and of a shift type stand in blocks of numbers, one after the other
   pub rise-request_terms : within week (request_terms week)
   rise-request_terms =
-      rises-blocks (at week) _ _ week.nurses (λ n. each_below 7 (requests_on n)) (λ n. day_start week n 0) (omega arith) (omega arith)
-      (λ n n_in.
-      rises-blocks (at week) _ _ 7 (requests_on n) (day_start week n) (omega arith) (omega arith) (λ d d_in. rises-on_day n d))
+      rises-blocks (at week) _ _ week.nurses _ (λ n. day_start week n 0) (omega arith) (omega arith) (λ n n_in.
+      rises-blocks (at week) _ _ 7 _ (day_start week n) (omega arith) (omega arith) (λ d d_in.
+      rises-blocks (at week) _ _ week.shifts (request_terms_on week n d) (shift_start week n d) (omega arith) (omega arith) (λ s s_in.
+      rises-blocks (at week) _ _ week.skills _ (λ k. shift_start week n d s + k) (omega arith) (omega arith) (λ k k_in.
+      rises-only_if (at week) _ _ (nat_lt 0 (week.requests n d s)) _ (omega arith) (omega arith)))))
 
   -- ---- the cost
 
@@ -97,7 +81,7 @@ module _ (week : Week) where
   sound-shift_off_requests = record {
     items = rw (← none-each_below week.nurses) tt;
     charges = λ roster keeps.
-        rw (← none-each_below week.nurses) (omega (arith, ints, value_of-request_terms roster, no_constant week S4 (λ _. refl)));
+        rw (← none-each_below week.nurses) (omega (arith, ints, value_of-request_terms roster, sum_below-zero week.nurses (nurse_constant week S4) (λ _ _. refl)));
     alike = λ one other same.
         ap (λ sum. request_weight * sum)
         (sum_below-same week.nurses _ _ (λ n n_in. sum_below-same 7 _ _ (λ d d_in. sum_below-same week.shifts _ _ (λ s s_in.

@@ -44,9 +44,6 @@ pub record IsNurseRuleSound (week : Week) (rule : Rule) : Type 0 where
   pub alike : (one other : Roster) → AreAlike week one other → (n : ℕ) → n < week.nurses →
       nurse_cost week one rule n ≡ nurse_cost week other rule n
 
-pub no_constant : (week : Week) (rule : Rule) → ((n : ℕ) → nurse_constant week rule n ≡ 0) → constant_of_rule week rule ≡ 0
-no_constant week rule none = sum_below-zero week.nurses (nurse_constant week rule) (λ n _. none n)
-
 module _ (week : Week) (rule : Rule) (sound : IsNurseRuleSound week rule) (roster : Roster) (one : KeepsOneCell week roster) where
   -- what the nurses' items and their parts of the constant charge is what the nurses cost
   pub charges-nurses :
@@ -65,7 +62,7 @@ module _ (week : Week) (rule : Rule) (sound : IsNurseRuleSound week rule) (roste
       weighted_shortages roster (each_below week.nurses (nurse_items week rule)) ≡
       sum_below week.nurses (nurse_cost week roster rule)
   charges-items none =
-      omega (arith, charges-nurses, no_constant week rule none)
+      omega (arith, charges-nurses, sum_below-zero week.nurses (nurse_constant week rule) (λ n _. none n))
 
 -- what the sum of the rules' parts of the constant needs: most rules have none
 pub ruleset constants = (sum_below-zero)
