@@ -7,8 +7,7 @@ use Rattle.rota_items.proofs.Lists.{all-map, all-weaker, sum_by-map, sum_by-same
 use Rattle.rota_items.proofs.ModelParts.{satisfies-parts}
 use Rattle.rota_items.proofs.Numbers.{cell_number-below}
 use Rattle.rota_items.proofs.PatternItems.{value_of-append}
-use Rattle.rota_items.proofs.SoftRules.AllItems.{ItemIn, in-cell_terms}
-use Rattle.rota_items.proofs.SoftRules.EachRule.{cell_terms-are, charges-penalty, each-item}
+use Rattle.rota_items.proofs.SoftRules.EachRule.{ItemIn, cell_terms-are, charges-penalty, each-item, in-cell_terms}
 use Rattle.rota_items.proofs.SoftRules.ShiftOffRequests.{value_of-request_terms, value_of-only_if}
 use Rattle.rota_items.proofs.Satisfied.{hard_constraints-hold, hard_constraints-mean}
 use Rattle.rota_items.proofs.SoundTerms.{OnTerms, value_of-agree}

@@ -13,8 +13,7 @@ use Rattle.rota_items.proofs.Lists.{all-map, sum_by-each-same, sum_by-flat_map, 
 use Rattle.rota_items.proofs.ObjectiveBound.{objective-below, IsPositive, coefficients-positive}
 use Rattle.rota_items.proofs.SlackBound.{rows-below, variables-below}
 use Rattle.rota_items.proofs.SmallSums.{spread}
-use Rattle.rota_items.proofs.SoftRules.AllItems.{in-cell_terms}
-use Rattle.rota_items.proofs.SoftRules.EachRule.{cell_terms-are, sound-rule}
+use Rattle.rota_items.proofs.SoftRules.EachRule.{cell_terms-are, sound-rule, each-item, in-cell_terms}
 use Rattle.rota_items.proofs.SoftRules.ShiftOffRequests.{value_of-request_terms}
 use Rattle.rota_items.proofs.SoftRules.Sound.{IsItemSound}
 use Rattle.rota_items.proofs.SoundTerms.{spread-sound, OnCoefficients}

@@ -13,12 +13,13 @@ use Rattle.rota_items.proofs.ItemLaw.{extension_satisfies, item_law, shortage-nu
 use Rattle.rota_items.proofs.Lists.{sum_below-zero}
 use Rattle.rota_items.proofs.ModelTerms.{rises-objective}
 use Rattle.rota_items.proofs.Numbers.{cell_number-below, cell_of-cell_number, cell_of_number-in, cell_number-of}
-use Rattle.rota_items.proofs.NurseRuns.{weighted-off_runs, weighted-on_runs, weighted-work_runs}
 use Rattle.rota_items.proofs.ObjectiveBound.{objective-below, objective_value-positive}
 use Rattle.rota_items.proofs.PenaltyBound.{penalty-below}
 use Rattle.rota_items.proofs.RunLaw.{shortages-run_items, weighted_shortages-day_items, weighted_shortages-run_items}
 use Rattle.rota_items.proofs.SlackBound.{constraints-below, variables-below}
 use Rattle.rota_items.proofs.SoftRules.EachRule.{sound-nurse_rule, sound-rule}
+use Rattle.rota_items.proofs.SoftRules.ConsecutiveDays.{weighted-off_runs, weighted-on_runs, weighted-work_runs}
+use Rattle.rota_items.proofs.SoftRules.NurseProperties.{one-at_work}
 use Rattle.rota_items.proofs.SoftRules.OptimalCoverage.{weighted-optimum_items}
 use Rattle.rota_items.proofs.SoftRules.ShiftOffRequests.{value_of-request_terms}
 use Rattle.rota_items.proofs.SoftRules.Sound.{charges-items, charges-nurses}

@@ -9,6 +9,7 @@ pub mod DayPatterns
 pub mod DayTerms
 pub mod EachPattern
 pub mod EarlyCharges
+pub mod Exits
 pub mod Extension
 pub mod ExtensionTruths
 pub mod FirstUnmet
@@ -34,8 +35,6 @@ pub mod ModelParts
 pub mod ModelRows
 pub mod ModelTerms
 pub mod Numbers
-pub mod NurseCosts
-pub mod NurseRuns
 pub mod ObjectiveBound
 pub mod ObjectiveTaking
 pub mod PatternItems

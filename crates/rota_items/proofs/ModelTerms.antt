@@ -7,7 +7,7 @@ use Rattle.rota_items.proofs.Lists.{all-weaker}
 use Rattle.rota_core.specs.RisingLists.{RisesWithin}
 use Rattle.rota_core.proofs.LogicWords.{widen, rises-append, rises-only_if}
 use Rattle.rota_items.proofs.RisingCells.{rises-numbered}
-use Rattle.rota_items.proofs.SoftRules.AllItems.{rise-cell_terms}
+use Rattle.rota_items.proofs.SoftRules.EachRule.{rise-cell_terms}
 
 -- ---- coefficients
 

@@ -3,8 +3,8 @@ use Rattle.rota_items.proofs.Common.Words.{request_cost, ◌≡◌, ℕ, ◌+◌
 use Rattle.rota_items.proofs.Lists.{all-weaker, sum_by-map, where_in}
 use Rattle.rota_items.proofs.ItemSizes.{each-small, soft_items-le}
 use Rattle.rota_items.proofs.PenaltyBound.{constant-few, request_cost-le}
-use Rattle.rota_items.proofs.SoftRules.AllItems.{sound-cell_terms}
-use Rattle.rota_items.proofs.SoftRules.EachRule.{each-item, cell_terms-are}
+use Rattle.rota_items.proofs.SoftRules.EachRule.{each-item, cell_terms-are, sound-cell_terms}
+use Rattle.rota_items.proofs.RuleSizes.{each-small, request_cost-le}
 use Rattle.rota_items.proofs.SoftRules.ShiftOffRequests.{IsTermSound, value_of-request_terms}
 use Rattle.rota_items.proofs.SoundTerms.{OnCoefficients, coefficients-times, coefficients-numbered}
 use Rattle.std.proofs.lemmas.List.FromFn.{length-range_with_len as length-range}

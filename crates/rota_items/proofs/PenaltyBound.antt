@@ -3,7 +3,7 @@ use Rattle.rota_items.proofs.Common.Words.{ℕ, ◌+◌, ◌-◌, ◌*◌, ◌<�
 use Rattle.rota_items.proofs.InstanceLimits.{instance-within_limits}
 use Rattle.rota_items.proofs.ItemSizes.{items-le}
 use Rattle.rota_items.proofs.Lists.{sum_below-at_most, where_in}
-use Rattle.rota_items.proofs.NurseCosts.{nurse_cost}
+use Rattle.rota_items.proofs.SoftRules.Sound.{nurse_cost}
 use Rattle.rota_items.proofs.SlackBound.{cells-few}
 use Rattle.rota_items.proofs.SmallSums.{shortage-least}
 use Rattle.rota_items.proofs.SoundTerms.{spread-sound}

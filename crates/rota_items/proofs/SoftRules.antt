@@ -1,13 +1,9 @@
--- Each soft rule is sound: a file for each rule.
-pub mod AllItems
-pub mod CompleteWeekends
-pub mod ConsecutiveAssignments
-pub mod ConsecutiveDaysOff
+-- Each soft rule is sound: a file for each rule, or for two whose items are alike.
+pub mod ConsecutiveDays
 pub mod EachRule
 pub mod NurseProperties
 pub mod OptimalCoverage
 pub mod ShiftOffRequests
 pub mod Sound
 pub mod TotalAssignments
-pub mod WeekendItems
-pub mod WorkedWeekends
+pub mod Weekends

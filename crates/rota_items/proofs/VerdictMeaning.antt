@@ -1,12 +1,9 @@
 -- What a verdict says of the model and of the rules, of bits and of a roster's extension.
-use Rattle.rota_items.proofs.Common.Words.{◌≡◌, ◌↔◌, ℕ, ◌+◌, Bool, true, false, ◌⊎◌, inl, inr, List, [], ◌∷◌, map, map-id, map-map, sym, ap, ◌∙◌, arith, rules, Some, None, pos, if◌then◌else◌, IfSome, MatchOption, AllByRecursion, All-from_recursion, recursion_from_All, cases_Bool, true≢false, ints, sum, slice_index_or, IsSomeAnd, KeepsCompetitionRules, KeepsHardRules, FirstBroken, InWeek, Roster, set_of, soft_rules, Week, Rule, Cell, cell_number, first_slack, unit_number, Item, numbered, positive_part, Satisfies, SatisfiesModel, LinearRow, item_rows, charged, rule_cost, soft_items, extension_of, model_of, numbered_items, rows_of, first_unmet, later, truth_of, H1, H2, H3, H4, H5, is_soft, Verdict, Subject, SettlesModel, assigned, assignment_in, extended, roster_in, CostsTheRules, Extends, IsMet, Judges, JudgesTheRules}
+use Rattle.rota_items.proofs.Common.Words.{◌≡◌, ◌↔◌, ℕ, ◌+◌, Bool, true, false, ◌⊎◌, inl, inr, List, [], ◌∷◌, map, map-id, map-map, sym, ap, ◌∙◌, arith, rules, Some, None, pos, if◌then◌else◌, IfSome, MatchOption, AllByRecursion, All-from_recursion, recursion_from_All, cases_Bool, true≢false, ints, sum, slice_index_or, IsSomeAnd, KeepsCompetitionRules, KeepsHardRules, FirstBroken, InWeek, Roster, set_of, soft_rules, Week, Rule, Cell, cell_number, first_slack, unit_number, Item, numbered, positive_part, Satisfies, SatisfiesModel, LinearRow, item_rows, charged, rule_cost, soft_items, extension_of, model_of, numbered_items, rows_of, first_unmet, later, truth_of, H1, H2, H3, H4, H5, is_soft, Verdict, Subject, SettlesModel, assigned, assignment_in, extended, roster_in, CostsTheRules, Extends, IsMet, Judges, JudgesTheRules, cond, length, refl, ◌+ℤ◌, int_le, option_or, is_satisfied, hard_rows, roster_of, NamesFirstBroken, rule_of_part, S2, S3}
 use Rattle.rota_items.proofs.Extension.{extension-objective, extension-satisfies, extension-unit, satisfying-keeps, satisfying-objective}
 use Rattle.rota_items.proofs.FirstUnmet.{Decided, Named, first_unmet-decides, hard-first_broken}
 use Rattle.rota_items.proofs.JudgedModel.{agrees}
-use Rattle.rota_items.proofs.SoftRules.AllItems.{SoftItem, soft_items-soft}
-use Rattle.rota_items.proofs.SoftRules.ConsecutiveAssignments.{charged-consecutive_assignments}
-use Rattle.rota_items.proofs.SoftRules.ConsecutiveDaysOff.{charged-consecutive_days_off}
-use Rattle.rota_items.proofs.SoftRules.EachRule.{sound-rule}
+use Rattle.rota_items.proofs.SoftRules.EachRule.{charged-nurses, SoftItem, soft_items-soft, sound-rule}
 
 abbrev IsSoftRule : Rule → Type 0
 IsSoftRule rule = is_soft rule ≡ true
@@ -83,8 +80,8 @@ module _ (week : Week) (assignment : ℕ → Bool) (roster : Roster) (verdict : 
           first_broken = outcome.1;
           costs = costs-rules;
           run_costs = λ one. record {
-            assignments = ap (λ costs. slice_index_or costs 1 0) charges ∙ ap positive_part (charged-consecutive_assignments week roster one);
-            days_off = ap (λ costs. slice_index_or costs 2 0) charges ∙ ap positive_part (charged-consecutive_days_off week roster one);
+            assignments = ap (λ costs. slice_index_or costs 1 0) charges ∙ ap positive_part (charged-nurses week S2 refl refl (λ _. refl) roster one);
+            days_off = ap (λ costs. slice_index_or costs 2 0) charges ∙ ap positive_part (charged-nurses week S3 refl refl (λ _. refl) roster one);
           };
         }
 

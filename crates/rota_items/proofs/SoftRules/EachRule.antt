@@ -1,17 +1,25 @@
--- What is shown of each soft rule holds of all items.
-use Rattle.rota_items.proofs.Common.Words.{◌≡◌, ◌+◌, true, List, [], ◌∷◌, refl, sym, ◌∙◌, arith, pos, ◌+ℤ◌, AllByRecursion, flat_map, sum_by, ints, sum_by-append, sum_by-cons, AllByRecursion-append, AllByRecursion-each_below, list_all, and_parts, append-nil, sum_below, each_below, KeepsCompetitionRules, Roster, Week, Rule, Cell, Item, weighted_shortages, value_of, soft_rules, cell_terms, cell_terms_of_rule, constant, constant_of_rule, items_of_rule, penalty, rule_cost, soft_items, nurse_items, S1, S2, S3, S4, S5, S6, S7, request_terms, is_soft}
+-- What is shown of each soft rule holds of all items, of the terms on cells and of the penalty.
+use Rattle.rota_items.proofs.Common.Words.{◌≡◌, ◌+◌, ◌≤◌, true, List, [], ◌∷◌, refl, ap, sym, ◌∙◌, arith, pos, ◌+ℤ◌, AllByRecursion, flat_map, sum_by, ints, sum_by-append, sum_by-cons, AllByRecursion-append, AllByRecursion-each_below, list_all, and_parts, append-nil, sum_below, each_below, KeepsCompetitionRules, KeepsOneCell, Roster, InWeek, Week, Rule, Cell, Item, Term, charged, shortage, weighted_shortages, value_of, soft_rules, cell_terms, cell_terms_of_rule, constant, constant_of_rule, items_of_rule, penalty, rule_cost, soft_items, nurse_items, S1, S2, S3, S4, S5, S6, S7, request_terms, is_soft}
 use Rattle.rota_items.specs.AlikeRosters.{AreAlike}
 use Rattle.rota_items.proofs.Lists.{all-weaker, sum_by-each-same, sum_below-same, sum_below-zero}
 use Rattle.rota_items.proofs.PatternItems.{value_of-append}
-use Rattle.rota_items.proofs.SoftRules.CompleteWeekends.{sound-complete_weekends}
-use Rattle.rota_items.proofs.SoftRules.ConsecutiveAssignments.{sound-consecutive_assignments}
-use Rattle.rota_items.proofs.SoftRules.ConsecutiveDaysOff.{sound-consecutive_days_off}
+use Rattle.rota_items.proofs.RisingCells.{within}
+use Rattle.rota_items.proofs.SoftRules.ConsecutiveDays.{sound-consecutive_assignments, sound-consecutive_days_off}
 use Rattle.rota_items.proofs.SoftRules.OptimalCoverage.{sound-optimal_coverage}
-use Rattle.rota_items.proofs.SoftRules.ShiftOffRequests.{sound-shift_off_requests}
-use Rattle.rota_items.proofs.SoftRules.Sound.{IsItemSound, IsNurseRuleSound, IsSoftRuleSound, charges-nurses, weighted}
+use Rattle.rota_items.proofs.SoftRules.ShiftOffRequests.{IsTermSound, rise-request_terms, sound-request_terms, sound-shift_off_requests}
+use Rattle.rota_items.proofs.SoftRules.Sound.{IsItemSound, IsNurseRuleSound, IsSoftRuleSound, charges-nurses, nurse_cost, weighted}
 use Rattle.rota_items.proofs.SoftRules.TotalAssignments.{sound-total_assignments}
-use Rattle.rota_items.proofs.SoftRules.WorkedWeekends.{sound-worked_weekends}
-use Rattle.rota_items.proofs.NurseCosts.{nurse_cost}
+use Rattle.rota_items.proofs.SoftRules.Weekends.{sound-complete_weekends, sound-worked_weekends}
+use Rattle.rota_items.proofs.SoundTerms.{OnTerms}
+
+abbrev pub SoftItem : {X : Type 0} → Item X → Type 0
+SoftItem item = is_soft item.rule ≡ true
+
+abbrev pub HasEnough : Roster → Item Cell → Type 0
+HasEnough roster item = shortage roster item ≤ item.slacks
+
+abbrev pub ItemIn : Week → Item Cell → Type 0
+ItemIn week item = OnTerms (InWeek week) item.terms
 
 module _ (week : Week) where
   -- ---- rule by rule
@@ -29,16 +37,19 @@ module _ (week : Week) where
   }
 
   -- a rule that charges each nurse
-  by_nurse : (rule : Rule) → items_of_rule week rule ≡ each_below week.nurses (nurse_items week rule) → cell_terms_of_rule week rule ≡ [] →
-      ((roster : Roster) → rule_cost week roster rule ≡ sum_below week.nurses (nurse_cost week roster rule)) → IsSoftRuleSound week rule
-  by_nurse rule items_are no_terms costs =
-      let sound = sound-nurse_rule rule in record {
-        items = rw items_are (AllByRecursion-each_below (IsItemSound week rule) week.nurses (nurse_items week rule) sound.items);
-        charges = λ roster keeps.
-            rw (items_are, no_terms, costs roster) (omega (arith, ints, charges-nurses week rule sound roster keeps.one_cell));
-        alike = λ one other same.
-            costs one ∙ sum_below-same week.nurses _ _ (sound.alike one other same) ∙ sym (costs other);
-      }
+  module _ (rule : Rule) (items_are : items_of_rule week rule ≡ each_below week.nurses (nurse_items week rule))
+      (no_terms : cell_terms_of_rule week rule ≡ [])
+      (costs : (roster : Roster) → rule_cost week roster rule ≡ sum_below week.nurses (nurse_cost week roster rule)) where
+    pub charged-nurses : (roster : Roster) → KeepsOneCell week roster → charged week roster rule ≡ pos (rule_cost week roster rule)
+    charged-nurses roster one =
+        rw (items_are, no_terms, costs roster) (omega (arith, ints, charges-nurses week rule (sound-nurse_rule rule) roster one))
+
+    by_nurse : IsSoftRuleSound week rule
+    by_nurse = let sound = sound-nurse_rule rule in record {
+      items = rw items_are (AllByRecursion-each_below (IsItemSound week rule) week.nurses (nurse_items week rule) sound.items);
+      charges = λ roster keeps. charged-nurses roster keeps.one_cell;
+      alike = λ one other same. costs one ∙ sum_below-same week.nurses _ _ (sound.alike one other same) ∙ sym (costs other);
+    }
 
   pub sound-rule : (rule : Rule) → IsSoftRuleSound week rule
   sound-rule S1 = sound-optimal_coverage week
@@ -68,6 +79,25 @@ module _ (week : Week) where
         on-items (λ rule soft. all-weaker (IsItemSound week rule) P (λ item. each rule item soft) (items_of_rule week rule) (sound-rule rule).items)
         soft_rules refl
 
+  pub soft_items-soft : AllByRecursion SoftItem (soft_items week)
+  soft_items-soft = each-item SoftItem (λ _ _ soft sound. ap is_soft sound.rule_is ∙ soft)
+
+  -- ---- the terms on cells
+
+  pub cell_terms-are : cell_terms week ≡ request_terms week
+  cell_terms-are = append-nil (request_terms week)
+
+  pub sound-cell_terms : AllByRecursion (IsTermSound week) (cell_terms week)
+  sound-cell_terms = rw cell_terms-are (sound-request_terms week)
+
+  pub rise-cell_terms : within week (cell_terms week)
+  rise-cell_terms = rw cell_terms-are (rise-request_terms week)
+
+  pub in-cell_terms : OnTerms (InWeek week) (cell_terms week)
+  in-cell_terms =
+      all-weaker (IsTermSound week) (λ (term : Term Cell). InWeek week term.1) (λ term sound. sound.cell_in) (cell_terms week)
+      sound-cell_terms
+
   -- ---- sums
 
   -- what the items of these rules, their parts of the constant and their terms on cells charge is what the rules cost
@@ -96,6 +126,3 @@ module _ (week : Week) where
   pub penalty-alike : (one other : Roster) → AreAlike week one other → penalty week one ≡ penalty week other
   penalty-alike one other same =
       sum_by-each-same (rule_cost week one) (rule_cost week other) (λ rule. (sound-rule rule).alike one other same) soft_rules
-
-  pub cell_terms-are : cell_terms week ≡ request_terms week
-  cell_terms-are = append-nil (request_terms week)

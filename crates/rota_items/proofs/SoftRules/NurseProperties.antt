@@ -1,13 +1,13 @@
 -- The items of patterns of a nurse's days are sound.
-use Rattle.rota_items.proofs.Common.Words.{ℕ, ◌+◌, ◌<◌, ◌≤◌, List, refl, arith, count_by, AllByRecursion, mul-le, KeepsOneCell, Roster, InWeek, Week, Rule, Cell, cell_number, on_cells, work_cells, AtMostOneADay, DaysFollow, has_property, Property, Present, Runs, pattern_item, run_items, variables_on, Pattern}
+use Rattle.rota_items.proofs.Common.Words.{◌≡◌, ℕ, ◌+◌, ◌*◌, ◌<◌, ◌≤◌, List, refl, arith, count_by, AllByRecursion, mul-le, KeepsOneCell, Roster, InWeek, Week, Rule, Cell, Item, cell_number, on_cells, work_cells, AtMostOneADay, DaysFollow, has_property, Property, Present, Runs, pattern_item, run_items, variables_on, Pattern}
 use Rattle.rota_core.specs.RisingLists.{RisesWithin}
-use Rattle.rota_items.proofs.CellCounts.{cond-le, one-on, one-work}
+use Rattle.rota_items.proofs.CellCounts.{cond-le, one-on, one-work, count-on_cells, count-work_cells}
 use Rattle.rota_items.proofs.SoundTerms.{in-on_cells, in-work_cells, OnVariables, on-days, rises-inside, units-days}
-use Rattle.rota_items.proofs.DayLaw.{matches}
+use Rattle.rota_items.proofs.DayLaw.{matches, units_of}
 use Rattle.rota_items.proofs.EachPattern.{on-pattern, each-run_item}
-use Rattle.rota_items.proofs.PatternItems.{shortage-pattern_item}
+use Rattle.rota_items.proofs.PatternItems.{shortage-pattern_item, AtMostOneOn, weighted-pattern_item}
 use Rattle.rota_items.proofs.RisingCells.{day_start, on-keeps, rises-days, rises-work_cells}
-use Rattle.rota_items.proofs.SoftRules.Sound.{IsItemSound}
+use Rattle.rota_items.proofs.SoftRules.Sound.{IsItemSound, weighted}
 
 -- the cells are those of a nurse's days, at most one a day true on a roster
 pub record IsOfNurse (week : Week) (n : ℕ) (cells : ℕ → List Cell) : Type 0 where
@@ -36,10 +36,20 @@ module _ (week : Week) (n : ℕ) (n_in : n < week.nurses) where
     one = one-at_work;
   }
 
-module _ (week : Week) (rule : Rule) (weight n : ℕ) (property : Property Cell) (is : IsOfNurse week n (variables_on property)) where
-  pub sound-pattern : (pattern : Pattern) → DaysFollow pattern → 1 ≤ weight → 1 ≤ pattern.units →
-      IsItemSound week rule (pattern_item rule weight property pattern)
-  sound-pattern pattern follows weighs some =
+module _ (week : Week) (rule : Rule) (weight n : ℕ) (property : Property Cell) (is : IsOfNurse week n (variables_on property))
+    (pattern : Pattern) (follows : DaysFollow pattern) where
+  abbrev item : Item Cell
+  item = pattern_item rule weight property pattern
+
+  at_most_one : (roster : Roster) → KeepsOneCell week roster → AtMostOneOn property roster pattern.days
+  at_most_one roster one = on-pattern (λ d. count_by roster (variables_on property d) ≤ 1) (is.one roster one) pattern follows
+
+  pub weighted-pattern : (roster : Roster) → KeepsOneCell week roster →
+      weighted roster item ≡ weight * units_of (has_property property roster) pattern
+  weighted-pattern roster one = weighted-pattern_item rule weight property roster pattern (at_most_one roster one)
+
+  pub sound-pattern : 1 ≤ weight → 1 ≤ pattern.units → IsItemSound week rule item
+  sound-pattern weighs some =
       let inside = on-days (InWeek week) property pattern.days
       (on-pattern (OnVariables (InWeek week) property) is.cells_in pattern follows) in record {
         rule_is = refl;
@@ -54,15 +64,13 @@ module _ (week : Week) (rule : Rule) (weight n : ℕ) (property : Property Cell)
         enough = λ roster keeps.
             omega (
               arith,
-              shortage-pattern_item rule weight property roster pattern
-                  (on-pattern (λ d. count_by roster (variables_on property d) ≤ 1) (is.one roster keeps.one_cell) pattern follows),
+              shortage-pattern_item rule weight property roster pattern (at_most_one roster keeps.one_cell),
               cond-le (matches (has_property property roster) pattern.days),
             );
       }
 
-module _ (week : Week) (n : ℕ) (runs : Runs Cell) where
-  pub sound-run_items : IsOfNurse week n (variables_on runs.property) → 1 ≤ runs.weight →
-      AllByRecursion (IsItemSound week runs.rule) (run_items runs)
-  sound-run_items is weighs =
-      each-run_item runs (IsItemSound week runs.rule) (λ pattern found.
-      sound-pattern week runs.rule runs.weight n runs.property is pattern found.follows weighs found.some)
+pub sound-run_items : (week : Week) (n : ℕ) (runs : Runs Cell) → IsOfNurse week n (variables_on runs.property) → 1 ≤ runs.weight →
+    AllByRecursion (IsItemSound week runs.rule) (run_items runs)
+sound-run_items week n runs is weighs =
+    each-run_item runs (IsItemSound week runs.rule) (λ pattern found.
+    sound-pattern week runs.rule runs.weight n runs.property is pattern found.follows weighs found.some)

@@ -1,9 +1,8 @@
 -- What is to be shown of a soft rule and its items.
-use Rattle.rota_items.proofs.Common.Words.{◌≡◌, ℕ, ◌+◌, ◌*◌, ◌<◌, ◌≤◌, pos, AllByRecursion, arith, sum_below, each_below, KeepsCompetitionRules, KeepsOneCell, Roster, Week, Rule, Cell, Item, shortage, weighted_shortages, charged, constant_of_rule, items_of_rule, rule_cost, nurse_constant, nurse_items}
+use Rattle.rota_items.proofs.Common.Words.{◌≡◌, ℕ, ◌+◌, ◌*◌, ◌<◌, ◌≤◌, pos, AllByRecursion, arith, sum_below, each_below, KeepsCompetitionRules, KeepsOneCell, Roster, Week, Rule, Cell, Item, shortage, weighted_shortages, charged, constant_of_rule, items_of_rule, rule_cost, nurse_constant, nurse_items, S2, S3, S5, S6, S7, assignment_cost_of, complete_weekend_cost_of, consecutive_assignment_cost_of, consecutive_day_off_cost_of, worked_weekend_cost_of}
 use Rattle.rota_items.specs.AlikeRosters.{AreAlike}
 use Rattle.rota_items.proofs.SoundTerms.{AreSound}
 use Rattle.rota_items.proofs.Lists.{sum_by-each, sum_below-plus, sum_below-same, sum_below-zero}
-use Rattle.rota_items.proofs.NurseCosts.{nurse_cost}
 
 -- ---- of an item
 
@@ -28,6 +27,15 @@ pub record IsSoftRuleSound (week : Week) (rule : Rule) : Type 0 where
   pub charges : (roster : Roster) → KeepsCompetitionRules week roster → charged week roster rule ≡ pos (rule_cost week roster rule)
   pub alike : (one other : Roster) → AreAlike week one other → rule_cost week one rule ≡ rule_cost week other rule
 
+-- what the rule costs at a nurse, if it is one that charges each
+abbrev pub nurse_cost : Week → Roster → Rule → ℕ → ℕ
+nurse_cost week roster S2 n = consecutive_assignment_cost_of week roster n
+nurse_cost week roster S3 n = consecutive_day_off_cost_of week roster n
+nurse_cost week roster S5 n = complete_weekend_cost_of week roster n
+nurse_cost week roster S6 n = assignment_cost_of week roster n
+nurse_cost week roster S7 n = worked_weekend_cost_of week roster n
+nurse_cost week roster _ n = 0
+
 -- the same at a nurse, of a rule that charges each
 pub record IsNurseRuleSound (week : Week) (rule : Rule) : Type 0 where
   pub items : (n : ℕ) → n < week.nurses → AllByRecursion (IsItemSound week rule) (nurse_items week rule n)
@@ -35,9 +43,6 @@ pub record IsNurseRuleSound (week : Week) (rule : Rule) : Type 0 where
       weighted_shortages roster (nurse_items week rule n) + nurse_constant week rule n ≡ nurse_cost week roster rule n
   pub alike : (one other : Roster) → AreAlike week one other → (n : ℕ) → n < week.nurses →
       nurse_cost week one rule n ≡ nurse_cost week other rule n
-
-pub no_constant : (week : Week) (rule : Rule) → ((n : ℕ) → nurse_constant week rule n ≡ 0) → constant_of_rule week rule ≡ 0
-no_constant week rule none = sum_below-zero week.nurses (nurse_constant week rule) (λ n _. none n)
 
 module _ (week : Week) (rule : Rule) (sound : IsNurseRuleSound week rule) (roster : Roster) (one : KeepsOneCell week roster) where
   -- what the nurses' items and their parts of the constant charge is what the nurses cost
@@ -57,7 +62,7 @@ module _ (week : Week) (rule : Rule) (sound : IsNurseRuleSound week rule) (roste
       weighted_shortages roster (each_below week.nurses (nurse_items week rule)) ≡
       sum_below week.nurses (nurse_cost week roster rule)
   charges-items none =
-      omega (arith, charges-nurses, no_constant week rule none)
+      omega (arith, charges-nurses, sum_below-zero week.nurses (nurse_constant week rule) (λ n _. none n))
 
 -- what the sum of the rules' parts of the constant needs: most rules have none
 pub ruleset constants = (sum_below-zero)

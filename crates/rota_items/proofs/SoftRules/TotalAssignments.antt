@@ -1,12 +1,13 @@
 -- The items of the totals and their part of the constant charge the assignments outside the limits.
-use Rattle.rota_items.proofs.Common.Words.{◌≡◌, ℕ, ◌+◌, ◌-◌, ◌*◌, ◌<◌, ◌≤◌, Bool, ◌&&◌, true, cond, refl, ap, ◌∙◌, arith, min, ℤ, pos, negsuc, ◌-ℤ◌, nat_lt, count_by, ltb-true, sum_by-append, AllByRecursion-append, AllByRecursion-only_if, and_parts, inl, inr, KeepsCompetitionRules, KeepsOneCell, Roster, Week, nurse_cells, work_cells, positive_part, shortage, times, value_of, IsUnit, S6, charged_excess, excess_before_counts, greatest_totals_count, least_totals_count, assignment_weight, assignments_of, greatest_total_item, greatest_totals_of, least_total_item, least_totals_of, still_allowed, still_wanted}
+use Rattle.rota_items.proofs.Common.Words.{◌≡◌, ℕ, ◌+◌, ◌-◌, ◌*◌, ◌<◌, ◌≤◌, Bool, ◌&&◌, true, cond, refl, arith, ints, min, ℤ, pos, negsuc, nat_lt, count_by, sum_by-append, AllByRecursion-append, AllByRecursion-only_if, inl, inr, KeepsOneCell, Roster, Week, nurse_cells, work_cells, shortage, times, IsUnit, S6, charged_excess, excess_before_counts, greatest_totals_count, least_totals_count, assignment_weight, assignments_of, greatest_total_item, greatest_totals_of, least_total_item, least_totals_of, still_allowed, still_wanted}
 use Rattle.rota_items.proofs.AlikeRosters.{count_below-alike, same_cell}
 use Rattle.rota_items.proofs.CellCounts.{work_count, one-work, count-work_cells}
-use Rattle.rota_items.proofs.SoundTerms.{in-nurse_cells, sound-cells}
+use Rattle.rota_items.proofs.SoundTerms.{in-nurse_cells, sound-cells, AreSound}
 use Rattle.rota_items.proofs.Lists.{sum_by-only_if, sum_by-each-is, sum_below-within, sum_below-same}
 use Rattle.rota_items.proofs.RisingCells.{rises-nurse_cells}
+use Rattle.rota_items.proofs.SmallSums.{positive_part-parts}
 use Rattle.rota_items.proofs.SoftRules.Sound.{IsItemSound, IsNurseRuleSound, weighted}
-use Rattle.rota_items.proofs.Values.{lacking, exceeding}
+use Rattle.rota_items.proofs.Values.{value_of-plus, value_of-minus}
 
 -- what item and constant charge of the assignments below the least total, and of those above the greatest
 least_charged : (count : Bool) (least before now lacks : ℕ) → now ≤ 7 → lacks ≡ min (least - before) 7 - now →
@@ -36,13 +37,10 @@ module _ (week : Week) where
         (λ d _. count-work_cells week roster n d)
 
     shortage-least : shortage roster (least_total_item week n) ≡ min (still_wanted week n) 7 - assignments_of week roster n
-    shortage-least =
-        lacking roster (nurse_cells week n) (min (still_wanted week n) 7) ∙
-        ap (λ t. min (still_wanted week n) 7 - t) count-nurse_cells
+    shortage-least = omega (arith, ints, positive_part-parts, value_of-plus roster (nurse_cells week n), count-nurse_cells)
 
     shortage-greatest : shortage roster (greatest_total_item week n) ≡ assignments_of week roster n - still_allowed week n
-    shortage-greatest =
-        exceeding roster (nurse_cells week n) (still_allowed week n) ∙ ap (λ t. t - still_allowed week n) count-nurse_cells
+    shortage-greatest = omega (arith, ints, positive_part-parts, value_of-minus roster (nurse_cells week n), count-nurse_cells)
 
     assignments-le : KeepsOneCell week roster → n < week.nurses → assignments_of week roster n ≤ 7
     assignments-le one n_in =
@@ -51,37 +49,28 @@ module _ (week : Week) where
   -- ---- the items
 
   module _ (n : ℕ) (n_in : n < week.nurses) where
-    sound-total : (coefficient degree : ℤ) (slacks : ℕ) → IsUnit coefficient → 1 ≤ slacks →
-        ((roster : Roster) → KeepsCompetitionRules week roster →
-        positive_part (degree -ℤ value_of roster (times coefficient (nurse_cells week n))) ≤ slacks) →
-        IsItemSound week S6 (record {
-          rule = S6;
-          weight = assignment_weight;
-          slacks = slacks;
-          terms = times coefficient (nurse_cells week n);
-          degree = degree;
-        })
-    sound-total coefficient degree slacks unit some enough = record {
-      rule_is = refl;
-      terms = sound-cells week coefficient unit _ _ (nurse_cells week n) (omega arith) (in-nurse_cells week n n_in)
-          (rises-nurse_cells week n);
-      weighs = omega arith;
-      has_slack = some;
-      enough = enough;
-    }
+    sound-sum : (coefficient : ℤ) → IsUnit coefficient → AreSound week (times coefficient (nurse_cells week n))
+    sound-sum coefficient unit =
+        sound-cells week coefficient unit _ _ (nurse_cells week n) (omega arith) (in-nurse_cells week n n_in)
+        (rises-nurse_cells week n)
 
     sound-least : is_wanted n ≡ true → IsItemSound week S6 (least_total_item week n)
-    sound-least test =
-        sound-total (pos 1) (pos (min (still_wanted week n) 7)) (min (still_wanted week n) 7) (inl refl)
-        (omega (arith, ltb-true 0 (still_wanted week n) (and_parts (least_totals_count week) _ test).1))
-        (λ roster _. omega (arith, shortage-least roster n))
+    sound-least wanted = record {
+      rule_is = refl;
+      terms = sound-sum (pos 1) (inl refl);
+      weighs = omega arith;
+      has_slack = grind arith;
+      enough = λ roster _. omega (arith, shortage-least roster n);
+    }
 
     sound-greatest : is_limited n ≡ true → IsItemSound week S6 (greatest_total_item week n)
-    sound-greatest test =
-        let room = still_allowed week n in
-        sound-total (negsuc 0) (pos 0 -ℤ pos room) (7 - room) (inr refl)
-        (omega (arith, ltb-true room 7 (and_parts (greatest_totals_count week) _ test).1))
-        (λ roster keeps. omega (arith, shortage-greatest roster n, assignments-le roster n keeps.one_cell n_in))
+    sound-greatest limited = record {
+      rule_is = refl;
+      terms = sound-sum (negsuc 0) (inr refl);
+      weighs = omega arith;
+      has_slack = grind arith;
+      enough = λ roster keeps. omega (arith, shortage-greatest roster n, assignments-le roster n keeps.one_cell n_in);
+    }
 
   pub sound-total_assignments : IsNurseRuleSound week S6
   sound-total_assignments = record {

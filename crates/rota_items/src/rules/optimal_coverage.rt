@@ -32,7 +32,7 @@ fn missing_nurses(instance: &Instance, day: u8, shift: u8, skill: u8) -> SoftIte
 }
 
 // The item of a day's shift type and skill, where the optimal number is above the least.
-#[tactic(auto, using(crate::proofs::Walking::walking), unfolding(rota_core::specs::Lists::only_if))]
+#[tactic(auto, using(crate::proofs::Walking::walking, crate::proofs::Exits::item_where), unfolding(rota_core::specs::Lists::only_if))]
 fn walk_at<T: ItemTaker>(
     instance: &Instance,
     taker: &mut T,

@@ -93,7 +93,7 @@ fn greatest_total(instance: &Instance, nurse: u16) -> SoftItem
 }
 
 // The item of a nurse's least total, where it counts and asks for more.
-#[tactic(auto, using(crate::proofs::Walking::walking), unfolding(rota_core::specs::Lists::only_if))]
+#[tactic(auto, using(crate::proofs::Walking::walking, crate::proofs::Exits::item_where), unfolding(rota_core::specs::Lists::only_if))]
 fn walk_least<T: ItemTaker>(instance: &Instance, taker: &mut T, nurse: u16) -> Result<(), T::Fault>
     requires nurse_in { nurse < (week_of instance.now).nurses }
     ensures { let week = week_of instance.now in
@@ -106,7 +106,7 @@ fn walk_least<T: ItemTaker>(instance: &Instance, taker: &mut T, nurse: u16) -> R
 }
 
 // The item of a nurse's greatest total, where it counts and the week can exceed it.
-#[tactic(auto, using(crate::proofs::Walking::walking), unfolding(rota_core::specs::Lists::only_if))]
+#[tactic(auto, using(crate::proofs::Walking::walking, crate::proofs::Exits::item_where), unfolding(rota_core::specs::Lists::only_if))]
 fn walk_greatest<T: ItemTaker>(
     instance: &Instance,
     taker: &mut T,
@@ -123,7 +123,7 @@ fn walk_greatest<T: ItemTaker>(
 }
 
 /// The items of a nurse's least and of her greatest total.
-#[tactic(auto, using(crate::proofs::Walking::walking))]
+#[tactic(auto, using(crate::proofs::Exits::item_walks))]
 pub fn walk<T: ItemTaker>(instance: &Instance, taker: &mut T, nurse: u16) -> Result<(), T::Fault>
     requires nurse_in { nurse < (week_of instance.now).nurses }
     ensures { let week = week_of instance.now in

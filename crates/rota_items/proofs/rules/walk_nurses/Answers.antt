@@ -1,7 +1,0 @@
-use Rattle.rota_items.proofs.Common.{arith, exits, loop_refused, items_join}
-use Rattle.rota_items.proofs.rules.walk_nurses.Goals as goal
-
-pub returns-in_err-walk_nurse : goal.returns-in_err-walk_nurse
-returns-in_err-walk_nurse g c =
-    exits _ _ _ _ c.from_residual.ensures.0
-    (loop_refused (items_join _) _ _ _ _ _ _ (omega arith) c.loop-nurse.invariant c.in_err-walk_nurse.ensures)
