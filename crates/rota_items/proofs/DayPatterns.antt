@@ -32,23 +32,9 @@ module _ (plain : Bool → Bool) where
         count-with pattern.first (pattern.end - pattern.first),
       )
 
-plain-of_property : (week : Week) (n : ℕ) (property : DayProperty) (days : List PatternDay) →
+-- the sums that are plain by a property
+pub plain-of_property : (week : Week) (n : ℕ) (property : DayProperty) (days : List PatternDay) →
     count_by (λ (day : PatternDay). is_plain_of property day.has) days ≡ count_by (is_plain (property_of week n property)) days
 plain-of_property week n (Shift s) days = refl
 plain-of_property week n Work days = refl
 plain-of_property week n Off days = refl
-
--- ---- the item of a charge
-
-pub charged_item-is : (week : Week) (charge : RunCharge) (pattern : DayPattern) (weight : ℕ) (degree : ℤ) →
-    weight ≡ charge.weight * pattern.units →
-    degree ≡ pos 1 -ℤ pos (count_by (λ (day : PatternDay). is_plain_of charge.property day.has) (days_of pattern)) →
-    record {
-      rule = charge.rule;
-      weight = weight;
-      slacks = 1;
-      terms = flat_map (day_terms (property_of week charge.nurse charge.property)) (days_of pattern);
-      degree = degree;
-    } ∷ [] ≡ charged_items week charge (pattern_of pattern ∷ [])
-charged_item-is week charge pattern weight degree e f =
-    rw (e, f, plain-of_property week charge.nurse charge.property (days_of pattern)) refl

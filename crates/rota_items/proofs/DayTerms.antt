@@ -1,6 +1,6 @@
 -- The terms of a pattern's days, part by part.
 use Rattle.rota_items.proofs.Common.Words.{◌≡◌, ℕ, ◌+◌, ◌-◌, ◌≤◌, ◌<◌, List, [], ◌∷◌, ◌++◌, Result, length, ap, ◌∙◌, arith, flat_map, append-nil, flat_map-append, get_or-map-range_with_len, length-map-range_with_len, map-range_with_len_more, take-map-range_with_len, only_if, Week, Cell, Term, days_of, PatternDay, with_property, without_property, days_with, DayPattern, cell_term_events, Event, Took, Refused, Takes, Ghosts}
-use Rattle.rota_items.proofs.Taking.{Joins, terms_join, Takes-then, taking, nothing, both, stop, go_on}
+use Rattle.rota_items.proofs.Taking.{Joins, terms_join, taking, nothing, both, stop, go_on, goes_on}
 use Rattle.rota_items.proofs.Walking.{list_refused}
 
 -- what a day that may be there needs
@@ -38,7 +38,7 @@ module _ (week : Week) (f : PatternDay → List (Term Cell)) where
     pub takes_after : {R : Type 0} (s t u v : S) (r : Result R F) → Took T (day_events before) s t → Took T (day_events held) t u →
         Takes T (day_events after) u v r → Takes T (day_events (days_of pattern)) s v r
     takes_after s t u v r p q o =
-        rw (days_join.append, days_join.append) (Takes-then _ _ s t v r p (Takes-then _ _ t u v r q o))
+        goes_on days_join before (held ++ after) s t v r p (goes_on days_join held after t u v r q o)
 
   module _ {S F : Type 0} (T : Ghosts S F) (first day : ℕ) where
     pub days_none : (s : S) → Took T (day_events (days_with first first)) s s

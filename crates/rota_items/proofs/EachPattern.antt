@@ -47,11 +47,9 @@ module _ (history : ℕ) (limits : Span) where
     is-closed : (k : ℕ) → k < d → (nat_le 1 k && nat_lt k limits.min) ≡ true → Is (closed_pattern limits.min d k)
     is-closed k room test =
         let short : k < limits.min = grind arith in
-        let before : d - k ≡ d - k - 1 + 1 = omega arith in
+        let before : d - k - 1 + 1 ≡ d - k = omega arith in
         is_run (closed_pattern limits.min d k) (d - k - 1) (suc (suc (d - (d - k))))
-        (ap (λ xs. (d - k - 1) ∷ xs)
-        (numbers-ended (d - k) (d - (d - k)) d (omega arith) ∙ ap (λ first. range_with_len first (suc (d - (d - k)))) before))
-        (omega arith) (omega arith) (omega arith)
+        (rw (before, numbers-ended (d - k) (d - (d - k)) d (omega arith)) refl) (omega arith) (omega arith) (omega arith)
 
     is-edge : (nat_le 1 (history + d) && nat_lt (history + d) limits.min) ≡ true → Is (edge_pattern history limits.min d)
     is-edge test =

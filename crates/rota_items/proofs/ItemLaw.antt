@@ -1,5 +1,5 @@
 -- Items and their slacks.
-use Rattle.rota_items.proofs.Common.Words.{map, ◌≡◌, ◌↔◌, ℕ, zero, suc, ◌+◌, ◌-◌, ◌*◌, ◌<◌, ◌≤◌, Bool, cond, List, [], ◌∷◌, refl, sym, ap, ◌∙◌, arith, add-zero, ltb, pos, ◌+ℤ◌, ◌-ℤ◌, ◌≤ℤ◌, All, count_by, range_with_len, sum_by-cons, recursion_from_All, lt-ltb, le-ltb, ints, nat_tests, All-nil, All-cons, All-head, All-tail, mul-le-mul_left, numbered, Item, positive_part, shortage, weighted_shortages, Term, Constraint, Satisfies, value_of, times, StandBelow, slack_variables, item_constraint, item_constraints, slack_weights, is_slack_needed, extension}
+use Rattle.rota_items.proofs.Common.Words.{map, ◌≡◌, ◌↔◌, ℕ, zero, suc, ◌+◌, ◌-◌, ◌*◌, ◌<◌, ◌≤◌, Bool, cond, List, [], ◌∷◌, refl, sym, ap, ◌∙◌, arith, add-zero, ltb, pos, ◌+ℤ◌, ◌-ℤ◌, ◌≤ℤ◌, All, count_by, range_with_len, sum_by-cons, recursion_from_All, lt-ltb, le-ltb, ints, nat_tests, AllByRecursion, All-from_recursion, All-head, All-tail, mul-le-mul_left, numbered, Item, positive_part, shortage, weighted_shortages, Term, Constraint, Satisfies, value_of, times, StandBelow, slack_variables, item_constraint, item_constraints, slack_weights, is_slack_needed, extension}
 use Rattle.rota_items.proofs.PatternItems.{value_of-append}
 use Rattle.rota_items.proofs.SmallSums.{positive_part-parts}
 use Rattle.rota_items.proofs.SoundTerms.{value_of-agree}
@@ -63,16 +63,15 @@ pub count-front : (assignment : ℕ → Bool) (first n k : ℕ) → k ≤ n →
     count_by assignment (range_with_len first n) ≡ k
 count-front assignment first zero k within each = omega arith
 count-front assignment first (suc n) k within each =
-    let here : assignment first ≡ ltb 0 k = ap assignment (sym (add-zero first)) ∙ each 0 (omega arith) in
-    let rest : count_by assignment (range_with_len (first + 1) n) ≡ k - 1 =
-    count-front assignment (first + 1) n (k - 1) (omega arith)
-    (λ o below.
-    let same : first + 1 + o ≡ first + (o + 1) = omega arith in
-    ap assignment same ∙ each (o + 1) (omega arith) ∙ ltb-next o k) in
-    grind (arith, nat_tests, sum_by-cons (λ x. cond (assignment x) 1 0) first (range_with_len (first + 1) n))
-  where
-    ltb-next : (o k : ℕ) → ltb (o + 1) k ≡ ltb o (k - 1)
-    ltb-next o k = grind (arith, nat_tests)
+    grind (
+      arith,
+      nat_tests,
+      sum_by-cons (λ x. cond (assignment x) 1 0) first (range_with_len (first + 1) n),
+      rw add-zero at (each 0 (omega arith)),
+      count-front assignment (first + 1) n (k - 1) (omega arith) (λ o below.
+          let same : first + 1 + o ≡ first + (o + 1) = omega arith in
+          rw (same, each (o + 1) (omega arith)) (grind (arith, nat_tests))),
+    )
 
 abbrev pub IsExtension : (ℕ → Bool) → (ℕ → Bool) → ℕ → List (Item ℕ) → Type 0
 IsExtension other assignment first items = (o : ℕ) → other (first + o) ≡ is_slack_needed assignment items o
@@ -85,46 +84,40 @@ needed-first assignment item items o within = rw (lt-ltb o item.slacks within) r
 pub needed-after : (assignment : ℕ → Bool) (item : Item ℕ) (items : List (Item ℕ)) (o : ℕ) →
     is_slack_needed assignment (item ∷ items) (item.slacks + o) ≡ is_slack_needed assignment items o
 needed-after assignment item items o =
-    rw (le-ltb (item.slacks + o) item.slacks (omega arith))
-    (let e : item.slacks + o - item.slacks ≡ o = omega arith in ap (is_slack_needed assignment items) e)
+    let next : item.slacks + o - item.slacks ≡ o = omega arith in rw (le-ltb (item.slacks + o) item.slacks (omega arith), next) refl
 
 -- an extension has the slacks of its items from the first number on
 pub extension-extends : (assignment : ℕ → Bool) (first : ℕ) (items : List (Item ℕ)) →
     IsExtension (extension assignment first items) assignment first items
 extension-extends assignment first items o =
-    rw (le-ltb (first + o) first (omega arith))
-    (let e : first + o - first ≡ o = omega arith in ap (is_slack_needed assignment items) e)
+    let place : first + o - first ≡ o = omega arith in rw (le-ltb (first + o) first (omega arith), place) refl
 
 -- what holds of an assignment that agrees with one below a number, and has the slacks that the items need
 module _ (other assignment : ℕ → Bool) (end : ℕ) (agree : (v : ℕ) → v < end → other v ≡ assignment v) where
   outcome : (first : ℕ) (items : List (Item ℕ)) → IsExtension other assignment first items →
-      StandBelow end items → All (λ item. shortage assignment item ≤ item.slacks) items →
-      All (Satisfies other) (item_constraints first items) ×
+      AllByRecursion (λ item. All (λ (term : Term ℕ). term.1 < end) item.terms) items →
+      AllByRecursion (λ item. shortage assignment item ≤ item.slacks) items →
+      AllByRecursion (Satisfies other) (item_constraints first items) ×
       (value_of other (slack_weights first items) ≡ pos (weighted_shortages assignment items))
-  outcome first [] extends below enough = (All-nil (Satisfies other), refl)
+  outcome first [] extends below enough = (tt, refl)
   outcome first (item ∷ items) extends below enough =
-      let Below : Item ℕ → Type 0 = λ item. All (λ (term : Term ℕ). term.1 < end) item.terms in
-      let HasEnough : Item ℕ → Type 0 = λ item. shortage assignment item ≤ item.slacks in
-      let after : ℕ = first + item.slacks in
       let count : count_by other (slack_variables item first) ≡ shortage assignment item =
-      count-front other first item.slacks (shortage assignment item) (All-head HasEnough item items enough)
+      count-front other first item.slacks (shortage assignment item) enough.0
       (λ o within. extends o ∙ needed-first assignment item items o within) in
       let same : value_of other item.terms ≡ value_of assignment item.terms =
       value_of-agree other assignment (λ v. v < end) item.terms agree
-      (recursion_from_All (λ (term : Term ℕ). term.1 < end) item.terms (All-head Below item items below)) in
+      (recursion_from_All (λ (term : Term ℕ). term.1 < end) item.terms below.0) in
       let rest =
-      outcome after items
+      outcome (first + item.slacks) items
       (λ o.
-      let further : after + o ≡ first + (item.slacks + o) = omega arith in
-      ap other further ∙ extends (item.slacks + o) ∙ needed-after assignment item items o)
-      (All-tail Below item items below) (All-tail HasEnough item items enough) in (
-        All-cons (Satisfies other) (item_constraint item first) (item_constraints after items)
-            ((item_law other item first).1 (omega (arith, count, ap (λ z. positive_part (item.degree -ℤ z)) same))) rest.0,
+      let further : first + item.slacks + o ≡ first + (item.slacks + o) = omega arith in
+      rw further (extends (item.slacks + o) ∙ needed-after assignment item items o)) below.1 enough.1 in (
+        ((item_law other item first).1 (omega (arith, count, ap (λ z. positive_part (item.degree -ℤ z)) same)), rest.0),
         omega (
           arith,
           ints,
           sum_by-cons (λ (i : Item ℕ). i.weight * shortage assignment i) item items,
-          value_of-append other (times (pos item.weight) (slack_variables item first)) (slack_weights after items),
+          value_of-append other (times (pos item.weight) (slack_variables item first)) (slack_weights (first + item.slacks) items),
           value_of-weight other item.weight (slack_variables item first),
           ap (λ n. item.weight * n) count,
           rest.1,
@@ -133,14 +126,17 @@ module _ (other assignment : ℕ → Bool) (end : ℕ) (agree : (v : ℕ) → v 
 
 module _ (assignment : ℕ → Bool) (first : ℕ) (items : List (Item ℕ)) (below : StandBelow first items)
     (enough : All (λ item. shortage assignment item ≤ item.slacks) items) where
-  extension-outcome : All (Satisfies (extension assignment first items)) (item_constraints first items) ×
+  extension-outcome : AllByRecursion (Satisfies (extension assignment first items)) (item_constraints first items) ×
       (value_of (extension assignment first items) (slack_weights first items) ≡ pos (weighted_shortages assignment items))
   extension-outcome =
       outcome (extension assignment first items) assignment first (λ v under. rw (lt-ltb v first under) refl)
-      first items (extension-extends assignment first items) below enough
+      first items (extension-extends assignment first items)
+      (recursion_from_All (λ (item : Item ℕ). All (λ (term : Term ℕ). term.1 < first) item.terms) items below)
+      (recursion_from_All (λ (item : Item ℕ). shortage assignment item ≤ item.slacks) items enough)
 
   pub extension_satisfies : All (Satisfies (extension assignment first items)) (item_constraints first items)
-  extension_satisfies = extension-outcome.0
+  extension_satisfies =
+      All-from_recursion (Satisfies (extension assignment first items)) (item_constraints first items) extension-outcome.0
 
   pub value_of-extension :
       value_of (extension assignment first items) (slack_weights first items) ≡ pos (weighted_shortages assignment items)

@@ -26,8 +26,7 @@ signed_terms plain variables =
 
 pub value_of-sum : {X : Type 0} (assignment : X → Bool) (plain : Bool) (variables : List X) →
     value_of assignment (signed_terms plain variables) ≡ signed plain (count_by assignment variables)
-value_of-sum assignment true [] = refl
-value_of-sum assignment false [] = refl
+value_of-sum assignment plain [] = grind (arith, ints)
 value_of-sum assignment plain (v ∷ vs) =
     grind (arith, ints, sum_by-cons (λ x. cond (assignment x) 1 0) v vs, value_of-sum assignment plain vs)
 
@@ -89,10 +88,4 @@ module _ {X : Type 0} (rule : Rule) (weight : ℕ) (property : Property X) (assi
 
   pub weighted-pattern_item : item.weight * shortage assignment item ≡
       weight * units_of (has_property property assignment) pattern
-  weighted-pattern_item =
-      ap (λ n. weight * pattern.units * n) shortage-pattern_item ∙
-      times_cond (matches (has_property property assignment) pattern.days) weight pattern.units
-    where
-      times_cond : (b : Bool) (w u : ℕ) → w * u * cond b 1 0 ≡ w * cond b u 0
-      times_cond true w u = omega arith
-      times_cond false w u = omega arith
+  weighted-pattern_item = rw shortage-pattern_item (grind arith)
