@@ -1,5 +1,5 @@
 -- How large the items of a week within the limits are, and how many: their slacks, what all of these weigh, and their degrees.
-use Rattle.rota_items.proofs.Common.Words.{ℕ, ◌*◌, ◌≤◌, Bool, true, false, List, [], length, arith, if◌then◌else◌, ints, sum_by, sum_by-le, sum_by-le-sum_by, All-from_recursion, AllByRecursion, mul-le, Week, Rule, Cell, Item, positive_part, Property, Present, Runs, Pattern, pattern_item, run_items, only_sunday, saturday, weekend_items, work_cells, optimum_item, optimum_items_at, least_total_item, greatest_total_item, complete_weekend_weight, worked_weekend_weight, shift_runs, work_runs, off_runs, items_of_rule, nurse_items, soft_items, soft_rules, IsWithinLimits, S1, S2, S3, S5, S6, S7, heaviest, most_items, most_items_of_nurse, most_run_items, most_slacks, most_weight, most_number, most_nurses, most_shifts, most_skills}
+use Rattle.rota_items.proofs.Common.Words.{rules, ℕ, ◌*◌, ◌≤◌, Bool, true, false, List, [], length, arith, if◌then◌else◌, ints, sum_by, sum_by-le, sum_by-le-sum_by, All-from_recursion, AllByRecursion, mul-le, Week, Rule, Cell, Item, positive_part, Property, Present, Runs, Pattern, pattern_item, run_items, only_sunday, saturday, weekend_items, work_cells, optimum_item, optimum_items_at, least_total_item, greatest_total_item, complete_weekend_weight, worked_weekend_weight, shift_runs, work_runs, off_runs, items_of_rule, nurse_items, soft_items, soft_rules, IsWithinLimits, S1, S2, S3, S5, S6, S7, heaviest, most_items, most_items_of_nurse, most_run_items, most_slacks, most_weight, most_number, most_nurses, most_shifts, most_skills}
 use Rattle.rota_items.proofs.EachPattern.{each-run_item, run_counting}
 use Rattle.rota_items.proofs.Lists.{AreFew, all-both, all-flat_map, few-append, few-each_below, few-only_if, sum_by-flat_map}
 use Rattle.rota_items.proofs.SmallSums.{positive_part-parts}
@@ -14,15 +14,16 @@ pub record IsItemSmall (most : ℕ) (item : Item Cell) : Type 0 where
 
 -- ---- patterns
 
-small-pattern : (rule : Rule) (weight : ℕ) (property : Property Cell) (pattern : Pattern) → weight ≤ heaviest → pattern.units ≤ most_number →
-    IsItemSmall 7 (pattern_item rule weight property pattern)
+small-pattern : (rule : Rule) (weight : ℕ) (property : Property Cell) (pattern : Pattern) → weight ≤ heaviest →
+    pattern.units ≤ most_number → IsItemSmall 7 (pattern_item rule weight property pattern)
 small-pattern rule weight property pattern light small = record {
   slacks = omega arith;
   all_slacks = omega (arith, mul-le weight pattern.units heaviest most_number light small);
   degree = omega (arith, ints, positive_part-parts (pattern_item rule weight property pattern).degree);
 }
 
-small-runs : (runs : Runs Cell) → runs.weight ≤ heaviest → runs.limits.min ≤ most_number → AreFew (IsItemSmall 7) most_run_items (run_items runs)
+small-runs : (runs : Runs Cell) → runs.weight ≤ heaviest → runs.limits.min ≤ most_number →
+    AreFew (IsItemSmall 7) most_run_items (run_items runs)
 small-runs runs light small = record {
   each =
       each-run_item runs (IsItemSmall 7) (λ pattern is.
@@ -49,11 +50,7 @@ module _ (week : Week) (limits : IsWithinLimits week) where
   small-nurse_items S5 n = small-weekend week S5 complete_weekend_weight n true _ (omega arith)
   small-nurse_items S6 n =
       few-append (omega arith)
-      (few-only_if _ (least_total_item week n) (λ _. record {
-        slacks = omega arith;
-        all_slacks = omega arith;
-        degree = omega arith;
-      }))
+      (few-only_if _ (least_total_item week n) (λ _. search rules))
       (few-only_if _ (greatest_total_item week n) (λ _. record {
         slacks = omega arith;
         all_slacks = omega arith;
@@ -89,7 +86,8 @@ module _ (week : Week) (limits : IsWithinLimits week) where
 
   module _ (f : Item Cell → ℕ) (most : Rule → ℕ) where
     -- numbers of items that are no greater than the most sum to no more than so many times the most
-    pub items-le : (rule : Rule) → ((item : Item Cell) → IsItemSmall (most_slacks rule) item → IsItemSound week rule item → f item ≤ most rule) →
+    pub items-le : (rule : Rule) →
+        ((item : Item Cell) → IsItemSmall (most_slacks rule) item → IsItemSound week rule item → f item ≤ most rule) →
         sum_by f (items_of_rule week rule) ≤ most_items rule * most rule
     items-le rule each =
         let items : List (Item Cell) = items_of_rule week rule in

@@ -96,8 +96,7 @@ sum_below-plus (suc n) f g = omega (arith, sum_below-plus n f g)
 pub sum_below-within : (n m : ℕ) (f : ℕ → ℕ) → ((i : ℕ) → i < n → f i ≤ m) → sum_below n f ≤ n * m
 unfolding sum_below
 sum_below-within zero m f small = omega arith
-sum_below-within (suc n) m f small =
-    omega (arith, sum_below-within n m f (λ i below. small i (omega arith)), small n (omega arith))
+sum_below-within (suc n) m f small = grind (arith, small, sum_below-within n m f)
 
 pub sum_below-zero : (n : ℕ) (f : ℕ → ℕ) → ((i : ℕ) → i < n → f i ≡ 0) → sum_below n f ≡ 0
 sum_below-zero n f none = omega (arith, sum_below-within n 0 f (λ i below. omega (arith, none i below)))
@@ -118,10 +117,6 @@ pub length-at_most : {A : Type 0} {n m : ℕ} (most : ℕ) → n ≤ most → (f
     length (each_below n f) ≤ most * m
 length-at_most {A} {n} {m} most few f small =
     omega (arith, length-each_below n m f (λ i _. small i), mul-le n m most m few (omega arith))
-
-pub where_in : (b : Bool) (n : ℕ) → cond b n 0 ≤ n
-where_in true n = omega arith
-where_in false n = omega arith
 
 -- ---- lists made by loops
 
@@ -182,8 +177,7 @@ pub length-each-is : {A : Type 0} (n long : ℕ) (f : ℕ → List A) → ((i : 
     length (each_below n f) ≡ n * long
 unfolding each_below
 length-each-is zero long f each = omega arith
-length-each-is (suc n) long f each =
-    rw length-append (omega (arith, length-each-is n long f (λ i below. each i (omega arith)), each n (omega arith)))
+length-each-is (suc n) long f each = grind (arith, length-append, each, length-each-is n long f)
 
 -- what each turn of a loop adds in two parts
 pub length-each_below_both : {A : Type 0} (n : ℕ) (f g : ℕ → List A) →

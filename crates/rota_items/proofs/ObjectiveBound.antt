@@ -1,6 +1,6 @@
 -- The coefficients of the objective are positive and small, and how large it is of any assignment.
-use Rattle.rota_items.proofs.Common.Words.{request_cost, ◌≡◌, ℕ, ◌+◌, ◌<◌, Bool, true, cond, List, [], ◌∷◌, map, arith, ℤ, pos, ◌+ℤ◌, ◌≤ℤ◌, ◌<ℤ◌, nat_lt, All, AllByRecursion, ints, All-from_recursion, AllByRecursion-append, AllByRecursion-only_if, Week, Cell, cell_number, first_slack, Item, numbered, Term, times, value_of, objective_value, constant_terms, slack_variables, slack_weights, cell_terms, constant, soft_items, numbered_terms, numbered_items, objective_terms, model_of, IsWithinLimits, most_coefficient, ◌*◌, ◌≤◌, ap, sum_by-cons, count_by-le-length, sum_by, count_by, mul-le-mul_left, unit_number, roster_of, most_objective, most_weight}
-use Rattle.rota_items.proofs.Lists.{all-weaker, sum_by-map, where_in}
+use Rattle.rota_items.proofs.Common.Words.{ltb-true, request_cost, ◌≡◌, ℕ, ◌+◌, ◌<◌, Bool, cond, List, [], ◌∷◌, arith, ℤ, pos, ◌+ℤ◌, ◌≤ℤ◌, ◌<ℤ◌, All, AllByRecursion, ints, All-from_recursion, AllByRecursion-append, AllByRecursion-only_if, Week, Cell, cell_number, first_slack, Item, numbered, Term, times, value_of, objective_value, constant_terms, slack_variables, slack_weights, cell_terms, constant, soft_items, numbered_terms, numbered_items, objective_terms, model_of, IsWithinLimits, most_coefficient, ◌*◌, ◌≤◌, ap, sum_by-cons, count_by-le-length, sum_by, count_by, mul-le-mul_left, unit_number, roster_of, most_objective, most_weight}
+use Rattle.rota_items.proofs.Lists.{all-map, all-weaker, sum_by-map}
 use Rattle.rota_items.proofs.ItemSizes.{each-small, soft_items-le}
 use Rattle.rota_items.proofs.PenaltyBound.{constant-few, request_cost-le}
 use Rattle.rota_items.proofs.SoftRules.EachRule.{each-item, cell_terms-are, sound-cell_terms}
@@ -12,33 +12,27 @@ use Rattle.rota_items.proofs.Extension.{value_of-objective}
 use Rattle.rota_items.proofs.ItemLaw.{value_of-weight, value_of-numbered}
 use Rattle.rota_items.proofs.PatternItems.{value_of-append}
 
-some_of_test : (n : ℕ) → nat_lt 0 n ≡ true → 0 < n
-some_of_test n test = grind arith
-
 module _ (week : Week) (P : ℤ → Type 0) where
-  abbrev OnWeight : Item Cell → Type 0
+  abbrev OnWeight : {X : Type 0} → Item X → Type 0
   OnWeight item = P (pos item.weight)
 
-  on-slack_weights : (first : ℕ) (items : List (Item Cell)) → AllByRecursion OnWeight items →
-      OnCoefficients P (slack_weights first (map (numbered (cell_number week)) items))
+  on-slack_weights : (first : ℕ) (items : List (Item ℕ)) → AllByRecursion OnWeight items → OnCoefficients P (slack_weights first items)
   on-slack_weights first [] all = tt
   on-slack_weights first (item ∷ items) all =
-      AllByRecursion-append (λ (term : Term ℕ). P term.0)
-      (times (pos item.weight) (slack_variables (numbered (cell_number week) item) first))
-      (slack_weights (first + item.slacks) (map (numbered (cell_number week)) items))
-      (coefficients-times P (pos item.weight) (slack_variables (numbered (cell_number week) item) first) all.0)
-      (on-slack_weights (first + item.slacks) items all.1)
+      AllByRecursion-append (λ (term : Term ℕ). P term.0) (times (pos item.weight) (slack_variables item first)) _
+      (coefficients-times P (pos item.weight) (slack_variables item first) all.0) (on-slack_weights (first + item.slacks) items all.1)
 
   -- P holds of each coefficient of the objective
   on-objective : ((term : Term Cell) → IsTermSound week term → P term.0) → (0 < constant week → P (pos (constant week))) →
       AllByRecursion OnWeight (soft_items week) → OnCoefficients P (objective_terms week)
   on-objective of_term of_constant of_items =
       AllByRecursion-append (λ (term : Term ℕ). P term.0) (numbered_terms week (cell_terms week)) _
-      (coefficients-numbered P (cell_number week) (cell_terms week) (all-weaker (IsTermSound week) (λ (term : Term Cell). P term.0) of_term (cell_terms week) (sound-cell_terms week)))
-      (AllByRecursion-append (λ (term : Term ℕ). P term.0) (constant_terms week)
-      (slack_weights (first_slack week) (numbered_items week))
-      (AllByRecursion-only_if (λ (term : Term ℕ). P term.0) _ _ (λ test. of_constant (some_of_test (constant week) test)))
-      (on-slack_weights (first_slack week) (soft_items week) of_items))
+      (coefficients-numbered P (cell_number week) (cell_terms week)
+      (all-weaker (IsTermSound week) (λ (term : Term Cell). P term.0) of_term (cell_terms week) (sound-cell_terms week)))
+      (AllByRecursion-append (λ (term : Term ℕ). P term.0) (constant_terms week) _
+      (AllByRecursion-only_if (λ (term : Term ℕ). P term.0) _ _ (λ test. of_constant (ltb-true 0 (constant week) test)))
+      (on-slack_weights (first_slack week) (numbered_items week)
+      (all-map OnWeight (numbered (cell_number week)) (soft_items week) of_items)))
 
 -- ---- positive
 
@@ -49,10 +43,6 @@ pub coefficients-positive : (week : Week) → OnCoefficients IsPositive (objecti
 coefficients-positive week =
     on-objective week IsPositive (λ term sound. sound.positive) (λ some. omega (arith, ints, some))
     (each-item week (OnWeight week IsPositive) (λ rule item _ sound. omega (arith, ints, sound.weighs)))
-
-pub objective-positive : (week : Week) → All (λ (term : Term ℕ). pos 0 <ℤ term.0) (model_of week).objective
-objective-positive week =
-    All-from_recursion (λ (term : Term ℕ). pos 0 <ℤ term.0) (objective_terms week) (coefficients-positive week)
 
 -- ---- small
 
@@ -107,12 +97,12 @@ module _ (week : Week) (assignment : ℕ → Bool) where
 
   pub objective-below : IsWithinLimits week → value_of assignment (objective_terms week) ≤ℤ pos most_objective
   objective-below limits =
+      let at_unit : cond (assignment (unit_number week)) (constant week) 0 ≤ constant week = grind arith in
       omega (
         arith,
         ints,
         objective-is,
         request_cost-le week limits (roster_of week assignment),
-        where_in (assignment (unit_number week)) (constant week),
         constant-few week limits,
         (value_of-slack_weights assignment (first_slack week) (numbered_items week)).1,
         sum_by-map all_slacks (numbered (cell_number week)) (soft_items week),

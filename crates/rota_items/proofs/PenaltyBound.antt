@@ -2,7 +2,7 @@
 use Rattle.rota_items.proofs.Common.Words.{ℕ, ◌+◌, ◌-◌, ◌*◌, ◌<◌, ◌≤◌, Bool, cond, arith, count_by-le-length, sum_by-le-sum_by, mul-le, sum_below, Roster, cell, soft_rules, Week, Rule, Span, nurses_at, works, is_on, is_off, history_on, shift_run_cost, shortage, weighted_shortages, constant, constant_of_rule, items_of_rule, penalty, rule_cost, nurse_constant, is_over, missing_on, run_cost, run_over, run_under, week_days, request_cost, request_weight, IsWithinLimits, S1, S2, S3, S4, S5, S6, S7, half_limit, most_cells, most_constant, most_constant_of_nurse, most_constant_of_rule, most_cost, most_cost_of_nurse, most_items, most_number, most_nurses, most_shifts, most_skills, most_shortage, most_weight, penalty_limit, InstanceTables, IsInstance, week_of}
 use Rattle.rota_items.proofs.InstanceLimits.{instance-within_limits}
 use Rattle.rota_items.proofs.ItemSizes.{items-le}
-use Rattle.rota_items.proofs.Lists.{sum_below-at_most, where_in}
+use Rattle.rota_items.proofs.Lists.{sum_below-at_most}
 use Rattle.rota_items.proofs.SoftRules.Sound.{nurse_cost}
 use Rattle.rota_items.proofs.SlackBound.{cells-few}
 use Rattle.rota_items.proofs.SmallSums.{shortage-least}
@@ -20,31 +20,22 @@ run_cost-le has history limits =
     )
 
 items-of_any : (rule : Rule) → most_items rule ≤ most_cells
-items-of_any S1 = omega arith
-items-of_any S2 = omega arith
-items-of_any _ = omega arith
+items-of_any rule = grind arith
 
 constants-of_any : (rule : Rule) → most_constant_of_rule rule ≤ most_constant
-constants-of_any S6 = omega arith
-constants-of_any S7 = omega arith
-constants-of_any _ = omega arith
+constants-of_any rule = grind arith
 
 module _ (week : Week) (limits : IsWithinLimits week) where
   -- ---- the constant
 
   nurse_constant-le : (rule : Rule) (n : ℕ) → nurse_constant week rule n ≤ most_constant_of_nurse rule
-  nurse_constant-le S6 n = grind (arith, limits.totals n, limits.assignments n)
-  nurse_constant-le S7 n = grind (arith, limits.weekends n)
-  nurse_constant-le _ n = omega arith
+  nurse_constant-le rule n = grind (arith, limits.totals n, limits.assignments n, limits.weekends n)
 
   constant_of_rule-le : (rule : Rule) → constant_of_rule week rule ≤ most_constant_of_rule rule
   constant_of_rule-le rule = sum_below-at_most week.nurses most_nurses _ _ limits.nurses (nurse_constant-le rule)
 
   pub constant_of_rule-few : (rule : Rule) → constant_of_rule week rule ≤ most_constant
   constant_of_rule-few rule = omega (arith, constant_of_rule-le rule, constants-of_any rule)
-
-  pub nurse_constant-few : (rule : Rule) (n : ℕ) → nurse_constant week rule n ≤ most_constant
-  nurse_constant-few rule n = omega (arith, nurse_constant-le rule n, constants-of_any rule)
 
   pub constant-few : constant week ≤ most_constant
   constant-few = sum_by-le-sum_by (constant_of_rule week) most_constant_of_rule soft_rules constant_of_rule-le
@@ -78,7 +69,7 @@ module _ (week : Week) (limits : IsWithinLimits week) where
         arith,
         sum_below-at_most week.nurses most_nurses _ _ limits.nurses (λ n.
             sum-cells most_number (λ d s k. cond (roster (cell n d s k)) (week.requests n d s) 0) (λ d s k.
-            omega (arith, limits.requests n d s, where_in (roster (cell n d s k)) (week.requests n d s)))),
+            grind (arith, limits.requests n d s))),
       )
 
   nurse_cost-le : (roster : Roster) (rule : Rule) (n : ℕ) → nurse_cost week roster rule n ≤ most_cost_of_nurse
@@ -98,13 +89,10 @@ module _ (week : Week) (limits : IsWithinLimits week) where
         arith,
         limits.totals n,
         limits.assignments n,
-        sum-cells 1 (λ d s k. cond (roster (cell n d s k)) 1 0) (λ d s k. where_in (roster (cell n d s k)) 1),
+        sum-cells 1 (λ d s k. cond (roster (cell n d s k)) 1 0) (λ d s k. grind arith),
       )
   nurse_cost-le roster S7 n = grind (arith, limits.weekends n)
   nurse_cost-le roster _ n = omega arith
-
-  cost_of_nurses-le : (roster : Roster) (rule : Rule) → sum_below week.nurses (nurse_cost week roster rule) ≤ most_cost
-  cost_of_nurses-le roster rule = sum_below-at_most week.nurses most_nurses _ _ limits.nurses (nurse_cost-le roster rule)
 
   rule_cost-le : (roster : Roster) (rule : Rule) → rule_cost week roster rule ≤ most_cost
   rule_cost-le roster S1 =
@@ -114,7 +102,7 @@ module _ (week : Week) (limits : IsWithinLimits week) where
             (λ d s k. omega (arith, limits.optimal d s k)),
       )
   rule_cost-le roster S4 = omega (arith, request_cost-le roster)
-  rule_cost-le roster rule = omega (arith, cost_of_nurses-le roster rule)
+  rule_cost-le roster rule = omega (arith, sum_below-at_most week.nurses most_nurses _ _ limits.nurses (nurse_cost-le roster rule))
 
 pub penalty-below : (week : Week) (roster : Roster) → IsWithinLimits week → penalty week roster < penalty_limit
 penalty-below week roster limits =
@@ -127,6 +115,7 @@ module _ (tables : InstanceTables) (valid : IsInstance tables) where
   few-constant_of_rule rule = constant_of_rule-few (week_of tables) (instance-within_limits tables valid) rule
 
   pub few-nurse_constant : (rule : Rule) (n : ℕ) → nurse_constant (week_of tables) rule n ≤ most_constant
-  few-nurse_constant rule n = nurse_constant-few (week_of tables) (instance-within_limits tables valid) rule n
+  few-nurse_constant rule n =
+      omega (arith, nurse_constant-le (week_of tables) (instance-within_limits tables valid) rule n, constants-of_any rule)
 
 pub ruleset few_constants = (few-constant_of_rule, few-nurse_constant)

@@ -1,5 +1,5 @@
 -- How many slacks the items of a week have, and how many rows its model has.
-use Rattle.rota_items.proofs.Common.Words.{◌≡◌, ℕ, ◌+◌, ◌*◌, ◌<◌, ◌≤◌, List, [], ◌∷◌, length, refl, arith, sum_by, length-append, length-map, length-flat_map, sum_by-le-sum_by, mul-le-mul, Week, cell_number, first_slack, rule_rows, Item, numbered, linear_constraint, item_rows, slack_count, soft_rules, items_of_rule, soft_items, hard_rows, numbered_items, numbered_row, rows_of, model_of, cell_count, IsWithinLimits, count_limit, most_cells, most_items, most_slacks, most_nurses}
+use Rattle.rota_items.proofs.Common.Words.{mul-le-mul_left, ◌≡◌, ℕ, ◌+◌, ◌<◌, ◌≤◌, List, [], ◌∷◌, length, refl, arith, sum_by, length-append, length-map, length-flat_map, sum_by-le-sum_by, mul-le-mul, Week, cell_number, first_slack, rule_rows, Item, numbered, linear_constraint, item_rows, slack_count, soft_rules, items_of_rule, soft_items, hard_rows, numbered_items, numbered_row, rows_of, model_of, cell_count, IsWithinLimits, count_limit, most_cells, most_items, most_slacks}
 use Rattle.rota_items.proofs.ItemSizes.{small-rule, soft_items-le}
 use Rattle.rota_items.proofs.RowSizes.{rule_rows-few}
 
@@ -21,17 +21,13 @@ length-rows_of week =
 module _ (week : Week) (limits : IsWithinLimits week) where
   -- ---- variables
 
-  slacks-few : slack_count (soft_items week) ≤ sum_by (λ rule. most_items rule * most_slacks rule) soft_rules
-  slacks-few = soft_items-le week limits (λ item. item.slacks) most_slacks (λ rule item small sound. small.slacks)
-
   pub cells-few : cell_count week ≤ most_cells
-  cells-few =
-      let days : 7 * week.nurses ≤ 7 * most_nurses = omega (arith, limits.nurses) in
-      omega (arith, mul-le-mul (mul-le-mul days limits.shifts) limits.skills)
+  cells-few = omega (arith, mul-le-mul (mul-le-mul (mul-le-mul_left 7 limits.nurses) limits.shifts) limits.skills)
 
   -- the number after that of the last slack
   pub variables_fit : first_slack week + slack_count (soft_items week) < count_limit
-  variables_fit = omega (arith, cells-few, slacks-few)
+  variables_fit =
+      omega (arith, cells-few, soft_items-le week limits (λ item. item.slacks) most_slacks (λ rule item small _. small.slacks))
 
   pub variables-below : (model_of week).variables < count_limit
   variables-below = omega (arith, variables_fit)

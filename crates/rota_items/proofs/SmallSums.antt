@@ -1,24 +1,17 @@
 -- Sums that do not reach the greatest number.
-use Rattle.rota_items.proofs.Common.Words.{◌≡◌, ℕ, ◌+◌, ◌-◌, ◌≤◌, Bool, true, false, List, [], ◌∷◌, arith, ℤ, pos, negsuc, ◌+ℤ◌, nat_abs, if◌then◌else◌, sum_by, ints, sum_by-cons, up, down, Item, positive_part, shortage, Term, value_of}
+use Rattle.rota_items.proofs.Common.Words.{◌≡◌, ℕ, ◌+◌, ◌-◌, ◌≤◌, Bool, List, [], ◌∷◌, arith, ℤ, pos, negsuc, ◌+ℤ◌, nat_abs, if◌then◌else◌, sum_by, ints, sum_by-cons, up, down, Item, positive_part, shortage, Term, value_of}
 
 -- the sum of the coefficients without their signs
 abbrev pub spread : {X : Type 0} → List (Term X) → ℕ
 spread {X} terms = sum_by (λ (term : Term X). nat_abs term.0) terms
 
 pub chosen-small : (b : Bool) (x c : ℤ) → nat_abs (x +ℤ (if b then c else pos 0)) ≤ nat_abs x + nat_abs c
-chosen-small true x c = omega (arith, ints)
-chosen-small false x c = omega (arith, ints)
+chosen-small b x c = grind (arith, ints)
 
 pub value_of-small : {X : Type 0} (assignment : X → Bool) (terms : List (Term X)) → nat_abs (value_of assignment terms) ≤ spread terms
 value_of-small assignment [] = omega arith
 value_of-small {X} assignment (t ∷ ts) =
-    omega (
-      arith,
-      ints,
-      sum_by-cons (λ (term : Term X). nat_abs term.0) t ts,
-      chosen-small (assignment t.1) (value_of assignment ts) t.0,
-      value_of-small assignment ts,
-    )
+    grind (arith, ints, sum_by-cons (λ (term : Term X). nat_abs term.0) t ts, value_of-small assignment ts)
 
 -- for `omega`, which reads an integer as the difference of two numbers
 pub positive_part-parts : (z : ℤ) → positive_part z ≡ up z - down z

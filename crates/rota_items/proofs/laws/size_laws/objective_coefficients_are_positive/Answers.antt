@@ -1,5 +1,6 @@
-use Rattle.rota_items.proofs.ObjectiveBound.{objective-positive}
+use Rattle.rota_items.proofs.Common.Words.{All-from_recursion, objective_terms}
+use Rattle.rota_items.proofs.ObjectiveBound.{coefficients-positive}
 use Rattle.rota_items.proofs.laws.size_laws.objective_coefficients_are_positive.Goals as goal
 
 pub returns : goal.returns
-returns c = objective-positive
+returns c = λ week. All-from_recursion _ (objective_terms week) (coefficients-positive week)
