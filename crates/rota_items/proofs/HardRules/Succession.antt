@@ -25,7 +25,7 @@ module _ (week : Week) where
   sound-h3_row n d s t n_in d_in s_in t_in =
       let first = on_cells week n s d in
       let second = on_cells week n t (d + 1) in
-      sound-cells week (negsuc 0) (inr refl) _ _ (first ++ second) (omega arith)
+      sound-cells week (negsuc 0) (inr refl) _ _ (first ++ second)
       (AllByRecursion-append (InWeek week) first second (in-on_cells week n s d n_in s_in (omega arith))
       (in-on_cells week n t (d + 1) n_in t_in (omega arith)))
       (rises-append (cell_number week) (day_start week n d) (day_start week n (d + 1)) (day_start week n (d + 1 + 1))
@@ -75,7 +75,7 @@ module _ (week : Week) where
     rows = rows-are.all (IsRowSound week H3) (λ n n_in. (
       λ t t_in forbidden. record {
         part_is = refl;
-        terms = sound-cells week (negsuc 0) (inr refl) _ _ (on_cells week n t 0) (omega arith) (in-on_cells week n t 0 n_in t_in (omega arith))
+        terms = sound-cells week (negsuc 0) (inr refl) _ _ (on_cells week n t 0) (in-on_cells week n t 0 n_in t_in (omega arith))
             (rises-on_cells week n t 0);
         holds = λ roster _ kept. (at_most roster (on_cells week n t 0) 0).1 (monday-few roster kept n t n_in t_in forbidden);
       },

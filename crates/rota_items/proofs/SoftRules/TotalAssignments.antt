@@ -63,7 +63,7 @@ module _ (week : Week) where
         })
     sound-total coefficient degree slacks unit some enough = record {
       rule_is = refl;
-      terms = sound-cells week coefficient unit _ _ (nurse_cells week n) (omega arith) (in-nurse_cells week n n_in)
+      terms = sound-cells week coefficient unit _ _ (nurse_cells week n) (in-nurse_cells week n n_in)
           (rises-nurse_cells week n);
       weighs = omega arith;
       has_slack = some;
