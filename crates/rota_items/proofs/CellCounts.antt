@@ -1,12 +1,8 @@
 -- How many cells of a sum a roster has: at most one of a nurse's day.
 use Rattle.rota_items.proofs.Common.Words.{◌≡◌, ℕ, ◌+◌, ◌<◌, ◌≤◌, Bool, true, false, cond, inl, inr, List, [], ◌∷◌, refl, ap, ◌∙◌, arith, sym, count_by, list_any, cases_Bool, true≢false, or-false, false_from_ne_true, sum_by-cons, AllByRecursion, sum_below, count_below, KeepsOneCell, is_on, works, Roster, cell, InWeek, Week, Cell, cell_number, on_cells, work_cells}
 use Rattle.rota_core.specs.RisingLists.{RisesWithin}
-use Rattle.rota_items.proofs.Lists.{all-both, all-weaker, sum_by-each-is, count_by-each, list_any-each, any_below-same, term-le-sum_below}
-use Rattle.rota_items.proofs.RisingCells.{in-cell, rises-between, rises-work_cells, work-are}
-
-pub cond-le : (b : Bool) → cond b 1 0 ≤ 1
-cond-le true = omega arith
-cond-le false = omega arith
+use Rattle.rota_items.proofs.Lists.{all-both, all-weaker, sum_by-each-is, count_by-each, list_any-each, any_below-same}
+use Rattle.rota_items.proofs.RisingCells.{in-cell, on-are, rises-between, rises-on_cells, rises-work_cells, work-are}
 
 -- ---- how many elements of a list pass
 
@@ -82,25 +78,20 @@ module _ (week : Week) (roster : Roster) where
 
     pub one-on : (s : ℕ) → s < week.shifts → count_by roster (on_cells week n s d) ≤ 1
     one-on s s_in =
-        omega (
-          arith,
-          one-work,
-          count-work_cells n d,
-          count-on_cells n s d,
-          term-le-sum_below week.shifts (λ s. on_count week roster n s d) s s_in,
-        )
+        at_most_one roster (cell_number week) IsOfDay same_number _ _ (on_cells week n s d) (rises-on_cells week n s d)
+        ((on-are week n s d).all IsOfDay (λ k k_in. (in-cell week n d s k n_in d_in s_in k_in, refl, refl)))
 
   -- ---- the tests are those of the lists of cells
 
   pub any-on_cells : (n s d : ℕ) → list_any roster (on_cells week n s d) ≡ is_on week roster n s d
   any-on_cells n s d =
       list_any-each roster week.skills (λ k. cell n d s k ∷ []) ∙
-      any_below-same week.skills _ (λ k. roster (cell n d s k)) (λ k. or-false (roster (cell n d s k)))
+      any_below-same week.skills _ (λ k. roster (cell n d s k)) (λ k _. or-false (roster (cell n d s k)))
 
   pub any-work_cells : (n d : ℕ) → list_any roster (work_cells week n d) ≡ works week roster n d
   any-work_cells n d =
       list_any-each roster week.shifts (λ s. on_cells week n s d) ∙
-      any_below-same week.shifts _ (λ s. is_on week roster n s d) (λ s. any-on_cells n s d)
+      any_below-same week.shifts _ (λ s. is_on week roster n s d) (λ s _. any-on_cells n s d)
 
   -- the same for all days at once
   pub any-on : (n s : ℕ) → ◌≡◌ {A = ℕ → Bool} (λ d. list_any roster (on_cells week n s d)) (is_on week roster n s)

@@ -1,7 +1,6 @@
 pub mod AlikeRosters
 pub mod AssignmentOf
 pub mod CellCounts
-pub mod CellRanges
 pub mod Common
 pub mod Counted
 pub mod DayLaw

@@ -141,8 +141,10 @@ count_by-each test n x =
     sum_by-each-is (λ y. cond (test y) 1 0) n (λ i. x i ∷ []) (λ i. cond (test (x i)) 1 0)
     (λ i _. zero-add (cond (test (x i)) 1 0))
 
-pub any_below-same : (n : ℕ) (p q : ℕ → Bool) → ((i : ℕ) → p i ≡ q i) → any_below n p ≡ any_below n q
-any_below-same n p q same = ap (any_below n) (λ i k. same k i)
+pub any_below-same : (n : ℕ) (p q : ℕ → Bool) → ((i : ℕ) → i < n → p i ≡ q i) → any_below n p ≡ any_below n q
+unfolding any_below
+any_below-same zero p q same = refl
+any_below-same (suc n) p q same = rw (any_below-same n p q (λ i below. same i (omega arith)), same n (omega arith)) refl
 
 pub list_any-each : {X : Type 0} (p : X → Bool) (n : ℕ) (g : ℕ → List X) →
     list_any p (each_below n g) ≡ any_below n (λ i. list_any p (g i))

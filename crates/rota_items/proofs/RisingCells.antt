@@ -1,7 +1,9 @@
--- The cells of sums: which they are, and that they, and the terms of patterns, are by rising number.
-use Rattle.rota_items.proofs.Common.Words.{◌≡◌, ℕ, ◌+◌, ◌*◌, ◌<◌, ◌≤◌, List, [], ◌∷◌, map, length, subst, arith, ℤ, range_with_len, flat_map, mul-add-lt, mul-le-mul_right, each_below, AllByRecursion, InWeek, cell, Week, Cell, on_cells, work_cells, nurse_cells, demand_cells, skill_cells, cell_number, unit_number, Term, times, numbered_terms, Property, variables_on, day_terms, PatternDay}
+-- The cells of sums: which they are, and that they, and the terms of patterns, are by rising number; and those whose variables follow
+-- one another.
+use Rattle.rota_items.proofs.Common.Words.{◌≡◌, ℕ, ◌+◌, ◌*◌, ◌<◌, ◌≤◌, List, [], ◌∷◌, map, length, subst, arith, ℤ, range_with_len, flat_map, mul-add-lt, mul-le-mul_right, each_below, AllByRecursion, InWeek, cell, Week, Cell, on_cells, work_cells, nurse_cells, demand_cells, skill_cells, cell_number, unit_number, Term, times, numbered_terms, Property, variables_on, day_terms, PatternDay, true, nat_lt, refl, sym, ap, ◌∙◌, pos, nat_tests, map-map, only_if, request_terms_on, request_weight, cell_term_events, term_events}
 use Rattle.rota_core.specs.RisingLists.{RisesWithin}
-use Rattle.rota_core.proofs.LogicWords.{all-weaker, length-rising, rises-append, rises-blocks, rises-each, rises-in, rises-map}
+use Rattle.rota_core.proofs.LogicWords.{all-weaker, length-rising, numbers-rising, rises-append, rises-blocks, rises-each, rises-in, rises-map}
+use Rattle.rota_items.proofs.Lists.{length-each-is, map-each_below}
 use Rattle.rota_items.proofs.ListsAre.{Are, alone, in-turns}
 
 -- numbers that rise are between the first and the end
@@ -72,6 +74,61 @@ module _ (week : Week) where
       rises-each (cell_number week) 7 (λ d. each_below week.shifts (λ s. cell n d s k ∷ [])) (day_start n) (λ d d_in.
       rises-blocks (cell_number week) _ _ week.shifts (λ s. cell n d s k ∷ []) (shift_start n d) (omega arith) (omega arith)
       (λ s s_in. (omega arith, omega arith)))
+
+  -- ---- the variables of a nurse's day on a shift type, of her day and of her week follow one another
+
+  abbrev first_on : ℕ → ℕ → ℕ → ℕ
+  first_on n d s = cell_number week (cell n d s 0)
+
+  events-range : (coefficient : ℤ) (cells : List Cell) (first from end n : ℕ) → RisesWithin (cell_number week) from end cells →
+      length cells ≡ n → first ≤ from → end ≤ first + n →
+      cell_term_events week (times coefficient cells) ≡ term_events (times coefficient (range_with_len first n))
+  unfolding cell_term_events
+  events-range coefficient cells first from end n rises long low high =
+      rw (← long) (
+      ap term_events
+      (map-map (λ (term : Term Cell). (term.0, cell_number week term.1)) (λ (one : Cell). (coefficient, one)) cells ∙
+      sym (map-map (λ (v : ℕ). (coefficient, v)) (cell_number week) cells) ∙
+      ap (times coefficient) (numbers-rising (cell_number week) first from end cells rises low (omega arith)))
+      )
+
+  length-on : (n s d : ℕ) → length (on_cells week n s d) ≡ week.skills * 1
+  length-on n s d = length-each-is week.skills 1 (λ k. cell n d s k ∷ []) (λ k _. refl)
+
+  length-work : (n d : ℕ) → length (work_cells week n d) ≡ week.shifts * (week.skills * 1)
+  length-work n d = length-each-is week.shifts (week.skills * 1) (λ s. on_cells week n s d) (λ s _. length-on n s d)
+
+  pub on_cells-range : (coefficient : ℤ) (n s d : ℕ) →
+      cell_term_events week (times coefficient (on_cells week n s d)) ≡
+      term_events (times coefficient (range_with_len (first_on n d s) week.skills))
+  on_cells-range coefficient n s d =
+      events-range coefficient (on_cells week n s d) _ _ _ _ (rises-on_cells n s d) (omega (arith, length-on n s d))
+      (omega arith) (omega arith)
+
+  pub work_cells-range : (coefficient : ℤ) (n d : ℕ) →
+      cell_term_events week (times coefficient (work_cells week n d)) ≡
+      term_events (times coefficient (range_with_len (first_on n d 0) (week.shifts * week.skills)))
+  work_cells-range coefficient n d =
+      events-range coefficient (work_cells week n d) _ _ _ _ (rises-work_cells n d) (omega (arith, length-work n d))
+      (omega arith) (omega arith)
+
+  pub nurse_cells-range : (coefficient : ℤ) (n : ℕ) →
+      cell_term_events week (times coefficient (nurse_cells week n)) ≡
+      term_events (times coefficient (range_with_len (first_on n 0 0) (7 * week.shifts * week.skills)))
+  nurse_cells-range coefficient n =
+      events-range coefficient (nurse_cells week n) _ _ _ _ (rises-nurse_cells n)
+      (omega (arith, length-each-is 7 _ (work_cells week n) (λ d _. length-work n d))) (omega arith) (omega arith)
+
+  pub requests-range : (n d s : ℕ) → 0 < week.requests n d s →
+      cell_term_events week (request_terms_on week n d s) ≡
+      term_events (times (pos (request_weight * week.requests n d s)) (range_with_len (first_on n d s) week.skills))
+  unfolding only_if
+  requests-range n d s some =
+      let coefficient = pos (request_weight * week.requests n d s) in
+      let wanted : nat_lt 0 (week.requests n d s) ≡ true = grind (arith, nat_tests) in
+      ap (λ test. cell_term_events week (each_below week.skills (λ k. only_if test (coefficient, cell n d s k)))) wanted ∙
+      ap (cell_term_events week) (sym (map-each_below (λ one. (coefficient, one)) week.skills (λ k. cell n d s k ∷ []))) ∙
+      on_cells-range coefficient n s d
 
   -- ---- terms
 

@@ -1,7 +1,7 @@
 -- Terms: what holds of their variables and coefficients, and those within the week, rising, of coefficients of 1 and -1.
-use Rattle.rota_items.proofs.Common.Words.{◌≡◌, ℕ, ◌<◌, Bool, cond, List, [], ◌∷◌, refl, ap, ◌∙◌, ℤ, pos, ◌+ℤ◌, All, AllByRecursion, flat_map, All-from_recursion, recursion_from_All, AllByRecursion-append, ◌≤◌, true, false, inl, inr, map, length, arith, negsuc, nat_abs, if◌then◌else◌, sum_by-cons, AllByRecursion-each_below, ◌+◌, Item, Term, times, value_of, StandBelow, IsUnit, InWeek, Week, on_cells, work_cells, nurse_cells, demand_cells, Cell, cell_number, unit_number, Property, Runs, variables_on, day_terms, run_items, PatternDay, is_plain}
+use Rattle.rota_items.proofs.Common.Words.{◌≡◌, ℕ, ◌<◌, Bool, List, [], ◌∷◌, refl, ℤ, pos, All, AllByRecursion, flat_map, All-from_recursion, recursion_from_All, AllByRecursion-append, ◌≤◌, true, false, inl, inr, map, length, arith, negsuc, nat_abs, if◌then◌else◌, sum_by-cons, max, AllByRecursion-each_below, ◌+◌, Item, Term, times, value_of, StandBelow, IsUnit, InWeek, Week, on_cells, work_cells, nurse_cells, demand_cells, Cell, cell_number, unit_number, Property, Runs, variables_on, day_terms, run_items, PatternDay, is_plain}
 use Rattle.rota_items.proofs.EachPattern.{OnDays, on-pattern, each-run_item}
-use Rattle.rota_items.proofs.Lists.{all-map}
+use Rattle.rota_items.proofs.Lists.{all-flat_map, all-map}
 use Rattle.rota_items.proofs.SmallSums.{spread}
 use Rattle.rota_core.specs.RisingLists.{RisesWithin}
 use Rattle.rota_core.proofs.LogicWords.{length-rising}
@@ -18,16 +18,13 @@ OnVariables P property d = AllByRecursion P (variables_on property d)
 
 pub on-times : {X : Type 0} (P : X → Type 0) (coefficient : ℤ) (variables : List X) → AllByRecursion P variables →
     OnTerms P (times coefficient variables)
-on-times P coefficient [] all = tt
-on-times P coefficient (v ∷ vs) all = (all.0, on-times P coefficient vs all.1)
+on-times {X} P coefficient variables all = all-map (λ (term : Term X). P term.1) (λ v. (coefficient, v)) variables all
 
 -- two assignments that agree where the terms are
 pub value_of-agree : {X : Type 0} (one other : X → Bool) (P : X → Type 0) (terms : List (Term X)) →
     ((x : X) → P x → one x ≡ other x) → OnTerms P terms → value_of one terms ≡ value_of other terms
 value_of-agree one other P [] agree all = refl
-value_of-agree one other P (t ∷ ts) agree all =
-    ap (λ b. cond b t.0 (pos 0) +ℤ value_of one ts) (agree t.1 all.0) ∙
-    ap (λ z. cond (other t.1) t.0 (pos 0) +ℤ z) (value_of-agree one other P ts agree all.1)
+value_of-agree one other P (t ∷ ts) agree all = rw (agree t.1 all.0, value_of-agree one other P ts agree all.1) refl
 
 pub on-days : {X : Type 0} (P : X → Type 0) (property : Property X) (days : List PatternDay) →
     OnDays (OnVariables P property) days → OnTerms P (flat_map (day_terms property) days)
@@ -44,10 +41,8 @@ run_items-below runs first below =
     All-from_recursion Below (run_items runs) (each-run_item runs Below (λ p is.
     All-from_recursion (λ (term : Term ℕ). term.1 < first) (flat_map (day_terms runs.property) p.days)
     (on-days (λ v. v < first) runs.property p.days
-    (on-pattern (OnVariables (λ v. v < first) runs.property) on_day p is.follows))))
-  where
-    on_day : (d : ℕ) → d < 7 → OnVariables (λ v. v < first) runs.property d
-    on_day d d_in = recursion_from_All (λ v. v < first) (variables_on runs.property d) (below d d_in)
+    (on-pattern (OnVariables (λ v. v < first) runs.property)
+    (λ d d_in. recursion_from_All (λ v. v < first) (variables_on runs.property d) (below d d_in)) p is.follows))))
 
 -- ---- what holds of the coefficients of terms, and terms whose coefficients are 1 and -1
 
@@ -72,10 +67,9 @@ pub units-times : {X : Type 0} (variables : List X) → AreUnits (times (pos 1) 
 units-times variables = coefficients-times IsUnit (pos 1) variables (inl refl)
 
 pub units-days : {X : Type 0} (property : Property X) (days : List PatternDay) → AreUnits (flat_map (day_terms property) days)
-units-days property [] = tt
-units-days {X} property (day ∷ days) =
-    AllByRecursion-append (λ (term : Term X). IsUnit term.0) (day_terms property day) (flat_map (day_terms property) days)
-    (coefficients-times IsUnit _ (variables_on property day.day) (sign (is_plain property day))) (units-days property days)
+units-days {X} property days =
+    all-flat_map (λ (term : Term X). IsUnit term.0) (day_terms property) days (λ day.
+    coefficients-times IsUnit _ (variables_on property day.day) (sign (is_plain property day)))
   where
     sign : (plain : Bool) → IsUnit (if plain then negsuc 0 else pos 1)
     sign true = inr refl
@@ -122,30 +116,26 @@ module _ (week : Week) where
       )
 
   -- terms that rise do so within the week's numbers where their cells are the week's
-  rises-from : (from first end : ℕ) (terms : List (Term Cell)) → from ≤ unit_number week → from ≤ first → RisesWithin (at week) first end terms →
-      OnTerms (InWeek week) terms → RisesWithin (at week) from (unit_number week) terms
-  rises-from from first end [] up_to before rises inside = up_to
-  rises-from from first end (t ∷ ts) up_to before rises inside = (
+  pub rises-inside : (from first end : ℕ) (terms : List (Term Cell)) → from ≤ unit_number week → from ≤ max first 1 →
+      RisesWithin (at week) first end terms → OnTerms (InWeek week) terms → RisesWithin (at week) from (unit_number week) terms
+  rises-inside from first end [] up_to before rises inside = up_to
+  rises-inside from first end (t ∷ ts) up_to before rises inside = (
     omega (arith, rises.0),
-    rises-from (at week t + 1) (at week t + 1) end ts (omega (arith, cell_number-below week t.1 inside.0)) (omega arith) rises.1 inside.1,
+    rises-inside (at week t + 1) (at week t + 1) end ts (omega (arith, cell_number-below week t.1 inside.0)) (omega arith) rises.1 inside.1,
   )
 
-  pub rises-inside : (first end : ℕ) (terms : List (Term Cell)) → 1 ≤ first → RisesWithin (at week) first end terms →
-      OnTerms (InWeek week) terms → within week terms
-  rises-inside first end terms = rises-from 1 first end terms (omega arith)
-
   -- rising cells of the week, each with the coefficient
-  pub sound-cells : (coefficient : ℤ) → IsUnit coefficient → (first end : ℕ) (cells : List Cell) → 1 ≤ first →
+  pub sound-cells : (coefficient : ℤ) → IsUnit coefficient → (first end : ℕ) (cells : List Cell) →
       AllByRecursion (InWeek week) cells → RisesWithin (cell_number week) first end cells → AreSound week (times coefficient cells)
-  sound-cells coefficient unit first end cells from inside rises =
+  sound-cells coefficient unit first end cells inside rises =
       let in_week = on-times (InWeek week) coefficient cells inside in record {
         in_week = in_week;
-        rise = rises-inside first end _ from (rises-times week first end coefficient cells rises) in_week;
+        rise = rises-inside 1 first end _ (omega arith) (omega arith) (rises-times week first end coefficient cells rises) in_week;
         units = coefficients-times IsUnit coefficient cells unit;
       }
 
   pub sound-demand : (d s k : ℕ) → d < 7 → s < week.shifts → k < week.skills → AreSound week (times (pos 1) (demand_cells week d s k))
   sound-demand d s k d_in s_in k_in =
-      sound-cells (pos 1) (inl refl) _ _ (demand_cells week d s k) (omega arith)
+      sound-cells (pos 1) (inl refl) _ _ (demand_cells week d s k)
       (AllByRecursion-each_below (InWeek week) week.nurses _ (λ n n_in. (in-cell week n d s k n_in d_in s_in k_in, tt)))
       (rises-demand_cells week d s k d_in s_in k_in)

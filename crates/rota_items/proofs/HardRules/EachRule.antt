@@ -1,11 +1,10 @@
 -- The rows of each hard rule mean the rule: H1, H2, H4 and H5 one by one, and what is shown of each holds of all their rows.
-use Rattle.rota_items.proofs.Common.Words.{◌≡◌, ◌↔◌, ◌∙◌, ℕ, ◌<◌, Bool, not, true, false, cond, inl, inr, refl, sym, ap, arith, pos, negsuc, ◌+ℤ◌, ◌≤ℤ◌, ints, nat_lt, cases_Bool, true≢false, ltb-false, not-true, false_from_ne_true, List, [], ◌∷◌, AllByRecursion, flat_map, KeepsHardRules, InWeek, Roster, Has, cell, hard_rules, Week, Rule, Cell, cells_of, demand_cells, skill_cells, work_cells, h1_row, h1_rows, h2_row, h4_row, h5_row, h5_rows, rows_of_hard_rule, rule_rows, LinearRow, H1, H2, H3, H4, H5}
+use Rattle.rota_items.proofs.Common.Words.{◌+◌, ◌≡◌, ◌↔◌, ◌∙◌, ℕ, ◌<◌, Bool, not, true, false, cond, inl, inr, refl, sym, ap, arith, pos, negsuc, ◌+ℤ◌, ◌≤ℤ◌, ints, nat_lt, cases_Bool, true≢false, ltb-false, not-true, false_from_ne_true, List, [], ◌∷◌, AllByRecursion, flat_map, KeepsHardRules, InWeek, Roster, Has, cell, hard_rules, Week, Rule, Cell, cell_number, cells_of, demand_cells, skill_cells, work_cells, h1_row, h1_rows, h2_row, h4_row, h5_row, h5_rows, rows_of_hard_rule, rule_rows, LinearRow, H1, H2, H3, H4, H5}
 use Rattle.rota_items.proofs.CellCounts.{count-none, none-pass, one-work, the_one}
 use Rattle.rota_items.proofs.HardRules.Sound.{at_least, at_most, AllHold, Holds, IsHardRuleSound, IsRowSound, Keeps}
 use Rattle.rota_items.proofs.HardRules.Succession.{succession}
 use Rattle.rota_items.proofs.Lists.{all-weaker, count_by-each}
 use Rattle.rota_items.proofs.ListsAre.{Are, alone, in-parts, in-turns, listed, of-each, where-holds}
-use Rattle.rota_items.proofs.Numbers.{cell_number-below}
 use Rattle.rota_items.proofs.RisingCells.{in-cell, rises-skill_cells, rises-work_cells, skill-are, work-are}
 use Rattle.rota_items.proofs.SoundTerms.{in-work_cells, sound-cells, sound-demand}
 
@@ -19,7 +18,7 @@ module _ (week : Week) where
   one_cell = record {
     rows = h1-are.all (IsRowSound week H1) (λ n n_in d d_in. record {
       part_is = refl;
-      terms = sound-cells week (negsuc 0) (inr refl) _ _ (work_cells week n d) (omega arith) (in-work_cells week n d n_in d_in)
+      terms = sound-cells week (negsuc 0) (inr refl) _ _ (work_cells week n d) (in-work_cells week n d n_in d_in)
           (rises-work_cells week n d);
       holds = λ roster one _. (at_most roster (work_cells week n d) 1).1 (one-work week roster one n d n_in d_in);
     });
@@ -65,7 +64,7 @@ module _ (week : Week) where
         rows = rows-are.all (IsRowSound week H4) (λ n n_in k k_in lacks.
             let inside = λ (d : ℕ) (d_in : d < 7) (s : ℕ) (s_in : s < week.shifts). in-cell week n d s k n_in d_in s_in k_in in record {
               part_is = refl;
-              terms = sound-cells week (negsuc 0) (inr refl) _ _ (skill_cells week n k) (omega arith)
+              terms = sound-cells week (negsuc 0) (inr refl) _ _ (skill_cells week n k)
                   ((skill-are week n k).all (InWeek week) inside) (rises-skill_cells week n k k_in);
               holds = λ roster _ skilled.
                   (at_most roster (skill_cells week n k) 0).1
@@ -115,11 +114,7 @@ module _ (week : Week) where
       let rows-are : Are (h5_rows week) (λ P. (one : Cell) → Has week week.is_held one → P (h5_row one)) = of-each (cells-are week) in record {
         rows = rows-are.all (IsRowSound week H5) (λ one has. record {
           part_is = refl;
-          terms = record {
-            in_week = (has.in_week, tt);
-            rise = (omega arith, omega (arith, cell_number-below week one has.in_week));
-            units = (inl refl, tt);
-          };
+          terms = sound-cells week (pos 1) (inl refl) (cell_number week one) (cell_number week one + 1) (one ∷ []) (has.in_week, tt) (omega arith, omega arith);
           holds = λ roster _ keeps. (one-where_true (roster one)).1 (keeps one has);
         });
         mean = λ roster all one has. (one-where_true (roster one)).0 (rows-are.each (Holds roster) all one has);

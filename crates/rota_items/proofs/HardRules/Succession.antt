@@ -1,48 +1,19 @@
 -- H3: no shift type after one that it may not follow.
-use Rattle.rota_items.proofs.Common.Words.{◌≡◌, ℕ, ◌+◌, ◌<◌, ◌≤◌, ◌++◌, true, false, cond, inl, inr, refl, ap, ◌∙◌, arith, count_by, negsuc, Option, Some, None, cases_Bool, sum_by-append, AllByRecursion-append, KeepsOneCell, KeepsSuccession, is_on, InWeek, Roster, Week, Cell, cell_number, on_cells, LinearRow, h3_monday_row, h3_row, h3_rows, is_forbidden_after, H3}
+use Rattle.rota_items.proofs.Common.Words.{◌≡◌, ℕ, ◌+◌, ◌<◌, ◌≤◌, ◌++◌, true, false, cond, inl, inr, refl, ap, ◌∙◌, arith, count_by, negsuc, Option, Some, None, cases_Bool, sum_by-append, AllByRecursion-append, KeepsOneCell, KeepsSuccession, is_on, InWeek, Roster, Week, cell_number, on_cells, h3_monday_row, h3_row, is_forbidden_after, H3}
 use Rattle.rota_core.proofs.LogicWords.{rises-append}
 use Rattle.rota_items.proofs.CellCounts.{any-on_cells, one-on}
 use Rattle.rota_items.proofs.HardRules.Sound.{at_most, Holds, IsHardRuleSound, IsRowSound}
-use Rattle.rota_items.proofs.ListsAre.{Are, in-parts, in-turns, where-holds}
+use Rattle.rota_items.proofs.ListsAre.{in-parts, in-turns, where-holds}
 use Rattle.rota_items.proofs.PatternItems.{any_or_none}
 use Rattle.rota_items.proofs.RisingCells.{day_start, on-keeps, rises-on_cells}
-use Rattle.rota_items.proofs.SoundTerms.{in-on_cells, AreSound, sound-cells}
+use Rattle.rota_items.proofs.SoundTerms.{in-on_cells, sound-cells}
 
 module _ (week : Week) where
-  abbrev OnRows : (LinearRow Cell → Type 0) → Type 0
-  OnRows P =
-      (n : ℕ) → n < week.nurses →
-      ((t : ℕ) → t < week.shifts → is_forbidden_after week (week.past n).last t ≡ true → P (h3_monday_row week n t)) ×
-      ((d : ℕ) → d < 6 → (s : ℕ) → s < week.shifts → (t : ℕ) → t < week.shifts →
-      week.is_forbidden s t ≡ true → P (h3_row week n d s t))
-
-  rows-are : Are (h3_rows week) OnRows
-  rows-are =
-      in-turns (λ n. in-parts (in-turns (λ t. where-holds)) (in-turns (λ d. in-turns (λ s. in-turns (λ t. where-holds)))))
-
-  sound-h3_row : (n d s t : ℕ) → n < week.nurses → d < 6 → s < week.shifts → t < week.shifts →
-      AreSound week (h3_row week n d s t).terms
-  sound-h3_row n d s t n_in d_in s_in t_in =
-      let first = on_cells week n s d in
-      let second = on_cells week n t (d + 1) in
-      sound-cells week (negsuc 0) (inr refl) _ _ (first ++ second) (omega arith)
-      (AllByRecursion-append (InWeek week) first second (in-on_cells week n s d n_in s_in (omega arith))
-      (in-on_cells week n t (d + 1) n_in t_in (omega arith)))
-      (rises-append (cell_number week) (day_start week n d) (day_start week n (d + 1)) (day_start week n (d + 1 + 1))
-      first second (on-keeps week n s d s_in) (on-keeps week n t (d + 1) t_in))
-
-  -- ---- what the rows mean
-
   module _ (roster : Roster) where
     allowed-after : KeepsSuccession week roster → (n t : ℕ) → n < week.nurses → t < week.shifts →
         is_on week roster n t 0 ≡ true → (last : Option ℕ) → (week.past n).last ≡ last → is_forbidden_after week last t ≡ false
     allowed-after kept n t n_in t_in on None last_is = refl
     allowed-after kept n t n_in t_in on (Some s) last_is = kept.from_history n s t n_in t_in last_is on
-
-    count-two : (n d s t : ℕ) →
-        count_by roster (on_cells week n s d ++ on_cells week n t (d + 1)) ≡
-        count_by roster (on_cells week n s d) + count_by roster (on_cells week n t (d + 1))
-    count-two n d s t = sum_by-append (λ c. cond (roster c) 1 0) (on_cells week n s d) (on_cells week n t (d + 1))
 
     some-on : (n s d : ℕ) → is_on week roster n s d ≡ true → 1 ≤ count_by roster (on_cells week n s d)
     some-on n s d on = grind (arith, any_or_none roster (on_cells week n s d), any-on_cells week roster n s d)
@@ -60,7 +31,7 @@ module _ (week : Week) where
     row-few one kept n d s t n_in d_in s_in t_in forbidden =
         grind (
           arith,
-          count-two n d s t,
+          sum_by-append (λ c. cond (roster c) 1 0) (on_cells week n s d) (on_cells week n t (d + 1)),
           any_or_none roster (on_cells week n s d),
           any-on_cells week roster n s d,
           any_or_none roster (on_cells week n t (d + 1)),
@@ -71,43 +42,51 @@ module _ (week : Week) where
         )
 
   pub succession : IsHardRuleSound week H3
-  succession = record {
-    rows = rows-are.all (IsRowSound week H3) (λ n n_in. (
-      λ t t_in forbidden. record {
-        part_is = refl;
-        terms = sound-cells week (negsuc 0) (inr refl) _ _ (on_cells week n t 0) (omega arith) (in-on_cells week n t 0 n_in t_in (omega arith))
-            (rises-on_cells week n t 0);
-        holds = λ roster _ kept. (at_most roster (on_cells week n t 0) 0).1 (monday-few roster kept n t n_in t_in forbidden);
-      },
-      λ d d_in s s_in t t_in forbidden. record {
-        part_is = refl;
-        terms = sound-h3_row n d s t n_in d_in s_in t_in;
-        holds = λ roster one kept.
-            (at_most roster (on_cells week n s d ++ on_cells week n t (d + 1)) 1).1
-            (row-few roster one kept n d s t n_in d_in s_in t_in forbidden);
-      },
-    ));
-    mean = λ roster all.
-        let each = rows-are.each (Holds roster) all in record {
-          from_history = λ n s t n_in t_in last_is on.
-              elim (cases_Bool (week.is_forbidden s t)) [
-                | inl forbidden ↦
-                    let row = (each n n_in).0 t t_in (ap (λ last. is_forbidden_after week last t) last_is ∙ forbidden) in
-                    absurd (omega (arith, some-on roster n t 0 on, (at_most roster (on_cells week n t 0) 0).0 row))
-                | inr allowed ↦ allowed
-              ];
-          in_week = λ n d s t n_in d_in s_in t_in first second.
-              elim (cases_Bool (week.is_forbidden s t)) [
-                | inl forbidden ↦
-                    let row = (each n n_in).1 d d_in s s_in t t_in forbidden in
-                    absurd (omega (
-                      arith,
-                      count-two roster n d s t,
-                      some-on roster n s d first,
-                      some-on roster n t (d + 1) second,
-                      (at_most roster (on_cells week n s d ++ on_cells week n t (d + 1)) 1).0 row,
-                    ))
-                | inr allowed ↦ allowed
-              ];
-        };
-  }
+  succession =
+      let rows-are = in-turns {n = week.nurses} (λ n. in-parts
+      (in-turns {n = week.shifts} (λ t. where-holds {test = is_forbidden_after week (week.past n).last t} {x = h3_monday_row week n t}))
+      (in-turns {n = 6} (λ d. in-turns {n = week.shifts} (λ s. in-turns {n = week.shifts} (λ t.
+      where-holds {test = week.is_forbidden s t} {x = h3_row week n d s t}))))) in record {
+        rows = rows-are.all (IsRowSound week H3) (λ n n_in. (
+          λ t t_in forbidden. record {
+            part_is = refl;
+            terms = sound-cells week (negsuc 0) (inr refl) _ _ (on_cells week n t 0) (in-on_cells week n t 0 n_in t_in (omega arith))
+                (rises-on_cells week n t 0);
+            holds = λ roster _ kept. (at_most roster (on_cells week n t 0) 0).1 (monday-few roster kept n t n_in t_in forbidden);
+          },
+          λ d d_in s s_in t t_in forbidden. record {
+            part_is = refl;
+            terms = sound-cells week (negsuc 0) (inr refl) _ _ (on_cells week n s d ++ on_cells week n t (d + 1))
+                (AllByRecursion-append (InWeek week) (on_cells week n s d) (on_cells week n t (d + 1))
+                (in-on_cells week n s d n_in s_in (omega arith)) (in-on_cells week n t (d + 1) n_in t_in (omega arith)))
+                (rises-append (cell_number week) (day_start week n d) (day_start week n (d + 1)) (day_start week n (d + 1 + 1)) _ _
+                (on-keeps week n s d s_in) (on-keeps week n t (d + 1) t_in));
+            holds = λ roster one kept.
+                (at_most roster (on_cells week n s d ++ on_cells week n t (d + 1)) 1).1
+                (row-few roster one kept n d s t n_in d_in s_in t_in forbidden);
+          },
+        ));
+        mean = λ roster all.
+            let each = rows-are.each (Holds roster) all in record {
+              from_history = λ n s t n_in t_in last_is on.
+                  elim (cases_Bool (week.is_forbidden s t)) [
+                    | inl forbidden ↦
+                        let row = (each n n_in).0 t t_in (ap (λ last. is_forbidden_after week last t) last_is ∙ forbidden) in
+                        absurd (omega (arith, some-on roster n t 0 on, (at_most roster (on_cells week n t 0) 0).0 row))
+                    | inr allowed ↦ allowed
+                  ];
+              in_week = λ n d s t n_in d_in s_in t_in first second.
+                  elim (cases_Bool (week.is_forbidden s t)) [
+                    | inl forbidden ↦
+                        let row = (each n n_in).1 d d_in s s_in t t_in forbidden in
+                        absurd (omega (
+                          arith,
+                          sum_by-append (λ c. cond (roster c) 1 0) (on_cells week n s d) (on_cells week n t (d + 1)),
+                          some-on roster n s d first,
+                          some-on roster n t (d + 1) second,
+                          (at_most roster (on_cells week n s d ++ on_cells week n t (d + 1)) 1).0 row,
+                        ))
+                    | inr allowed ↦ allowed
+                  ];
+            };
+      }

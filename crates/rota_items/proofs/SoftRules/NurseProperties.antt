@@ -1,7 +1,8 @@
 -- The items of patterns of a nurse's days are sound.
 use Rattle.rota_items.proofs.Common.Words.{◌≡◌, ℕ, ◌+◌, ◌*◌, ◌<◌, ◌≤◌, List, refl, arith, count_by, AllByRecursion, mul-le, KeepsOneCell, Roster, InWeek, Week, Rule, Cell, Item, cell_number, on_cells, work_cells, AtMostOneADay, DaysFollow, has_property, Property, Present, Runs, pattern_item, run_items, variables_on, Pattern}
 use Rattle.rota_core.specs.RisingLists.{RisesWithin}
-use Rattle.rota_items.proofs.CellCounts.{cond-le, one-on, one-work, count-on_cells, count-work_cells}
+use Rattle.rota_items.proofs.CellCounts.{one-on, one-work, count-on_cells, count-work_cells}
+use Rattle.rota_items.proofs.Lists.{where_in}
 use Rattle.rota_items.proofs.SoundTerms.{in-on_cells, in-work_cells, OnVariables, on-days, rises-inside, units-days}
 use Rattle.rota_items.proofs.DayLaw.{matches, units_of}
 use Rattle.rota_items.proofs.EachPattern.{on-pattern, each-run_item}
@@ -55,7 +56,7 @@ module _ (week : Week) (rule : Rule) (weight n : ℕ) (property : Property Cell)
         rule_is = refl;
         terms = record {
           in_week = inside;
-          rise = rises-inside week _ _ _ (omega arith)
+          rise = rises-inside week 1 _ _ _ (omega arith) (omega arith)
               (rises-days week n property is.cells_rise follows.first _ pattern.days follows.days_are refl) inside;
           units = units-days property pattern.days;
         };
@@ -65,7 +66,7 @@ module _ (week : Week) (rule : Rule) (weight n : ℕ) (property : Property Cell)
             omega (
               arith,
               shortage-pattern_item rule weight property roster pattern (at_most_one roster keeps.one_cell),
-              cond-le (matches (has_property property roster) pattern.days),
+              where_in (matches (has_property property roster) pattern.days) 1,
             );
       }
 

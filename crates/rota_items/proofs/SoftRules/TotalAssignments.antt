@@ -51,7 +51,7 @@ module _ (week : Week) where
   module _ (n : ℕ) (n_in : n < week.nurses) where
     sound-sum : (coefficient : ℤ) → IsUnit coefficient → AreSound week (times coefficient (nurse_cells week n))
     sound-sum coefficient unit =
-        sound-cells week coefficient unit _ _ (nurse_cells week n) (omega arith) (in-nurse_cells week n n_in)
+        sound-cells week coefficient unit _ _ (nurse_cells week n) (in-nurse_cells week n n_in)
         (rises-nurse_cells week n)
 
     sound-least : is_wanted n ≡ true → IsItemSound week S6 (least_total_item week n)

@@ -5,5 +5,5 @@ pub returns : goal.returns
 returns g c =
     let exact : to_z w64 (of_z w64 c.coefficient.result) ≡ coefficient_of c.args.sign =
     to_z-of_z w64 c.coefficient.result (search rules) ∙ c.coefficient.ensures in
-    rw (nurse_cells-range (week_of c.args.instance.now) c.args.sign c.args.nurse)
+    rw (nurse_cells-range (week_of c.args.instance.now) (coefficient_of c.args.sign) c.args.nurse)
     (rw (exact, c.first_var_on-first.ensures.number, c.from.ensures, c.shifts.ensures.count, c.from-2.ensures, c.skills.ensures.count) at c.give_range.ensures)

@@ -6,5 +6,5 @@ returns g c =
     let w = c.args in
     let exact : to_z w64 (of_z w64 c.coefficient.result) ≡ coefficient_of w.sign =
     to_z-of_z w64 c.coefficient.result (search rules) ∙ c.coefficient.ensures in
-    rw (work_cells-range (week_of w.instance.now) w.sign w.nurse w.day)
+    rw (work_cells-range (week_of w.instance.now) (coefficient_of w.sign) w.nurse w.day)
     (rw (exact, c.first_var_on-first.ensures.number, c.from.ensures, c.shifts.ensures.count, c.from-2.ensures, c.skills.ensures.count) at c.give_range.ensures)
