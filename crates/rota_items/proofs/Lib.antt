@@ -31,7 +31,6 @@ pub mod LawProofs
 pub mod Least
 pub mod Lists
 pub mod LiteralTaking
-pub mod ModelParts
 pub mod ModelRows
 pub mod ModelTerms
 pub mod Numbers
