@@ -1,9 +1,9 @@
 -- Rosters extend to assignments at their penalty, and satisfying assignments stand for rosters of no greater one.
-use Rattle.rota_items.proofs.Common.Words.{◌≡◌, ℕ, ◌+◌, ◌*◌, ◌<◌, ◌≤◌, Bool, true, false, cond, List, ◌++◌, refl, sym, ap, ◌∙◌, arith, pos, ◌+ℤ◌, ◌-ℤ◌, ◌≤ℤ◌, nat_lt, All, AllByRecursion, ints, nat_tests, lt-ltb, All-from_recursion, KeepsCompetitionRules, KeepsHardRules, Roster, InWeek, Week, Cell, cell_number, unit_number, first_slack, constant_terms, cell_terms, constant, penalty, soft_items, Item, positive_part, shortage, weighted_shortages, numbered, Term, value_of, SatisfiesModel, StandBelow, Rule, slack_weights, numbered_terms, numbered_items, objective_terms, roster_of, assignment_of, extension_of, model_of, request_cost}
+use Rattle.rota_items.proofs.Common.Words.{◌≡◌, ℕ, ◌+◌, ◌*◌, ◌<◌, ◌≤◌, Bool, true, false, cond, List, [], ◌∷◌, ◌++◌, refl, sym, ap, ◌∙◌, arith, pos, ◌+ℤ◌, ◌-ℤ◌, ◌≤ℤ◌, nat_lt, All, AllByRecursion, ints, nat_tests, lt-ltb, All-from_recursion, KeepsCompetitionRules, KeepsHardRules, Roster, InWeek, Week, Cell, cell_number, unit_number, first_slack, constant_terms, cell_terms, constant, penalty, soft_items, Item, positive_part, shortage, weighted_shortages, numbered, Term, value_of, SatisfiesModel, StandBelow, Rule, slack_weights, numbered_terms, numbered_items, objective_terms, roster_of, assignment_of, extension_of, model_of, request_cost}
 use Rattle.rota_items.proofs.AlikeRosters.{keeps-alike}
 use Rattle.rota_items.proofs.AssignmentOf.{assignment_of-cell, assignment_of-unit}
 use Rattle.rota_items.proofs.ItemLaw.{value_of-numbered, extension_satisfies, value_of-extension, weighted_shortages-le}
-use Rattle.rota_items.proofs.Lists.{all-map, all-weaker, sum_by-map, sum_by-same}
+use Rattle.rota_items.proofs.Lists.{all-map, sum_by-map, sum_by-same}
 use Rattle.rota_items.proofs.Numbers.{cell_number-below}
 use Rattle.rota_items.proofs.PatternItems.{value_of-append}
 use Rattle.rota_items.proofs.SoftRules.AllItems.{ItemIn, in-cell_terms}
@@ -84,10 +84,8 @@ module _ (week : Week) where
   Below term = term.1 < first_slack week
 
   pub terms-below : (terms : List (Term Cell)) → OnTerms (InWeek week) terms → AllByRecursion Below (numbered_terms week terms)
-  terms-below terms inside =
-      all-map Below (λ (term : Term Cell). (term.0, cell_number week term.1)) terms
-      (all-weaker (λ (term : Term Cell). InWeek week term.1) (λ (term : Term Cell). cell_number week term.1 < first_slack week)
-      (λ term in_week. omega (arith, cell_number-below week term.1 in_week)) terms inside)
+  terms-below [] inside = tt
+  terms-below (term ∷ terms) inside = (omega (arith, cell_number-below week term.1 inside.0), terms-below terms inside.1)
 
   stand-below : StandBelow (first_slack week) (numbered_items week)
   stand-below =
@@ -96,57 +94,49 @@ module _ (week : Week) where
 
 -- ---- the extension
 
-pub extension-below : (week : Week) (roster : Roster) (v : ℕ) → v < first_slack week →
-    extension_of week roster v ≡ assignment_of week roster v
-extension-below week roster v below = rw (lt-ltb v (first_slack week) below) refl
+module _ (week : Week) (roster : Roster) where
+  pub extension-below : (v : ℕ) → v < first_slack week → extension_of week roster v ≡ assignment_of week roster v
+  extension-below v below = rw (lt-ltb v (first_slack week) below) refl
 
-pub extension-unit : (week : Week) (roster : Roster) → extension_of week roster (unit_number week) ≡ true
-extension-unit week roster =
-    extension-below week roster (unit_number week) (omega arith) ∙ assignment_of-unit week roster
+  pub extension-unit : extension_of week roster (unit_number week) ≡ true
+  extension-unit = extension-below (unit_number week) (omega arith) ∙ assignment_of-unit week roster
 
-pub extension-roster : (week : Week) (roster : Roster) (c : Cell) → InWeek week c →
-    extension_of week roster (cell_number week c) ≡ roster c
-extension-roster week roster c inside =
-    extension-below week roster (cell_number week c) (omega (arith, cell_number-below week c inside)) ∙
-    assignment_of-cell week roster c inside
+  pub extension-roster : (c : Cell) → InWeek week c → extension_of week roster (cell_number week c) ≡ roster c
+  extension-roster c inside =
+      extension-below (cell_number week c) (omega (arith, cell_number-below week c inside)) ∙ assignment_of-cell week roster c inside
 
--- ---- the law
+  -- ---- the law
 
-enough-numbered : (week : Week) (roster : Roster) → KeepsCompetitionRules week roster →
-    All (λ (item : Item ℕ). shortage (assignment_of week roster) item ≤ item.slacks) (numbered_items week)
-enough-numbered week roster keeps =
-    each-numbered week (λ (item : Item ℕ). shortage (assignment_of week roster) item ≤ item.slacks) (λ rule item sound.
-    omega (
-      arith,
-      shortage-of_item week (assignment_of week roster) roster (assignment_of-cell week roster) item sound.terms.in_week,
-      sound.enough roster keeps,
-    ))
+  module _ (keeps : KeepsHardRules week roster) where
+    enough : All (λ (item : Item ℕ). shortage (assignment_of week roster) item ≤ item.slacks) (numbered_items week)
+    enough =
+        each-numbered week (λ (item : Item ℕ). shortage (assignment_of week roster) item ≤ item.slacks) (λ rule item sound.
+        omega (
+          arith,
+          shortage-of_item week (assignment_of week roster) roster (assignment_of-cell week roster) item sound.terms.in_week,
+          sound.enough roster keeps.of_competition,
+        ))
 
-pub extension-satisfies : (week : Week) (roster : Roster) → KeepsHardRules week roster →
-    SatisfiesModel (extension_of week roster) (model_of week)
-extension-satisfies week roster keeps =
-    (model-means week (extension_of week roster)).1 (
-      extension-unit week roster,
-      keeps-alike week roster (roster_of week (extension_of week roster)) (λ c inside. sym (extension-roster week roster c inside)) keeps,
-      extension_satisfies (assignment_of week roster) (first_slack week) (numbered_items week) (stand-below week)
-          (enough-numbered week roster keeps.of_competition),
-    )
+    pub extension-satisfies : SatisfiesModel (extension_of week roster) (model_of week)
+    extension-satisfies =
+        (model-means week (extension_of week roster)).1 (
+          extension-unit,
+          keeps-alike week roster (roster_of week (extension_of week roster)) (λ c inside. sym (extension-roster c inside)) keeps,
+          extension_satisfies (assignment_of week roster) (first_slack week) (numbered_items week) (stand-below week) enough,
+        )
 
-pub extension-objective : (week : Week) (roster : Roster) → KeepsHardRules week roster →
-    value_of (extension_of week roster) (objective_terms week) ≡ pos (penalty week roster)
-extension-objective week roster keeps =
-    omega (
-      arith,
-      ints,
-      value_of-objective week (extension_of week roster),
-      ap (λ (b : Bool). cond b (constant week) 0) (extension-unit week roster),
-      value_of-of_terms week (extension_of week roster) roster (extension-roster week roster) (cell_terms week)
-          (in-cell_terms week),
-      value_of-extension (assignment_of week roster) (first_slack week) (numbered_items week) (stand-below week)
-          (enough-numbered week roster keeps.of_competition),
-      weighted-of_items week (assignment_of week roster) roster (assignment_of-cell week roster),
-      charges-penalty week roster keeps.of_competition,
-    )
+    pub extension-objective : value_of (extension_of week roster) (objective_terms week) ≡ pos (penalty week roster)
+    extension-objective =
+        omega (
+          arith,
+          ints,
+          value_of-objective week (extension_of week roster),
+          ap (λ (b : Bool). cond b (constant week) 0) extension-unit,
+          value_of-of_terms week (extension_of week roster) roster extension-roster (cell_terms week) (in-cell_terms week),
+          value_of-extension (assignment_of week roster) (first_slack week) (numbered_items week) (stand-below week) enough,
+          weighted-of_items week (assignment_of week roster) roster (assignment_of-cell week roster),
+          charges-penalty week roster keeps.of_competition,
+        )
 
 -- ---- satisfying assignments
 
