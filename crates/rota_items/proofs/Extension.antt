@@ -1,15 +1,15 @@
 -- Rosters extend to assignments at their penalty, and satisfying assignments stand for rosters of no greater one.
-use Rattle.rota_items.proofs.Common.Words.{◌≡◌, ℕ, ◌+◌, ◌*◌, ◌<◌, ◌≤◌, Bool, true, false, cond, List, ◌++◌, refl, sym, ap, ◌∙◌, arith, pos, ◌+ℤ◌, ◌-ℤ◌, ◌≤ℤ◌, nat_lt, All, AllByRecursion, ints, lt-ltb, ltb-false, All-from_recursion, recursion_from_All, KeepsCompetitionRules, KeepsHardRules, Roster, InWeek, Week, Cell, cell_number, unit_number, first_slack, constant_terms, cell_terms, constant, penalty, soft_items, Item, positive_part, shortage, weighted_shortages, numbered, Term, Satisfies, value_of, SatisfiesModel, StandBelow, item_constraints, slack_weights, numbered_terms, numbered_items, objective_terms, roster_of, assignment_of, extension_of, model_of, request_cost}
+use Rattle.rota_items.proofs.Common.Words.{◌≡◌, ℕ, ◌+◌, ◌*◌, ◌<◌, ◌≤◌, Bool, true, false, cond, List, [], ◌∷◌, ◌++◌, refl, sym, ap, ◌∙◌, arith, pos, ◌+ℤ◌, ◌-ℤ◌, ◌≤ℤ◌, nat_lt, All, AllByRecursion, ints, nat_tests, lt-ltb, All-from_recursion, KeepsCompetitionRules, KeepsHardRules, Roster, InWeek, Week, Cell, cell_number, unit_number, first_slack, constant_terms, cell_terms, constant, penalty, soft_items, Item, positive_part, shortage, weighted_shortages, numbered, Term, value_of, SatisfiesModel, StandBelow, Rule, slack_weights, numbered_terms, numbered_items, objective_terms, roster_of, assignment_of, extension_of, model_of, request_cost}
 use Rattle.rota_items.proofs.AlikeRosters.{keeps-alike}
 use Rattle.rota_items.proofs.AssignmentOf.{assignment_of-cell, assignment_of-unit}
 use Rattle.rota_items.proofs.ItemLaw.{value_of-numbered, extension_satisfies, value_of-extension, weighted_shortages-le}
-use Rattle.rota_items.proofs.Lists.{all-map, all-weaker, sum_by-map, sum_by-same}
-use Rattle.rota_items.proofs.ModelParts.{satisfies-parts}
+use Rattle.rota_items.proofs.Lists.{all-map, sum_by-map, sum_by-same}
 use Rattle.rota_items.proofs.Numbers.{cell_number-below}
 use Rattle.rota_items.proofs.PatternItems.{value_of-append}
 use Rattle.rota_items.proofs.SoftRules.EachRule.{ItemIn, cell_terms-are, charges-penalty, each-item, in-cell_terms}
+use Rattle.rota_items.proofs.SoftRules.Sound.{IsItemSound}
 use Rattle.rota_items.proofs.SoftRules.ShiftOffRequests.{value_of-request_terms, value_of-only_if}
-use Rattle.rota_items.proofs.Satisfied.{hard_constraints-hold, hard_constraints-mean}
+use Rattle.rota_items.proofs.Satisfied.{model-means}
 use Rattle.rota_items.proofs.SoundTerms.{OnTerms, value_of-agree}
 
 -- ---- the penalty in items
@@ -27,11 +27,9 @@ charges week roster keeps =
 
 -- ---- the objective in its parts
 
-at_unit : (test b : Bool) (n : ℕ) → nat_lt 0 n ≡ test → cond test (cond b (pos n) (pos 0) +ℤ pos 0) (pos 0) ≡ pos (cond b n 0)
-at_unit true true n test_is = omega (arith, ints)
-at_unit true false n test_is = omega (arith, ints)
-at_unit false true n test_is = omega (arith, ints, ltb-false 0 n test_is)
-at_unit false false n test_is = refl
+at_unit : (b : Bool) (n : ℕ) → cond (nat_lt 0 n) (cond b (pos n) (pos 0) +ℤ pos 0) (pos 0) ≡ pos (cond b n 0)
+at_unit true n = grind (arith, ints, nat_tests)
+at_unit false n = grind (arith, ints, nat_tests)
 
 pub value_of-objective : (week : Week) (assignment : ℕ → Bool) →
     value_of assignment (objective_terms week) ≡
@@ -46,7 +44,7 @@ value_of-objective week assignment =
           (constant_terms week ++ slack_weights (first_slack week) (numbered_items week)),
       value_of-append assignment (constant_terms week) (slack_weights (first_slack week) (numbered_items week)),
       value_of-only_if assignment (nat_lt 0 (constant week)) (pos (constant week), unit_number week),
-      at_unit (nat_lt 0 (constant week)) (assignment (unit_number week)) (constant week) refl,
+      at_unit (assignment (unit_number week)) (constant week),
     )
 
 -- ---- an assignment that agrees with a roster
@@ -70,6 +68,14 @@ module _ (week : Week) (assignment : ℕ → Bool) (roster : Roster)
       sum_by-same _ (λ (item : Item Cell). item.weight * shortage roster item) (soft_items week)
       (each-item week _ (λ rule item soft sound. ap (λ n. item.weight * n) (shortage-of_item item sound.terms.in_week)))
 
+-- ---- what holds of each sound item, with the numbers of its variables
+
+each-numbered : (week : Week) (P : Item ℕ → Type 0) →
+    ((rule : Rule) (item : Item Cell) → IsItemSound week rule item → P (numbered (cell_number week) item)) → All P (numbered_items week)
+each-numbered week P each =
+    All-from_recursion P (numbered_items week)
+    (all-map P (numbered (cell_number week)) (soft_items week) (each-item week _ (λ rule item soft sound. each rule item sound)))
+
 -- ---- the items' variables are below the slacks
 
 module _ (week : Week) where
@@ -77,83 +83,65 @@ module _ (week : Week) where
   Below term = term.1 < first_slack week
 
   pub terms-below : (terms : List (Term Cell)) → OnTerms (InWeek week) terms → AllByRecursion Below (numbered_terms week terms)
-  terms-below terms inside =
-      all-map Below (λ (term : Term Cell). (term.0, cell_number week term.1)) terms
-      (all-weaker (λ (term : Term Cell). InWeek week term.1) (λ (term : Term Cell). cell_number week term.1 < first_slack week)
-      (λ term in_week. omega (arith, cell_number-below week term.1 in_week)) terms inside)
+  terms-below [] inside = tt
+  terms-below (term ∷ terms) inside = (omega (arith, cell_number-below week term.1 inside.0), terms-below terms inside.1)
 
   stand-below : StandBelow (first_slack week) (numbered_items week)
   stand-below =
-      All-from_recursion (λ (item : Item ℕ). All Below item.terms) (numbered_items week)
-      (all-map (λ (item : Item ℕ). All Below item.terms) (numbered (cell_number week)) (soft_items week)
-      (each-item week _ (λ rule item soft sound.
-      All-from_recursion Below (numbered_terms week item.terms) (terms-below item.terms sound.terms.in_week))))
+      each-numbered week (λ (item : Item ℕ). All Below item.terms) (λ rule item sound.
+      All-from_recursion Below (numbered_terms week item.terms) (terms-below item.terms sound.terms.in_week))
 
 -- ---- the extension
 
-pub extension-below : (week : Week) (roster : Roster) (v : ℕ) → v < first_slack week →
-    extension_of week roster v ≡ assignment_of week roster v
-extension-below week roster v below = rw (lt-ltb v (first_slack week) below) refl
+module _ (week : Week) (roster : Roster) where
+  pub extension-below : (v : ℕ) → v < first_slack week → extension_of week roster v ≡ assignment_of week roster v
+  extension-below v below = rw (lt-ltb v (first_slack week) below) refl
 
-pub extension-unit : (week : Week) (roster : Roster) → extension_of week roster (unit_number week) ≡ true
-extension-unit week roster =
-    extension-below week roster (unit_number week) (omega arith) ∙ assignment_of-unit week roster
+  pub extension-unit : extension_of week roster (unit_number week) ≡ true
+  extension-unit = extension-below (unit_number week) (omega arith) ∙ assignment_of-unit week roster
 
-pub extension-roster : (week : Week) (roster : Roster) (c : Cell) → InWeek week c →
-    extension_of week roster (cell_number week c) ≡ roster c
-extension-roster week roster c inside =
-    extension-below week roster (cell_number week c) (omega (arith, cell_number-below week c inside)) ∙
-    assignment_of-cell week roster c inside
+  pub extension-roster : (c : Cell) → InWeek week c → extension_of week roster (cell_number week c) ≡ roster c
+  extension-roster c inside =
+      extension-below (cell_number week c) (omega (arith, cell_number-below week c inside)) ∙ assignment_of-cell week roster c inside
 
--- ---- the law
+  -- ---- the law
 
-enough-numbered : (week : Week) (roster : Roster) → KeepsCompetitionRules week roster →
-    All (λ (item : Item ℕ). shortage (assignment_of week roster) item ≤ item.slacks) (numbered_items week)
-enough-numbered week roster keeps =
-    All-from_recursion (λ (item : Item ℕ). shortage (assignment_of week roster) item ≤ item.slacks) (numbered_items week)
-    (all-map (λ (item : Item ℕ). shortage (assignment_of week roster) item ≤ item.slacks) (numbered (cell_number week)) (soft_items week)
-    (each-item week _ (λ rule item soft sound.
-    omega (
-      arith,
-      shortage-of_item week (assignment_of week roster) roster (assignment_of-cell week roster) item sound.terms.in_week,
-      sound.enough roster keeps,
-    ))))
+  module _ (keeps : KeepsHardRules week roster) where
+    enough : All (λ (item : Item ℕ). shortage (assignment_of week roster) item ≤ item.slacks) (numbered_items week)
+    enough =
+        each-numbered week (λ (item : Item ℕ). shortage (assignment_of week roster) item ≤ item.slacks) (λ rule item sound.
+        omega (
+          arith,
+          shortage-of_item week (assignment_of week roster) roster (assignment_of-cell week roster) item sound.terms.in_week,
+          sound.enough roster keeps.of_competition,
+        ))
 
-pub extension-satisfies : (week : Week) (roster : Roster) → KeepsHardRules week roster →
-    SatisfiesModel (extension_of week roster) (model_of week)
-extension-satisfies week roster keeps =
-    (satisfies-parts week (extension_of week roster)).1 (
-      hard_constraints-hold week (extension_of week roster) (extension-unit week roster)
-          (keeps-alike week roster (roster_of week (extension_of week roster)) (λ c inside. sym (extension-roster week roster c inside)) keeps),
-      recursion_from_All (Satisfies (extension_of week roster)) (item_constraints (first_slack week) (numbered_items week))
-          (extension_satisfies (assignment_of week roster) (first_slack week) (numbered_items week) (stand-below week)
-          (enough-numbered week roster keeps.of_competition)),
-    )
+    pub extension-satisfies : SatisfiesModel (extension_of week roster) (model_of week)
+    extension-satisfies =
+        (model-means week (extension_of week roster)).1 (
+          extension-unit,
+          keeps-alike week roster (roster_of week (extension_of week roster)) (λ c inside. sym (extension-roster c inside)) keeps,
+          extension_satisfies (assignment_of week roster) (first_slack week) (numbered_items week) (stand-below week) enough,
+        )
 
-pub extension-objective : (week : Week) (roster : Roster) → KeepsHardRules week roster →
-    value_of (extension_of week roster) (objective_terms week) ≡ pos (penalty week roster)
-extension-objective week roster keeps =
-    omega (
-      arith,
-      ints,
-      value_of-objective week (extension_of week roster),
-      ap (λ (b : Bool). cond b (constant week) 0) (extension-unit week roster),
-      value_of-of_terms week (extension_of week roster) roster (extension-roster week roster) (cell_terms week)
-          (in-cell_terms week),
-      value_of-extension (assignment_of week roster) (first_slack week) (numbered_items week) (stand-below week)
-          (enough-numbered week roster keeps.of_competition),
-      weighted-of_items week (assignment_of week roster) roster (assignment_of-cell week roster),
-      charges-penalty week roster keeps.of_competition,
-    )
+    pub extension-objective : value_of (extension_of week roster) (objective_terms week) ≡ pos (penalty week roster)
+    extension-objective =
+        omega (
+          arith,
+          ints,
+          value_of-objective week (extension_of week roster),
+          ap (λ (b : Bool). cond b (constant week) 0) extension-unit,
+          value_of-of_terms week (extension_of week roster) roster extension-roster (cell_terms week) (in-cell_terms week),
+          value_of-extension (assignment_of week roster) (first_slack week) (numbered_items week) (stand-below week) enough,
+          weighted-of_items week (assignment_of week roster) roster (assignment_of-cell week roster),
+          charges-penalty week roster keeps.of_competition,
+        )
 
 -- ---- satisfying assignments
 
 module _ (week : Week) (assignment : ℕ → Bool) (all : SatisfiesModel assignment (model_of week)) where
-  hard : (assignment (unit_number week) ≡ true) × KeepsHardRules week (roster_of week assignment)
-  hard = hard_constraints-mean week assignment ((satisfies-parts week assignment).0 all).0
-
   pub satisfying-keeps : KeepsHardRules week (roster_of week assignment)
-  satisfying-keeps = hard.1
+  satisfying-keeps = ((model-means week assignment).0 all).1
 
   pub satisfying-objective : pos (penalty week (roster_of week assignment)) ≤ℤ value_of assignment (objective_terms week)
   satisfying-objective =
@@ -161,11 +149,9 @@ module _ (week : Week) (assignment : ℕ → Bool) (all : SatisfiesModel assignm
         arith,
         ints,
         value_of-objective week assignment,
-        ap (λ (b : Bool). cond b (constant week) 0) hard.0,
+        ap (λ (b : Bool). cond b (constant week) 0) ((model-means week assignment).0 all).0,
         value_of-numbered (cell_number week) assignment (cell_terms week),
-        weighted_shortages-le assignment (first_slack week) (numbered_items week)
-            (All-from_recursion (Satisfies assignment) (item_constraints (first_slack week) (numbered_items week))
-            ((satisfies-parts week assignment).0 all).1),
+        weighted_shortages-le assignment (first_slack week) (numbered_items week) ((model-means week assignment).0 all).2,
         weighted-of_items week assignment (roster_of week assignment) (λ c inside. refl),
-        charges-penalty week (roster_of week assignment) hard.1.of_competition,
+        charges-penalty week (roster_of week assignment) satisfying-keeps.of_competition,
       )

@@ -1,11 +1,10 @@
 -- Holding cells adds to the model only that each of them is true.
-use Rattle.rota_items.proofs.Common.Words.{◌≡◌, ◌↔◌, ℕ, ◌+◌, Bool, [], map, length, ap, arith, length-map, length-flat_map, KeepsHeld, Roster, hard_rules, Week, rows_of_hard_rule, rule_rows, SatisfiesModel, linear_constraint, model_of, roster_of, rows_of, cells_of, h5_row, h5_rows, without_held, H5, List, ◌∷◌, refl, sym, true≢false, AllByRecursion}
+use Rattle.rota_items.proofs.Common.Words.{◌≡◌, ◌↔◌, ℕ, ◌+◌, Bool, false, [], map, length, ap, arith, rules, length-map, length-flat_map, KeepsCompetitionRules, KeepsHeld, Has, Roster, hard_rules, Week, Cell, rows_of_hard_rule, SatisfiesModel, linear_constraint, model_of, roster_of, rows_of, cells_of, h5_row, h5_rows, without_held, List, ◌∷◌, sym, refl, true≢false, AllByRecursion}
 use Rattle.rota_items.proofs.SlackBound.{length-rows_of}
 use Rattle.rota_items.proofs.HardRules.EachRule.{cells-are, held, one_cell, rows-are}
 use Rattle.rota_items.proofs.HardRules.Sound.{AllHold, Holds, IsRowSound}
 use Rattle.rota_items.proofs.Lists.{all-weaker}
-use Rattle.rota_items.proofs.ModelParts.{satisfies-parts}
-use Rattle.rota_items.proofs.Satisfied.{all_hold, satisfied}
+use Rattle.rota_items.proofs.Satisfied.{model-means}
 
 nothing : {A : Type 0} (xs : List A) → AllByRecursion (λ _. ⊥) xs → xs ≡ []
 nothing [] all = refl
@@ -17,37 +16,32 @@ no-held_rows week =
     let none = (cells-are bare).all (λ _. ⊥) (λ one has. true≢false (sym has.in_roster)) in
     ap (map h5_row) (nothing (cells_of bare bare.is_held) none)
 
-module _ (week : Week) where
-  rows-hold : (roster : Roster) →
-      AllHold roster (rule_rows week) ↔ (AllHold roster (rule_rows (without_held week)) × KeepsHeld week roster)
-  rows-hold roster = (
-    λ all.
-        let (one, (met, (kept, (skilled, (has, _))))) = (rows-are week).each (Holds roster) all in
-        let none : AllHold roster (h5_rows (without_held week)) = rw (no-held_rows week) tt in
-        let others = (rows-are (without_held week)).all (Holds roster) (one, (met, (kept, (skilled, (none, tt))))) in
-        (others, (held week).mean roster has),
-    λ both.
-        let (one, (met, (kept, (skilled, _)))) = (rows-are (without_held week)).each (Holds roster) both.0 in
-        let has =
-        all-weaker (IsRowSound week H5) (Holds roster)
-        (λ row sound. sound.holds roster ((one_cell week).mean roster one) both.1) (h5_rows week) (held week).rows in
-        (rows-are week).all (Holds roster) (one, (met, (kept, (skilled, (has, tt))))),
-  )
+-- the rules of the competition do not read which cells are held
+keeps-holding : (week : Week) (is_held : Cell → Bool) (roster : Roster) → KeepsCompetitionRules week roster →
+    KeepsCompetitionRules (record week { is_held = is_held }) roster
+keeps-holding week is_held roster keeps =
+    let has : (one : Cell) → Has (record week { is_held = is_held }) roster one → Has week roster one = λ one has. search rules in record {
+      one_cell = λ one other one_has other_has. keeps.one_cell one other (has one one_has) (has other other_has);
+      minimum = keeps.minimum;
+      succession = record { from_history = keeps.succession.from_history; in_week = keeps.succession.in_week };
+      skills = λ one one_has. keeps.skills one (has one one_has);
+    }
 
+module _ (week : Week) where
   pub held-add : (assignment : ℕ → Bool) →
       SatisfiesModel assignment (model_of week) ↔
       (SatisfiesModel assignment (model_of (without_held week)) × KeepsHeld week (roster_of week assignment))
   held-add assignment =
       let bare = without_held week in
-      let rows = rows-hold (roster_of week assignment) in (
+      let roster = roster_of week assignment in (
         λ all.
-            let ((unit, hard), soft) = (satisfies-parts week assignment).0 all in
-            let (hold, keeps) = rows.0 (all_hold week assignment (rule_rows week) hard) in
-            ((satisfies-parts bare assignment).1 ((unit, satisfied bare assignment (rule_rows bare) hold), soft), keeps),
+            let (unit, keeps, soft) = (model-means week assignment).0 all in
+            let kept = keeps-holding week (λ one. false) roster keeps.of_competition in
+            ((model-means bare assignment).1 (unit, record { of_competition = kept; held = λ one has. absurd (true≢false (sym has.in_roster)) }, soft), keeps.held),
         λ both.
-            let ((unit, hard), soft) = (satisfies-parts bare assignment).0 both.0 in
-            let hold = rows.1 (all_hold bare assignment (rule_rows bare) hard, both.1) in
-            (satisfies-parts week assignment).1 ((unit, satisfied week assignment (rule_rows week) hold), soft),
+            let (unit, keeps, soft) = (model-means bare assignment).0 both.0 in
+            let kept = keeps-holding bare week.is_held roster keeps.of_competition in
+            (model-means week assignment).1 (unit, record { of_competition = kept; held = both.1 }, soft),
       )
 
   pub length-with_held :

@@ -30,7 +30,6 @@ pub mod LawProofs
 pub mod Lists
 pub mod ListsAre
 pub mod LiteralTaking
-pub mod ModelParts
 pub mod ModelRows
 pub mod ModelTerms
 pub mod Numbers
@@ -41,7 +40,6 @@ pub mod PenaltyBound
 pub mod RisingCells
 pub mod RowSizes
 pub mod RowTaking
-pub mod RuleSizes
 pub mod RunLaw
 pub mod Satisfied
 pub mod SlackBound

@@ -1,39 +1,46 @@
--- An assignment satisfies the numbered rows exactly where its roster keeps the rules.
-use Rattle.rota_items.proofs.Common.Words.{◌≡◌, ℕ, Bool, true, List, [], ◌∷◌, sym, subst, ◌≤ℤ◌, AllByRecursion, KeepsHardRules, Week, Cell, cell_number, unit_number, rule_rows, Satisfies, value_of, LinearRow, hard_constraints, roster_of}
+-- An assignment satisfies the model exactly where the unit variable is true, its roster keeps the hard rules, and the items' rows hold.
+use Rattle.rota_items.proofs.Common.Words.{◌≡◌, ◌↔◌, ℕ, Bool, true, List, [], ◌∷◌, map, map-append, sym, subst, All, AllByRecursion, AllByRecursion-append, AllByRecursion-back, All-from_recursion, recursion_from_All, KeepsHardRules, Week, Cell, first_slack, unit_number, rule_rows, Constraint, Satisfies, SatisfiesModel, LinearRow, linear_constraint, item_constraints, item_rows, hard_rows, numbered_items, numbered_row, hard_constraints, model_of, roster_of, cell_number}
 use Rattle.rota_items.proofs.HardRules.EachRule.{one-where_true, rule_rows-hold, rule_rows-mean}
 use Rattle.rota_items.proofs.HardRules.Sound.{AllHold}
 use Rattle.rota_items.proofs.ItemLaw.{value_of-numbered}
-use Rattle.rota_items.proofs.ModelParts.{hard_constraint, numbered_constraints}
 
--- ---- over assignments
+module _ (week : Week) (assignment : ℕ → Bool) where
+  abbrev soft_constraints : List Constraint
+  soft_constraints = item_constraints (first_slack week) (numbered_items week)
 
-pub hard-value_of : (week : Week) (assignment : ℕ → Bool) (row : LinearRow Cell) →
-    value_of assignment (hard_constraint week row).terms ≡ value_of (roster_of week assignment) row.terms
-hard-value_of week assignment row = value_of-numbered (cell_number week) assignment row.terms
+  -- the numbered rows hold exactly where the rows do
+  rows-satisfied : (rows : List (LinearRow Cell)) →
+      AllByRecursion (Satisfies assignment) (map linear_constraint (map (numbered_row week) rows)) ↔ AllHold (roster_of week assignment) rows
+  rows-satisfied [] = (λ all. tt, λ all. tt)
+  rows-satisfied (row ∷ rows) =
+      let value = value_of-numbered (cell_number week) assignment row.terms in
+      let rest = rows-satisfied rows in
+      (λ all. (rw value at all.0, rest.0 all.1), λ all. (rw value all.0, rest.1 all.1))
 
-pub satisfied : (week : Week) (assignment : ℕ → Bool) (rows : List (LinearRow Cell)) → AllHold (roster_of week assignment) rows →
-    AllByRecursion (Satisfies assignment) (numbered_constraints week rows)
-satisfied week assignment [] all = tt
-satisfied week assignment (row ∷ rows) all =
-    (subst (λ z. row.degree ≤ℤ z) (sym (hard-value_of week assignment row)) all.0, satisfied week assignment rows all.1)
+  pub hard_constraints-mean : All (Satisfies assignment) (hard_constraints week) ↔
+      ((assignment (unit_number week) ≡ true) × KeepsHardRules week (roster_of week assignment))
+  hard_constraints-mean =
+      let unit = one-where_true (assignment (unit_number week)) in
+      let rows = rows-satisfied (rule_rows week) in (
+        λ all.
+            let all = recursion_from_All (Satisfies assignment) (hard_constraints week) all in
+            (unit.0 all.0, rule_rows-mean week (roster_of week assignment) (rows.0 all.1)),
+        λ both.
+            All-from_recursion (Satisfies assignment) (hard_constraints week)
+            (unit.1 both.0, rows.1 (rule_rows-hold week (roster_of week assignment) both.1)),
+      )
 
-pub all_hold : (week : Week) (assignment : ℕ → Bool) (rows : List (LinearRow Cell)) →
-    AllByRecursion (Satisfies assignment) (numbered_constraints week rows) → AllHold (roster_of week assignment) rows
-all_hold week assignment [] all = tt
-all_hold week assignment (row ∷ rows) all =
-    (subst (λ z. row.degree ≤ℤ z) (hard-value_of week assignment row) all.0, all_hold week assignment rows all.1)
-
-pub hard_constraints-hold : (week : Week) (assignment : ℕ → Bool) → assignment (unit_number week) ≡ true →
-    KeepsHardRules week (roster_of week assignment) → AllByRecursion (Satisfies assignment) (hard_constraints week)
-hard_constraints-hold week assignment unit keeps = (
-  (one-where_true (assignment (unit_number week))).1 unit,
-  satisfied week assignment (rule_rows week) (rule_rows-hold week (roster_of week assignment) keeps),
-)
-
-pub hard_constraints-mean : (week : Week) (assignment : ℕ → Bool) →
-    AllByRecursion (Satisfies assignment) (hard_constraints week) →
-    (assignment (unit_number week) ≡ true) × KeepsHardRules week (roster_of week assignment)
-hard_constraints-mean week assignment all = (
-  (one-where_true (assignment (unit_number week))).0 all.0,
-  rule_rows-mean week (roster_of week assignment) (all_hold week assignment (rule_rows week) all.1),
-)
+  pub model-means : SatisfiesModel assignment (model_of week) ↔
+      ((assignment (unit_number week) ≡ true) × KeepsHardRules week (roster_of week assignment) × All (Satisfies assignment) soft_constraints)
+  model-means =
+      let P = Satisfies assignment in
+      let are = map-append linear_constraint (hard_rows week) (item_rows (first_slack week) (numbered_items week)) in (
+        λ all.
+            let parts = AllByRecursion-back P (hard_constraints week) soft_constraints (subst (AllByRecursion P) are (recursion_from_All P (model_of week).constraints all)) in
+            let hard = hard_constraints-mean.0 (All-from_recursion P (hard_constraints week) parts.0) in
+            (hard.0, hard.1, All-from_recursion P soft_constraints parts.1),
+        λ parts.
+            let hard = recursion_from_All P (hard_constraints week) (hard_constraints-mean.1 (parts.0, parts.1)) in
+            All-from_recursion P (model_of week).constraints
+            (subst (AllByRecursion P) (sym are) (AllByRecursion-append P (hard_constraints week) soft_constraints hard (recursion_from_All P soft_constraints parts.2))),
+      )

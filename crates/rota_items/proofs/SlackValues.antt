@@ -1,5 +1,5 @@
 -- What a taker of literals takes by the items whose slacks are handed on to it.
-use Rattle.rota_items.proofs.Common.Words.{◌≡◌, ℕ, Bool, List, [], ◌∷◌, ◌++◌, Result, Ok, Err, refl, sym, ap, subst, ◌∙◌, arith, fold, fold-append, flat_map, flat_map-append, ◌-ℤ◌, w64, saturate_signed, AllByRecursion, AllByRecursion-back, MatchResult-weaker, InstanceTables, IsInstance, week_of, Week, Item, LinearRow, positive_part, shortage, set_of, numbered_items, assignment_of, RosterTables, Judging, Subject, Tally, extended, lacking_in, no_tally, Soft, start_row, term_events, TookAll, RefusedOne, TakesAll}
+use Rattle.rota_items.proofs.Common.Words.{◌≡◌, ℕ, Bool, List, [], ◌∷◌, ◌++◌, Result, Ok, Err, refl, sym, ap, subst, ◌∙◌, arith, fold, fold-append, flat_map, flat_map-append, ◌-ℤ◌, w64, saturate_signed, AllByRecursion, AllByRecursion-back, MatchResult-weaker, InstanceTables, IsInstance, week_of, Week, Item, LinearRow, positive_part, shortage, set_of, numbered_items, assignment_of, RosterTables, Judging, Subject, Tally, extended, lacking_in, no_tally, Soft, start_row, term_events, TookAll, RefusedOne, TakesAll, ◌+◌}
 use Rattle.rota_items.specs.Judging.{fresh}
 use Rattle.rota_items.proofs.ExtensionTruths.{item_truths, week-slacks}
 use Rattle.rota_items.proofs.InstanceLimits.{instance-within_limits}
@@ -8,15 +8,9 @@ use Rattle.rota_items.proofs.JudgedModel.{items-fit}
 use Rattle.rota_items.proofs.JudgedTerms.{opened, others-before, row-opened, sums_of}
 use Rattle.rota_items.proofs.JudgedVerdict.{tally-driven}
 use Rattle.rota_items.proofs.Taking.{Refused-after, Refused-before}
-use Rattle.rota_items.specs.LiteralTakes.{RefusedLiterals, TakesLiterals, TookLiterals}
+use Rattle.rota_items.specs.LiteralTakes.{TakesLiterals}
 use Rattle.rota_items.specs.SlackValues.{StopsAt, Valuing, first_true, slack_truths, slacks_judged, with_slacks_of, with_terms_of}
 use Rattle.rota_items.specs.declared.extended.literal_takers.LiteralTaker.{Ghosts}
-
--- what refuses nothing took all
-pub took_every : {S V E R F : Type 0} (value : S → V) (step : V → E → V) (list : List E) (old new : S) (r : Result R F) →
-    TakesAll value step (λ _ _ _. ⊥) list old new r → value new ≡ fold step (value old) list
-took_every value step list old new (Ok x) took = took.value_is
-took_every value step list old new (Err e) refused = absurd refused.leaves
 
 module _ (tables : InstanceTables) (roster : RosterTables) where
   abbrev week : Week
@@ -42,16 +36,11 @@ module _ (tables : InstanceTables) (roster : RosterTables) where
       tally-driven (at tally) (start_row (Soft item.rule item.weight) ∷ term_events item.terms) ∙
       ap at (row-opened week subject tally (row_of item) (omega (arith, fit.small)))
 
-  item-lacking : (item : Item ℕ) → IsFit week subject item →
-      lacking_in (sums_of week subject item.terms) item.degree ≡ shortage (assignment_of week (set_of roster)) item
-  item-lacking item fit =
-      ap (λ z. positive_part (saturate_signed w64 (item.degree -ℤ z))) (others-before week subject item.terms fit.before) ∙
-      not_cut week subject item 0 fit ∙ shortage-extended week roster item fit.before
-
   item-slacks : (tally : Tally) (item : Item ℕ) → IsFit week subject item → slacks_judged (at tally) item ≡ truths item
   item-slacks tally item fit =
       ap (λ (j : Judging). first_true item.slacks (lacking_in j.tally.sums item.degree)) (item-open tally item fit) ∙
-      ap (first_true item.slacks) (item-lacking item fit)
+      ap (λ z. first_true item.slacks (positive_part (saturate_signed w64 (item.degree -ℤ z)))) (others-before week subject item.terms fit.before) ∙
+      ap (first_true item.slacks) (not_cut week subject item 0 fit ∙ shortage-extended week roster item fit.before)
 
   -- ---- the items, one after the other
 
@@ -65,15 +54,9 @@ module _ (tables : InstanceTables) (roster : RosterTables) where
         Reaches name value items (fold (with_slacks_of step) (record { name = name; value = value; judging = at tally }) items)
     reaches name value tally [] all = record { tally = tally; is = refl }
     reaches name value tally (item ∷ items) all =
-        let next : V = fold step value (truths item) in
-        let after : Tally = opened week subject tally (row_of item) in
-        let rest = reaches name next after items all.1 in record {
+        let rest = reaches name (fold step value (truths item)) (opened week subject tally (row_of item)) items all.1 in record {
           tally = rest.tally;
-          is =
-              ap (λ (valuing : Valuing V). fold (with_slacks_of step) valuing items)
-              (λ i. record { name = name; value = fold step value (item-slacks tally item all.0 i); judging = item-open tally item all.0 i }) ∙
-              rest.is ∙
-              ap (λ (v : V). record { name = name; value = v; judging = at rest.tally }) (sym (fold-append step value (truths item) (flat_map truths items)));
+          is = rw (item-slacks tally item all.0, item-open tally item all.0, fold-append step value (truths item) (flat_map truths items)) rest.is;
         }
 
   -- ---- a taker of literals
@@ -88,53 +71,31 @@ module _ (tables : InstanceTables) (roster : RosterTables) where
 
     reached : (items : List (Item ℕ)) → AllByRecursion (IsFit week subject) items →
         Reaches T.step (name_of old) (T.value (taker_of old)) items (fold (with_slacks_of T.step) (valuing_of old) items)
-    reached items all =
-        subst
-        (λ (j : Judging).
-        Reaches T.step (name_of old) (T.value (taker_of old)) items
-        (fold (with_slacks_of T.step) (record { name = name_of old; value = T.value (taker_of old); judging = j }) items))
-        (sym begun) (reaches T.step (name_of old) (T.value (taker_of old)) no_tally items all)
+    reached items all = rw begun (reaches T.step (name_of old) (T.value (taker_of old)) no_tally items all)
 
-    module _ (items : List (Item ℕ)) (all : AllByRecursion (IsFit week subject) items) where
-      took_all : TookAll valuing_of (with_slacks_of T.step) stops_at items old new →
-          (name_of new ≡ name_of old) × TookLiterals T (flat_map truths items) (taker_of old) (taker_of new)
-      took_all took =
-          let is = took.value_is ∙ (reached items all).is in
-          (ap (λ (v : Valuing T.Value). v.name) is, record { value_is = ap (λ (v : Valuing T.Value). v.value) is })
+    handed : {R : Type 0} (items : List (Item ℕ)) → AllByRecursion (IsFit week subject) items → (r : Result R F) →
+        TakesAll valuing_of (with_slacks_of T.step) stops_at items old new r →
+        (name_of new ≡ name_of old) × TakesLiterals T (flat_map truths items) (taker_of old) (taker_of new) r
+    handed items all (Ok x) took =
+        let is = took.value_is ∙ (reached items all).is in
+        (ap (λ (v : Valuing T.Value). v.name) is, record { value_is = ap (λ (v : Valuing T.Value). v.value) is })
+    handed items all (Err e) refused =
+        let taken = refused.taken in
+        let item = refused.event in
+        let rest = refused.untold in
+        let parts = AllByRecursion-back (IsFit week subject) taken (item ∷ rest) (rw refused.are at all) in
+        let before = reached taken parts.0 in
+        let stops = rw before.is at refused.leaves in (
+          stops.same_taker,
+          rw (refused.are, flat_map-append truths taken (item ∷ rest))
+              (Refused-after (flat_map truths taken) _ (taker_of old) stops.old (taker_of new) (record { value_is = stops.old_is })
+              (Refused-before (truths item) (flat_map truths rest) stops.old (taker_of new) (rw (item-slacks before.tally item parts.1.0) at stops.refused))),
+        )
 
-      refused_one : RefusedOne valuing_of (with_slacks_of T.step) stops_at items old new →
-          (name_of new ≡ name_of old) × RefusedLiterals T (flat_map truths items) (taker_of old) (taker_of new)
-      refused_one refused =
-          let taken = refused.taken in
-          let item = refused.event in
-          let rest = refused.untold in
-          let parts = AllByRecursion-back (IsFit week subject) taken (item ∷ rest) (subst (AllByRecursion (IsFit week subject)) refused.are all) in
-          let before = reached taken parts.0 in
-          let stops : StopsAt T (record { name = name_of old; value = fold T.step (T.value (taker_of old)) (flat_map truths taken); judging = at before.tally }) item (name_of new) (taker_of new) =
-          subst (λ (v : Valuing T.Value). StopsAt T v item (name_of new) (taker_of new)) before.is refused.leaves in
-          let at_item : RefusedLiterals T (truths item) stops.old (taker_of new) =
-          subst (λ (list : List Bool). RefusedLiterals T list stops.old (taker_of new)) (item-slacks before.tally item parts.1.0) stops.refused in
-          let lists : flat_map truths items ≡ flat_map truths taken ++ (truths item ++ flat_map truths rest) =
-          ap (flat_map truths) refused.are ∙ flat_map-append truths taken (item ∷ rest) in (
-            stops.same_taker,
-            rw lists
-                (Refused-after (flat_map truths taken) _ (taker_of old) stops.old (taker_of new) (record { value_is = stops.old_is })
-                (Refused-before (truths item) (flat_map truths rest) stops.old (taker_of new) at_item)),
-          )
-
-    -- ---- the items of a week
-
-    module _ (valid : IsInstance tables) where
-      fit : AllByRecursion (IsFit week subject) (numbered_items week)
-      fit = items-fit week subject (instance-within_limits tables valid)
-
-      pub slacks_given : {R : Type 0} (r : Result R F) → TakesAll valuing_of (with_slacks_of T.step) stops_at (numbered_items week) old new r →
-          TakesLiterals T (slack_truths week (set_of roster)) (taker_of old) (taker_of new) r
-      slacks_given r takes =
-          rw (← week-slacks week (set_of roster))
-          (MatchResult-weaker r takes (λ _ took. (took_all (numbered_items week) fit took).1) (λ _ refused. (refused_one (numbered_items week) fit refused).1))
-
-      pub same_taker : {R : Type 0} (r : Result R F) → TakesAll valuing_of (with_slacks_of T.step) stops_at (numbered_items week) old new r →
-          name_of new ≡ name_of old
-      same_taker (Ok x) takes = (took_all (numbered_items week) fit takes).0
-      same_taker (Err e) takes = (refused_one (numbered_items week) fit takes).0
+    -- the items of a week
+    pub slacks_given : {R : Type 0} → IsInstance tables → (r : Result R F) →
+        TakesAll valuing_of (with_slacks_of T.step) stops_at (numbered_items week) old new r →
+        (name_of new ≡ name_of old) × TakesLiterals T (slack_truths week (set_of roster)) (taker_of old) (taker_of new) r
+    slacks_given valid r takes =
+        rw (← week-slacks week (set_of roster))
+        (handed (numbered_items week) (items-fit week subject (instance-within_limits tables valid)) r takes)

@@ -12,19 +12,21 @@ has_place-requires g c =
 
 pub returns-in_err-literal-clause-takes : goal.returns-in_err-literal-clause-takes
 returns-in_err-literal-clause-takes g c =
-    let is = place-assigned (week_of c.args.instance.now) c.args.roster.now c.loop-place.place _ c.requires.shape refl (omega (arith, c.places-place-end.ensures.count)) in
+    let few = c.places-place-end.ensures.count in
+    let is = place-assigned (week_of c.args.instance.now) c.args.roster.now c.loop-place.place _ c.requires.shape refl (omega arith) in
     exits _ _ _ _ c.from_residual.ensures.0
     (literals_refused g.T.LiteralTaker (λ place. assignment_of (week_of c.args.instance.now) (set_of c.args.roster.now) (place + 1)) _ _ _ _ _ _
-    (omega (arith, c.places-place-end.ensures.count)) (c.has_place.ensures ∙ is) c.loop-place.invariant c.in_err-literal.ensures)
+    (c.has_place.ensures ∙ is) c.loop-place.invariant (omega arith) c.in_err-literal.ensures)
 
 pub loop-place-preserved : goal.loop-place-preserved
 loop-place-preserved g c =
-    let is = place-assigned (week_of c.args.instance.now) c.args.roster.now c.loop-place.place _ c.requires.shape refl (omega (arith, c.places-place-end.ensures.count)) in
-    grind (arith, taking, is)
+    let few = c.places-place-end.ensures.count in
+    grind (arith, taking, place-assigned (week_of c.args.instance.now) c.args.roster.now c.loop-place.place _ c.requires.shape refl (omega arith))
 
 pub returns-clause-takes : goal.returns-clause-takes
 returns-clause-takes g c =
-    let assigned = assignment_of (week_of c.args.instance.now) (set_of c.args.roster.now) in
-    let all : unit_number (week_of c.args.instance.now) ≡ c.loop-place.place + 1 = omega (arith, c.places-place-end.ensures.count) in
-    literals_end g.T.LiteralTaker (λ place. assigned (place + 1)) c.loop-place.place _ true _ _ _ _ all
-    (sym (ap assigned (sym all) ∙ assignment_of-unit (week_of c.args.instance.now) (set_of c.args.roster.now))) c.loop-place.invariant c.literal-2.ensures
+    let week = week_of c.args.instance.now in
+    let assigned = assignment_of week (set_of c.args.roster.now) in
+    let all : unit_number week ≡ c.loop-place.place + 1 = omega (arith, c.places-place-end.ensures.count) in
+    let unit = sym (ap assigned (sym all) ∙ assignment_of-unit week (set_of c.args.roster.now)) in
+    literals_end g.T.LiteralTaker (λ place. assigned (place + 1)) c.loop-place.place _ true _ _ _ unit c.loop-place.invariant _ all c.literal-2.ensures

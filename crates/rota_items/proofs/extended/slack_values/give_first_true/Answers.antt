@@ -5,5 +5,5 @@ use Rattle.rota_items.proofs.extended.slack_values.give_first_true.Goals as goal
 pub returns-in_err-literal : goal.returns-in_err-literal
 returns-in_err-literal g c =
     exits _ _ _ _ c.from_residual.ensures.0
-    (literals_refused g.T.LiteralTaker (λ place. nat_lt place c.args.most) c.loop-place.place c.args.count _ _ _ _ (omega arith)
-    (ap (λ (p : ℕ). nat_lt p c.args.most) c.from.ensures) c.loop-place.invariant c.in_err-literal.ensures)
+    (literals_refused g.T.LiteralTaker (λ place. nat_lt place c.args.most) c.loop-place.place c.args.count _ _ _ _
+    (ap (λ (p : ℕ). nat_lt p c.args.most) c.from.ensures) c.loop-place.invariant (omega arith) c.in_err-literal.ensures)
