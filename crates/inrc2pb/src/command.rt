@@ -8,7 +8,7 @@ ghost use Rattle.inrc2pb.specs.CommandLine.{required_file_rule, subcommand_app, 
 use clap::{Arg, ArgAction, Command};
 use std::alloc::{AllocError, Global};
 
-// The version of the program, which stands here only.
+// The version of the program, which is nowhere else.
 const VERSION: &str = "0.2.0";
 
 /// The whole command: one of its subcommands has to be named.

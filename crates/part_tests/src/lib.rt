@@ -26,7 +26,7 @@ mod own_week;
 // How often the ports of a run are called.
 #[cfg(test)]
 mod port_calls;
-// Want of memory while tables, rosters and answers are made.
+// Memory that runs out while tables, rosters and answers are made.
 #[cfg(test)]
 mod refused_tables;
 // The numbers of windows and patterns, and what is charged early.

@@ -1,5 +1,5 @@
-//! Want of memory while tables, rosters and answers are made. Each test prints what it found, or that memory
-//! ran out; `tests/refused_memory.sh` refuses each allocation in turn and compares the lines.
+//! Memory that runs out while tables, rosters and answers are made. Each test prints what it found, or that
+//! memory ran out; `tests/refused_memory.sh` refuses each allocation in turn and compares the lines.
 use crate::answers::of_pieces;
 use crate::week_files::{instance_of, one_nurse_one_shift};
 use rota_core::{Bits, FileFault, Instance, Roster, Scenario};

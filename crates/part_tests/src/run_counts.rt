@@ -36,7 +36,7 @@ fn patterns_by_history_and_minimum(rt: HostRuntime) {
     }
 }
 
-// The limit, what stood before the first week, what each week adds, and what they pay for in all.
+// The limit, what was there before the first week, what each week adds, and what they pay for in all.
 #[test]
 fn excess_of_successive_weeks(rt: HostRuntime) {
     assert!(rt; early_excess(15, 14, &[5, 0, 3]) == 7);

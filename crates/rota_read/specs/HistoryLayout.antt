@@ -4,17 +4,17 @@ use Rattle.rota_core.specs.declared.values.Past.{Past}
 use Rattle.rota_core.specs.ScenarioTables.{ScenarioTables}
 use Rattle.rota_core.specs.Week.{no_past}
 use Rattle.rota_core.specs.WeekTables.{HistoryTables}
-use Rattle.rota_read.specs.Layout.{shift_or, Layout, end, ◌>>=◌, exactly, number, any_word, known_name, repeat}
+use Rattle.rota_read.specs.Layout.{MOST, shift_or, Layout, end, ◌>>=◌, exactly, number, any_word, known_name, repeat}
 
 -- the totals, the last shift type or `None`, and the runs
 unfoldable pub past : List (List ℕ) → Layout Past
 past shifts = do
-  assignments ← number 0 9999
-  weekends ← number 0 9999
+  assignments ← number 0 MOST
+  weekends ← number 0 MOST
   last ← shift_or (codes "None") shifts
-  shift_run ← number 0 9999
-  work_run ← number 0 9999
-  off_run ← number 0 9999
+  shift_run ← number 0 MOST
+  work_run ← number 0 MOST
+  off_run ← number 0 MOST
   end (record { assignments = assignments; weekends = weekends; last = last; shift_run = shift_run; work_run = work_run; off_run = off_run })
 
 -- by nurse, her past where a row has given it
@@ -38,7 +38,7 @@ past_rows tables = repeat (length tables.nurses) (past_row tables) (replicate (l
 unfoldable pub history_heading : Layout ℕ
 history_heading = do
   _ ← exactly (codes "HISTORY")
-  week ← number 0 9999
+  week ← number 0 MOST
   _ ← any_word
   _ ← exactly (codes "NURSE_HISTORY")
   end week

@@ -54,6 +54,10 @@ number low high = do
   digits ← slot (wants_number low high)
   end (decimal digits)
 
+-- the greatest number of a file
+abbrev pub MOST : ℕ
+MOST = 9999
+
 unfoldable pub any_word : Layout (List ℕ)
 any_word = slot wants_word
 
@@ -82,9 +86,9 @@ repeat (suc n) row state = row state >>= repeat n row
 unfoldable pub pair : Layout Span
 pair = do
   _ ← exactly (codes "(")
-  min ← number 0 9999
+  min ← number 0 MOST
   _ ← exactly (codes ",")
-  max ← number 0 9999
+  max ← number 0 MOST
   _ ← exactly (codes ")")
   end (record { min = min; max = max })
 

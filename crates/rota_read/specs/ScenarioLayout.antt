@@ -6,7 +6,7 @@ use Rattle.rota_core.specs.declared.values.Span.{Span}
 use Rattle.rota_core.specs.declared.values.Contract.{Contract}
 use Rattle.rota_core.specs.ScenarioTables.{ScenarioTables, reserved}
 use Rattle.rota_read.specs.Layout.{Layout, end, ◌>>=◌, exactly, number, any_word, new_name, known_name, none_taken, repeat}
-use Rattle.rota_read.specs.Layout.{is_one_of, pair, setting}
+use Rattle.rota_read.specs.Layout.{MOST, is_one_of, pair, setting}
 
 -- one more name
 unfoldable pub name_row : List (List ℕ) → Layout (List (List ℕ))
@@ -53,7 +53,7 @@ contract = do
   total ← pair
   work ← pair
   off ← pair
-  weekends ← number 0 9999
+  weekends ← number 0 MOST
   complete ← number 0 1
   end (record { total = total; work = work; off = off; weekends = weekends; complete = complete == 1 })
 

@@ -4,7 +4,7 @@ use Rattle.std.specs.List.{list_any}
 use Rattle.rota_core.specs.declared.values.Cell.{Cell}
 use Rattle.rota_core.specs.Roster.{cell, InWeek}
 use Rattle.rota_core.specs.ScenarioTables.{ScenarioTables}
-use Rattle.rota_read.specs.Layout.{day_names, setting, Layout, end, ◌>>=◌, exactly, number, any_word, known_name, none_taken, repeat}
+use Rattle.rota_read.specs.Layout.{MOST, day_names, setting, Layout, end, ◌>>=◌, exactly, number, any_word, known_name, none_taken, repeat}
 use Rattle.rota_core.specs.InstanceTables.{InstanceTables, week_of}
 use Rattle.rota_core.specs.RosterTables.{RosterTables, HasShapeOf, set_of}
 use Rattle.rota_core.specs.Week.{Week}
@@ -30,9 +30,9 @@ assignment_row tables rows = do
 unfoldable pub solution_heading : Layout ℕ
 solution_heading = do
   _ ← exactly (codes "SOLUTION")
-  _ ← number 0 9999
+  _ ← number 0 MOST
   _ ← any_word
-  setting (codes "ASSIGNMENTS") 0 9999
+  setting (codes "ASSIGNMENTS") 0 MOST
 
 -- the assignments, in the order of the file
 unfoldable pub solution : ScenarioTables → Layout (List Cell)

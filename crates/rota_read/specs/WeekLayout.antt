@@ -7,7 +7,7 @@ use Rattle.rota_core.specs.ScenarioTables.{ScenarioTables}
 use Rattle.rota_core.specs.Week.{no_demand}
 use Rattle.rota_core.specs.WeekTables.{WeekTables}
 use Rattle.rota_read.specs.declared.week.RequestRow.{RequestRow}
-use Rattle.rota_read.specs.Layout.{Layout, end, ◌>>=◌, exactly, number, any_word, known_name, none_taken, repeat, day_names, pair, shift_or}
+use Rattle.rota_read.specs.Layout.{MOST, Layout, end, ◌>>=◌, exactly, number, any_word, known_name, none_taken, repeat, day_names, pair, shift_or}
 
 -- a minimum and an optimal number
 unfoldable pub demand : Layout Demand
@@ -109,7 +109,7 @@ requirements_part t = do
 unfoldable pub requests_part : ScenarioTables → Layout (List RequestRow)
 requests_part t = do
   _ ← exactly (codes "=")
-  count ← number 0 9999
+  count ← number 0 MOST
   repeat count (request_row t) []
 
 unfoldable pub week : ScenarioTables → Layout WeekTables

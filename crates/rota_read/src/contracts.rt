@@ -9,6 +9,7 @@ ghost use Rattle.rota_read.specs.ScenarioRows.{contracts_of, no_contract};
 
 use crate::cursor::Cursor;
 use crate::fault::Stop;
+use crate::slots::MOST;
 use indexmap::IndexSet;
 use rota_core::{Contract, add_name};
 use std::alloc::Global;
@@ -31,7 +32,7 @@ impl<'a> Cursor<'a> {
         let total = self.pair()?;
         let work = self.pair()?;
         let off = self.pair()?;
-        let weekends = self.number(0, 9999)?;
+        let weekends = self.number(0, MOST)?;
         let complete = self.number(0, 1)?;
         Ok(Contract {
             total,

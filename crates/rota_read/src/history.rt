@@ -17,6 +17,7 @@ ghost use Rattle.rota_read.specs.Reading.{read, Reads, read_file, ReadsFile};
 use crate::cursor::Cursor;
 use crate::fault::Stop;
 use crate::files::open;
+use crate::slots::MOST;
 use rota_core::{FileFault, FileName, History, HistoryParts, Past, Scenario};
 use std::alloc::{AllocError, Global};
 
@@ -30,24 +31,17 @@ const NO_PAST: Past = Past {
     off_run: 0,
 };
 
-fn has_row(pasts: &[Option<Past>], nurse: u16) -> bool
-    requires { nurse < length pasts.now }
-    ensures { result ≡ has_past pasts.now nurse }
-{
-    pasts[usize::from(nurse)].is_some()
-}
-
 impl<'a> Cursor<'a> {
     #[tactic(auto, unfolding(crate::specs::HistoryLayout::past, crate::specs::Reading::read))]
     fn past(&mut self, scenario: &Scenario) -> Result<Past, Stop>
         ensures { Reads (λ p. p) result self.new (read (past scenario.now.shifts) self.old) }
     {
-        let assignments = self.number(0, 9999)?;
-        let weekends = self.number(0, 9999)?;
+        let assignments = self.number(0, MOST)?;
+        let weekends = self.number(0, MOST)?;
         let last = self.shift_or(b"None", scenario)?;
-        let shift_run = self.number(0, 9999)?;
-        let work_run = self.number(0, 9999)?;
-        let off_run = self.number(0, 9999)?;
+        let shift_run = self.number(0, MOST)?;
+        let work_run = self.number(0, MOST)?;
+        let off_run = self.number(0, MOST)?;
         Ok(Past {
             assignments,
             weekends,
@@ -64,9 +58,10 @@ impl<'a> Cursor<'a> {
         ensures { Reads (λ _. pasts.new) result self.new (read (past_row scenario.now pasts.old) self.old) }
     {
         let nurse = self.nurse(scenario)?;
-        self.unless_taken(has_row(pasts, nurse))?;
+        let row = usize::from(nurse);
+        self.unless_taken(pasts[row].is_some())?;
         let past = self.past(scenario)?;
-        pasts[usize::from(nurse)] = Some(past);
+        pasts[row] = Some(past);
         Ok(())
     }
 
@@ -103,7 +98,7 @@ impl<'a> Cursor<'a> {
         ensures { Reads (λ n. n) result self.new (read history_heading self.old) }
     {
         self.exactly(b"HISTORY")?;
-        let week = self.number(0, 9999)?;
+        let week = self.number(0, MOST)?;
         self.any_word()?;
         self.exactly(b"NURSE_HISTORY")?;
         Ok(week)

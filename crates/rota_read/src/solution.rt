@@ -16,6 +16,7 @@ ghost use Rattle.rota_read.specs.RosterReading.{ReadsRoster, ReadsRosterFile};
 use crate::cursor::Cursor;
 use crate::fault::Stop;
 use crate::files::open;
+use crate::slots::MOST;
 use rota_core::laws::{numerals_tell_their_numbers, rosters_list_their_cells};
 use rota_core::{Cell, FileFault, FileName, Instance, Roster};
 use std::alloc::Global;
@@ -67,9 +68,9 @@ impl<'a> Cursor<'a> {
         ensures { Reads (λ n. n) result self.new (read solution_heading self.old) }
     {
         self.exactly(b"SOLUTION")?;
-        self.number(0, 9999)?;
+        self.number(0, MOST)?;
         self.any_word()?;
-        self.setting(b"ASSIGNMENTS", 0, 9999)
+        self.setting(b"ASSIGNMENTS", 0, MOST)
     }
 
     #[tactic(auto, unfolding(crate::specs::SolutionLayout::solution, crate::specs::Reading::read))]

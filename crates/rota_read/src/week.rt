@@ -71,7 +71,7 @@ impl<'a> Cursor<'a> {
         ensures count { IfOk result (λ v. length v.items ≤ MOST) }
     {
         self.exactly(b"=")?;
-        let count = self.number(0, 9999)?;
+        let count = self.number(0, MOST)?;
         self.request_rows(alloc, scenario, count)
     }
 

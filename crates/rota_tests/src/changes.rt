@@ -21,7 +21,7 @@ pub enum Edit<'a> {
     Is(&'a [u8]),
     /// The line is this one; past the last line, one more.
     Line(usize, &'a [u8]),
-    /// This stands in place of the line and of all that follows.
+    /// This comes in place of the line and of all that follows.
     Ends(usize, &'a [u8]),
     /// It is this many bytes long: cut, or with blanks at its end.
     Sized(usize),
@@ -61,7 +61,7 @@ impl Texts {
     }
 }
 
-// The text up to a line, and what stands there in its place; then the rest, where it goes on.
+// The text up to a line, and what comes in its place; then the rest, where it goes on.
 fn with_line(
     alloc: Global,
     text: &[u8],

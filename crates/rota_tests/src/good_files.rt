@@ -11,7 +11,7 @@ use std::alloc::{AllocError, Global};
 use std::process::Abort;
 use std::test::Fail;
 
-// The nurses' rows stand in the other order; of the requests two are for the first shift type, and one for any.
+// The nurses' rows are in the other order; of the requests two are for the first shift type, and one for any.
 fn has_values(instance: &Instance) -> bool {
     if instance.nurses() != 2 || instance.shifts() != 2 || instance.skills() != 1 {
         return false;

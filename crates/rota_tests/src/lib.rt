@@ -40,7 +40,7 @@ mod memory_files;
 // Jobs that are performed over files in memory.
 #[cfg(test)]
 mod performed_jobs;
-// Want of memory in the middle of a run.
+// Memory that runs out in the middle of a run.
 #[cfg(test)]
 mod refused_memory;
 // Small weeks and their models.

@@ -1,5 +1,5 @@
 //! Out of memory in the middle of a run. The test prints how each row ended; `tests/refused_memory.sh` refuses each
-//! allocation in turn, and asks for `out of memory`, whatever fault stands later in the files of the row.
+//! allocation in turn, and asks for `out of memory`, whatever fault comes later in the files of the row.
 use crate::changes::Edit::{Ends, Is, Line};
 use crate::changes::File::{Fix, His, Last, Sce, Week};
 use crate::changes::{Base, Changes, texts_of};

@@ -23,11 +23,11 @@ module _ {W : Type 0} {target : Ghosts W} where
 abbrev pub is_full_row : ℕ → Bool
 is_full_row n = n % 10 == 0
 
--- what stands before the literal after n literals
+-- what comes before the literal after n literals
 abbrev pub row_start : ℕ → List ℕ
 row_start n = if is_full_row n then codes "v" else []
 
--- what stands after n literals, where the row is full
+-- what comes after n literals, where the row is full
 abbrev pub row_end : ℕ → List ℕ
 row_end n = if is_full_row n then codes "\n" else []
 
