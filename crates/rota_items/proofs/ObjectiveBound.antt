@@ -4,7 +4,6 @@ use Rattle.rota_items.proofs.Lists.{all-map, all-weaker, sum_by-map}
 use Rattle.rota_items.proofs.ItemSizes.{each-small, soft_items-le}
 use Rattle.rota_items.proofs.PenaltyBound.{constant-few, request_cost-le}
 use Rattle.rota_items.proofs.SoftRules.EachRule.{each-item, cell_terms-are, sound-cell_terms}
-use Rattle.rota_items.proofs.RuleSizes.{each-small, request_cost-le}
 use Rattle.rota_items.proofs.SoftRules.ShiftOffRequests.{IsTermSound, value_of-request_terms}
 use Rattle.rota_items.proofs.SoundTerms.{OnCoefficients, coefficients-times, coefficients-numbered}
 use Rattle.std.proofs.lemmas.List.FromFn.{length-range_with_len as length-range}

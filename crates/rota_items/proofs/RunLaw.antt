@@ -2,7 +2,7 @@
 use Rattle.rota_items.proofs.Common.Words.{◌≡◌, ℕ, ◌*◌, ◌<◌, ◌≤◌, Bool, cond, List, [], ◌∷◌, ◌++◌, refl, ap, arith, All, count_by, sum_below, AllByRecursion, sum_by-cons, sum_by-append, All-from_recursion, Item, shortage, weighted_shortages, Span, Runs, variables_on, pattern_item, run_items, pattern_items, Pattern, windows_on, patterns_on, windows, patterns, has_property, day_items, AtMostOneADay, DaysFollow, day_cost, is_over, missing_on, run_over, run_under, run_cost, ◌∙◌, sum_by, week_days}
 use Rattle.rota_items.proofs.DayLaw.{matches, units_of, units, units-windows_on, units-patterns_on}
 use Rattle.rota_items.proofs.EachPattern.{IsRunPattern, each-on, each-pattern, on-pattern, each-run_item}
-use Rattle.rota_items.proofs.Lists.{sum_by-each-is, where_in}
+use Rattle.rota_items.proofs.Lists.{sum_by-each-is}
 use Rattle.rota_items.proofs.PatternItems.{AtMostOneOn, weighted-pattern_item, shortage-pattern_item}
 
 module _ {X : Type 0} (runs : Runs X) (assignment : X → Bool) (one : AtMostOneADay runs.property assignment) where
@@ -59,8 +59,4 @@ module _ {X : Type 0} (runs : Runs X) (assignment : X → Bool) (one : AtMostOne
   shortages-run_items =
       let HasEnough : Item X → Type 0 = λ item. shortage assignment item ≤ item.slacks in
       All-from_recursion HasEnough (run_items runs) (each-run_item runs HasEnough (λ p is.
-      omega (
-        arith,
-        shortage-pattern_item runs.rule runs.weight runs.property assignment p (at_most_one p is.follows),
-        where_in (matches has p.days) 1,
-      )))
+      grind (arith, shortage-pattern_item runs.rule runs.weight runs.property assignment p (at_most_one p is.follows))))

@@ -2,7 +2,6 @@
 use Rattle.rota_items.proofs.Common.Words.{◌≡◌, ℕ, ◌+◌, ◌*◌, ◌<◌, ◌≤◌, List, refl, arith, count_by, AllByRecursion, mul-le, KeepsOneCell, Roster, InWeek, Week, Rule, Cell, Item, cell_number, on_cells, work_cells, AtMostOneADay, DaysFollow, has_property, Property, Present, Runs, pattern_item, run_items, variables_on, Pattern}
 use Rattle.rota_core.specs.RisingLists.{RisesWithin}
 use Rattle.rota_items.proofs.CellCounts.{one-on, one-work, count-on_cells, count-work_cells}
-use Rattle.rota_items.proofs.Lists.{where_in}
 use Rattle.rota_items.proofs.SoundTerms.{in-on_cells, in-work_cells, OnVariables, on-days, rises-inside, units-days}
 use Rattle.rota_items.proofs.DayLaw.{matches, units_of}
 use Rattle.rota_items.proofs.EachPattern.{on-pattern, each-run_item}
@@ -63,11 +62,7 @@ module _ (week : Week) (rule : Rule) (weight n : ℕ) (property : Property Cell)
         weighs = omega (arith, mul-le 1 1 weight pattern.units weighs some);
         has_slack = omega arith;
         enough = λ roster keeps.
-            omega (
-              arith,
-              shortage-pattern_item rule weight property roster pattern (at_most_one roster keeps.one_cell),
-              where_in (matches (has_property property roster) pattern.days) 1,
-            );
+            grind (arith, shortage-pattern_item rule weight property roster pattern (at_most_one roster keeps.one_cell));
       }
 
 pub sound-run_items : (week : Week) (n : ℕ) (runs : Runs Cell) → IsOfNurse week n (variables_on runs.property) → 1 ≤ runs.weight →
