@@ -160,24 +160,11 @@ unfolding each_below any_below
 list_any-each p zero g = refl
 list_any-each p (suc n) g = rw (list_any-append, list_any-each p n g) refl
 
--- ---- the lengths of lists made by loops
-
 -- ---- what a loop counts or adds up
-
--- the length of what a loop gave in some turns, each of which gives no more than the most
-abbrev pub LengthOfEach : {A : Type 0} → ℕ → ℕ → ℕ → (ℕ → List A) → ℕ → Type 0
-LengthOfEach start turns most f sum = (sum ≡ start + length (each_below turns f)) × (sum ≤ start + turns * most)
 
 -- the sum of numbers, one for each turn
 abbrev pub SumOfEach : ℕ → ℕ → (ℕ → ℕ) → ℕ → Type 0
 SumOfEach turns most number sum = (sum ≡ sum_below turns number) × (sum ≤ turns * most)
-
-pub length-each_none : {A : Type 0} (f : ℕ → List A) → length (each_below 0 f) ≡ 0
-unfolding each_below
-length-each_none f = refl
-
-pub length-each_more : {A : Type 0} (n : ℕ) (f : ℕ → List A) → length (each_below (n + 1) f) ≡ length (each_below n f) + length (f n)
-length-each_more n f = rw (each_below-more n f, length-append (each_below n f) (f n)) refl
 
 pub sum_below-none : (number : ℕ → ℕ) → sum_below 0 number ≡ 0
 unfolding sum_below
@@ -187,7 +174,7 @@ pub sum_below-more : (n : ℕ) (number : ℕ → ℕ) → sum_below (n + 1) numb
 unfolding sum_below
 sum_below-more n number = rw add-one refl
 
-pub ruleset counting = (length-append, length-each_none, length-each_more, sum_below-none, sum_below-more)
+pub ruleset counting = (sum_below-none, sum_below-more)
 
 -- ---- lengths and slacks
 
@@ -238,13 +225,3 @@ module _ {X : Type 0} (xs : List X) where
 
   pub sum-all : (g : X → ℕ) (i sum : ℕ) → length xs ≤ i → sum ≡ sum_by g (take i xs) → sum ≡ sum_by g xs
   sum-all g i sum all is = rw (take_all i xs all) at is
-
-  pub lengths-more : {A : Type 0} (f : X → List A) (i : ℕ) (other : X) (sum one : ℕ) → i < length xs →
-      sum ≡ length (flat_map f (take i xs)) → one ≡ length (f (get_or xs i other)) → sum + one ≡ length (flat_map f (take (i + 1) xs))
-  lengths-more f i other sum one below before here =
-      omega (
-        arith,
-        length-flat_map f (take i xs),
-        length-flat_map f (take (i + 1) xs),
-        sum-more (λ x. length (f x)) i other sum one below (omega (arith, before, length-flat_map f (take i xs))) here,
-      )

@@ -50,4 +50,7 @@ module _ (tables : InstanceTables) (valid : IsInstance tables) where
   pub few-nurse_constant : (rule : Rule) (n : ℕ) → nurse_constant (week_of tables) rule n ≤ most_constant
   few-nurse_constant rule n = nurse_constant-few (week_of tables) (instance-within_limits tables valid) rule n
 
-pub ruleset few_constants = (few-constant_of_rule, few-nurse_constant)
+  pub few-constant : constant (week_of tables) ≤ most_constant
+  few-constant = constant-few (week_of tables) (instance-within_limits tables valid)
+
+pub ruleset few_constants = (few-constant_of_rule, few-nurse_constant, few-constant)
