@@ -29,8 +29,7 @@ unfolding term_events
 counted-terms counts [] = same_counts _ _ _ _ (omega arith) refl
 counted-terms counts (t ∷ ts) =
     counted-terms (record counts { variables = max counts.variables t.1 }) ts ∙
-    same_counts (max (max counts.variables t.1) (greatest (variables_of ts)))
-    (max counts.variables (max t.1 (greatest (variables_of ts)))) counts.constraints counts.constraints (omega arith) refl
+    same_counts _ _ _ _ (omega arith) refl
 
 abbrev pub one_if : Bool → ℕ
 one_if test = cond test 1 0
@@ -79,9 +78,7 @@ counted-from counts (row ∷ rows) fits =
     fold-append counted counts (row_events row) (events rows) ∙
     (ap (λ (k : Counts). fold counted k (events rows)) (counted-row counts row fits) ∙
     (counted-from after rows (omega arith) ∙
-    same_counts (max after.variables (greatest (variables_in rows))) (max counts.variables (greatest (variables_in (row ∷ rows))))
-    (min (after.constraints + count_by counts_row rows) greatest_count)
-    (min (counts.constraints + count_by counts_row (row ∷ rows)) greatest_count)
+    same_counts _ _ _ _
     (omega (arith, greatest-append (variables_of row.terms) (variables_in rows)))
     (omega (arith, count-more row rows))))
 

@@ -22,9 +22,7 @@ pub counted-all : (items : List (Item ℕ)) (counts : ItemNumbers) → AreWithin
 counted-all [] counts within = same_numbers _ _ _ _ (omega arith) (omega arith)
 counted-all (item ∷ items) counts within =
     counted-all items (with_one counts item) (within-one counts item) ∙
-    same_numbers (sum_within (sum_within counts.items 1) (length items)) (sum_within counts.items (length (item ∷ items)))
-    (sum_within (sum_within counts.slacks item.slacks) (slack_count items)) (sum_within counts.slacks (slack_count (item ∷ items)))
-    (omega arith) (omega (arith, slack_count-cons item items))
+    same_numbers _ _ _ _ (omega arith) (omega (arith, slack_count-cons item items))
 
 -- the items of a nurse's runs, each of one slack, are as many as these windows and patterns
 pub counted-runs : (week : Week) (runs : Runs Cell) (counts : ItemNumbers) (n : ℕ) → AreWithin counts →

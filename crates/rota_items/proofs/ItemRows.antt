@@ -1,9 +1,9 @@
 -- What a taker of rows takes by the items that are handed on to it.
 use Rattle.rota_items.proofs.Common.Words.{◌≡◌, ℕ, ◌+◌, ◌<◌, List, [], ◌∷◌, ◌++◌, Result, Ok, Err, refl, sym, ap, subst, ◌∙◌, arith, append_assoc, fold, fold-append, InstanceTables, IsInstance, week_of, soft_items, Item, item_rows, slack_count, slack_weights, first_slack, numbered_items, cell_number, word_limit, Event, events, term_events, Handing, StopsAt, row_of_item, slacks_within, weights_of_item, with_item, within_numbers, Took, Refused, Takes, TookAll, RefusedOne, TakesAll, Ghosts}
 use Rattle.rota_items.proofs.InstanceLimits.{instance-within_limits}
-use Rattle.rota_items.proofs.ItemEventLists.{slack_count-cons, slack_count-append, slack_count-numbered, term_events-append}
+use Rattle.rota_items.proofs.ItemEventLists.{slack_count-cons, slack_count-append, slack_count-numbered}
 use Rattle.rota_items.proofs.SlackBound.{variables_fit}
-use Rattle.rota_items.proofs.Taking.{Refused-before, Refused-after}
+use Rattle.rota_items.proofs.Taking.{numbers_join, Refused-before, Refused-after}
 
 -- the slacks of the items have numbers of variables, from this one on
 abbrev pub SlacksFit : ℕ → List (Item ℕ) → Type 0
@@ -24,12 +24,8 @@ pub gives_rows : GivesEach row_of_item all_rows
 unfolding events
 gives_rows = record { none = λ first. refl; more = λ first item items. refl }
 
-no_terms : term_events [] ≡ []
-unfolding term_events
-no_terms = refl
-
 pub gives_weights : GivesEach weights_of_item all_weights
-gives_weights = record { none = λ first. no_terms; more = λ first item items. term_events-append _ _ }
+gives_weights = record { none = λ first. numbers_join.none; more = λ first item items. numbers_join.append _ _ }
 
 -- where its slacks fit, an item is handed on as it is
 slacks-all : (first slacks : ℕ) → first + slacks < word_limit → slacks_within first slacks ≡ slacks
@@ -58,16 +54,6 @@ module _ {events_of : Item ℕ → ℕ → List Event} {all : ℕ → List (Item
       next = handing.next + slack_count items;
     }
 
-    after-one : (handing : Handing V) (item : Item ℕ) → handing.next + item.slacks < word_limit →
-        with_item step events_of handing item ≡ record handing {
-          value = fold step handing.value (events_of item handing.next);
-          next = handing.next + item.slacks;
-        }
-    after-one handing item fit = λ i. record handing {
-      value = fold step handing.value (events_of (item-all handing.next item fit i) handing.next);
-      next = handing.next + slacks-all handing.next item.slacks fit i;
-    }
-
     pub after-all : (items : List (Item ℕ)) (handing : Handing V) → SlacksFit handing.next items →
         fold (with_item step events_of) handing items ≡ after handing items
     after-all [] handing fit =
@@ -80,11 +66,16 @@ module _ {events_of : Item ℕ → ℕ → List Event} {all : ℕ → List (Item
           value = fold step handing.value (events_of item handing.next);
           next = handing.next + item.slacks;
         } in
+        let here_is : with_item step events_of handing item ≡ next =
+        λ i. record handing {
+          value = fold step handing.value (events_of (item-all handing.next item here i) handing.next);
+          next = handing.next + slacks-all handing.next item.slacks here i;
+        } in
         let same : handing.next + item.slacks + slack_count items ≡ handing.next + slack_count (item ∷ items) = omega (arith, counted) in
         let values : fold step next.value (all next.next items) ≡ fold step handing.value (all handing.next (item ∷ items)) =
         sym (fold-append step handing.value (events_of item handing.next) (all (handing.next + item.slacks) items)) ∙
         ap (fold step handing.value) (sym (each.more handing.next item items)) in
-        ap (λ h. fold (with_item step events_of) h items) (after-one handing item here) ∙
+        ap (λ h. fold (with_item step events_of) h items) here_is ∙
         after-all items next (omega (arith, counted)) ∙
         (λ i. record handing { value = values i; next = same i })
 

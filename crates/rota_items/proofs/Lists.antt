@@ -154,10 +154,6 @@ list_any-each p (suc n) g = rw (list_any-append, list_any-each p n g) refl
 
 -- ---- what a loop counts or adds up
 
--- the length of what a loop gave in some turns, each of which gives no more than the most
-abbrev pub LengthOfEach : {A : Type 0} → ℕ → ℕ → ℕ → (ℕ → List A) → ℕ → Type 0
-LengthOfEach start turns most f sum = (sum ≡ start + length (each_below turns f)) × (sum ≤ start + turns * most)
-
 -- the sum of numbers, one for each turn
 abbrev pub SumOfEach : ℕ → ℕ → (ℕ → ℕ) → ℕ → Type 0
 SumOfEach turns most number sum = (sum ≡ sum_below turns number) × (sum ≤ turns * most)
@@ -170,7 +166,7 @@ pub sum_below-more : (n : ℕ) (number : ℕ → ℕ) → sum_below (n + 1) numb
 unfolding sum_below
 sum_below-more n number = rw add-one refl
 
-pub ruleset counting = (length-append, each_below-zero, each_below-more, sum_below-none, sum_below-more)
+pub ruleset counting = (sum_below-none, sum_below-more)
 
 -- ---- lengths and slacks
 

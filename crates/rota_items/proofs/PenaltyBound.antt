@@ -118,4 +118,7 @@ module _ (tables : InstanceTables) (valid : IsInstance tables) where
   few-nurse_constant rule n =
       omega (arith, nurse_constant-le (week_of tables) (instance-within_limits tables valid) rule n, constants-of_any rule)
 
-pub ruleset few_constants = (few-constant_of_rule, few-nurse_constant)
+  pub few-constant : constant (week_of tables) ≤ most_constant
+  few-constant = constant-few (week_of tables) (instance-within_limits tables valid)
+
+pub ruleset few_constants = (few-constant_of_rule, few-nurse_constant, few-constant)

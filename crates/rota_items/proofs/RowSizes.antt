@@ -1,22 +1,16 @@
 -- How many rows the hard rules have in a week within the limits: none has more than there are cells.
-use Rattle.rota_items.proofs.Common.Words.{InstanceTables, IsInstance, week_of, ℕ, ◌*◌, ◌≤◌, length, arith, length-append, length-map, length-only_if, length-flat_map, sum_by-le-sum_by, each_below, Week, Rule, hard_rules, rows_of_hard_rule, rule_rows, cells_of, h5_row, h3_monday_rows, h3_rows_between, h3_rows_of, IsWithinLimits, H1, H2, H3, H4, H5, most_cells, most_cells_of_nurse, most_nurses, most_shifts, most_skills}
-use Rattle.rota_items.proofs.InstanceLimits.{instance-within_limits}
+use Rattle.rota_items.proofs.Common.Words.{ℕ, ◌*◌, ◌≤◌, length, arith, length-append, length-map, length-only_if, length-flat_map, sum_by-le-sum_by, each_below, Week, Rule, hard_rules, rows_of_hard_rule, rule_rows, cells_of, h5_row, h3_monday_rows, h3_rows_between, h3_rows_of, IsWithinLimits, H1, H2, H3, H4, H5, most_cells, most_cells_of_nurse, most_nurses, most_shifts, most_skills}
 use Rattle.rota_items.proofs.Lists.{length-at_most}
 
 module _ (week : Week) (limits : IsWithinLimits week) where
-  -- those of a nurse for Monday, and from each day to the next
-  pub monday-few : (n : ℕ) → length (h3_monday_rows week n) ≤ most_shifts * 1
-  monday-few n = length-at_most most_shifts limits.shifts _ (λ t. length-only_if _ _)
-
-  pub between-few : (n d : ℕ) → length (h3_rows_between week n d) ≤ most_shifts * (most_shifts * 1)
-  between-few n d =
-      length-at_most most_shifts limits.shifts _ (λ s. length-at_most most_shifts limits.shifts _ (λ t. length-only_if _ _))
-
-  pub nurse-few : (n : ℕ) → length (h3_rows_of week n) ≤ most_cells_of_nurse
+  -- those of a nurse: for Monday, and from each day to the next
+  nurse-few : (n : ℕ) → length (h3_rows_of week n) ≤ most_cells_of_nurse
   nurse-few n =
+      let monday : length (h3_monday_rows week n) ≤ most_shifts * 1 = length-at_most most_shifts limits.shifts _ (λ t. length-only_if _ _) in
       let later : length (each_below 6 (h3_rows_between week n)) ≤ 6 * (most_shifts * (most_shifts * 1)) =
-      length-at_most 6 (omega arith) _ (between-few n) in
-      omega (arith, length-append (h3_monday_rows week n) (each_below 6 (h3_rows_between week n)), monday-few n, later)
+      length-at_most 6 (omega arith) _ (λ d. length-at_most most_shifts limits.shifts _ (λ s.
+      length-at_most most_shifts limits.shifts _ (λ t. length-only_if _ _))) in
+      omega (arith, length-append (h3_monday_rows week n) (each_below 6 (h3_rows_between week n)), monday, later)
 
   pub cells-few : length (cells_of week week.is_held) ≤ most_cells
   unfolding cells_of
@@ -24,7 +18,7 @@ module _ (week : Week) (limits : IsWithinLimits week) where
       length-at_most most_nurses limits.nurses _ (λ n. length-at_most 7 (omega arith) _ (λ d.
       length-at_most most_shifts limits.shifts _ (λ s. length-at_most most_skills limits.skills _ (λ k. length-only_if _ _))))
 
-  pub rows-few : (rule : Rule) → length (rows_of_hard_rule week rule) ≤ most_cells
+  rows-few : (rule : Rule) → length (rows_of_hard_rule week rule) ≤ most_cells
   rows-few H1 =
       let few : length (rows_of_hard_rule week H1) ≤ most_nurses * (7 * 1) =
       length-at_most most_nurses limits.nurses _ (λ n. length-at_most {m = 1} 7 (omega arith) _ (λ d. omega arith)) in
@@ -49,11 +43,3 @@ module _ (week : Week) (limits : IsWithinLimits week) where
         length-flat_map (rows_of_hard_rule week) hard_rules,
         sum_by-le-sum_by (λ rule. length (rows_of_hard_rule week rule)) (λ _. most_cells) hard_rules rows-few,
       )
-
--- ---- of an instance
-
-module _ (tables : InstanceTables) (valid : IsInstance tables) where
-  pub few-rows : (rule : Rule) → length (rows_of_hard_rule (week_of tables) rule) ≤ most_cells
-  few-rows rule = rows-few (week_of tables) (instance-within_limits tables valid) rule
-
-pub ruleset few_rows = (few-rows)

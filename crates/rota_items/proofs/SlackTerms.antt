@@ -1,7 +1,7 @@
 -- The terms of an item's slacks, and an item's row.
 use Rattle.rota_items.proofs.Common.Words.{◌≡◌, ℕ, zero, suc, ◌+◌, ◌<◌, List, [], ◌∷◌, ◌++◌, Result, MatchResult, refl, ap, ◌∙◌, arith, ℤ, pos, range_with_len, to_z-of_z, fold-append, map-range_with_len_more, each_below, Week, Cell, cell_number, Item, numbered, times, LinearRow, Term, item_row, cell_term_events, start_row, term, close_row, term_events, row_of_item, Took, Refused, Takes, Soft, Ghosts}
 use Rattle.rota_items.proofs.ItemEventLists.{term_events-append}
-use Rattle.rota_items.proofs.Taking.{numbers_join, Took-then, Refused-before, Refused-after, loop_refused, term_refused}
+use Rattle.rota_items.proofs.Taking.{numbers_join, loop_refused, term_refused}
 
 -- one variable, so far from the first
 abbrev slack_term : ℤ → ℕ → ℕ → List (Term ℕ)

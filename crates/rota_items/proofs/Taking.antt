@@ -135,11 +135,6 @@ module _ {S V E : Type 0} {value : S → V} {step : V → E → V} {left : V →
 module _ {S F : Type 0} (T : Ghosts S F) where
   -- ---- one term
 
-  pub term_taken : (coefficient : ℤ) (variable : ℕ) (s t : S) → T.value t ≡ T.step (T.value s) (term coefficient variable) →
-      Took T (term_events ((coefficient, variable) ∷ [])) s t
-  unfolding term_events
-  term_taken coefficient variable s t e = Took-one _ s t e
-
   pub term_refused : (coefficient : ℤ) (variable : ℕ) (s t : S) → T.left (T.value s) (term coefficient variable) t →
       Refused T (term_events ((coefficient, variable) ∷ [])) s t
   unfolding term_events
@@ -148,18 +143,17 @@ module _ {S F : Type 0} (T : Ghosts S F) where
   pub term_takes : (coefficient : ℤ) (variable : ℕ) (s t : S) (r : Result (Unit {0}) F) →
       MatchResult r (λ _. T.value t ≡ T.step (T.value s) (term coefficient variable)) (λ _. T.left (T.value s) (term coefficient variable) t) →
       Takes T (term_events ((coefficient, variable) ∷ [])) s t r
-  term_takes coefficient variable s t r taken =
-      MatchResult-weaker r taken (λ _ e. term_taken coefficient variable s t e) (λ _ refused. term_refused coefficient variable s t refused)
+  unfolding term_events
+  term_takes coefficient variable s t r taken = MatchResult-weaker r taken (λ _ e. Took-one _ s t e) (λ _ refused. Refused-one _ s t refused)
 
-  module _ (week : Week) where
-    -- one cell
-    pub cell_taken : (sign : Sign) (cell : Cell) (variable : ℕ) (s t : S) (r : Result (Unit {0}) F) →
-        variable ≡ cell_number week cell →
-        MatchResult r (λ _. T.value t ≡ T.step (T.value s) (term (coefficient_of sign) variable))
-        (λ _. T.left (T.value s) (term (coefficient_of sign) variable) t) →
-        Takes T (sum_events week sign (cell ∷ [])) s t r
-    unfolding cell_term_events
-    cell_taken sign cell variable s t r same taken = term_takes (coefficient_of sign) (cell_number week cell) s t r (rw same at taken)
+  -- one cell
+  pub cell_taken : (week : Week) (sign : Sign) (cell : Cell) (variable : ℕ) (s t : S) (r : Result (Unit {0}) F) →
+      variable ≡ cell_number week cell →
+      MatchResult r (λ _. T.value t ≡ T.step (T.value s) (term (coefficient_of sign) variable))
+      (λ _. T.left (T.value s) (term (coefficient_of sign) variable) t) →
+      Takes T (sum_events week sign (cell ∷ [])) s t r
+  unfolding cell_term_events
+  cell_taken week sign cell variable s t r same taken = term_takes (coefficient_of sign) (cell_number week cell) s t r (rw same at taken)
 
   -- ---- a list of one row
 

@@ -1,13 +1,13 @@
 -- The events that hand sums and rows over cells to a taker.
-use Rattle.std.specs.Prelude.{ℤ, pos, negsuc, List, map}
+use Rattle.std.specs.Prelude.{ℤ, pos, negsuc, List}
 use Rattle.rota_core.specs.declared.values.Cell.{Cell}
 use Rattle.rota_core.specs.Week.{Week}
 use Rattle.rota_items.specs.declared.sums.Sign.{Sign}
 use Rattle.rota_items.specs.declared.sums.Sign.TheVariants.{Plus, Minus}
 use Rattle.rota_items.specs.Linear.{Term}
-use Rattle.rota_items.specs.ModelWords.{times, LinearRow}
-use Rattle.rota_items.specs.Events.{Event, term_events, events}
-use Rattle.rota_items.specs.WeekModel.{numbered_terms, numbered_row}
+use Rattle.rota_items.specs.ModelWords.{times}
+use Rattle.rota_items.specs.Events.{Event, term_events}
+use Rattle.rota_items.specs.WeekModel.{numbered_terms}
 
 abbrev pub coefficient_of : Sign → ℤ
 coefficient_of Plus = pos 1
@@ -20,7 +20,3 @@ cell_term_events week terms = term_events (numbered_terms week terms)
 -- those of these cells, each with this sign
 abbrev pub sum_events : Week → Sign → List Cell → List Event
 sum_events week sign cells = cell_term_events week (times (coefficient_of sign) cells)
-
--- those of rows over cells
-unfoldable pub cell_row_events : Week → List (LinearRow Cell) → List Event
-cell_row_events week rows = events (map (numbered_row week) rows)

@@ -12,7 +12,7 @@ use Rattle.rota_items.specs.declared.hard.row_takers.HardRow.{HardRow}
 use Rattle.rota_items.specs.declared.items.soft_item.RunCharge.{RunCharge}
 use Rattle.rota_items.specs.declared.items.soft_item.DayPattern.{DayPattern}
 use Rattle.rota_items.specs.declared.items.soft_item.ItemSum.{ItemSum}
-use Rattle.rota_items.specs.declared.items.soft_item.ItemSum.TheVariants.{Day, OnDay, InTurn, Skill, One, Demand, Days, Total}
+use Rattle.rota_items.specs.declared.items.soft_item.ItemSum.TheVariants.{NoCells, Day, OnDay, InTurn, Skill, One, Demand, Days, Total}
 use Rattle.rota_items.specs.declared.items.soft_item.NurseRuns.{NurseRuns}
 use Rattle.rota_items.specs.declared.items.soft_item.DayProperty.{DayProperty}
 use Rattle.rota_items.specs.declared.items.soft_item.DayProperty.TheVariants.{Shift, Work, Off}
@@ -67,6 +67,7 @@ patterns_given None = []
 patterns_given (Some pattern) = pattern_of pattern ∷ []
 
 abbrev pub sum_terms : Week → ItemSum → List (Term Cell)
+sum_terms week NoCells = []
 sum_terms week (Day n d) = times (negsuc 0) (work_cells week n d)
 sum_terms week (OnDay n s d) = times (negsuc 0) (on_cells week n s d)
 sum_terms week (InTurn n d s t) = times (negsuc 0) (on_cells week n s d ++ on_cells week n t (d + 1))
@@ -107,6 +108,7 @@ pub record AreDaysOf (week : Week) (n : ℕ) (property : DayProperty) (pattern :
 
 -- the sum's numbers are some of the week's
 abbrev pub IsSumOf : Week → ItemSum → Type 0
+IsSumOf week NoCells = ⊤
 IsSumOf week (Day n d) = IsDayOf week n d
 IsSumOf week (OnDay n s d) = IsOnDayOf week n s d
 IsSumOf week (InTurn n d s t) = AreInTurn week n d s t

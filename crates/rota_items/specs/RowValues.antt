@@ -12,11 +12,11 @@ use Rattle.rota_items.specs.Takes.{Refused}
 use Rattle.rota_items.specs.declared.rows.Row.{Row}
 use Rattle.rota_items.specs.declared.takers.Taker.{Ghosts}
 
--- the terms at cells, then those of the slacks
+-- the terms at cells, then those of the variables
 abbrev pub row_of : Week → Row → LinearRow ℕ
 row_of week row = record {
   part = row.part;
-  terms = numbered_terms week (sum_terms week row.sum) ++ times (pos 1) (range_with_len row.first row.slacks);
+  terms = numbered_terms week (sum_terms week row.sum) ++ times (pos 1) (range_with_len row.first row.count);
   degree = row.degree;
 }
 

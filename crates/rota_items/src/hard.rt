@@ -21,7 +21,9 @@ mod skills;
 mod succession;
 
 use crate::hard::row_takers::RowTaker;
+use crate::items::soft_item::ItemSum;
 use crate::part::Part;
+use crate::rows::{Row, give_row};
 use crate::takers::Taker;
 use crate::variables::unit_var;
 use rota_core::{Instance, Rule};
@@ -60,9 +62,14 @@ fn give_unit<T: Taker>(instance: &Instance, taker: &mut T) -> Result<(), T::Faul
     ensures { Takes T.Taker (events (unit_row (unit_number (week_of instance.now)) ∷ []))
         taker.old taker.new result }
 {
-    taker.start_row(Part::Hard(Rule::Unit))?;
-    taker.term(1, unit_var(instance))?;
-    taker.close_row(1)
+    let row = Row {
+        part: Part::Hard(Rule::Unit),
+        sum: ItemSum::NoCells,
+        first: unit_var(instance),
+        count: 1,
+        degree: 1,
+    };
+    give_row(instance, taker, row)
 }
 
 /// Hands the taker the row of the unit variable and those of the hard rules.

@@ -14,25 +14,25 @@ use crate::sums::give_range;
 use crate::takers::Taker;
 use rota_core::Instance;
 
-/// A row: its terms at cells, and `slacks` slacks from the first on, each with 1, are to be at least the
+/// A row: its terms at cells, and `count` variables from the first on, each with 1, are to be at least the
 /// degree.
 #[derive(Clone, Copy)]
 pub struct Row {
     pub part: Part,
     pub sum: ItemSum,
     pub first: u32,
-    pub slacks: u32,
+    pub count: u32,
     pub degree: i64,
 }
 
 /// Hands the taker the row: it begins, its terms follow, and it is closed.
 pub fn give_row<T: Taker>(instance: &Instance, taker: &mut T, row: Row) -> Result<(), T::Fault>
     requires sum_in { IsSumOf (week_of instance.now) row.sum }
-    requires slacks_fit { row.first + row.slacks < word_limit }
+    requires variables_fit { row.first + row.count < word_limit }
     ensures { Takes T.Taker (row_events (row_of (week_of instance.now) row)) taker.old taker.new result }
 {
     taker.start_row(row.part)?;
     give_sum(instance, taker, row.sum)?;
-    give_range(taker, 1, row.first, row.slacks)?;
+    give_range(taker, 1, row.first, row.count)?;
     taker.close_row(row.degree)
 }

@@ -67,7 +67,7 @@ impl<T: Taker> RowTaker for T {
                 part: Part::Hard(row.rule),
                 sum: row.sum,
                 first: 0,
-                slacks: 0,
+                count: 0,
                 degree: row.degree,
             },
         )

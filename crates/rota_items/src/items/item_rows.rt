@@ -35,7 +35,7 @@ fn give_item_row<T: Taker>(
         part: Part::Soft(item.rule, u64::from(item.weight)),
         sum: item.sum,
         first,
-        slacks: item.slacks,
+        count: item.slacks,
         degree: item.degree,
     };
     give_row(instance, taker, row)

@@ -173,12 +173,14 @@ fn give_in_turn<T: Taker>(
 }
 
 /// The terms at cells of an item, or of a row of a hard rule.
+#[tactic(auto, using(crate::proofs::Taking::taking))]
 pub fn give_sum<T: Taker>(instance: &Instance, taker: &mut T, sum: ItemSum) -> Result<(), T::Fault>
     requires { IsSumOf (week_of instance.now) sum }
     ensures { let week = week_of instance.now in
         Takes T.Taker (cell_term_events week (sum_terms week sum)) taker.old taker.new result }
 {
     match sum {
+        ItemSum::NoCells => Ok(()),
         ItemSum::Demand { day, shift, skill } => {
             give_demand_cells(instance, taker, day, shift, skill)
         }

@@ -29,6 +29,8 @@ pub struct DayPattern {
 /// The terms at cells of an item, or of a row of a hard rule.
 #[derive(Clone, Copy)]
 pub enum ItemSum {
+    /// No cells.
+    NoCells,
     /// A nurse's day: its cells, each with -1.
     Day {
         nurse: u16,

@@ -1,6 +1,6 @@
 -- The words of what is taken: events, takers of events and of items, and what they took.
 pub use Rattle.rota_items.specs.CellEvents.{coefficient_of, sum_events}
-unfoldable pub use Rattle.rota_items.specs.CellEvents.{cell_row_events, cell_term_events}
+unfoldable pub use Rattle.rota_items.specs.CellEvents.{cell_term_events}
 pub use Rattle.rota_items.specs.Events.{row_events, close_row, start_row, term, Event}
 unfoldable pub use Rattle.rota_items.specs.Events.{term_events, events}
 pub use Rattle.rota_items.specs.ItemRows.{row_of_item, Handing, StopsAt, slacks_within, weights_of_item, with_item, within_numbers}

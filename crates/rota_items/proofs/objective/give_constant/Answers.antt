@@ -1,5 +1,5 @@
-use Rattle.rota_items.proofs.Common.{to_z_pos, only_if-fails, only_if-holds, ◌≡◌, ◌<◌, pos, nat_lt, true, false, ap, ◌∙◌, w64, arith, week_of, instance-within_limits, nothing, numbers_join, term_takes, constant, signed_limit}
-use Rattle.rota_items.proofs.PenaltyBound.{constant-few}
+use Rattle.rota_items.proofs.Common.{to_z_pos, only_if-fails, only_if-holds, ◌≡◌, pos, nat_lt, true, false, ap, ◌∙◌, w64, arith, week_of, nothing, numbers_join, term_takes, constant}
+use Rattle.rota_items.proofs.PenaltyBound.{few-constant}
 use Rattle.rota_items.proofs.objective.give_constant.Goals as goal
 
 pub returns-then-constant-eq0 : goal.returns-then-constant-eq0
@@ -7,16 +7,10 @@ returns-then-constant-eq0 g c =
     let none : nat_lt 0 (constant (week_of c.args.instance.now)) ≡ false = grind (arith, c.constant-constant.ensures) in
     rw (only_if-fails _ _ none) (nothing numbers_join _)
 
-pub overflow_cast-constant : goal.overflow_cast-constant
-overflow_cast-constant g c =
-    let week = week_of c.args.instance.now in
-    omega (arith, c.constant-constant.ensures, constant-few week (instance-within_limits c.args.instance.now c.unit_var-unit.ensures.limits))
-
 pub returns : goal.returns
 returns g c =
     let week = week_of c.args.instance.now in
-    let fits : c.constant-constant.result < signed_limit =
-    omega (arith, c.constant-constant.ensures, constant-few week (instance-within_limits c.args.instance.now c.unit_var-unit.ensures.limits)) in
-    let exact = to_z_pos w64 c.constant-constant.result fits ∙ ap pos c.constant-constant.ensures in
+    let few = few-constant c.args.instance.now c.unit_var-unit.ensures.limits in
+    let exact = to_z_pos w64 c.constant-constant.result (omega (arith, c.constant-constant.ensures, few)) ∙ ap pos c.constant-constant.ensures in
     let some : nat_lt 0 (constant week) ≡ true = grind (arith, c.constant-constant.ensures) in
     rw (only_if-holds _ _ some) (term_takes g.T.Taker _ _ _ _ _ (rw (exact, c.unit_var-unit.ensures.number) at c.term.ensures))
