@@ -1,5 +1,5 @@
 -- What a judge makes of the model of a week.
-use Rattle.rota_items.proofs.Common.Words.{◌≡◌, ℕ, ◌+◌, ◌*◌, ◌<◌, ◌≤◌, Bool, true, List, [], ◌∷◌, ◌++◌, refl, ap, ◌∙◌, cond, arith, pos, negsuc, nat_abs, if◌then◌else◌, AllByRecursion, fold, sum_by, ints, fold-append, flat_map-append, sum_by-cons, AllByRecursion-append, Roster, InWeek, set_of, soft_rules, Week, Rule, Cell, cell_number, unit_number, first_slack, Item, numbered, positive_part, shortage, weighted_shortages, Term, value_of, times, LinearRow, objective_rows, item_rows, slack_variables, slack_weights, cell_terms, constant, items_of_rule, soft_items, rule_rows, hard_rows, unit_row, numbered_items, numbered_row, numbered_terms, objective_terms, rows_of, first_unmet, IsWithinLimits, most_objective, request_cost, half_limit, signed_limit, Objective, events, row_events, RowSums, Tally, Subject, assigned, extended, assignment_in, roster_in, capped, no_sums, no_tally, tallied}
+use Rattle.rota_items.proofs.Common.Words.{◌≡◌, ℕ, ◌+◌, ◌*◌, ◌<◌, ◌≤◌, Bool, true, List, [], ◌∷◌, ◌++◌, refl, ap, ◌∙◌, cond, arith, pos, negsuc, nat_abs, if◌then◌else◌, AllByRecursion, fold, sum_by, ints, fold-append, flat_map-append, sum_by-cons, Roster, InWeek, set_of, soft_rules, Week, Rule, Cell, cell_number, unit_number, first_slack, Item, numbered, positive_part, shortage, weighted_shortages, Term, value_of, LinearRow, objective_rows, item_rows, cell_terms, constant, items_of_rule, soft_items, rule_rows, hard_rows, unit_row, numbered_items, numbered_row, numbered_terms, objective_terms, rows_of, first_unmet, IsWithinLimits, most_objective, request_cost, half_limit, signed_limit, Objective, events, row_events, RowSums, Tally, Subject, assigned, extended, assignment_in, roster_in, capped, no_sums, no_tally, tallied}
 use Rattle.rota_core.specs.declared.rule.Rule.TheVariants.{Unit as UnitRule}
 use Rattle.rota_items.proofs.Extension.{extension-roster, shortage-of_item, terms-below, value_of-objective, value_of-of_terms}
 use Rattle.rota_items.proofs.HardRules.EachRule.{each-row}
@@ -7,8 +7,7 @@ use Rattle.rota_items.proofs.ItemEventLists.{slack_count-numbered}
 use Rattle.rota_items.proofs.ItemLaw.{extension-extends}
 use Rattle.rota_items.proofs.JudgedItems.{IsFit, charge_of, items-come, no-weights, paid_for, paid_for-is}
 use Rattle.rota_items.proofs.ItemSizes.{slacks-few}
-use Rattle.rota_items.proofs.JudgedRows.{Comes, IsHardRow, hard-judged, later-zero, rows-come, same}
-use Rattle.rota_items.proofs.JudgedTerms.{counted-before, counted_other, others-before, row-tallied}
+use Rattle.rota_items.proofs.JudgedRows.{Comes, IsHardRow, hard-judged, later-zero, rows-come, same, counted-before, counted_other, others-before, row-tallied}
 use Rattle.rota_items.proofs.Lists.{all-both, all-map, all-weaker, sum_by-each-same, sum_by-flat_map, sum_by-map, sum_by-same}
 use Rattle.rota_items.proofs.ObjectiveBound.{objective-below, IsPositive, coefficients-positive}
 use Rattle.rota_items.proofs.RuleSizes.{each-small}
@@ -44,19 +43,16 @@ sum_by-times w f (x ∷ xs) =
 abbrev pub of_rule : (Rule → ℕ) → Rule → ℕ
 of_rule f rule = sum_by (λ own. same own rule * f own) soft_rules
 
+pub agrees : (week : Week) (subject : Subject) (c : Cell) → InWeek week c → assignment_in week subject (cell_number week c) ≡ roster_in week subject c
+agrees week (assigned bits) c inside = refl
+agrees week (extended tables) c inside = extension-roster week (set_of tables) c inside
+
 module _ (week : Week) (subject : Subject) where
   abbrev A : ℕ → Bool
   A = assignment_in week subject
 
   abbrev roster : Roster
   roster = roster_in week subject
-
-  pub agrees : (c : Cell) → InWeek week c → A (cell_number week c) ≡ roster c
-  agrees c inside = either subject
-    where
-      either : (given : Subject) → assignment_in week given (cell_number week c) ≡ roster_in week given c
-      either (assigned bits) = refl
-      either (extended tables) = extension-roster week (set_of tables) c inside
 
   -- ---- the objective
 
@@ -72,7 +68,7 @@ module _ (week : Week) (subject : Subject) where
 
   requests-are : value_of A requests ≡ pos (request_cost week roster)
   requests-are =
-      value_of-of_terms week A roster agrees (cell_terms week) (in-cell_terms week) ∙
+      value_of-of_terms week A roster (agrees week subject) (cell_terms week) (in-cell_terms week) ∙
       ap (value_of roster) (cell_terms-are week) ∙ value_of-request_terms week roster
 
   pub objective-judged : value_of A (objective_terms week) ≡ pos (given + paid)
@@ -114,7 +110,7 @@ module _ (week : Week) (subject : Subject) where
       of_own own =
           sum_by-same _ (λ (item : Item Cell). same own rule * (item.weight * shortage roster item)) (items_of_rule week own)
           (all-weaker (IsItemSound week own) _ (λ item sound i.
-          same (sound.rule_is i) rule * (item.weight * shortage-of_item week A roster agrees item sound.terms.in_week i))
+          same (sound.rule_is i) rule * (item.weight * shortage-of_item week A roster (agrees week subject) item sound.terms.in_week i))
           (items_of_rule week own) (sound-rule week own).items) ∙
           sum_by-times (same own rule) (λ (item : Item Cell). item.weight * shortage roster item) (items_of_rule week own)
 
