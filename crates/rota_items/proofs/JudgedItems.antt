@@ -99,9 +99,6 @@ module _ (week : Week) (subject : Subject) where
     pub small : spread item.terms + item.slacks + positive_part item.degree < half_limit
 
   module _ (item : Item ℕ) (first : ℕ) (fit : IsFit item) where
-    abbrev slacks : List (Term ℕ)
-    slacks = times (pos 1) (slack_variables item first)
-
     abbrev paid_slacks : ℕ
     paid_slacks = count_by A (slack_variables item first)
 
@@ -115,14 +112,14 @@ module _ (week : Week) (subject : Subject) where
         let others : value_of (counted_other week subject) (item_row item first).terms ≡ value_of A item.terms = omega (
           arith,
           ints,
-          value_of-append (counted_other week subject) item.terms slacks,
+          value_of-append (counted_other week subject) item.terms (times (pos 1) (slack_variables item first)),
           others-before week subject item.terms fit.before,
           no-others 1 first item.slacks after,
         ) in record {
           closes = λ tally. refl;
           small = omega (
             arith,
-            sum_by-append (λ (term : Term ℕ). nat_abs term.0) item.terms slacks,
+            sum_by-append (λ (term : Term ℕ). nat_abs term.0) item.terms (times (pos 1) (slack_variables item first)),
             spread-times (pos 1) (slack_variables item first) (omega arith),
             length-range first item.slacks,
             fit.small,

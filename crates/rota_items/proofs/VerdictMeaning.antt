@@ -34,9 +34,6 @@ module _ (week : Week) (assignment : ℕ → Bool) (roster : Roster) (verdict : 
 
   -- ---- the rule that is named
 
-  abbrev HasUnit : Type 0
-  HasUnit = assignment (unit_number week) ≡ true
-
   abbrev soft_rows : List (LinearRow ℕ)
   soft_rows = item_rows (first_slack week) (numbered_items week)
 
@@ -56,8 +53,8 @@ module _ (week : Week) (assignment : ℕ → Bool) (roster : Roster) (verdict : 
   -- what the row that is named says of the rules
   abbrev RuleOutcome : Named → Type 0
   RuleOutcome named =
-      (NamesSoft named ↔ (HasUnit × KeepsHardRules week roster)) ×
-      (HasUnit → KeepsHardRules week roster ⊎ IsSomeAnd named (λ row. FirstBroken week roster row.1))
+      (NamesSoft named ↔ ((assignment (unit_number week) ≡ true) × KeepsHardRules week roster)) ×
+      (assignment (unit_number week) ≡ true → KeepsHardRules week roster ⊎ IsSomeAnd named (λ row. FirstBroken week roster row.1))
 
   module _ (agrees : (c : Cell) → InWeek week c → assignment (cell_number week c) ≡ roster c) where
     rule-outcome : RuleOutcome (first_unmet assignment (rows_of week))
