@@ -3,8 +3,7 @@ use Rattle.rota_items.proofs.Common.Words.{length-map, ◌≡◌, ℕ, zero, suc
 use Rattle.rota_items.proofs.Extension.{extension-below}
 use Rattle.rota_items.proofs.ItemLaw.{IsExtension, count-front, needed-first, needed-after, value_of-item_constraint, value_of-weight}
 use Rattle.rota_items.proofs.FirstUnmet.{Named}
-use Rattle.rota_items.proofs.JudgedRows.{Comes, IsJudged, covers, positive-saturated, row-comes, same}
-use Rattle.rota_items.proofs.JudgedTerms.{Before, counted_other, counted_slack, others-before, slacks-before, sums_of}
+use Rattle.rota_items.proofs.JudgedRows.{Comes, IsJudged, covers, positive-saturated, row-comes, same, Before, counted_other, counted_slack, others-before, slacks-before, sums_of}
 use Rattle.std.proofs.lemmas.List.FromFn.{length-range_with_len as length-range}
 use Rattle.rota_items.proofs.PatternItems.{value_of-append}
 use Rattle.rota_items.proofs.SmallSums.{positive_part-parts, shortage-least, spread}
@@ -99,9 +98,6 @@ module _ (week : Week) (subject : Subject) where
     pub small : spread item.terms + item.slacks + positive_part item.degree < half_limit
 
   module _ (item : Item ℕ) (first : ℕ) (fit : IsFit item) where
-    abbrev slacks : List (Term ℕ)
-    slacks = times (pos 1) (slack_variables item first)
-
     abbrev paid_slacks : ℕ
     paid_slacks = count_by A (slack_variables item first)
 
@@ -115,15 +111,15 @@ module _ (week : Week) (subject : Subject) where
         let others : value_of (counted_other week subject) (item_row item first).terms ≡ value_of A item.terms = omega (
           arith,
           ints,
-          value_of-append (counted_other week subject) item.terms slacks,
+          value_of-append (counted_other week subject) item.terms (times (pos 1) (slack_variables item first)),
           others-before week subject item.terms fit.before,
           no-others 1 first item.slacks after,
         ) in record {
           closes = λ tally. refl;
           small = omega (
             arith,
-            sum_by-append (λ (term : Term ℕ). nat_abs term.0) item.terms slacks,
-            spread-units slacks (units-times (slack_variables item first)),
+            sum_by-append (λ (term : Term ℕ). nat_abs term.0) item.terms (times (pos 1) (slack_variables item first)),
+            spread-units (times (pos 1) (slack_variables item first)) (units-times (slack_variables item first)),
             length-map {B = Term ℕ} (slack_variables item first) (λ v. (pos 1, v)),
             length-range first item.slacks,
             fit.small,

@@ -7,8 +7,7 @@ use Rattle.rota_items.proofs.ItemEventLists.{slack_count-numbered}
 use Rattle.rota_items.proofs.ItemLaw.{extension-extends}
 use Rattle.rota_items.proofs.JudgedItems.{Follows, IsFit, charge_of, items-come, paid_for, paid_for-is, no-weights}
 use Rattle.rota_items.proofs.ItemSizes.{each-small}
-use Rattle.rota_items.proofs.JudgedRows.{Comes, IsHardRow, rows-come, same, later-zero, hard-judged}
-use Rattle.rota_items.proofs.JudgedTerms.{counted-before, counted_other, others-before, row-tallied}
+use Rattle.rota_items.proofs.JudgedRows.{Comes, IsHardRow, rows-come, same, later-zero, hard-judged, counted-before, counted_other, others-before, row-tallied}
 use Rattle.rota_items.proofs.Lists.{all-map, sum_by-each-same, sum_by-flat_map, sum_by-map, all-both, all-weaker, sum_by-same}
 use Rattle.rota_items.proofs.ObjectiveBound.{objective-below, IsPositive, coefficients-positive}
 use Rattle.rota_items.proofs.SlackBound.{rows-below, variables-below}
@@ -39,19 +38,16 @@ sum_by-times w f (x ∷ xs) =
 abbrev pub of_rule : (Rule → ℕ) → Rule → ℕ
 of_rule f rule = sum_by (λ own. same own rule * f own) soft_rules
 
+pub agrees : (week : Week) (subject : Subject) (c : Cell) → InWeek week c → assignment_in week subject (cell_number week c) ≡ roster_in week subject c
+agrees week (assigned bits) c inside = refl
+agrees week (extended tables) c inside = extension-roster week (set_of tables) c inside
+
 module _ (week : Week) (subject : Subject) where
   abbrev A : ℕ → Bool
   A = assignment_in week subject
 
   abbrev roster : Roster
   roster = roster_in week subject
-
-  pub agrees : (c : Cell) → InWeek week c → A (cell_number week c) ≡ roster c
-  agrees c inside = either subject
-    where
-      either : (given : Subject) → assignment_in week given (cell_number week c) ≡ roster_in week given c
-      either (assigned bits) = refl
-      either (extended tables) = extension-roster week (set_of tables) c inside
 
   -- ---- the objective
 
@@ -67,7 +63,7 @@ module _ (week : Week) (subject : Subject) where
 
   requests-are : value_of A requests ≡ pos (request_cost week roster)
   requests-are =
-      value_of-of_terms week A roster agrees (cell_terms week) (in-cell_terms week) ∙
+      value_of-of_terms week A roster (agrees week subject) (cell_terms week) (in-cell_terms week) ∙
       ap (value_of roster) (cell_terms-are week) ∙ value_of-request_terms week roster
 
   pub objective-judged : value_of A (objective_terms week) ≡ pos (given + paid)
@@ -109,7 +105,7 @@ module _ (week : Week) (subject : Subject) where
       of_own own =
           sum_by-same _ (λ (item : Item Cell). same own rule * (item.weight * shortage roster item)) (items_of_rule week own)
           (all-weaker (IsItemSound week own) _ (λ item sound i.
-          same (sound.rule_is i) rule * (item.weight * shortage-of_item week A roster agrees item sound.terms.in_week i))
+          same (sound.rule_is i) rule * (item.weight * shortage-of_item week A roster (agrees week subject) item sound.terms.in_week i))
           (items_of_rule week own) (sound-rule week own).items) ∙
           sum_by-times (same own rule) (λ (item : Item Cell). item.weight * shortage roster item) (items_of_rule week own)
 

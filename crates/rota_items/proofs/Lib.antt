@@ -24,7 +24,6 @@ pub mod ItemSizes
 pub mod JudgedItems
 pub mod JudgedModel
 pub mod JudgedRows
-pub mod JudgedTerms
 pub mod JudgedVerdict
 pub mod LawProofs
 pub mod Lists

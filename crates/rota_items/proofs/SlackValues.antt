@@ -5,7 +5,7 @@ use Rattle.rota_items.proofs.ExtensionTruths.{item_truths, week-slacks}
 use Rattle.rota_items.proofs.InstanceLimits.{instance-within_limits}
 use Rattle.rota_items.proofs.JudgedItems.{IsFit, not_cut, shortage-extended}
 use Rattle.rota_items.proofs.JudgedModel.{items-fit}
-use Rattle.rota_items.proofs.JudgedTerms.{opened, others-before, row-opened, sums_of}
+use Rattle.rota_items.proofs.JudgedRows.{opened, others-before, row-opened, sums_of}
 use Rattle.rota_items.proofs.JudgedVerdict.{tally-driven}
 use Rattle.rota_items.proofs.Taking.{Refused-after, Refused-before}
 use Rattle.rota_items.specs.LiteralTakes.{TakesLiterals}

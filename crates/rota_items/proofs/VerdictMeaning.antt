@@ -1,6 +1,6 @@
 -- What a verdict says of the model and of the rules, of bits and of a roster's extension.
 use Rattle.rota_items.proofs.Common.Words.{◌≡◌, ◌↔◌, ℕ, ◌+◌, Bool, true, false, ◌⊎◌, inl, inr, List, [], ◌∷◌, map, map-id, map-map, sym, ap, ◌∙◌, arith, rules, Some, None, pos, if◌then◌else◌, IfSome, MatchOption, AllByRecursion, All-from_recursion, recursion_from_All, cases_Bool, true≢false, ints, sum, slice_index_or, IsSomeAnd, KeepsCompetitionRules, KeepsHardRules, FirstBroken, InWeek, Roster, set_of, soft_rules, Week, Rule, Cell, cell_number, first_slack, unit_number, Item, numbered, positive_part, Satisfies, SatisfiesModel, LinearRow, item_rows, charged, rule_cost, soft_items, extension_of, model_of, numbered_items, rows_of, first_unmet, later, truth_of, H1, H2, H3, H4, H5, is_soft, Verdict, Subject, SettlesModel, assigned, assignment_in, extended, roster_in, CostsTheRules, Extends, IsMet, Judges, JudgesTheRules, cond, length, refl, ◌+ℤ◌, int_le, option_or, is_satisfied, hard_rows, roster_of, NamesFirstBroken, rule_of_part, S2, S3}
-use Rattle.rota_items.proofs.Extension.{extension-objective, extension-satisfies, extension-unit, satisfying-keeps, satisfying-objective}
+use Rattle.rota_items.proofs.Extension.{extension-objective, extension-satisfies, extension-unit, satisfying-keeps, satisfying-objective, extension-roster}
 use Rattle.rota_items.proofs.FirstUnmet.{Decided, Named, first_unmet-decides, hard-first_broken}
 use Rattle.rota_items.proofs.JudgedModel.{agrees}
 use Rattle.rota_items.proofs.SoftRules.EachRule.{charged-nurses, SoftItem, soft_items-soft, sound-rule}
@@ -32,9 +32,6 @@ module _ (week : Week) (assignment : ℕ → Bool) (roster : Roster) (verdict : 
 
   -- ---- the rule that is named
 
-  abbrev HasUnit : Type 0
-  HasUnit = assignment (unit_number week) ≡ true
-
   abbrev soft_rows : List (LinearRow ℕ)
   soft_rows = item_rows (first_slack week) (numbered_items week)
 
@@ -54,8 +51,8 @@ module _ (week : Week) (assignment : ℕ → Bool) (roster : Roster) (verdict : 
   -- what the row that is named says of the rules
   abbrev RuleOutcome : Named → Type 0
   RuleOutcome named =
-      (NamesSoft named ↔ (HasUnit × KeepsHardRules week roster)) ×
-      (HasUnit → KeepsHardRules week roster ⊎ IsSomeAnd named (λ row. FirstBroken week roster row.1))
+      (NamesSoft named ↔ ((assignment (unit_number week) ≡ true) × KeepsHardRules week roster)) ×
+      (assignment (unit_number week) ≡ true → KeepsHardRules week roster ⊎ IsSomeAnd named (λ row. FirstBroken week roster row.1))
 
   module _ (agrees : (c : Cell) → InWeek week c → assignment (cell_number week c) ≡ roster c) where
     rule-outcome : RuleOutcome (first_unmet assignment (rows_of week))
@@ -73,7 +70,7 @@ module _ (week : Week) (assignment : ℕ → Bool) (roster : Roster) (verdict : 
         next None outcome = outcome
         next (Some row) outcome = outcome
 
-    rules-judged : JudgesTheRules week assignment roster verdict
+    pub rules-judged : JudgesTheRules week assignment roster verdict
     rules-judged =
         let outcome = rw (← judges.unmet) at rule-outcome in record {
           hard = outcome.0;
@@ -87,11 +84,6 @@ module _ (week : Week) (assignment : ℕ → Bool) (roster : Roster) (verdict : 
 
   settled : Decided assignment (rows_of week) verdict.unmet
   settled = rw judges.unmet (first_unmet-decides assignment (rows_of week))
-
-pub either-judged : (week : Week) (subject : Subject) (verdict : Verdict) →
-    Judges week (assignment_in week subject) (roster_in week subject) verdict →
-    JudgesTheRules week (assignment_in week subject) (roster_in week subject) verdict
-either-judged week subject verdict judges = rules-judged week _ _ verdict judges (agrees week subject)
 
 -- ---- whether the model is satisfied
 
@@ -112,7 +104,7 @@ settles_model week (assigned bits) verdict judges = met verdict.unmet (settled w
     met (Some row) fails = λ all. fails (recursion_from_All (Satisfies (truth_of bits)) (model_of week).constraints all)
 settles_model week (extended tables) verdict judges =
     extends verdict.unmet (settled week ext roster verdict judges)
-    ((either-judged week (extended tables) verdict judges).first_broken (extension-unit week roster))
+    ((rules-judged week ext roster verdict judges (extension-roster week roster)).first_broken (extension-unit week roster))
   where
     roster : Roster
     roster = set_of tables

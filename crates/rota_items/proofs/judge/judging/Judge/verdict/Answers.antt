@@ -1,6 +1,7 @@
 use Rattle.rota_items.proofs.Common.{refl, subst, sym, week_of, WasDriven}
+use Rattle.rota_items.proofs.JudgedModel.{agrees}
 use Rattle.rota_items.proofs.JudgedVerdict.{driven-judges}
-use Rattle.rota_items.proofs.VerdictMeaning.{either-judged, settles_model}
+use Rattle.rota_items.proofs.VerdictMeaning.{rules-judged, settles_model}
 use Rattle.rota_items.proofs.judge.judging.Judge.verdict.Goals as goal
 
 pub returns-clause-judges : goal.returns-clause-judges
@@ -11,7 +12,7 @@ returns-clause-judges c =
 
 pub returns-clause-rules : goal.returns-clause-rules
 returns-clause-rules c =
-    either-judged (week_of c.args.self.now.instance) c.args.self.now.subject _ (returns-clause-judges c)
+    rules-judged _ _ _ _ (returns-clause-judges c) (agrees (week_of c.args.self.now.instance) c.args.self.now.subject)
 
 pub returns-clause-model : goal.returns-clause-model
 returns-clause-model c =
