@@ -1,5 +1,5 @@
 -- What the patterns of days stand for, and how many of their sums are plain.
-use Rattle.rota_items.proofs.Common.Words.{◌≡◌, ℕ, zero, suc, ◌+◌, ◌-◌, ◌*◌, Bool, true, false, cond, List, [], ◌∷◌, ◌++◌, map, refl, arith, ℤ, pos, ◌-ℤ◌, bool_byte, range_with_len, count_by, flat_map, sum_by-cons, sum_by-append, only_if, Week, property_of, is_plain_of, days_of, pattern_of, charged_items, is_plain, day_terms, PatternDay, with_property, without_property, days_with, DayPattern, RunCharge, DayProperty, Shift, Work, Off}
+use Rattle.rota_items.proofs.Common.Words.{◌≡◌, ℕ, zero, suc, ◌+◌, ◌-◌, Bool, true, false, cond, List, map, refl, arith, bool_byte, range_with_len, count_by, sum_by-cons, sum_by-append, only_if, Week, property_of, is_plain_of, days_of, is_plain, PatternDay, with_property, DayPattern, DayProperty, Shift}
 
 -- ---- plain sums
 
