@@ -1,5 +1,5 @@
 -- What a day's window and patterns charge is what the run costs on that day.
-use Rattle.rota_items.proofs.Common.Words.{◌≡◌, ℕ, zero, suc, ◌+◌, ◌-◌, ◌<◌, ◌≤◌, Bool, ◌&&◌, not, cond, true, false, ◌⊎◌, inl, inr, List, ◌∷◌, [], ◌++◌, refl, map, ap, arith, ltb, leb, nat_lt, nat_le, ◌==◌, list_all, range_with_len, sum_by, list_all-append, sum_by-append, nat_tests, each_below, Span, PatternDay, Pattern, with_property, without_property, days_with, window, windows_on, closed_pattern, closed_patterns_at, edge_pattern, edge_patterns_on, closed_patterns_on, patterns_on, run_length_before, is_over, missing_on}
+use Rattle.rota_items.proofs.Common.Words.{◌≡◌, ℕ, zero, suc, ◌+◌, ◌-◌, ◌<◌, ◌≤◌, Bool, ◌&&◌, not, cond, true, ◌⊎◌, inr, List, ◌∷◌, [], ◌++◌, refl, map, ap, arith, ltb, leb, nat_lt, nat_le, list_all, range_with_len, sum_by, list_all-append, sum_by-append, nat_tests, each_below, Span, PatternDay, Pattern, with_property, without_property, days_with, window, windows_on, closed_patterns_at, patterns_on, run_length_before, is_over, missing_on}
 use Rattle.rota_items.proofs.Lists.{sum_by-only_if}
 
 -- whether the day is as the pattern says
@@ -52,10 +52,7 @@ module _ (has : ℕ → Bool) (history : ℕ) where
   pub units-windows_on : (d : ℕ) (limits : Span) →
       units has (windows_on history limits d) ≡ cond (is_over has history limits.max d) 1 0
   units-windows_on d limits =
-      rw (
-        sum_by-only_if (units_of has) (nat_lt limits.max (history + d + 1)) (window limits.max d),
-        matches-run (d - limits.max) (d + 1 - (d - limits.max)) (suc d) (omega arith),
-      )
+      rw (sum_by-only_if, matches-run (d - limits.max) (d + 1 - (d - limits.max)) (suc d) (omega arith))
       (grind (arith, nat_tests, is_run (suc d)))
 
   -- the closed patterns of runs of fewer days than some charge what the run lacks, if it is one of these
@@ -66,21 +63,11 @@ module _ (has : ℕ → Bool) (history : ℕ) where
   unfolding each_below
   units-closed minimum d zero inside = grind (arith, nat_tests)
   units-closed minimum d (suc k) inside =
-      rw (
-        sum_by-append (units_of has) (each_below k (closed_patterns_at minimum d)) (closed_patterns_at minimum d k),
-        units-closed minimum d k (omega arith),
-        sum_by-only_if (units_of has) (nat_le 1 k && nat_lt k minimum) (closed_pattern minimum d k),
-        matches-ended (d - k) k d (omega arith),
-      )
+      rw (sum_by-append, units-closed minimum d k (omega arith), sum_by-only_if, matches-ended (d - k) k d (omega arith))
       (grind (arith, nat_tests, longer (d - k - 1) k d (omega arith)))
 
   pub units-patterns_on : (d : ℕ) (limits : Span) →
       units has (patterns_on history limits d) ≡ missing_on has history limits.min d
   units-patterns_on d limits =
-      rw (
-        sum_by-append (units_of has) (closed_patterns_on limits.min d) (edge_patterns_on history limits.min d),
-        units-closed limits.min d d (omega arith),
-        sum_by-only_if (units_of has) (nat_le 1 (history + d) && nat_lt (history + d) limits.min) (edge_pattern history limits.min d),
-        matches-ended 0 d d (omega arith),
-      )
+      rw (sum_by-append, units-closed limits.min d d (omega arith), sum_by-only_if, matches-ended 0 d d (omega arith))
       (grind (arith, nat_tests, is_run d))

@@ -1,5 +1,5 @@
 -- What the patterns of days stand for, and how many of their sums are plain.
-use Rattle.rota_items.proofs.Common.Words.{◌≡◌, ℕ, zero, suc, ◌+◌, ◌-◌, ◌*◌, Bool, true, false, cond, List, [], ◌∷◌, ◌++◌, map, refl, arith, ℤ, pos, ◌-ℤ◌, bool_byte, range_with_len, count_by, flat_map, sum_by-cons, sum_by-append, only_if, Week, property_of, is_plain_of, days_of, pattern_of, charged_items, is_plain, day_terms, PatternDay, with_property, without_property, days_with, DayPattern, RunCharge, DayProperty, Shift, Work, Off}
+use Rattle.rota_items.proofs.Common.Words.{◌≡◌, ℕ, zero, suc, ◌+◌, ◌-◌, Bool, true, false, cond, List, map, refl, arith, bool_byte, range_with_len, count_by, sum_by-cons, sum_by-append, only_if, Week, property_of, is_plain_of, days_of, is_plain, PatternDay, with_property, DayPattern, DayProperty, Shift}
 
 -- ---- plain sums
 
@@ -23,18 +23,10 @@ module _ (plain : Bool → Bool) where
       cond (plain true) (pattern.end - pattern.first) 0
   unfolding only_if
   count-plain pattern =
-      let before : List PatternDay = only_if pattern.off_before (without_property (pattern.first - 1)) in
-      let after : List PatternDay = only_if pattern.off_after (without_property pattern.end) in
-      grind (
-        arith,
-        sum_by-append (λ x. cond (is x) 1 0) before (days_with pattern.first pattern.end ++ after),
-        sum_by-append (λ x. cond (is x) 1 0) (days_with pattern.first pattern.end) after,
-        count-with pattern.first (pattern.end - pattern.first),
-      )
+      grind (arith, sum_by-append {X = PatternDay}, count-with)
 
 -- the sums that are plain by a property
 pub plain-of_property : (week : Week) (n : ℕ) (property : DayProperty) (days : List PatternDay) →
     count_by (λ (day : PatternDay). is_plain_of property day.has) days ≡ count_by (is_plain (property_of week n property)) days
 plain-of_property week n (Shift s) days = refl
-plain-of_property week n Work days = refl
-plain-of_property week n Off days = refl
+plain-of_property week n _ days = refl

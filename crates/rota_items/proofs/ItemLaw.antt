@@ -1,5 +1,5 @@
 -- Items and their slacks.
-use Rattle.rota_items.proofs.Common.Words.{map, ◌≡◌, ◌↔◌, ℕ, zero, suc, ◌+◌, ◌-◌, ◌*◌, ◌<◌, ◌≤◌, Bool, cond, List, [], ◌∷◌, refl, sym, ap, ◌∙◌, arith, add-zero, ltb, pos, ◌+ℤ◌, ◌-ℤ◌, ◌≤ℤ◌, All, count_by, range_with_len, sum_by-cons, recursion_from_All, lt-ltb, le-ltb, ints, nat_tests, AllByRecursion, All-from_recursion, All-head, All-tail, mul-le-mul_left, numbered, Item, positive_part, shortage, weighted_shortages, Term, Constraint, Satisfies, value_of, times, StandBelow, slack_variables, item_constraint, item_constraints, slack_weights, is_slack_needed, extension}
+use Rattle.rota_items.proofs.Common.Words.{map, ◌≡◌, ◌↔◌, ℕ, zero, suc, ◌+◌, ◌-◌, ◌*◌, ◌<◌, ◌≤◌, Bool, cond, List, [], ◌∷◌, refl, ap, ◌∙◌, arith, add-zero, ltb, pos, ◌+ℤ◌, ◌-ℤ◌, ◌≤ℤ◌, All, count_by, range_with_len, sum_by-cons, recursion_from_All, lt-ltb, le-ltb, ints, nat_tests, AllByRecursion, All-from_recursion, All-head, All-tail, mul-le-mul_left, numbered, Item, positive_part, shortage, weighted_shortages, Term, Constraint, Satisfies, value_of, times, StandBelow, slack_variables, item_constraint, item_constraints, slack_weights, is_slack_needed, extension}
 use Rattle.rota_items.proofs.PatternItems.{value_of-append}
 use Rattle.rota_items.proofs.SmallSums.{positive_part-parts}
 use Rattle.rota_items.proofs.SoundTerms.{value_of-agree}
@@ -20,12 +20,7 @@ pub value_of-item_constraint : (assignment : ℕ → Bool) (item : Item ℕ) (fi
     value_of assignment (item_constraint item first).terms ≡
     value_of assignment item.terms +ℤ pos (count_by assignment (slack_variables item first))
 value_of-item_constraint assignment item first =
-    omega (
-      arith,
-      ints,
-      value_of-append assignment item.terms (times (pos 1) (slack_variables item first)),
-      value_of-weight assignment 1 (slack_variables item first),
-    )
+    rw (value_of-append, value_of-weight) (omega (arith, ints))
 
 pub item_law : (assignment : ℕ → Bool) (item : Item ℕ) (first : ℕ) →
     Satisfies assignment (item_constraint item first) ↔
@@ -146,10 +141,8 @@ pub value_of-numbered : {X : Type 0} (number : X → ℕ) (assignment : ℕ → 
     value_of assignment (map (λ (term : Term X). (term.0, number term.1)) terms) ≡
     value_of (λ x. assignment (number x)) terms
 value_of-numbered number assignment [] = refl
-value_of-numbered number assignment (t ∷ ts) =
-    ap (λ z. cond (assignment (number t.1)) t.0 (pos 0) +ℤ z) (value_of-numbered number assignment ts)
+value_of-numbered number assignment (t ∷ ts) = rw (value_of-numbered number assignment ts) refl
 
 pub shortage-numbered : {X : Type 0} (number : X → ℕ) (assignment : ℕ → Bool) (item : Item X) →
     shortage assignment (numbered number item) ≡ shortage (λ x. assignment (number x)) item
-shortage-numbered number assignment item =
-    ap (λ z. positive_part (item.degree -ℤ z)) (value_of-numbered number assignment item.terms)
+shortage-numbered number assignment item = rw (value_of-numbered number assignment item.terms) refl
