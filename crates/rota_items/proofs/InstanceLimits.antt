@@ -1,5 +1,5 @@
 -- The numbers of an instance's week are within the limits that the model's numbers are bounded by.
-use Rattle.rota_items.proofs.Common.Words.{rules, ℕ, zero, suc, ◌≤◌, List, [], ◌∷◌, arith, slice_index_or, AllByRecursion, InstanceTables, IsInstance, week_of, AreLimits, IsContract, no_span, no_contract, no_demand, no_past, IsDemand, IsPast, IsWithinLimits, most_number}
+use Rattle.rota_items.proofs.Common.Words.{rules, ℕ, zero, suc, ◌≤◌, List, [], ◌∷◌, arith, slice_index_or, AllByRecursion, InstanceTables, IsInstance, week_of, AreLimits, IsContract, no_span, no_demand, no_past, IsDemand, IsPast, IsWithinLimits, most_number}
 
 -- what holds of each element and of the default holds at any place
 pub AllByRecursion-or_default : {X : Type 0} (P : X → Type 0) (xs : List X) (i : ℕ) (default : X) →
@@ -10,9 +10,7 @@ AllByRecursion-or_default P (x ∷ xs) (suc i) default all holds = AllByRecursio
 
 module _ (t : InstanceTables) (limits : IsInstance t) where
   contract-small : (n : ℕ) → IsContract ((week_of t).contract n)
-  contract-small n =
-      AllByRecursion-or_default IsContract t.scenario.contracts _ no_contract limits.scenario.contracts.1
-      (search rules)
+  contract-small n = search (rules, AllByRecursion-or_default, limits.scenario.contracts.1)
 
   past-small : (n : ℕ) → IsPast t.history.shifts ((week_of t).past n)
   past-small n =

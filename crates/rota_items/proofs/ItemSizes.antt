@@ -51,11 +51,7 @@ module _ (week : Week) (limits : IsWithinLimits week) where
   small-nurse_items S6 n =
       few-append (omega arith)
       (few-only_if _ (least_total_item week n) (λ _. search rules))
-      (few-only_if _ (greatest_total_item week n) (λ _. record {
-        slacks = omega arith;
-        all_slacks = omega arith;
-        degree = omega (arith, ints, positive_part-parts (greatest_total_item week n).degree);
-      }))
+      (few-only_if _ (greatest_total_item week n) (λ _. search rules))
   small-nurse_items S7 n = small-weekend week S7 worked_weekend_weight n false _ (omega arith)
   small-nurse_items rule n = record { each = tt; few = omega arith }
 
@@ -63,11 +59,7 @@ module _ (week : Week) (limits : IsWithinLimits week) where
   small-rule S1 =
       few-each_below 7 (omega arith) _ (λ d _. few-each_below most_shifts limits.shifts _ (λ s _.
       few-each_below most_skills limits.skills (optimum_items_at week d s) (λ k _.
-      few-only_if _ (optimum_item week d s k) (λ _. record {
-        slacks = omega (arith, limits.optimal d s k);
-        all_slacks = omega (arith, limits.optimal d s k);
-        degree = limits.optimal d s k;
-      }))))
+      few-only_if _ (optimum_item week d s k) (λ _. let small = limits.optimal d s k in search rules))))
   small-rule rule = few-each_below most_nurses limits.nurses (nurse_items week rule) (λ n _. small-nurse_items rule n)
 
   -- ---- all items
