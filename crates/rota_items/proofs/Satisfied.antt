@@ -1,7 +1,7 @@
 -- An assignment satisfies the numbered rows exactly where its roster keeps the rules.
 use Rattle.rota_items.proofs.Common.Words.{◌≡◌, ℕ, Bool, true, List, [], ◌∷◌, sym, subst, ◌≤ℤ◌, AllByRecursion, KeepsHardRules, Week, Cell, cell_number, unit_number, rule_rows, Satisfies, value_of, LinearRow, hard_constraints, roster_of}
-use Rattle.rota_items.proofs.HardRules.EachRule.{one-where_true, rule_rows-hold, rule_rows-mean}
-use Rattle.rota_items.proofs.HardRules.Sound.{AllHold}
+use Rattle.rota_items.proofs.HardRules.EachRule.{rule_rows-hold, rule_rows-mean}
+use Rattle.rota_items.proofs.HardRules.Sound.{AllHold, one-where_true}
 use Rattle.rota_items.proofs.ItemLaw.{value_of-numbered}
 use Rattle.rota_items.proofs.ModelParts.{hard_constraint, numbered_constraints}
 

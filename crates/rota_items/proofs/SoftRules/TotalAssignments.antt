@@ -1,8 +1,8 @@
 -- The items of the totals and their part of the constant charge the assignments outside the limits.
-use Rattle.rota_items.proofs.Common.Words.{◌≡◌, ℕ, ◌+◌, ◌-◌, ◌*◌, ◌<◌, ◌≤◌, Bool, ◌&&◌, true, cond, refl, ap, ◌∙◌, arith, min, ℤ, pos, negsuc, ◌-ℤ◌, nat_lt, count_by, ltb-true, sum_by-append, AllByRecursion-append, AllByRecursion-only_if, and_parts, inl, inr, KeepsCompetitionRules, KeepsOneCell, Roster, Week, nurse_cells, work_cells, positive_part, shortage, times, value_of, IsUnit, S6, charged_excess, excess_before_counts, greatest_totals_count, least_totals_count, assignment_weight, assignments_of, greatest_total_item, greatest_totals_of, least_total_item, least_totals_of, still_allowed, still_wanted}
+use Rattle.rota_items.proofs.Common.Words.{◌≡◌, ℕ, ◌+◌, ◌-◌, ◌*◌, ◌<◌, ◌≤◌, Bool, ◌&&◌, true, cond, refl, ap, ◌∙◌, arith, min, ℤ, pos, negsuc, ◌-ℤ◌, nat_lt, count_by, ltb-true, sum_by-append, AllByRecursion-append, AllByRecursion-each_below, AllByRecursion-only_if, and_parts, inl, inr, KeepsCompetitionRules, KeepsOneCell, Roster, InWeek, Week, nurse_cells, work_cells, positive_part, shortage, times, value_of, IsUnit, S6, charged_excess, excess_before_counts, greatest_totals_count, least_totals_count, assignment_weight, assignments_of, greatest_total_item, greatest_totals_of, least_total_item, least_totals_of, still_allowed, still_wanted}
 use Rattle.rota_items.proofs.AlikeRosters.{count_below-alike, same_cell}
 use Rattle.rota_items.proofs.CellCounts.{work_count, one-work, count-work_cells}
-use Rattle.rota_items.proofs.SoundTerms.{in-nurse_cells, sound-cells}
+use Rattle.rota_items.proofs.SoundTerms.{in-work_cells, sound-cells}
 use Rattle.rota_items.proofs.Lists.{sum_by-only_if, sum_by-each-is, sum_below-within, sum_below-same}
 use Rattle.rota_items.proofs.RisingCells.{rises-nurse_cells}
 use Rattle.rota_items.proofs.SoftRules.Sound.{IsItemSound, IsNurseRuleSound, weighted}
@@ -63,7 +63,7 @@ module _ (week : Week) where
         })
     sound-total coefficient degree slacks unit some enough = record {
       rule_is = refl;
-      terms = sound-cells week coefficient unit _ _ (nurse_cells week n) (in-nurse_cells week n n_in)
+      terms = sound-cells week coefficient unit _ _ (nurse_cells week n) (AllByRecursion-each_below (InWeek week) 7 (work_cells week n) (λ d d_in. in-work_cells week n d n_in d_in))
           (rises-nurse_cells week n);
       weighs = omega arith;
       has_slack = some;
