@@ -92,17 +92,16 @@ module _ (week : Week) where
       ap (times coefficient) (numbers-rising (cell_number week) first from end cells rises low (omega arith)))
       )
 
-  length-on : (n s d : ℕ) → length (on_cells week n s d) ≡ week.skills * 1
-  length-on n s d = length-each-is week.skills 1 (λ k. cell n d s k ∷ []) (λ k _. refl)
-
   length-work : (n d : ℕ) → length (work_cells week n d) ≡ week.shifts * (week.skills * 1)
-  length-work n d = length-each-is week.shifts (week.skills * 1) (λ s. on_cells week n s d) (λ s _. length-on n s d)
+  length-work n d = length-each-is week.shifts (week.skills * 1) (λ s. on_cells week n s d) (λ s _.
+      length-each-is week.skills 1 (λ k. cell n d s k ∷ []) (λ k _. refl))
 
   pub on_cells-range : (coefficient : ℤ) (n s d : ℕ) →
       cell_term_events week (times coefficient (on_cells week n s d)) ≡
       term_events (times coefficient (range_with_len (first_on n d s) week.skills))
   on_cells-range coefficient n s d =
-      events-range coefficient (on_cells week n s d) _ _ _ _ (rises-on_cells n s d) (omega (arith, length-on n s d))
+      events-range coefficient (on_cells week n s d) _ _ _ _ (rises-on_cells n s d)
+      (omega (arith, length-each-is week.skills 1 (λ k. cell n d s k ∷ []) (λ k _. refl)))
       (omega arith) (omega arith)
 
   pub work_cells-range : (coefficient : ℤ) (n d : ℕ) →

@@ -1,5 +1,5 @@
 -- Terms: what holds of their variables and coefficients, and those within the week, rising, of coefficients of 1 and -1.
-use Rattle.rota_items.proofs.Common.Words.{◌≡◌, ℕ, ◌<◌, Bool, List, [], ◌∷◌, refl, ℤ, pos, All, AllByRecursion, flat_map, All-from_recursion, recursion_from_All, AllByRecursion-append, ◌≤◌, true, false, inl, inr, map, length, arith, negsuc, nat_abs, if◌then◌else◌, sum_by-cons, max, AllByRecursion-each_below, ◌+◌, Item, Term, times, value_of, StandBelow, IsUnit, InWeek, Week, on_cells, work_cells, nurse_cells, demand_cells, Cell, cell_number, unit_number, Property, Runs, variables_on, day_terms, run_items, PatternDay, is_plain}
+use Rattle.rota_items.proofs.Common.Words.{◌≡◌, ℕ, ◌<◌, Bool, List, [], ◌∷◌, refl, ℤ, pos, All, AllByRecursion, flat_map, All-from_recursion, recursion_from_All, AllByRecursion-append, ◌≤◌, true, false, inl, inr, map, length, arith, negsuc, nat_abs, if◌then◌else◌, sum_by-cons, max, AllByRecursion-each_below, ◌+◌, Item, Term, times, value_of, StandBelow, IsUnit, InWeek, Week, on_cells, work_cells, demand_cells, Cell, cell_number, unit_number, Property, Runs, variables_on, day_terms, run_items, PatternDay, is_plain}
 use Rattle.rota_items.proofs.EachPattern.{OnDays, on-pattern, each-run_item}
 use Rattle.rota_items.proofs.Lists.{all-flat_map, all-map}
 use Rattle.rota_items.proofs.SmallSums.{spread}
@@ -93,10 +93,6 @@ module _ (week : Week) where
 
   pub in-work_cells : (n d : ℕ) → n < week.nurses → d < 7 → AllByRecursion (InWeek week) (work_cells week n d)
   in-work_cells n d n_in d_in = (work-are week n d).all (InWeek week) (λ s s_in k k_in. in-cell week n d s k n_in d_in s_in k_in)
-
-  pub in-nurse_cells : (n : ℕ) → n < week.nurses → AllByRecursion (InWeek week) (nurse_cells week n)
-  in-nurse_cells n n_in =
-      AllByRecursion-each_below (InWeek week) 7 (work_cells week n) (λ d d_in. in-work_cells n d n_in d_in)
 
 -- ---- sums of cells whose terms are within the week, rise, and have coefficients of 1 and -1
 

@@ -1,7 +1,7 @@
 -- The rows of each hard rule mean the rule: H1, H2, H4 and H5 one by one, and what is shown of each holds of all their rows.
-use Rattle.rota_items.proofs.Common.Words.{◌+◌, ◌≡◌, ◌↔◌, ◌∙◌, ℕ, ◌<◌, Bool, not, true, false, cond, inl, inr, refl, sym, ap, arith, pos, negsuc, ◌+ℤ◌, ◌≤ℤ◌, ints, nat_lt, cases_Bool, true≢false, ltb-false, not-true, false_from_ne_true, List, [], ◌∷◌, AllByRecursion, flat_map, KeepsHardRules, InWeek, Roster, Has, cell, hard_rules, Week, Rule, Cell, cell_number, cells_of, demand_cells, skill_cells, work_cells, h1_row, h1_rows, h2_row, h4_row, h5_row, h5_rows, rows_of_hard_rule, rule_rows, LinearRow, H1, H2, H3, H4, H5}
+use Rattle.rota_items.proofs.Common.Words.{◌+◌, ◌≡◌, ◌∙◌, ℕ, ◌<◌, not, true, false, inl, inr, refl, sym, ap, arith, pos, negsuc, nat_lt, cases_Bool, true≢false, ltb-false, not-true, false_from_ne_true, List, [], ◌∷◌, AllByRecursion, flat_map, KeepsHardRules, InWeek, Roster, Has, cell, hard_rules, Week, Rule, Cell, cell_number, cells_of, demand_cells, skill_cells, work_cells, h1_row, h1_rows, h2_row, h4_row, h5_row, h5_rows, rows_of_hard_rule, rule_rows, LinearRow, H1, H2, H3, H4, H5}
 use Rattle.rota_items.proofs.CellCounts.{count-none, none-pass, one-work, the_one}
-use Rattle.rota_items.proofs.HardRules.Sound.{at_least, at_most, AllHold, Holds, IsHardRuleSound, IsRowSound, Keeps}
+use Rattle.rota_items.proofs.HardRules.Sound.{at_least, at_most, one-where_true, AllHold, Holds, IsHardRuleSound, IsRowSound, Keeps}
 use Rattle.rota_items.proofs.HardRules.Succession.{succession}
 use Rattle.rota_items.proofs.Lists.{all-weaker, count_by-each}
 use Rattle.rota_items.proofs.ListsAre.{Are, alone, in-parts, in-turns, listed, of-each, where-holds}
@@ -103,15 +103,9 @@ module _ (week : Week) where
             turns.each P all one.nurse inside.nurse_in one.day inside.day_in one.shift inside.shift_in one.skill inside.skill_in has.in_roster;
       }
 
--- a sum of one variable is at least 1 exactly where the variable is true
-pub one-where_true : (b : Bool) → (pos 1 ≤ℤ (cond b (pos 1) (pos 0) +ℤ pos 0)) ↔ (b ≡ true)
-one-where_true true = (λ holds. refl, λ is. omega (arith, ints))
-one-where_true false = (λ holds. absurd (omega (arith, ints, holds)), λ is. cc)
-
-module _ (week : Week) where
   pub held : IsHardRuleSound week H5
   held =
-      let rows-are : Are (h5_rows week) (λ P. (one : Cell) → Has week week.is_held one → P (h5_row one)) = of-each (cells-are week) in record {
+      let rows-are : Are (h5_rows week) (λ P. (one : Cell) → Has week week.is_held one → P (h5_row one)) = of-each cells-are in record {
         rows = rows-are.all (IsRowSound week H5) (λ one has. record {
           part_is = refl;
           terms = sound-cells week (pos 1) (inl refl) (cell_number week one) (cell_number week one + 1) (one ∷ []) (has.in_week, tt) (omega arith, omega arith);
@@ -123,7 +117,7 @@ module _ (week : Week) where
   -- ---- each of them: the only place that lists them
 
   each-rule : AllByRecursion (IsHardRuleSound week) hard_rules
-  each-rule = (one_cell week, (minimum week, (succession week, (skills week, (held, tt)))))
+  each-rule = (one_cell, (minimum, (succession week, (skills, (held, tt)))))
 
   keeps-rule : (roster : Roster) → KeepsHardRules week roster → (rule : Rule) → Keeps week roster rule
   keeps-rule roster keeps H1 = keeps.of_competition.one_cell
@@ -161,10 +155,10 @@ module _ (week : Week) where
   rule_rows-mean roster hold =
       let (one, (met, (kept, (skilled, (has, _))))) = rows-are.each (Holds roster) hold in record {
         of_competition = record {
-          one_cell = (one_cell week).mean roster one;
-          minimum = (minimum week).mean roster met;
+          one_cell = one_cell.mean roster one;
+          minimum = minimum.mean roster met;
           succession = (succession week).mean roster kept;
-          skills = (skills week).mean roster skilled;
+          skills = skills.mean roster skilled;
         };
         held = held.mean roster has;
       }

@@ -1,5 +1,5 @@
 -- What is to be shown of a hard rule and its rows.
-use Rattle.rota_items.proofs.Common.Words.{◌≡◌, ◌↔◌, ℕ, ◌≤◌, ◌≤ℤ◌, ◌-ℤ◌, pos, negsuc, arith, ints, List, AllByRecursion, count_by, times, KeepsOneCell, KeepsMinimum, KeepsSuccession, KeepsSkills, KeepsHeld, Roster, Week, Rule, Cell, rows_of_hard_rule, value_of, LinearRow, H1, H2, H3, H4, H5, Hard}
+use Rattle.rota_items.proofs.Common.Words.{◌≡◌, ◌↔◌, ℕ, ◌≤◌, ◌≤ℤ◌, ◌-ℤ◌, pos, negsuc, ◌+ℤ◌, Bool, true, false, cond, refl, arith, ints, List, AllByRecursion, count_by, times, KeepsOneCell, KeepsMinimum, KeepsSuccession, KeepsSkills, KeepsHeld, Roster, Week, Rule, Cell, rows_of_hard_rule, value_of, LinearRow, H1, H2, H3, H4, H5, Hard}
 use Rattle.rota_items.proofs.SoundTerms.{AreSound}
 use Rattle.rota_items.proofs.Values.{value_of-plus, value_of-minus}
 
@@ -39,3 +39,8 @@ module _ (roster : Roster) (cells : List Cell) (n : ℕ) where
 
   pub at_most : ((pos 0 -ℤ pos n) ≤ℤ value_of roster (times (negsuc 0) cells)) ↔ (count_by roster cells ≤ n)
   at_most = let value = value_of-minus roster cells in (λ holds. omega (arith, ints), λ few. omega (arith, ints))
+
+-- a sum of one variable is at least 1 exactly where the variable is true
+pub one-where_true : (b : Bool) → (pos 1 ≤ℤ (cond b (pos 1) (pos 0) +ℤ pos 0)) ↔ (b ≡ true)
+one-where_true true = (λ holds. refl, λ is. omega (arith, ints))
+one-where_true false = (λ holds. absurd (omega (arith, ints, holds)), λ is. cc)

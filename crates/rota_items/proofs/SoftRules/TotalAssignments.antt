@@ -1,8 +1,8 @@
 -- The items of the totals and their part of the constant charge the assignments outside the limits.
-use Rattle.rota_items.proofs.Common.Words.{◌≡◌, ℕ, ◌+◌, ◌-◌, ◌*◌, ◌<◌, ◌≤◌, Bool, ◌&&◌, true, cond, refl, arith, ints, min, ℤ, pos, negsuc, nat_lt, count_by, sum_by-append, AllByRecursion-append, AllByRecursion-only_if, inl, inr, KeepsOneCell, Roster, Week, nurse_cells, work_cells, shortage, times, IsUnit, S6, charged_excess, excess_before_counts, greatest_totals_count, least_totals_count, assignment_weight, assignments_of, greatest_total_item, greatest_totals_of, least_total_item, least_totals_of, still_allowed, still_wanted}
+use Rattle.rota_items.proofs.Common.Words.{◌≡◌, ℕ, ◌+◌, ◌-◌, ◌*◌, ◌<◌, ◌≤◌, Bool, ◌&&◌, true, cond, refl, arith, ints, min, ℤ, pos, negsuc, nat_lt, count_by, sum_by-append, AllByRecursion-append, AllByRecursion-only_if, inl, inr, KeepsOneCell, Roster, Week, nurse_cells, work_cells, shortage, times, IsUnit, S6, charged_excess, excess_before_counts, greatest_totals_count, least_totals_count, assignment_weight, assignments_of, greatest_total_item, greatest_totals_of, least_total_item, least_totals_of, still_allowed, still_wanted, ap, ◌∙◌, ◌-ℤ◌, ltb-true, AllByRecursion-each_below, and_parts, KeepsCompetitionRules, InWeek, positive_part, value_of}
 use Rattle.rota_items.proofs.AlikeRosters.{count_below-alike, same_cell}
 use Rattle.rota_items.proofs.CellCounts.{work_count, one-work, count-work_cells}
-use Rattle.rota_items.proofs.SoundTerms.{in-nurse_cells, sound-cells, AreSound}
+use Rattle.rota_items.proofs.SoundTerms.{sound-cells, AreSound, in-work_cells}
 use Rattle.rota_items.proofs.Lists.{sum_by-only_if, sum_by-each-is, sum_below-within, sum_below-same}
 use Rattle.rota_items.proofs.RisingCells.{rises-nurse_cells}
 use Rattle.rota_items.proofs.SmallSums.{positive_part-parts}
@@ -51,7 +51,7 @@ module _ (week : Week) where
   module _ (n : ℕ) (n_in : n < week.nurses) where
     sound-sum : (coefficient : ℤ) → IsUnit coefficient → AreSound week (times coefficient (nurse_cells week n))
     sound-sum coefficient unit =
-        sound-cells week coefficient unit _ _ (nurse_cells week n) (in-nurse_cells week n n_in)
+        sound-cells week coefficient unit _ _ (nurse_cells week n) (AllByRecursion-each_below (InWeek week) 7 (work_cells week n) (λ d d_in. in-work_cells week n d n_in d_in))
         (rises-nurse_cells week n)
 
     sound-least : is_wanted n ≡ true → IsItemSound week S6 (least_total_item week n)
