@@ -69,23 +69,19 @@ module _ (tables : InstanceTables) (roster : RosterTables) where
     abbrev stops_at : Valuing T.Value → Item ℕ → Self → Type 0
     stops_at before item self = StopsAt T before item (name_of self) (taker_of self)
 
-    reached : (items : List (Item ℕ)) → AllByRecursion (IsFit week subject) items →
-        Reaches T.step (name_of old) (T.value (taker_of old)) items (fold (with_slacks_of T.step) (valuing_of old) items)
-    reached items all = rw begun (reaches T.step (name_of old) (T.value (taker_of old)) no_tally items all)
-
     handed : {R : Type 0} (items : List (Item ℕ)) → AllByRecursion (IsFit week subject) items → (r : Result R F) →
         TakesAll valuing_of (with_slacks_of T.step) stops_at items old new r →
         (name_of new ≡ name_of old) × TakesLiterals T (flat_map truths items) (taker_of old) (taker_of new) r
     handed items all (Ok x) took =
-        let is = took.value_is ∙ (reached items all).is in
+        let is = rw (begun, (reaches T.step (name_of old) (T.value (taker_of old)) no_tally items all).is) at took.value_is in
         (ap (λ (v : Valuing T.Value). v.name) is, record { value_is = ap (λ (v : Valuing T.Value). v.value) is })
     handed items all (Err e) refused =
         let taken = refused.taken in
         let item = refused.event in
         let rest = refused.untold in
         let parts = AllByRecursion-back (IsFit week subject) taken (item ∷ rest) (rw refused.are at all) in
-        let before = reached taken parts.0 in
-        let stops = rw before.is at refused.leaves in (
+        let before = reaches T.step (name_of old) (T.value (taker_of old)) no_tally taken parts.0 in
+        let stops = rw (begun, before.is) at refused.leaves in (
           stops.same_taker,
           rw (refused.are, flat_map-append truths taken (item ∷ rest))
               (Refused-after (flat_map truths taken) _ (taker_of old) stops.old (taker_of new) (record { value_is = stops.old_is })

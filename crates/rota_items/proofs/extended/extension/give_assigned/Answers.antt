@@ -12,7 +12,6 @@ has_place-requires g c =
 
 pub returns-in_err-literal-clause-takes : goal.returns-in_err-literal-clause-takes
 returns-in_err-literal-clause-takes g c =
-    let few = c.places-place-end.ensures.count in
     let is = place-assigned (week_of c.args.instance.now) c.args.roster.now c.loop-place.place _ c.requires.shape refl (omega arith) in
     exits _ _ _ _ c.from_residual.ensures.0
     (literals_refused g.T.LiteralTaker (λ place. assignment_of (week_of c.args.instance.now) (set_of c.args.roster.now) (place + 1)) _ _ _ _ _ _
@@ -20,7 +19,6 @@ returns-in_err-literal-clause-takes g c =
 
 pub loop-place-preserved : goal.loop-place-preserved
 loop-place-preserved g c =
-    let few = c.places-place-end.ensures.count in
     grind (arith, taking, place-assigned (week_of c.args.instance.now) c.args.roster.now c.loop-place.place _ c.requires.shape refl (omega arith))
 
 pub returns-clause-takes : goal.returns-clause-takes
