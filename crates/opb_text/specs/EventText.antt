@@ -16,12 +16,12 @@ is_objective Objective = true
 is_objective (Hard rule) = false
 is_objective (Soft rule weight) = false
 
--- what stands before the terms of a row, of the objective or of a constraint
+-- what comes before the terms of a row, of the objective or of a constraint
 abbrev pub start_text : Bool → List ℕ
 start_text true = codes "min: "
 start_text false = []
 
--- what stands after them
+-- what comes after them
 abbrev pub close_text : Bool → ℤ → List ℕ
 close_text true degree = codes ";\n"
 close_text false degree = codes ">= " ++ signed_numeral degree ++ codes " ;\n"

@@ -1,4 +1,4 @@
--- Pieces of a text that fill parts of a layout, whatever stands behind them.
+-- Pieces of a text that fill parts of a layout, whatever is behind them.
 use Rattle.std.proofs.Common.{◌≡◌, ℕ, ◌≤◌, Bool, true, false, ◌||◌, List, [], ◌∷◌, ◌++◌, Some, None, refl, sym, ap, ◌∙◌, subst, arith, append_assoc}
 use Rattle.std.specs.Prelude.{nat_le, unwrap_or}
 use Rattle.std.specs.List.{list_all}

@@ -109,7 +109,7 @@ below_shifts : (n place : ℕ) → place < suc n → ForSome (shift_at place) (�
 below_shifts n zero lt s e = absurd (cc)
 below_shifts n (suc shift) lt s e = let same : shift ≡ s = cc in subst (λ k. k < n) same (omega arith)
 
--- a shift type that stands in place of the word is one of those that are known
+-- a shift type in place of the word is one of those that are known
 pub shift_or-below : (word : List ℕ) (shifts : List (List ℕ)) (front : List Token) (shift : Option ℕ) → Fills (shift_or word shifts) front shift → ForSome shift (λ s. s < length shifts)
 unfolding Fills shift_or
 shift_or-below word shifts front shift h =

@@ -104,7 +104,7 @@ abbrev pub shift_at : ℕ → Option ℕ
 shift_at zero = None
 shift_at (suc shift) = Some shift
 
--- a shift type, or none where the word stands, even if a shift type is called so
+-- a shift type, or none where the word is in its place, even if a shift type is called so
 unfoldable pub shift_or : List ℕ → List (List ℕ) → Layout (Option ℕ)
 shift_or word shifts = do
   place ← known_name (word ∷ shifts) none_taken

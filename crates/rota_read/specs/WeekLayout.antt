@@ -34,7 +34,7 @@ Requirements = List (Option (List Demand))
 abbrev pub is_listed : Requirements → ℕ → Bool
 is_listed rows place = is_some (slice_index_or rows place None)
 
--- what follows the shift type in a row of requirements: a skill that has not stood there with it, and the demands
+-- what follows the shift type in a row of requirements: a skill that no row before has with it, and the demands
 unfoldable pub requirement : List (List ℕ) → ℕ → Requirements → Layout Requirements
 requirement skills shift rows = do
   skill ← known_name skills (λ k. is_listed rows (shift * length skills + k))
@@ -65,7 +65,7 @@ repeat_until zero row state = end state
 repeat_until {S} (suc n) row state = row state >>= (λ (next : Bool × S). after_row (repeat_until n row) next.0 next.1)
 
 -- One row more than there are pairs of a shift type and a skill. No text has that many: where each pair has a row, one more row names
--- a pair that has stood there. So the bound ends no rows.
+-- a pair that a row before has. So the bound ends no rows.
 abbrev pub most_rows : ScenarioTables → ℕ
 most_rows t = length t.shifts * length t.skills + 1
 
@@ -90,7 +90,7 @@ request_row t rows = do
   day ← known_name day_names none_taken
   end (rows ++ record { nurse = nurse; shift = shift; day = day } ∷ [])
 
--- Whether a row asks for what stands at the place (n * 7 + d) * S + s: nurse n's day d off, by shift type s of S or by any.
+-- Whether a row asks for what is at the place (n * 7 + d) * S + s: nurse n's day d off, by shift type s of S or by any.
 abbrev pub asks_at : ℕ → ℕ → RequestRow → Bool
 asks_at shifts place row = row.nurse * 7 + row.day == place / shifts && option_map_or (λ s. s == place % shifts) row.shift true
 

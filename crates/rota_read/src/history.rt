@@ -99,7 +99,7 @@ impl<'a> Cursor<'a> {
     {
         self.exactly(b"HISTORY")?;
         let week = self.number(0, MOST)?;
-        self.any_word()?;
+        self.word()?;
         self.exactly(b"NURSE_HISTORY")?;
         Ok(week)
     }

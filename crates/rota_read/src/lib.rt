@@ -30,7 +30,7 @@ mod names;
 mod nurses;
 // The requirements of a week.
 mod requirements;
-// Parts of rows that stand in more than one place of a file.
+// Parts of rows that are in more than one place of a file.
 mod rows;
 // The sections of a scenario file.
 mod scenario;

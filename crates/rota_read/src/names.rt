@@ -110,7 +110,7 @@ impl<'a> Cursor<'a> {
             .ok_or(name.fault(Kind::Unknown))
     }
 
-    /// The number of a shift type, or `None` where the word stands.
+    /// The number of a shift type, or `None` where the word is in its place.
     #[tactic(auto, using(crate::proofs::NameSteps::known_by_word), unfolding(crate::specs::Layout::shift_or, crate::specs::Reading::read))]
     pub fn shift_or(&mut self, word: &[u8], scenario: &Scenario) -> Result<Option<u8>, Stop>
         ensures read { Reads (λ s. s) result self.new (read (shift_or word.now scenario.now.shifts) self.old) }

@@ -2,7 +2,7 @@
 
 ghost use Rattle.std.specs.Prelude.{◌≡◌, ◌<◌, ◌*◌, ◌+◌, length, IfOk};
 ghost use Rattle.rota_read.specs.Reading.{read, Reads};
-ghost use Rattle.rota_read.specs.WeekLayout.{demand, demands_of_days, is_listed, requirement, requirement_row, most_rows, no_requirements, requirement_rows, requirements_part};
+ghost use Rattle.rota_read.specs.WeekLayout.{demand, demands_of_days, requirement, requirement_row, most_rows, no_requirements, requirement_rows, requirements_part};
 
 use crate::cursor::Cursor;
 use crate::fault::Stop;
@@ -53,9 +53,10 @@ impl<'a> Cursor<'a> {
         ensures rows { length rows.new.items ≡ length rows.old.items }
     {
         let skill = self.skill(scenario)?;
-        self.unless_taken(is_listed(rows, pair_place(scenario, shift, skill)))?;
+        let place = pair_place(scenario, shift, skill);
+        self.unless_taken(rows[place].is_some())?;
         let demands = self.demands_of_days()?;
-        rows[pair_place(scenario, shift, skill)] = Some(demands);
+        rows[place] = Some(demands);
         Ok(())
     }
 
@@ -103,7 +104,7 @@ impl<'a> Cursor<'a> {
         ensures { Reads (λ v. v.items) result self.new (read (requirements_part scenario.now) self.old) }
     {
         self.exactly(b"WEEK_DATA")?;
-        self.any_word()?;
+        self.word()?;
         self.exactly(b"REQUIREMENTS")?;
         self.requirement_rows(alloc, scenario)
     }
@@ -135,11 +136,4 @@ fn pair_place(scenario: &Scenario, shift: u8, skill: u8) -> usize
     ensures below { result < length scenario.now.shifts * length scenario.now.skills }
 {
     usize::from(shift) * usize::from(scenario.skills()) + usize::from(skill)
-}
-
-fn is_listed(rows: &[Option<[Demand; 7]>], place: usize) -> bool
-    requires { place < length rows.now }
-    ensures { result ≡ is_listed rows.now place }
-{
-    rows[place].is_some()
 }

@@ -36,7 +36,7 @@ impl<'a> Cursor<'a> {
     {
         self.exactly(b"SCENARIO")?;
         self.exactly(b"=")?;
-        name.extend_from_slice(self.any_word()?)?;
+        name.extend_from_slice(self.word()?.word)?;
         self.setting(b"WEEKS", 1, 52)
     }
 

@@ -1,7 +1,6 @@
 //! Reads the slots of a file.
 
 ghost use Rattle.std.specs.Prelude.{◌≡◌, IfOk, ◌≤◌, ◌∷◌, [], min, Some, None, MatchResult, if◌then◌else◌};
-ghost use Rattle.std.specs.Str.{bytes_eq};
 ghost use Rattle.rota_core.specs.declared.fault.Kind.TheVariants.{Ended};
 ghost use Rattle.rota_core.specs.Numeral.{is_decimal, decimal};
 ghost use Rattle.rota_read.specs.Layout.{exactly, number, any_word, is_sign_token};
@@ -33,13 +32,6 @@ impl Token<'_> {
         ensures { result ≡ is_sign_token self.now.word.now }
     {
         matches!(self.word, [b'(' | b')' | b',' | b'=', ..])
-    }
-
-    // Whether this is the word.
-    pub(crate) fn is(&self, word: &[u8]) -> bool
-        ensures { result ≡ bytes_eq word.now self.now.word.now }
-    {
-        word == self.word
     }
 
     pub(crate) fn fault(&self, kind: Kind) -> Stop
@@ -95,7 +87,7 @@ impl<'a> Cursor<'a> {
         ensures { Reads (λ _. wanted.now) result self.new (read (exactly wanted.now) self.old) }
     {
         let token = self.token()?;
-        if !token.is(wanted) {
+        if token.word != wanted {
             return Err(token.fault(Kind::OtherWord));
         }
         Ok(())
@@ -116,12 +108,5 @@ impl<'a> Cursor<'a> {
             return Err(token.fault(Kind::Limit));
         }
         Ok(value)
-    }
-
-    /// Any word.
-    pub fn any_word(&mut self) -> Result<&'a [u8], Stop>
-        ensures { Reads (λ w. w.now) result self.new (read any_word self.old) }
-    {
-        Ok(self.word()?.word)
     }
 }

@@ -69,7 +69,7 @@ impl<'a> Cursor<'a> {
     {
         self.exactly(b"SOLUTION")?;
         self.number(0, MOST)?;
-        self.any_word()?;
+        self.word()?;
         self.setting(b"ASSIGNMENTS", 0, MOST)
     }
 
