@@ -181,18 +181,3 @@ module _ (week : Week) (limits : IsWithinLimits week) where
   counted-model =
       counted-rows (objective_rows (objective_terms week) ++ rows_of week) ∙
       counts-objective (objective_terms week) (greatest-rises 1 ((model_of week).variables + 1) (objective_terms week) (omega arith) (objective-to_last week))
-
--- ---- the numbers that are computed from the tables
-
-pub length-constraints : (week : Week) → length (model_of week).constraints ≡ 1 + length (rule_rows week) + length (soft_items week)
-length-constraints week = omega (arith, length-map (rows_of week) linear_constraint, length-rows_of week)
-
-module _ (tables : InstanceTables) (valid : IsInstance tables) where
-  pub few-slacks : slack_count (soft_items (week_of tables)) + first_slack (week_of tables) < word_limit
-  few-slacks = omega (arith, variables_fit (week_of tables) (instance-within_limits tables valid))
-
-  pub few-constraints : length (rule_rows (week_of tables)) + length (soft_items (week_of tables)) + 1 < count_limit
-  few-constraints =
-      omega (arith, length-rows_of (week_of tables), rows-below (week_of tables) (instance-within_limits tables valid))
-
-pub ruleset numbers_of_model = (length-constraints, few-slacks, few-constraints)

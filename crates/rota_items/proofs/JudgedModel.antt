@@ -6,7 +6,7 @@ use Rattle.rota_items.proofs.HardRules.EachRule.{each-row}
 use Rattle.rota_items.proofs.ItemEventLists.{slack_count-numbered}
 use Rattle.rota_items.proofs.ItemLaw.{extension-extends}
 use Rattle.rota_items.proofs.JudgedItems.{Follows, IsFit, charge_of, items-come, paid_for, paid_for-is, no-weights}
-use Rattle.rota_items.proofs.ItemSizes.{each-small}
+use Rattle.rota_items.proofs.PenaltyBound.{each-small}
 use Rattle.rota_items.proofs.JudgedRows.{Comes, IsHardRow, rows-come, same, later-zero, hard-judged, counted-before, counted_other, others-before, row-tallied}
 use Rattle.rota_items.proofs.Lists.{all-map, sum_by-each-same, sum_by-flat_map, sum_by-map, all-both, all-weaker, sum_by-same}
 use Rattle.rota_items.proofs.ObjectiveBound.{objective-below, IsPositive, coefficients-positive}

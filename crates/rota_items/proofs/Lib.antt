@@ -20,7 +20,6 @@ pub mod ItemEventLists
 pub mod ItemLaw
 pub mod ItemLists
 pub mod ItemRows
-pub mod ItemSizes
 pub mod JudgedItems
 pub mod JudgedModel
 pub mod JudgedRows
@@ -38,6 +37,7 @@ pub mod PatternItems
 pub mod PenaltyBound
 pub mod RisingCells
 pub mod RowSizes
+pub mod RuleSizes
 pub mod RowTaking
 pub mod RunLaw
 pub mod Satisfied

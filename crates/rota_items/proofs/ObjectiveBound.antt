@@ -1,8 +1,8 @@
 -- The coefficients of the objective are positive and small, and how large it is of any assignment.
 use Rattle.rota_items.proofs.Common.Words.{ltb-true, request_cost, ◌≡◌, ℕ, ◌+◌, ◌<◌, Bool, cond, List, [], ◌∷◌, arith, ℤ, pos, ◌+ℤ◌, ◌≤ℤ◌, ◌<ℤ◌, All, AllByRecursion, ints, All-from_recursion, AllByRecursion-append, AllByRecursion-only_if, Week, Cell, cell_number, first_slack, Item, numbered, Term, times, value_of, objective_value, constant_terms, slack_variables, slack_weights, cell_terms, constant, soft_items, numbered_terms, numbered_items, objective_terms, model_of, IsWithinLimits, most_coefficient, ◌*◌, ◌≤◌, ap, sum_by-cons, count_by-le-length, sum_by, count_by, mul-le-mul_left, unit_number, roster_of, most_objective, most_weight}
 use Rattle.rota_items.proofs.Lists.{all-map, all-weaker, sum_by-map}
-use Rattle.rota_items.proofs.ItemSizes.{each-small, soft_items-le}
-use Rattle.rota_items.proofs.PenaltyBound.{constant-few, request_cost-le}
+use Rattle.rota_items.proofs.RuleSizes.{constant-few, soft_items-le}
+use Rattle.rota_items.proofs.PenaltyBound.{each-small, request_cost-le}
 use Rattle.rota_items.proofs.SoftRules.EachRule.{each-item, cell_terms-are, sound-cell_terms}
 use Rattle.rota_items.proofs.SoftRules.ShiftOffRequests.{IsTermSound, value_of-request_terms}
 use Rattle.rota_items.proofs.SoundTerms.{OnCoefficients, coefficients-times, coefficients-numbered}
@@ -105,5 +105,5 @@ module _ (week : Week) (assignment : ℕ → Bool) where
         constant-few week limits,
         (value_of-slack_weights assignment (first_slack week) (numbered_items week)).1,
         sum_by-map all_slacks (numbered (cell_number week)) (soft_items week),
-        soft_items-le week limits all_slacks (λ _. most_weight) (λ rule item small sound. small.all_slacks),
+        soft_items-le week limits all_slacks (λ _. most_weight) (λ rule item small. small.all_slacks),
       )

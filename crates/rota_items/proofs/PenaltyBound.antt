@@ -1,9 +1,9 @@
--- How large the penalty, the constant and the shortages are.
-use Rattle.rota_items.proofs.Common.Words.{ℕ, ◌+◌, ◌-◌, ◌*◌, ◌<◌, ◌≤◌, Bool, cond, arith, count_by-le-length, sum_by-le-sum_by, mul-le, sum_below, Roster, cell, soft_rules, Week, Rule, Span, nurses_at, works, is_on, is_off, history_on, shift_run_cost, shortage, weighted_shortages, constant, constant_of_rule, items_of_rule, penalty, rule_cost, nurse_constant, is_over, missing_on, run_cost, run_over, run_under, week_days, request_cost, request_weight, IsWithinLimits, S1, S2, S3, S4, S5, S6, S7, half_limit, most_cells, most_constant, most_constant_of_nurse, most_constant_of_rule, most_cost, most_cost_of_nurse, most_items, most_number, most_nurses, most_shifts, most_skills, most_shortage, most_weight, penalty_limit, InstanceTables, IsInstance, week_of}
-use Rattle.rota_items.proofs.InstanceLimits.{instance-within_limits}
-use Rattle.rota_items.proofs.ItemSizes.{items-le}
-use Rattle.rota_items.proofs.Lists.{sum_below-at_most}
-use Rattle.rota_items.proofs.SoftRules.Sound.{nurse_cost}
+-- How large the penalty and the shortages are.
+use Rattle.rota_items.proofs.Common.Words.{ℕ, ◌≤◌, ◌<◌, ◌*◌, ◌-◌, ◌+◌, Bool, cond, arith, count_by-le-length, sum_by-le-sum_by, mul-le, sum_below, Roster, cell, soft_rules, Week, Rule, Span, nurses_at, works, is_on, is_off, history_on, shift_run_cost, shortage, weighted_shortages, items_of_rule, penalty, rule_cost, is_over, missing_on, run_cost, run_over, run_under, week_days, request_cost, request_weight, IsWithinLimits, S1, S2, S3, S4, S5, S6, S7, half_limit, most_cells, most_cost, most_cost_of_nurse, most_items, most_number, most_nurses, most_shifts, most_skills, most_shortage, most_weight, penalty_limit, Item, Cell, AllByRecursion, soft_items, most_slacks}
+use Rattle.rota_items.proofs.RuleSizes.{IsItemSmall, items-le, small-rule}
+use Rattle.rota_items.proofs.Lists.{all-both, all-flat_map, sum_below-at_most}
+use Rattle.rota_items.proofs.SoftRules.EachRule.{sound-rule}
+use Rattle.rota_items.proofs.SoftRules.Sound.{IsItemSound, nurse_cost}
 use Rattle.rota_items.proofs.SlackBound.{cells-few}
 use Rattle.rota_items.proofs.SmallSums.{shortage-least}
 use Rattle.rota_items.proofs.SoundTerms.{spread-sound}
@@ -22,23 +22,19 @@ run_cost-le has history limits =
 items-of_any : (rule : Rule) → most_items rule ≤ most_cells
 items-of_any rule = grind arith
 
-constants-of_any : (rule : Rule) → most_constant_of_rule rule ≤ most_constant
-constants-of_any rule = grind arith
-
 module _ (week : Week) (limits : IsWithinLimits week) where
-  -- ---- the constant
+  -- ---- what items have that are small and sound
 
-  nurse_constant-le : (rule : Rule) (n : ℕ) → nurse_constant week rule n ≤ most_constant_of_nurse rule
-  nurse_constant-le rule n = grind (arith, limits.totals n, limits.assignments n, limits.weekends n)
+  module _ (P : Item Cell → Type 0) where
+    each-of_rule : (rule : Rule) → ((item : Item Cell) → IsItemSmall (most_slacks rule) item → IsItemSound week rule item → P item) →
+        AllByRecursion P (items_of_rule week rule)
+    each-of_rule rule each =
+        all-both (IsItemSmall (most_slacks rule)) (IsItemSound week rule) P each (items_of_rule week rule) (small-rule week limits rule).each
+        (sound-rule week rule).items
 
-  constant_of_rule-le : (rule : Rule) → constant_of_rule week rule ≤ most_constant_of_rule rule
-  constant_of_rule-le rule = sum_below-at_most week.nurses most_nurses _ _ limits.nurses (nurse_constant-le rule)
-
-  pub constant_of_rule-few : (rule : Rule) → constant_of_rule week rule ≤ most_constant
-  constant_of_rule-few rule = omega (arith, constant_of_rule-le rule, constants-of_any rule)
-
-  pub constant-few : constant week ≤ most_constant
-  constant-few = sum_by-le-sum_by (constant_of_rule week) most_constant_of_rule soft_rules constant_of_rule-le
+    pub each-small : ((rule : Rule) (item : Item Cell) → IsItemSmall (most_slacks rule) item → IsItemSound week rule item → P item) →
+        AllByRecursion P (soft_items week)
+    each-small each = all-flat_map P (items_of_rule week) soft_rules (λ rule. each-of_rule rule (each rule))
 
   -- ---- shortages
 
@@ -47,10 +43,11 @@ module _ (week : Week) (limits : IsWithinLimits week) where
       omega (
         arith,
         items-of_any rule,
-        items-le week limits (λ item. item.weight * shortage roster item) (λ _. most_weight * most_shortage) rule (λ item small sound.
+        items-le week limits (λ item. item.weight * shortage roster item) (λ _. most_weight * most_shortage) rule
+            (each-of_rule _ rule (λ item small sound.
             mul-le item.weight (shortage roster item) most_weight most_shortage
             (omega (arith, small.all_slacks, mul-le item.weight 1 item.weight item.slacks (omega arith) sound.has_slack))
-            (omega (arith, shortage-least roster item, small.degree, spread-sound week item.terms sound.terms, cells-few week limits))),
+            (omega (arith, shortage-least roster item, small.degree, spread-sound week item.terms sound.terms, cells-few week limits)))),
       )
 
   -- ---- what the rules cost
@@ -107,18 +104,3 @@ module _ (week : Week) (limits : IsWithinLimits week) where
 pub penalty-below : (week : Week) (roster : Roster) → IsWithinLimits week → penalty week roster < penalty_limit
 penalty-below week roster limits =
     omega (arith, sum_by-le-sum_by (rule_cost week roster) (λ _. most_cost) soft_rules (rule_cost-le week limits roster))
-
--- ---- of an instance
-
-module _ (tables : InstanceTables) (valid : IsInstance tables) where
-  pub few-constant_of_rule : (rule : Rule) → constant_of_rule (week_of tables) rule ≤ most_constant
-  few-constant_of_rule rule = constant_of_rule-few (week_of tables) (instance-within_limits tables valid) rule
-
-  pub few-nurse_constant : (rule : Rule) (n : ℕ) → nurse_constant (week_of tables) rule n ≤ most_constant
-  few-nurse_constant rule n =
-      omega (arith, nurse_constant-le (week_of tables) (instance-within_limits tables valid) rule n, constants-of_any rule)
-
-  pub few-constant : constant (week_of tables) ≤ most_constant
-  few-constant = constant-few (week_of tables) (instance-within_limits tables valid)
-
-pub ruleset few_constants = (few-constant_of_rule, few-nurse_constant, few-constant)

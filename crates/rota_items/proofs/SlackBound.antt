@@ -1,6 +1,7 @@
 -- How many slacks the items of a week have, and how many rows its model has.
-use Rattle.rota_items.proofs.Common.Words.{mul-le-mul_left, ◌≡◌, ℕ, ◌+◌, ◌<◌, ◌≤◌, List, [], ◌∷◌, length, refl, arith, sum_by, length-append, length-map, length-flat_map, sum_by-le-sum_by, mul-le-mul, Week, cell_number, first_slack, rule_rows, Item, numbered, linear_constraint, item_rows, slack_count, soft_rules, items_of_rule, soft_items, hard_rows, numbered_items, numbered_row, rows_of, model_of, cell_count, IsWithinLimits, count_limit, most_cells, most_items, most_slacks}
-use Rattle.rota_items.proofs.ItemSizes.{small-rule, soft_items-le}
+use Rattle.rota_items.proofs.Common.Words.{mul-le-mul_left, ◌≡◌, ℕ, ◌+◌, ◌<◌, ◌≤◌, List, [], ◌∷◌, length, refl, arith, sum_by, length-append, length-map, length-flat_map, sum_by-le-sum_by, mul-le-mul, Week, cell_number, first_slack, rule_rows, Item, numbered, linear_constraint, item_rows, slack_count, soft_rules, items_of_rule, soft_items, hard_rows, numbered_items, numbered_row, rows_of, model_of, cell_count, IsWithinLimits, count_limit, most_cells, most_items, most_slacks, InstanceTables, IsInstance, week_of, word_limit}
+use Rattle.rota_items.proofs.InstanceLimits.{instance-within_limits}
+use Rattle.rota_items.proofs.RuleSizes.{small-rule, soft_items-le}
 use Rattle.rota_items.proofs.RowSizes.{rule_rows-few}
 
 pub length-item_rows : (first : ℕ) (items : List (Item ℕ)) → length (item_rows first items) ≡ length items
@@ -27,7 +28,7 @@ module _ (week : Week) (limits : IsWithinLimits week) where
   -- the number after that of the last slack
   pub variables_fit : first_slack week + slack_count (soft_items week) < count_limit
   variables_fit =
-      omega (arith, cells-few, soft_items-le week limits (λ item. item.slacks) most_slacks (λ rule item small _. small.slacks))
+      omega (arith, cells-few, soft_items-le week limits (λ item. item.slacks) most_slacks (λ rule item small. small.slacks))
 
   pub variables-below : (model_of week).variables < count_limit
   variables-below = omega (arith, variables_fit)
@@ -47,3 +48,18 @@ module _ (week : Week) (limits : IsWithinLimits week) where
 
   pub constraints-below : length (model_of week).constraints < count_limit
   constraints-below = omega (arith, length-map (rows_of week) linear_constraint, rows-below)
+
+-- ---- the numbers that are computed from the tables
+
+pub length-constraints : (week : Week) → length (model_of week).constraints ≡ 1 + length (rule_rows week) + length (soft_items week)
+length-constraints week = omega (arith, length-map (rows_of week) linear_constraint, length-rows_of week)
+
+module _ (tables : InstanceTables) (valid : IsInstance tables) where
+  pub few-slacks : slack_count (soft_items (week_of tables)) + first_slack (week_of tables) < word_limit
+  few-slacks = omega (arith, variables_fit (week_of tables) (instance-within_limits tables valid))
+
+  pub few-constraints : length (rule_rows (week_of tables)) + length (soft_items (week_of tables)) + 1 < count_limit
+  few-constraints =
+      omega (arith, length-rows_of (week_of tables), rows-below (week_of tables) (instance-within_limits tables valid))
+
+pub ruleset numbers_of_model = (length-constraints, few-slacks, few-constraints)

@@ -47,7 +47,7 @@ impl Taker for ClosedTaker {
 }
 
 // The constant, at the unit variable, where it is not 0.
-#[tactic(auto, using(crate::proofs::PenaltyBound::few_constants))]
+#[tactic(auto, using(crate::proofs::RuleSizes::few_constants))]
 fn give_constant<T: Taker>(instance: &Instance, taker: &mut T) -> Result<(), T::Fault>
     ensures { Takes T.Taker (term_events (constant_terms (week_of instance.now)))
         taker.old taker.new result }

@@ -135,7 +135,7 @@ fn nurse_constant(instance: &Instance, rule: Rule, nurse: u16) -> u64
 }
 
 /// What no roster of the week can avoid of a rule: the sum of the nurses' parts.
-#[tactic(auto, using(crate::proofs::Lists::counting, crate::proofs::PenaltyBound::few_constants))]
+#[tactic(auto, using(crate::proofs::Lists::counting, crate::proofs::RuleSizes::few_constants))]
 pub fn constant_of_rule(instance: &Instance, rule: Rule) -> u64
     ensures sum { result ≡ constant_of_rule (week_of instance.now) rule }
     ensures limits { IsInstance instance.now }
@@ -148,7 +148,7 @@ pub fn constant_of_rule(instance: &Instance, rule: Rule) -> u64
 }
 
 /// What no roster of the week can avoid: the sum of the rules' parts.
-#[tactic(auto, using(crate::proofs::Lists::listing, crate::proofs::PenaltyBound::few_constants))]
+#[tactic(auto, using(crate::proofs::Lists::listing, crate::proofs::RuleSizes::few_constants))]
 pub fn constant(instance: &Instance) -> u64
     ensures { result ≡ constant (week_of instance.now) }
 {

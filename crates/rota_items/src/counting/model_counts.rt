@@ -23,7 +23,7 @@ use rota_core::Instance;
 /// drive_objective(instance, taker)?;
 /// drive_constraints(instance, taker)
 /// ```
-#[tactic(auto, using(crate::proofs::Counted::numbers_of_model))]
+#[tactic(auto, using(crate::proofs::SlackBound::numbers_of_model))]
 pub fn counts(instance: &Instance) -> Counts
     ensures variables { result.variables ≡ (model_of (week_of instance.now)).variables }
     ensures constraints { result.constraints ≡ length (model_of (week_of instance.now)).constraints }

@@ -1,5 +1,5 @@
 use Rattle.rota_items.proofs.Common.{to_z_pos, only_if-fails, only_if-holds, ◌≡◌, pos, nat_lt, true, false, ap, ◌∙◌, w64, arith, week_of, nothing, numbers_join, term_takes, constant}
-use Rattle.rota_items.proofs.PenaltyBound.{few-constant}
+use Rattle.rota_items.proofs.RuleSizes.{few-constant}
 use Rattle.rota_items.proofs.objective.give_constant.Goals as goal
 
 pub returns-then-constant-eq0 : goal.returns-then-constant-eq0

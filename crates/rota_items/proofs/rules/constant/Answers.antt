@@ -1,5 +1,5 @@
 use Rattle.rota_items.proofs.Common.{◌≡◌, ℕ, ◌+◌, ◌<◌, List, length, get_or, take, sum_by, arith, soft_rules, week_of, constant_of_rule}
-use Rattle.rota_items.proofs.PenaltyBound.{few_constants}
+use Rattle.rota_items.proofs.RuleSizes.{few_constants}
 use Rattle.std.proofs.lemmas.List.Sums.{sum_by_more}
 use Rattle.rota_items.proofs.rules.constant.Goals as goal
 

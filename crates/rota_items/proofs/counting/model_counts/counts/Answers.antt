@@ -1,5 +1,5 @@
 use Rattle.rota_items.proofs.Common.{arith, week_of}
-use Rattle.rota_items.proofs.Counted.{length-constraints}
+use Rattle.rota_items.proofs.SlackBound.{length-constraints}
 use Rattle.rota_items.proofs.counting.model_counts.counts.Goals as goal
 
 pub returns-clause-constraints : goal.returns-clause-constraints

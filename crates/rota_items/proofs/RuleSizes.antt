@@ -1,10 +1,9 @@
--- How large the items of a week within the limits are, and how many: their slacks, what all of these weigh, and their degrees.
-use Rattle.rota_items.proofs.Common.Words.{rules, ℕ, ◌*◌, ◌≤◌, Bool, true, false, List, [], length, arith, if◌then◌else◌, ints, sum_by, sum_by-le, sum_by-le-sum_by, All-from_recursion, AllByRecursion, mul-le, Week, Rule, Cell, Item, positive_part, Property, Present, Runs, Pattern, pattern_item, run_items, only_sunday, saturday, weekend_items, work_cells, optimum_item, optimum_items_at, least_total_item, greatest_total_item, complete_weekend_weight, worked_weekend_weight, shift_runs, work_runs, off_runs, items_of_rule, nurse_items, soft_items, soft_rules, IsWithinLimits, S1, S2, S3, S5, S6, S7, heaviest, most_items, most_items_of_nurse, most_run_items, most_slacks, most_weight, most_number, most_nurses, most_shifts, most_skills}
+-- How large each soft rule is in a week within the limits: its items, their slacks, what all of these weigh, and its part of the constant.
+use Rattle.rota_items.proofs.Common.Words.{rules, ℕ, ◌*◌, ◌≤◌, Bool, true, false, List, [], length, arith, if◌then◌else◌, ints, sum_by, sum_by-le, sum_by-le-sum_by, All-from_recursion, AllByRecursion, mul-le, Week, Rule, Cell, Item, positive_part, Property, Present, Runs, Pattern, pattern_item, run_items, only_sunday, saturday, weekend_items, work_cells, optimum_item, optimum_items_at, least_total_item, greatest_total_item, complete_weekend_weight, worked_weekend_weight, shift_runs, work_runs, off_runs, items_of_rule, nurse_items, soft_items, soft_rules, IsWithinLimits, S1, S2, S3, S5, S6, S7, heaviest, most_items, most_items_of_nurse, most_run_items, most_slacks, most_weight, most_number, most_nurses, most_shifts, most_skills, nurse_constant, constant_of_rule, constant, most_constant, most_constant_of_nurse, most_constant_of_rule, InstanceTables, IsInstance, week_of}
+use Rattle.rota_items.proofs.InstanceLimits.{instance-within_limits}
 use Rattle.rota_items.proofs.EachPattern.{each-run_item, run_counting}
-use Rattle.rota_items.proofs.Lists.{AreFew, all-both, all-flat_map, few-append, few-each_below, few-only_if, sum_by-flat_map}
+use Rattle.rota_items.proofs.Lists.{AreFew, all-weaker, few-append, few-each_below, few-only_if, sum_below-at_most, sum_by-flat_map}
 use Rattle.rota_items.proofs.SmallSums.{positive_part-parts}
-use Rattle.rota_items.proofs.SoftRules.EachRule.{sound-rule}
-use Rattle.rota_items.proofs.SoftRules.Sound.{IsItemSound}
 
 -- an item of few slacks, that all together weigh little, and of a small degree
 pub record IsItemSmall (most : ℕ) (item : Item Cell) : Type 0 where
@@ -38,6 +37,9 @@ small-weekend week rule weight n alone true light =
     let small = λ (pattern : Pattern). small-pattern rule weight (Present (work_cells week n)) pattern light in
     record { each = (small (saturday alone) (omega arith), (small only_sunday (omega arith), tt)); few = omega arith }
 
+constants-of_any : (rule : Rule) → most_constant_of_rule rule ≤ most_constant
+constants-of_any rule = grind arith
+
 module _ (week : Week) (limits : IsWithinLimits week) where
   -- ---- rules
 
@@ -62,40 +64,55 @@ module _ (week : Week) (limits : IsWithinLimits week) where
       few-only_if _ (optimum_item week d s k) (λ _. let small = limits.optimal d s k in search rules))))
   small-rule rule = few-each_below most_nurses limits.nurses (nurse_items week rule) (λ n _. small-nurse_items rule n)
 
-  -- ---- all items
-
-  module _ (P : Item Cell → Type 0) where
-    -- what items have that are small and sound
-    each-of_rule : (rule : Rule) → ((item : Item Cell) → IsItemSmall (most_slacks rule) item → IsItemSound week rule item → P item) →
-        AllByRecursion P (items_of_rule week rule)
-    each-of_rule rule each =
-        all-both (IsItemSmall (most_slacks rule)) (IsItemSound week rule) P each (items_of_rule week rule) (small-rule rule).each
-        (sound-rule week rule).items
-
-    pub each-small : ((rule : Rule) (item : Item Cell) → IsItemSmall (most_slacks rule) item → IsItemSound week rule item → P item) →
-        AllByRecursion P (soft_items week)
-    each-small each = all-flat_map P (items_of_rule week) soft_rules (λ rule. each-of_rule rule (each rule))
+  -- ---- sums over the items
 
   module _ (f : Item Cell → ℕ) (most : Rule → ℕ) where
     -- numbers of items that are no greater than the most sum to no more than so many times the most
-    pub items-le : (rule : Rule) →
-        ((item : Item Cell) → IsItemSmall (most_slacks rule) item → IsItemSound week rule item → f item ≤ most rule) →
+    pub items-le : (rule : Rule) → AllByRecursion (λ item. f item ≤ most rule) (items_of_rule week rule) →
         sum_by f (items_of_rule week rule) ≤ most_items rule * most rule
-    items-le rule each =
+    items-le rule all =
         let items : List (Item Cell) = items_of_rule week rule in
         omega (
           arith,
-          sum_by-le f (most rule) items (All-from_recursion _ items (each-of_rule (λ item. f item ≤ most rule) rule each)),
+          sum_by-le f (most rule) items (All-from_recursion _ items all),
           mul-le (length items) (most rule) (most_items rule) (most rule) (small-rule rule).few (omega arith),
         )
 
-    pub soft_items-le :
-        ((rule : Rule) (item : Item Cell) → IsItemSmall (most_slacks rule) item → IsItemSound week rule item → f item ≤ most rule) →
+    pub soft_items-le : ((rule : Rule) (item : Item Cell) → IsItemSmall (most_slacks rule) item → f item ≤ most rule) →
         sum_by f (soft_items week) ≤ sum_by (λ rule. most_items rule * most rule) soft_rules
     soft_items-le each =
         omega (
           arith,
           sum_by-flat_map f (items_of_rule week) soft_rules,
           sum_by-le-sum_by (λ rule. sum_by f (items_of_rule week rule)) (λ rule. most_items rule * most rule) soft_rules
-              (λ rule. items-le rule (each rule)),
+              (λ rule. items-le rule (all-weaker (IsItemSmall (most_slacks rule)) _ (each rule) (items_of_rule week rule) (small-rule rule).each)),
         )
+
+  -- ---- the constant
+
+  nurse_constant-le : (rule : Rule) (n : ℕ) → nurse_constant week rule n ≤ most_constant_of_nurse rule
+  nurse_constant-le rule n = grind (arith, limits.totals n, limits.assignments n, limits.weekends n)
+
+  constant_of_rule-le : (rule : Rule) → constant_of_rule week rule ≤ most_constant_of_rule rule
+  constant_of_rule-le rule = sum_below-at_most week.nurses most_nurses _ _ limits.nurses (nurse_constant-le rule)
+
+  pub constant_of_rule-few : (rule : Rule) → constant_of_rule week rule ≤ most_constant
+  constant_of_rule-few rule = omega (arith, constant_of_rule-le rule, constants-of_any rule)
+
+  pub constant-few : constant week ≤ most_constant
+  constant-few = sum_by-le-sum_by (constant_of_rule week) most_constant_of_rule soft_rules constant_of_rule-le
+
+-- ---- of an instance
+
+module _ (tables : InstanceTables) (valid : IsInstance tables) where
+  pub few-constant_of_rule : (rule : Rule) → constant_of_rule (week_of tables) rule ≤ most_constant
+  few-constant_of_rule rule = constant_of_rule-few (week_of tables) (instance-within_limits tables valid) rule
+
+  pub few-nurse_constant : (rule : Rule) (n : ℕ) → nurse_constant (week_of tables) rule n ≤ most_constant
+  few-nurse_constant rule n =
+      omega (arith, nurse_constant-le (week_of tables) (instance-within_limits tables valid) rule n, constants-of_any rule)
+
+  pub few-constant : constant (week_of tables) ≤ most_constant
+  few-constant = constant-few (week_of tables) (instance-within_limits tables valid)
+
+pub ruleset few_constants = (few-constant_of_rule, few-nurse_constant, few-constant)
