@@ -13,8 +13,8 @@ use rota_core::Instance;
 /// unit variable, and the slacks; one constraint for the unit variable, for each row of the hard rules,
 /// and for each item of the soft rules. Requests have no item: the objective charges them at their cells.
 ///
-/// They are computed from the instance's tables, and no row is made: the first line of a model's text
-/// needs them before the rows.
+/// The rows and items are counted as the instance's tables give them, and no term of theirs is made: the
+/// first line of a model's text needs the numbers before the rows.
 ///
 /// Here an `OpbTaker` of `opb_text` takes the whole model, the first line first:
 ///
