@@ -131,6 +131,7 @@ impl Instance {
     pub fn week(&self) -> u16
         ensures week { result ≡ self.now.history.week }
         ensures spanned { result < self.now.scenario.weeks }
+        ensures limits { IsInstance self.now }
     {
         self.history.week
     }

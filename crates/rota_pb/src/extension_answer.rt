@@ -63,7 +63,6 @@ fn take_extension<W: Target>(
     extension_truths_are_those_of_the_variables();
     instances_are_within_limits();
     variables_are_few();
-    let _nurses = instance.nurses();
     drive_extension(instance, roster, answer)
 }
 

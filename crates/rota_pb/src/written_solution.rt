@@ -1,6 +1,6 @@
 //! The solution file of a roster.
 ghost use Rattle.std.specs.Prelude.{◌≡◌, ◌≤◌, length, true, IsErr, OnOk};
-ghost use Rattle.rota_core.specs.InstanceTables.{week_of};
+ghost use Rattle.rota_core.specs.InstanceTables.{IsInstance, week_of};
 ghost use Rattle.rota_core.specs.Roster.{InWeek};
 ghost use Rattle.rota_core.specs.HardRules.{KeepsOneCell};
 ghost use Rattle.rota_core.specs.RosterTables.{HasShapeOf, set_of};
@@ -25,6 +25,7 @@ fn put_heading<W: Target>(
     instance: &Instance,
     count: u32,
 ) -> Result<(), PortFault>
+    ensures limits { IsInstance instance.now }
     ensures takes { PutsText sink.old result (heading_text instance.now count) sink.new }
     ensures for_good { sink_failed sink.old ≡ true → IsErr result }
 {
@@ -84,6 +85,7 @@ fn put_solution<W: Target>(
     roster: &Roster,
 ) -> Result<(), PortFault>
     requires shape { HasShapeOf (week_of instance.now) roster.now }
+    ensures limits { IsInstance instance.now }
     ensures takes { PutsText sink.old result (solution_text instance.now (set_of roster.now)) sink.new }
     ensures for_good { sink_failed sink.old ≡ true → IsErr result }
 {
@@ -99,6 +101,7 @@ fn send_solution<W: Target>(
     out: &mut W,
 ) -> Result<(), PortFault>
     requires shape { HasShapeOf (week_of instance.now) roster.now }
+    ensures limits { IsInstance instance.now }
     ensures sends { SendsText (writer_of W.Target out.old out.new) (solution_text instance.now (set_of roster.now)) result }
 {
     let mut sink = Sink::new(out);
@@ -128,7 +131,6 @@ pub fn write_solution<W: Target>(
         SpellsRoster instance.now (solution_text instance.now (set_of roster.now)) roster.now) }
 {
     each_roster_has_its_text();
-    let _nurses = instance.nurses();
     match send_solution(instance, roster, out) {
         Ok(()) => Ok(()),
         Err(_) => Err(Fault::Write),

@@ -40,7 +40,8 @@ pub fn drive_extension<T: LiteralTaker>(
     taker: &mut T,
 ) -> Result<(), T::Fault>
     requires { HasShapeOf (week_of instance.now) roster.now }
-    ensures { TakesLiterals T.LiteralTaker (extension_truths (week_of instance.now) (set_of roster.now))
+    ensures limits { IsInstance instance.now }
+    ensures takes { TakesLiterals T.LiteralTaker (extension_truths (week_of instance.now) (set_of roster.now))
         taker.old taker.new result }
 {
     give_assigned(instance, roster, taker)?;

@@ -13,7 +13,7 @@ use Rattle.rota_pb.proofs.extension_answer.take_extension.Goals as goal
 pub returns-clause-same_writer : goal.returns-clause-same_writer
 returns-clause-same_writer g c =
     writer-stays c.args.answer.now c.drive_extension.new.taker (extension_truths (week_of c.args.instance.now) (set_of c.args.roster.now))
-    c.drive_extension.result c.drive_extension.ensures
+    c.drive_extension.result c.drive_extension.ensures.takes
 
 pub returns-clause-takes : goal.returns-clause-takes
 returns-clause-takes g c =
@@ -25,11 +25,11 @@ returns-clause-takes g c =
       arith,
       c.requires.none,
       c.extension_truths_are_those_of_the_variables.ensures.count week (set_of c.args.roster.now),
-      c.variables_are_few.ensures week (c.instances_are_within_limits.ensures c.args.instance.now c.nurses-nurses.ensures.limits),
+      c.variables_are_few.ensures week (c.instances_are_within_limits.ensures c.args.instance.now c.drive_extension.ensures.limits),
     ) in
     puts_same (sym (literals-joined (putting_of old) truths few ∙ ap (λ (n : ℕ). literals_text n truths) c.requires.none))
     (events_put_text (λ answer. sink_of (answer_writer answer)) putting_of literal_texts old c.drive_extension.new.taker truths c.drive_extension.result
-    (sink-takes old c.drive_extension.new.taker truths c.drive_extension.result c.drive_extension.ensures))
+    (sink-takes old c.drive_extension.new.taker truths c.drive_extension.result c.drive_extension.ensures.takes))
 
 pub returns-clause-literals : goal.returns-clause-literals
 returns-clause-literals g c =
@@ -41,10 +41,10 @@ returns-clause-literals g c =
       arith,
       c.requires.none,
       c.extension_truths_are_those_of_the_variables.ensures.count week (set_of c.args.roster.now),
-      c.variables_are_few.ensures week (c.instances_are_within_limits.ensures c.args.instance.now c.nurses-nurses.ensures.limits),
+      c.variables_are_few.ensures week (c.instances_are_within_limits.ensures c.args.instance.now c.drive_extension.ensures.limits),
     ) in
     let all : (putting_of old).literals + length truths ≡ length truths = omega (arith, c.requires.none) in
-    MatchResult-weaker c.drive_extension.result (sink-takes old c.drive_extension.new.taker truths c.drive_extension.result c.drive_extension.ensures)
+    MatchResult-weaker c.drive_extension.result (sink-takes old c.drive_extension.new.taker truths c.drive_extension.result c.drive_extension.ensures.takes)
     (λ u took.
     ap (λ (p : Putting). p.literals) (took_events_keep (λ answer. sink_of (answer_writer answer)) putting_of literal_texts truths took) ∙
     literals-counted (putting_of old) truths few ∙ all)
