@@ -101,11 +101,6 @@ sum_below-within (suc n) m f small = grind (arith, small, sum_below-within n m f
 pub sum_below-zero : (n : ℕ) (f : ℕ → ℕ) → ((i : ℕ) → i < n → f i ≡ 0) → sum_below n f ≡ 0
 sum_below-zero n f none = omega (arith, sum_below-within n 0 f (λ i below. omega (arith, none i below)))
 
-pub term-le-sum_below : (n : ℕ) (f : ℕ → ℕ) (i : ℕ) → i < n → f i ≤ sum_below n f
-unfolding sum_below
-term-le-sum_below zero f i below = absurd (omega arith)
-term-le-sum_below (suc n) f i below = grind (arith, term-le-sum_below n f i)
-
 -- ---- how large
 
 pub sum_below-at_most : (n most m : ℕ) (f : ℕ → ℕ) → n ≤ most → ((i : ℕ) → f i ≤ m) → sum_below n f ≤ most * m

@@ -63,6 +63,3 @@ module _ (week : Week) (rule : Rule) (sound : IsNurseRuleSound week rule) (roste
       sum_below week.nurses (nurse_cost week roster rule)
   charges-items none =
       omega (arith, charges-nurses, sum_below-zero week.nurses (nurse_constant week rule) (λ n _. none n))
-
--- what the sum of the rules' parts of the constant needs: most rules have none
-pub ruleset constants = (sum_below-zero)
