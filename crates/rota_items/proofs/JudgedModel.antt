@@ -135,6 +135,7 @@ module _ (week : Week) (subject : Subject) (limits : IsWithinLimits week) where
               variables-below week limits,
               mul-le-mul_right item.slacks sound.weighs,
               small.all_slacks,
+              mul-le-mul_right (positive_part item.degree) sound.weighs,
               small.degree,
             );
       }))

@@ -1,12 +1,11 @@
 -- How large the penalty and the shortages are.
-use Rattle.rota_items.proofs.Common.Words.{ℕ, ◌≤◌, ◌<◌, ◌*◌, ◌-◌, ◌+◌, Bool, cond, arith, count_by-le-length, sum_by-le-sum_by, mul-le, sum_below, Roster, cell, soft_rules, Week, Rule, Span, nurses_at, works, is_on, is_off, history_on, shift_run_cost, shortage, weighted_shortages, items_of_rule, penalty, rule_cost, is_over, missing_on, run_cost, run_over, run_under, week_days, request_cost, request_weight, IsWithinLimits, S1, S2, S3, S4, S5, S6, S7, half_limit, most_cells, most_cost, most_cost_of_nurse, most_items, most_number, most_nurses, most_shifts, most_skills, most_shortage, most_weight, penalty_limit, Item, Cell, AllByRecursion, soft_items, most_slacks}
+use Rattle.rota_items.proofs.Common.Words.{ℕ, ◌≤◌, ◌<◌, ◌*◌, ◌-◌, ◌+◌, Bool, cond, arith, count_by-le-length, sum_by-le-sum_by, mul-le, sum_below, Roster, cell, soft_rules, Week, Rule, Span, nurses_at, works, is_on, is_off, history_on, shift_run_cost, shortage, weighted_shortages, items_of_rule, penalty, rule_cost, is_over, missing_on, run_cost, run_over, run_under, week_days, request_cost, request_weight, IsWithinLimits, S1, S2, S3, S4, S5, S6, S7, half_limit, most_cells, most_cost, most_cost_of_nurse, most_items, most_number, most_nurses, most_shifts, most_skills, most_weight, penalty_limit, Item, Cell, AllByRecursion, soft_items, most_slacks, most_charge, most_terms, mul-le-mul_left}
 use Rattle.rota_items.proofs.RuleSizes.{IsItemSmall, items-le, small-rule}
 use Rattle.rota_items.proofs.Lists.{all-both, all-flat_map, sum_below-at_most}
 use Rattle.rota_items.proofs.SoftRules.EachRule.{sound-rule}
 use Rattle.rota_items.proofs.SoftRules.Sound.{IsItemSound, nurse_cost}
-use Rattle.rota_items.proofs.SlackBound.{cells-few}
-use Rattle.rota_items.proofs.SmallSums.{shortage-least}
-use Rattle.rota_items.proofs.SoundTerms.{spread-sound}
+use Rattle.rota_items.proofs.SmallSums.{shortage-least, spread}
+use Rattle.rota_items.proofs.SoundTerms.{spread-units}
 
 -- on each day of the week, one day too many and as many as the minimum missing
 run_cost-le : (has : ℕ → Bool) (history : ℕ) (limits : Span) → run_cost has history limits ≤ 7 * (1 + limits.min)
@@ -43,11 +42,16 @@ module _ (week : Week) (limits : IsWithinLimits week) where
       omega (
         arith,
         items-of_any rule,
-        items-le week limits (λ item. item.weight * shortage roster item) (λ _. most_weight * most_shortage) rule
+        items-le week limits (λ item. item.weight * shortage roster item) (λ _. most_charge) rule
             (each-of_rule _ rule (λ item small sound.
-            mul-le item.weight (shortage roster item) most_weight most_shortage
-            (omega (arith, small.all_slacks, mul-le item.weight 1 item.weight item.slacks (omega arith) sound.has_slack))
-            (omega (arith, shortage-least roster item, small.degree, spread-sound week item.terms sound.terms, cells-few week limits)))),
+            let light : item.weight ≤ most_weight = omega (arith, small.all_slacks, mul-le item.weight 1 item.weight item.slacks (omega arith) sound.has_slack) in
+            let few : spread item.terms ≤ most_terms = omega (arith, spread-units item.terms sound.terms.units, small.terms) in
+            omega (
+              arith,
+              mul-le-mul_left item.weight (shortage-least roster item),
+              small.degree,
+              mul-le item.weight (spread item.terms) most_weight most_terms light few,
+            ))),
       )
 
   -- ---- what the rules cost

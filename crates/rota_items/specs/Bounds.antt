@@ -48,6 +48,10 @@ abbrev pub most_slacks : Rule → ℕ
 most_slacks S1 = most_number
 most_slacks _ = 7
 
+-- the cells in an item's sum: of one demand, or of one nurse
+abbrev pub most_terms : ℕ
+most_terms = max most_nurses most_cells_of_nurse
+
 -- ---- weights
 
 abbrev pub heaviest : ℕ
@@ -59,9 +63,9 @@ heaviest =
 abbrev pub most_weight : ℕ
 most_weight = heaviest * most_number
 
--- what an item can lack on a roster that keeps no rule
-abbrev pub most_shortage : ℕ
-most_shortage = most_number + (most_cells + 1)
+-- what an item is charged at most, on a roster that keeps no rule
+abbrev pub most_charge : ℕ
+most_charge = most_weight * (1 + most_terms)
 
 -- what no roster can avoid
 abbrev pub most_constant_of_nurse : Rule → ℕ
