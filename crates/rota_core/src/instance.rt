@@ -1,7 +1,6 @@
 //! An instance: one week of a rostering problem, with what the weeks before left.
 
-ghost use Rattle.std.specs.Prelude.{◌≡◌, ◌<◌, ◌≤◌, ◌↔◌, None, IfOk, IfErr, IfSome, IsErr, All, length, slice_get};
-ghost use Rattle.rota_core.specs.Words.{place_of};
+ghost use Rattle.std.specs.Prelude.{◌≡◌, ◌<◌, ◌≤◌, ◌↔◌, None, IfOk, IfErr, IfSome, IsErr, All, length};
 ghost use Rattle.rota_core.specs.ScenarioTables.{Within};
 
 use crate::fault::{FileFault, FileName, Kind};
@@ -245,57 +244,5 @@ impl Instance {
     {
         let row = usize::from(nurse) * 7 + usize::from(day);
         self.week.requests[row * usize::from(self.week.shifts) + usize::from(shift)]
-    }
-
-    /// The scenario's name.
-    pub fn scenario_name(&self) -> &[u8]
-        ensures { result.now ≡ self.now.scenario.name }
-    {
-        self.scenario.name()
-    }
-
-    /// The name of the nurse.
-    pub fn nurse_name(&self, nurse: u16) -> &[u8]
-        requires { nurse < (week_of self.now).nurses }
-        ensures { slice_get self.now.scenario.nurses nurse ≡ Some result.now }
-    {
-        self.scenario.nurse_name(nurse)
-    }
-
-    /// The name of the shift type.
-    pub fn shift_name(&self, shift: u8) -> &[u8]
-        requires { shift < (week_of self.now).shifts }
-        ensures { slice_get self.now.scenario.shifts shift ≡ Some result.now }
-    {
-        self.scenario.shift_name(shift)
-    }
-
-    /// The name of the skill.
-    pub fn skill_name(&self, skill: u8) -> &[u8]
-        requires { skill < (week_of self.now).skills }
-        ensures { slice_get self.now.scenario.skills skill ≡ Some result.now }
-    {
-        self.scenario.skill_name(skill)
-    }
-
-    /// The number of the nurse with this name, or `None` for another word.
-    pub fn find_nurse(&self, name: &[u8]) -> Option<u16>
-        ensures { result ≡ place_of self.now.scenario.nurses name.now }
-    {
-        self.scenario.find_nurse(name)
-    }
-
-    /// The number of the shift type with this name, or `None` for another word.
-    pub fn find_shift(&self, name: &[u8]) -> Option<u8>
-        ensures { result ≡ place_of self.now.scenario.shifts name.now }
-    {
-        self.scenario.find_shift(name)
-    }
-
-    /// The number of the skill with this name, or `None` for another word.
-    pub fn find_skill(&self, name: &[u8]) -> Option<u8>
-        ensures { result ≡ place_of self.now.scenario.skills name.now }
-    {
-        self.scenario.find_skill(name)
     }
 }

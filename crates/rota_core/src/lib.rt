@@ -34,6 +34,8 @@ mod fault;
 mod history;
 // An instance: one week of a rostering problem, with what the weeks before left.
 mod instance;
+// The names of an instance's scenario, and the numbers that they stand for.
+mod instance_names;
 // The laws: what numerals tell, and what the list of a roster's cells is.
 pub mod laws;
 // Ports over memory, for tests.

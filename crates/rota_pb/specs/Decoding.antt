@@ -14,14 +14,19 @@ use Rattle.rota_pb.specs.WeekFiles.{read_week}
 abbrev pub variables_of : InstanceTables → ℕ
 variables_of tables = (model_of (week_of tables)).variables
 
--- the files of a week are read, then an answer to its model; the solution file of the answer's roster is sent, then the report
-abbrev pub decode_run : Choice → WeekReaders → Reader → Writer → Writer → Run (Unit {0})
-decode_run choice readers answer sol report = do
-  tables ← read_week choice readers
+-- an answer to the model of a week is read; the solution file of its roster is sent, then the report
+abbrev pub decode_answer : InstanceTables → Reader → Writer → Writer → Run (Unit {0})
+decode_answer tables answer sol report = do
   solved ← read_answer (variables_of tables) answer
   decoded ← find_roster (week_of tables) solved
   send sol (solution_text tables (set_of decoded.roster))
   send report (report_text decoded)
+
+-- the files of a week are read, and then an answer to its model
+abbrev pub decode_run : Choice → WeekReaders → Reader → Writer → Writer → Run (Unit {0})
+decode_run choice readers answer sol report = do
+  tables ← read_week choice readers
+  decode_answer tables answer sol report
 
 abbrev pub DecodeOutcome : Choice → WeekReaders → Reader → Writer → Writer → Result (Unit {0}) Fault → Type 0
 DecodeOutcome choice readers answer sol report = (decode_run choice readers answer sol report).ends

@@ -1,5 +1,5 @@
 //! The run that turns a solver's answer into a solution file and a report.
-ghost use Rattle.rota_pb.specs.Decoding.{DecodeOutcome};
+ghost use Rattle.rota_pb.specs.Decoding.{DecodeOutcome, decode_answer};
 ghost use Rattle.rota_pb.specs.RunPorts.{reader_of, week_readers, writer_of};
 
 use crate::answer_pieces::read_answer;
@@ -8,9 +8,26 @@ use crate::fault::Fault;
 use crate::report::write_report;
 use crate::week_files::{Choice, read_instance};
 use crate::written_solution::write_solution;
-use rota_core::{Source, Target};
+use rota_core::{Instance, Source, Target};
 use rota_items::counts;
 use std::alloc::Global;
+
+// Reads an answer to the week's model, and writes the solution file of its roster and the report.
+fn decode_answer<A: Source, W: Target, R: Target>(
+    alloc: Global,
+    instance: &Instance,
+    answer: &mut A,
+    sol: &mut W,
+    report: &mut R,
+) -> Result<(), Fault>
+    ensures { (decode_answer instance.now (reader_of A.Source answer.old answer.new)
+        (writer_of W.Target sol.old sol.new) (writer_of R.Target report.old report.new)).ends result }
+{
+    let solved = read_answer(alloc, counts(instance).variables, answer)?;
+    let decoded = decode(instance, solved)?;
+    write_solution(instance, &decoded.roster, sol)?;
+    write_report(&decoded, report)
+}
 
 /// Reads the files of a week and a solver's answer to the week's model, each to its end, and writes
 /// the solution file of the answer's roster to `sol` and then a report to `report`.
@@ -56,8 +73,5 @@ pub fn run_decode<S: Source, H: Source, K: Source, F: Source, A: Source, W: Targ
         (writer_of W.Target sol.old sol.new) (writer_of R.Target report.old report.new) result }
 {
     let instance = read_instance(alloc, choice, sce, his, week, fix_file)?;
-    let solved = read_answer(alloc, counts(&instance).variables, answer)?;
-    let decoded = decode(&instance, solved)?;
-    write_solution(&instance, &decoded.roster, sol)?;
-    write_report(&decoded, report)
+    decode_answer(alloc, &instance, answer, sol, report)
 }
