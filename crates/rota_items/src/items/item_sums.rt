@@ -9,9 +9,10 @@ ghost use Rattle.rota_items.specs.Takes.{Takes};
 
 use crate::items::soft_item::{DayPattern, DayProperty, ItemSum};
 use crate::sums::{
-    Sign, give_cell, give_demand_cells, give_nurse_cells, give_on, give_skill_cells, give_work,
+    Sign, give_demand_cells, give_nurse_cells, give_on, give_skill_cells, give_work,
 };
 use crate::takers::Taker;
+use crate::variables::cell_var;
 use rota_core::Instance;
 
 // The cells that tell whether a nurse's day has the property.
@@ -201,6 +202,6 @@ pub fn give_sum<T: Taker>(instance: &Instance, taker: &mut T, sum: ItemSum) -> R
             second,
         } => give_in_turn(instance, taker, nurse, day, first, second),
         ItemSum::Skill { nurse, skill } => give_skill_cells(instance, taker, nurse, skill),
-        ItemSum::One(cell) => give_cell(instance, taker, Sign::Plus, cell),
+        ItemSum::One(cell) => taker.term(1, cell_var(instance, cell)),
     }
 }
