@@ -1,11 +1,11 @@
 -- What a taker of literals takes by the items whose slacks are handed on to it.
-use Rattle.rota_items.proofs.Common.Words.{◌≡◌, ℕ, Bool, List, [], ◌∷◌, ◌++◌, Result, Ok, Err, refl, sym, ap, subst, ◌∙◌, arith, fold, fold-append, flat_map, flat_map-append, ◌-ℤ◌, w64, saturate_signed, AllByRecursion, AllByRecursion-back, MatchResult-weaker, InstanceTables, IsInstance, week_of, Week, Item, LinearRow, positive_part, shortage, set_of, numbered_items, assignment_of, RosterTables, Judging, Subject, Tally, extended, lacking_in, no_tally, Soft, start_row, term_events, TookAll, RefusedOne, TakesAll, ◌+◌}
+use Rattle.rota_items.proofs.Common.Words.{◌≡◌, ℕ, Bool, List, [], ◌∷◌, Result, Ok, Err, refl, ap, ◌∙◌, arith, fold, fold-append, flat_map, flat_map-append, ◌-ℤ◌, w64, saturate_signed, AllByRecursion, AllByRecursion-back, InstanceTables, IsInstance, week_of, Week, Item, LinearRow, positive_part, set_of, numbered_items, assignment_of, RosterTables, Judging, Subject, Tally, extended, lacking_in, no_tally, Soft, start_row, term_events, TakesAll}
 use Rattle.rota_items.specs.Judging.{fresh}
 use Rattle.rota_items.proofs.ExtensionTruths.{item_truths, week-slacks}
 use Rattle.rota_items.proofs.InstanceLimits.{instance-within_limits}
 use Rattle.rota_items.proofs.JudgedItems.{IsFit, not_cut, shortage-extended}
 use Rattle.rota_items.proofs.JudgedModel.{items-fit}
-use Rattle.rota_items.proofs.JudgedRows.{opened, others-before, row-opened, sums_of}
+use Rattle.rota_items.proofs.JudgedRows.{opened, others-before, row-opened}
 use Rattle.rota_items.proofs.JudgedVerdict.{tally-driven}
 use Rattle.rota_items.proofs.Taking.{Refused-after, Refused-before}
 use Rattle.rota_items.specs.LiteralTakes.{TakesLiterals}
