@@ -1,6 +1,5 @@
 //! The rows of items, handed to a taker of rows.
-ghost use Rattle.std.specs.Prelude.{◌≡◌};
-ghost use Rattle.rota_core.specs.InstanceTables.{IsInstance, week_of};
+ghost use Rattle.rota_core.specs.InstanceTables.{week_of};
 ghost use Rattle.rota_items.specs.Events.{events};
 ghost use Rattle.rota_items.specs.WeekModel.{item_rows, first_slack, numbered_items};
 ghost use Rattle.rota_items.specs.Takes.{Takes};
@@ -56,18 +55,6 @@ impl<'t, T: Taker> RunTaker for ItemRows<'t, T> {
     }
 }
 
-// Hands on the rows of all items of the instance's week.
-fn give_rows<T: Taker>(instance: &Instance, rows: &mut ItemRows<'_, T>) -> Result<(), T::Fault>
-    requires limits { IsInstance instance.now }
-    requires next { rows.old.next ≡ first_slack (week_of instance.now) }
-    ensures same_taker { rows.new.taker.ghost_name ≡ rows.old.taker.ghost_name }
-    ensures takes { let week = week_of instance.now in
-        Takes T.Taker (events (item_rows (first_slack week) (numbered_items week)))
-        rows.old.taker.now rows.new.taker.now result }
-{
-    walk_soft_items(instance, rows)
-}
-
 /// Hands the taker the row of each item of the soft rules, in the order of the rules.
 ///
 /// A row has the item's terms by rising variable, then its slacks, each with 1. The slacks of all
@@ -81,5 +68,5 @@ pub fn give_item_rows<T: Taker>(instance: &Instance, taker: &mut T) -> Result<()
         taker,
         next: unit_var(instance) + 1,
     };
-    give_rows(instance, &mut rows)
+    walk_soft_items(instance, &mut rows)
 }
