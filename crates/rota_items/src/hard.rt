@@ -20,8 +20,8 @@ mod row_walk;
 mod skills;
 mod succession;
 
+use crate::cell_sum::CellSum;
 use crate::hard::row_takers::RowTaker;
-use crate::items::soft_item::ItemSum;
 use crate::part::Part;
 use crate::rows::{Row, give_row};
 use crate::takers::Taker;
@@ -64,7 +64,7 @@ pub fn give_unit<T: Taker>(instance: &Instance, taker: &mut T) -> Result<(), T::
 {
     let row = Row {
         part: Part::Hard(Rule::Unit),
-        sum: ItemSum::NoCells,
+        sum: CellSum::NoCells,
         first: unit_var(instance),
         count: 1,
         degree: 1,

@@ -2,7 +2,8 @@
 ghost use Rattle.rota_core.specs.InstanceTables.{week_of};
 ghost use Rattle.rota_core.specs.Lists.{only_if};
 ghost use Rattle.rota_items.specs.ItemTakes.{TakesItems};
-ghost use Rattle.rota_items.specs.ItemValues.{IsSumOf, item_of};
+ghost use Rattle.rota_items.specs.CellSums.{IsSumOf};
+ghost use Rattle.rota_items.specs.ItemValues.{item_of};
 
 use crate::items::item_takers::ItemTaker;
 use crate::items::soft_item::SoftItem;

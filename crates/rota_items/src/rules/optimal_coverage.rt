@@ -3,9 +3,10 @@ ghost use Rattle.rota_core.specs.InstanceTables.{week_of};
 ghost use Rattle.rota_items.specs.ItemTakes.{TakesItems};
 ghost use Rattle.rota_items.specs.rules.OptimalCoverage.Items.{optimum_items};
 
+use crate::cell_sum::CellSum;
 use crate::days::DAYS;
 use crate::items::item_takers::ItemTaker;
-use crate::items::soft_item::{ItemSum, SoftItem};
+use crate::items::soft_item::SoftItem;
 use crate::rules::item_walk::item_where;
 use rota_core::{Instance, Rule};
 
@@ -27,7 +28,7 @@ pub fn walk<T: ItemTaker>(instance: &Instance, taker: &mut T) -> Result<(), T::F
                     rule: Rule::S1,
                     weight: WEIGHT,
                     slacks: u32::from(demand.optimal.saturating_sub(demand.minimum)),
-                    sum: ItemSum::Demand { day, shift, skill },
+                    sum: CellSum::Demand { day, shift, skill },
                     degree: i64::from(demand.optimal),
                 };
                 item_where(instance, taker, demand.minimum < demand.optimal, item)?;

@@ -3,12 +3,14 @@ ghost use Rattle.std.specs.Prelude.{◌≡◌, ◌<◌, ◌≤◌, ◌&&◌, nat
 ghost use Rattle.rota_core.specs.InstanceTables.{week_of};
 ghost use Rattle.rota_items.specs.CountedTotals.{greatest_totals_count, least_totals_count};
 ghost use Rattle.rota_items.specs.ItemTakes.{TakesItems};
-ghost use Rattle.rota_items.specs.ItemValues.{IsSumOf, item_of};
+ghost use Rattle.rota_items.specs.CellSums.{IsSumOf};
+ghost use Rattle.rota_items.specs.ItemValues.{item_of};
 ghost use Rattle.rota_items.specs.rules.TotalAssignments.Items.{assignment_constant_of, assignments_above, greatest_total_item, least_total_item, still_allowed, still_wanted, totals_of, wanted_beyond_days};
 
+use crate::cell_sum::CellSum;
 use crate::days::DAYS;
 use crate::items::item_takers::ItemTaker;
-use crate::items::soft_item::{ItemSum, SoftItem};
+use crate::items::soft_item::SoftItem;
 use crate::rules::counted_totals::{
     excess_before_counts, greatest_totals_count, least_totals_count,
 };
@@ -66,7 +68,7 @@ fn least_total(instance: &Instance, nurse: u16) -> SoftItem
         rule: Rule::S6,
         weight: WEIGHT,
         slacks: u32::from(missing),
-        sum: ItemSum::Total {
+        sum: CellSum::Total {
             nurse,
             sign: Sign::Plus,
         },
@@ -85,7 +87,7 @@ fn greatest_total(instance: &Instance, nurse: u16) -> SoftItem
         rule: Rule::S6,
         weight: WEIGHT,
         slacks: u32::from(u16::from(DAYS).saturating_sub(room)),
-        sum: ItemSum::Total {
+        sum: CellSum::Total {
             nurse,
             sign: Sign::Minus,
         },
