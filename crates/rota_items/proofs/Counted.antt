@@ -1,12 +1,11 @@
 -- What a counter makes of a list of rows, and of the rows of a week's model.
-use Rattle.rota_items.proofs.Common.Words.{◌≡◌, ℕ, ◌+◌, ◌≤◌, min, max, Bool, true, cond, List, [], ◌∷◌, ◌++◌, map, length, refl, ap, ◌∙◌, arith, fold-append, sum_by-cons, AllByRecursion, fold, count_by, Term, LinearRow, counted, counts_of, greatest, is_constraint, no_counts, variables_in, greatest_count, start_row, close_row, term_events, row_events, events, Part, Objective, Hard, Soft, ◌<◌, sym, pos, list_any, true≢false, length-map, ◌||◌, inl, inr, ◌==◌, cases_Bool, eqb-true, Week, objective_rows, linear_constraint, rows_of, objective_terms, model_of, counts_of_model, stands_in, IsWithinLimits, InstanceTables, IsInstance, week_of, rule_rows, soft_items, slack_count, first_slack, word_limit, count_limit}
+use Rattle.rota_items.proofs.Common.Words.{◌≡◌, ℕ, ◌+◌, ◌≤◌, min, max, Bool, true, cond, List, [], ◌∷◌, ◌++◌, map, length, refl, ap, ◌∙◌, arith, fold-append, sum_by-cons, AllByRecursion, fold, count_by, Term, LinearRow, counted, counts_of, greatest, is_constraint, no_counts, variables_in, greatest_count, start_row, close_row, term_events, row_events, events, Part, Objective, Hard, Soft, ◌<◌, sym, pos, list_any, true≢false, length-map, ◌||◌, inl, inr, ◌==◌, cases_Bool, eqb-true, Week, objective_rows, linear_constraint, rows_of, objective_terms, model_of, counts_of_model, stands_in, IsWithinLimits}
 use Rattle.rota_items.specs.declared.counting.counter.Counts.{Counts}
 use Rattle.rota_items.proofs.ModelRows.{each-model_row}
 use Rattle.rota_core.specs.RisingLists.{RisesWithin}
 use Rattle.rota_core.proofs.LogicWords.{length-rising}
 use Rattle.rota_items.proofs.ModelTerms.{RisesTo, variable_of, objective-to_last, rises-to_last}
-use Rattle.rota_items.proofs.InstanceLimits.{instance-within_limits}
-use Rattle.rota_items.proofs.SlackBound.{length-rows_of, rows-below, variables_fit}
+use Rattle.rota_items.proofs.SlackBound.{rows-below}
 use Rattle.rota_items.proofs.Standing.{at_variable, stands-exactly}
 
 abbrev pub counts_row : LinearRow ℕ → Bool

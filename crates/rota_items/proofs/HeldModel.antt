@@ -1,9 +1,7 @@
 -- Holding cells adds to the model only that each of them is true.
 use Rattle.rota_items.proofs.Common.Words.{◌≡◌, ◌↔◌, ℕ, ◌+◌, Bool, false, [], map, length, ap, arith, rules, length-map, length-flat_map, KeepsCompetitionRules, KeepsHeld, Has, Roster, hard_rules, Week, Cell, rows_of_hard_rule, SatisfiesModel, linear_constraint, model_of, roster_of, rows_of, cells_of, h5_row, h5_rows, without_held, List, ◌∷◌, sym, refl, true≢false, AllByRecursion}
 use Rattle.rota_items.proofs.SlackBound.{length-rows_of}
-use Rattle.rota_items.proofs.HardRules.EachRule.{cells-are, held, one_cell, rows-are}
-use Rattle.rota_items.proofs.HardRules.Sound.{AllHold, Holds, IsRowSound}
-use Rattle.rota_items.proofs.Lists.{all-weaker}
+use Rattle.rota_items.proofs.HardRules.EachRule.{cells-are}
 use Rattle.rota_items.proofs.Satisfied.{model-means}
 
 nothing : {A : Type 0} (xs : List A) → AllByRecursion (λ _. ⊥) xs → xs ≡ []

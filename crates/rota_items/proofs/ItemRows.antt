@@ -130,10 +130,13 @@ module _ {events_of : Item ℕ → ℕ → List Event} {all : ℕ → List (Item
           let week = week_of tables in
           omega (arith, variables_fit week (instance-within_limits tables valid), slack_count-numbered (cell_number week) (soft_items week), first)
 
-      pub handed_on : {R : Type 0} (r : Result R F) → TakesAll handing_of (with_item T.step events_of) stops_at items old new r →
-          (name_of new ≡ name_of old) × Takes T (all (first_slack (week_of tables)) items) (taker_of old) (taker_of new) r
-      handed_on (Ok x) takes =
-          let took = took_all items fit takes in (took.0, subst (λ n. Took T (all n items) (taker_of old) (taker_of new)) first took.1)
-      handed_on (Err e) takes =
+      -- the taker of rows kept its name, and so is lent back as it is left
+      pub handed_on : {R : Type 0} (r : Result R F) (end : S) → (name_of old ≡ name_of new → end ≡ taker_of new) →
+          TakesAll handing_of (with_item T.step events_of) stops_at items old new r →
+          Takes T (all (first_slack (week_of tables)) items) (taker_of old) end r
+      handed_on (Ok x) end ends takes =
+          let took = took_all items fit takes in
+          rw (ends (sym took.0)) (subst (λ n. Took T (all n items) (taker_of old) (taker_of new)) first took.1)
+      handed_on (Err e) end ends takes =
           let refused = refused_one items fit takes in
-          (refused.0, subst (λ n. Refused T (all n items) (taker_of old) (taker_of new)) first refused.1)
+          rw (ends (sym refused.0)) (subst (λ n. Refused T (all n items) (taker_of old) (taker_of new)) first refused.1)

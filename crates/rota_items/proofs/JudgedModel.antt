@@ -1,18 +1,18 @@
 -- What a judge makes of the model of a week.
-use Rattle.rota_items.proofs.Common.Words.{mul-le-mul_right, ◌≡◌, ℕ, ◌+◌, ◌*◌, ◌<◌, ◌≤◌, Bool, true, List, [], ◌∷◌, ◌++◌, refl, ap, ◌∙◌, cond, arith, pos, negsuc, nat_abs, if◌then◌else◌, AllByRecursion, fold, sum_by, ints, fold-append, sum_by-cons, AllByRecursion-append, Roster, InWeek, set_of, soft_rules, Week, Rule, Cell, cell_number, unit_number, first_slack, Item, numbered, shortage, weighted_shortages, Term, value_of, times, LinearRow, objective_rows, item_rows, slack_variables, slack_weights, cell_terms, constant, items_of_rule, soft_items, rule_rows, hard_rows, numbered_items, numbered_row, numbered_terms, objective_terms, rows_of, first_unmet, IsWithinLimits, most_objective, request_cost, signed_limit, Objective, events, row_events, RowSums, Tally, Subject, assigned, extended, assignment_in, roster_in, capped, no_sums, no_tally, tallied, flat_map-append, positive_part, unit_row, half_limit}
+use Rattle.rota_items.proofs.Common.Words.{mul-le-mul_right, ◌≡◌, ℕ, ◌+◌, ◌*◌, ◌<◌, ◌≤◌, Bool, true, List, [], ◌∷◌, ◌++◌, refl, ap, ◌∙◌, cond, arith, pos, negsuc, nat_abs, if◌then◌else◌, AllByRecursion, fold, sum_by, ints, fold-append, sum_by-cons, Roster, InWeek, set_of, soft_rules, Week, Rule, Cell, cell_number, unit_number, first_slack, Item, numbered, shortage, weighted_shortages, Term, value_of, LinearRow, objective_rows, item_rows, cell_terms, constant, items_of_rule, soft_items, rule_rows, hard_rows, numbered_items, numbered_row, numbered_terms, objective_terms, rows_of, first_unmet, IsWithinLimits, most_objective, request_cost, signed_limit, Objective, events, row_events, RowSums, Tally, Subject, assigned, extended, assignment_in, roster_in, capped, no_sums, no_tally, tallied, flat_map-append, positive_part, unit_row}
 use Rattle.rota_core.specs.declared.rule.Rule.TheVariants.{Unit as UnitRule}
 use Rattle.rota_items.proofs.Extension.{extension-roster, shortage-of_item, terms-below, value_of-objective, value_of-of_terms}
 use Rattle.rota_items.proofs.HardRules.EachRule.{each-row}
 use Rattle.rota_items.proofs.ItemEventLists.{slack_count-numbered}
 use Rattle.rota_items.proofs.ItemLaw.{extension-extends}
-use Rattle.rota_items.proofs.JudgedItems.{Follows, IsFit, charge_of, items-come, paid_for, paid_for-is, no-weights}
+use Rattle.rota_items.proofs.JudgedItems.{IsFit, charge_of, items-come, paid_for, paid_for-is, no-weights}
 use Rattle.rota_items.proofs.PenaltyBound.{each-small}
 use Rattle.rota_items.proofs.JudgedRows.{Comes, IsHardRow, rows-come, same, later-zero, hard-judged, counted-before, counted_other, others-before, row-tallied}
-use Rattle.rota_items.proofs.Lists.{all-map, sum_by-each-same, sum_by-flat_map, sum_by-map, all-both, all-weaker, sum_by-same}
+use Rattle.rota_items.proofs.Lists.{all-map, sum_by-each-same, sum_by-flat_map, sum_by-map, all-weaker, sum_by-same}
 use Rattle.rota_items.proofs.ObjectiveBound.{objective-below, IsPositive, coefficients-positive}
 use Rattle.rota_items.proofs.SlackBound.{rows-below, variables-below}
 use Rattle.rota_items.proofs.SmallSums.{spread}
-use Rattle.rota_items.proofs.SoftRules.EachRule.{cell_terms-are, sound-rule, each-item, in-cell_terms}
+use Rattle.rota_items.proofs.SoftRules.EachRule.{cell_terms-are, sound-rule, in-cell_terms}
 use Rattle.rota_items.proofs.SoftRules.ShiftOffRequests.{value_of-request_terms}
 use Rattle.rota_items.proofs.SoftRules.Sound.{IsItemSound}
 use Rattle.rota_items.proofs.SoundTerms.{spread-sound, OnCoefficients}

@@ -19,7 +19,6 @@ use Rattle.rota_items.proofs.RunLaw.{shortages-run_items, weighted_shortages-day
 use Rattle.rota_items.proofs.SlackBound.{constraints-below, variables-below}
 use Rattle.rota_items.proofs.SoftRules.EachRule.{sound-nurse_rule, sound-rule}
 use Rattle.rota_items.proofs.SoftRules.ConsecutiveDays.{weighted-off_runs, weighted-on_runs, weighted-work_runs}
-use Rattle.rota_items.proofs.SoftRules.NurseProperties.{one-at_work}
 use Rattle.rota_items.proofs.SoftRules.OptimalCoverage.{weighted-optimum_items}
 use Rattle.rota_items.proofs.SoftRules.ShiftOffRequests.{value_of-request_terms}
 use Rattle.rota_items.proofs.SoftRules.Sound.{charges-items, charges-nurses}

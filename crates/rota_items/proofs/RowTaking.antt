@@ -1,5 +1,5 @@
 -- What a taker of events and a counter take by the rows of the hard rules.
-use Rattle.rota_items.proofs.Common.Words.{◌≡◌, ℕ, ◌+◌, ◌≤◌, min, List, [], ◌∷◌, length, Result, refl, sym, ◌∙◌, arith, MatchResult-weaker, fold, fold-append, LinearRow, Event, events, row_events, greatest_count, RefusesRow, TakesAll, Takes, one_row_more, with_row, Ghosts}
+use Rattle.rota_items.proofs.Common.Words.{◌≡◌, ℕ, ◌+◌, ◌≤◌, min, List, [], ◌∷◌, length, refl, sym, ◌∙◌, arith, fold, fold-append, LinearRow, Event, events, row_events, greatest_count, RefusesRow, TookAll, RefusedOne, Took, Refused, one_row_more, with_row, Ghosts}
 use Rattle.rota_items.proofs.Taking.{events_join, Refused-before, Refused-after}
 
 fold-rows : {V : Type 0} (step : V → Event → V) (rows : List (LinearRow ℕ)) (value : V) →
@@ -8,15 +8,17 @@ unfolding events
 fold-rows step [] value = refl
 fold-rows step (row ∷ rows) value = fold-rows step rows (with_row step value row) ∙ sym (fold-append step value (row_events row) (events rows))
 
-pub rows_given : {S F R : Type 0} (T : Ghosts S F) (rows : List (LinearRow ℕ)) (s t : S) (r : Result R F) →
-    TakesAll T.value (with_row T.step) (RefusesRow T) rows s t r → Takes T (events rows) s t r
-unfolding events
-rows_given T rows s t r takes =
-    MatchResult-weaker r takes (λ _ took. record { value_is = took.value_is ∙ fold-rows T.step rows (T.value s) }) (λ _ refused.
-    rw (refused.are, events_join.append refused.taken (refused.event ∷ refused.untold))
-    (Refused-after (events refused.taken) _ s refused.leaves.old t
-    (record { value_is = refused.leaves.old_is ∙ fold-rows T.step refused.taken (T.value s) })
-    (Refused-before (row_events refused.event) (events refused.untold) refused.leaves.old t refused.leaves.refused)))
+module _ {S F : Type 0} (T : Ghosts S F) (rows : List (LinearRow ℕ)) (s t : S) where
+  pub rows_taken : TookAll T.value (with_row T.step) (RefusesRow T) rows s t → Took T (events rows) s t
+  rows_taken took = record { value_is = took.value_is ∙ fold-rows T.step rows (T.value s) }
+
+  pub rows_refused : RefusedOne T.value (with_row T.step) (RefusesRow T) rows s t → Refused T (events rows) s t
+  unfolding events
+  rows_refused refused =
+      rw (refused.are, events_join.append refused.taken (refused.event ∷ refused.untold))
+      (Refused-after (events refused.taken) _ s refused.leaves.old t
+      (record { value_is = refused.leaves.old_is ∙ fold-rows T.step refused.taken (T.value s) })
+      (Refused-before (row_events refused.event) (events refused.untold) refused.leaves.old t refused.leaves.refused))
 
 pub rows-counted : (rows : List (LinearRow ℕ)) (n : ℕ) → n ≤ greatest_count →
     fold one_row_more n rows ≡ min (n + length rows) greatest_count

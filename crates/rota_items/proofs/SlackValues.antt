@@ -1,11 +1,11 @@
 -- What a taker of literals takes by the items whose slacks are handed on to it.
-use Rattle.rota_items.proofs.Common.Words.{◌≡◌, ℕ, Bool, List, [], ◌∷◌, ◌++◌, Result, Ok, Err, refl, sym, ap, subst, ◌∙◌, arith, fold, fold-append, flat_map, flat_map-append, ◌-ℤ◌, w64, saturate_signed, AllByRecursion, AllByRecursion-back, MatchResult-weaker, InstanceTables, IsInstance, week_of, Week, Item, LinearRow, positive_part, shortage, set_of, numbered_items, assignment_of, RosterTables, Judging, Subject, Tally, extended, lacking_in, no_tally, Soft, start_row, term_events, TookAll, RefusedOne, TakesAll, ◌+◌}
+use Rattle.rota_items.proofs.Common.Words.{◌≡◌, ℕ, Bool, List, [], ◌∷◌, Result, Ok, Err, refl, sym, ap, ◌∙◌, arith, fold, fold-append, flat_map, flat_map-append, ◌-ℤ◌, w64, saturate_signed, AllByRecursion, AllByRecursion-back, InstanceTables, IsInstance, week_of, Week, Item, LinearRow, positive_part, set_of, numbered_items, assignment_of, RosterTables, Judging, Subject, Tally, extended, lacking_in, no_tally, Soft, start_row, term_events, TakesAll}
 use Rattle.rota_items.specs.Judging.{fresh}
 use Rattle.rota_items.proofs.ExtensionTruths.{item_truths, week-slacks}
 use Rattle.rota_items.proofs.InstanceLimits.{instance-within_limits}
 use Rattle.rota_items.proofs.JudgedItems.{IsFit, not_cut, shortage-extended}
 use Rattle.rota_items.proofs.JudgedModel.{items-fit}
-use Rattle.rota_items.proofs.JudgedRows.{opened, others-before, row-opened, sums_of}
+use Rattle.rota_items.proofs.JudgedRows.{opened, others-before, row-opened}
 use Rattle.rota_items.proofs.JudgedVerdict.{tally-driven}
 use Rattle.rota_items.proofs.Taking.{Refused-after, Refused-before}
 use Rattle.rota_items.specs.LiteralTakes.{TakesLiterals}
@@ -88,10 +88,10 @@ module _ (tables : InstanceTables) (roster : RosterTables) where
               (Refused-before (truths item) (flat_map truths rest) stops.old (taker_of new) (rw (item-slacks before.tally item parts.1.0) at stops.refused))),
         )
 
-    -- the items of a week
-    pub slacks_given : {R : Type 0} → IsInstance tables → (r : Result R F) →
+    -- the items of a week: the taker kept its name, and so is lent back as it is left
+    pub slacks_given : {R : Type 0} → IsInstance tables → (r : Result R F) (end : S) → (name_of old ≡ name_of new → end ≡ taker_of new) →
         TakesAll valuing_of (with_slacks_of T.step) stops_at (numbered_items week) old new r →
-        (name_of new ≡ name_of old) × TakesLiterals T (slack_truths week (set_of roster)) (taker_of old) (taker_of new) r
-    slacks_given valid r takes =
-        rw (← week-slacks week (set_of roster))
-        (handed (numbered_items week) (items-fit week subject (instance-within_limits tables valid)) r takes)
+        TakesLiterals T (slack_truths week (set_of roster)) (taker_of old) end r
+    slacks_given valid r end ends takes =
+        let given = handed (numbered_items week) (items-fit week subject (instance-within_limits tables valid)) r takes in
+        rw (← week-slacks week (set_of roster), ends (sym given.0)) given.1

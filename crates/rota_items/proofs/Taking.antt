@@ -44,7 +44,11 @@ terms-none week = (terms_join week).none
 pub terms-append : (week : Week) (xs ys : List (Term Cell)) → cell_term_events week (xs ++ ys) ≡ cell_term_events week xs ++ cell_term_events week ys
 terms-append week = (terms_join week).append
 
-pub ruleset taking = (each_below-zero, each_below-more, terms-none, terms-append, map-append, fold-append)
+pub terms-one : (week : Week) (one : Term Cell) → cell_term_events week (one ∷ []) ≡ term one.0 (cell_number week one.1) ∷ []
+unfolding cell_term_events term_events
+terms-one week one = refl
+
+pub ruleset taking = (each_below-zero, each_below-more, terms-none, terms-append, terms-one, map-append, fold-append)
 
 -- the list is the events of one row: it begins, these terms follow, and the degree ends it
 pub record IsRow (all : List Event) (part : Part) (terms : List Event) (degree : ℤ) : Type 0 where
@@ -154,6 +158,11 @@ module _ {S F : Type 0} (T : Ghosts S F) where
       Takes T (sum_events week sign (cell ∷ [])) s t r
   unfolding cell_term_events
   cell_taken week sign cell variable s t r same taken = term_takes (coefficient_of sign) (cell_number week cell) s t r (rw same at taken)
+
+  pub cell_refused : (week : Week) (sign : Sign) (cell : Cell) (variable : ℕ) (s t : S) → variable ≡ cell_number week cell →
+      T.left (T.value s) (term (coefficient_of sign) variable) t → Refused T (sum_events week sign (cell ∷ [])) s t
+  unfolding cell_term_events
+  cell_refused week sign cell variable s t same refused = term_refused (coefficient_of sign) (cell_number week cell) s t (rw same at refused)
 
   -- ---- a list of one row
 

@@ -1,6 +1,7 @@
 pub mod AlikeRosters
 pub mod Bounds
 pub mod CellEvents
+pub mod CellSums
 pub mod Charges
 pub mod Coefficients
 pub mod CountedTotals

@@ -4,7 +4,7 @@ use Rattle.std.specs.List.{fold, range_with_len}
 use Rattle.rota_core.specs.declared.values.Cell.{Cell}
 use Rattle.rota_core.specs.Week.{Week}
 use Rattle.rota_items.specs.Events.{Event, row_events}
-use Rattle.rota_items.specs.ItemValues.{sum_terms}
+use Rattle.rota_items.specs.CellSums.{sum_terms}
 use Rattle.rota_items.specs.ModelWords.{LinearRow, times}
 use Rattle.rota_items.specs.Limits.{greatest_count}
 use Rattle.rota_items.specs.WeekModel.{numbered_row, numbered_terms}

@@ -4,7 +4,7 @@ ghost use Rattle.rota_items.specs.Events.{events};
 ghost use Rattle.rota_items.specs.Takes.{Takes};
 ghost use Rattle.rota_items.specs.WeekModel.{rows_of};
 
-use crate::hard::give_hard_rows;
+use crate::hard::{give_unit, walk_rule_rows};
 use crate::items::item_rows::give_item_rows;
 use crate::takers::Taker;
 use rota_core::Instance;
@@ -32,6 +32,7 @@ use rota_core::Instance;
 pub fn drive_constraints<T: Taker>(instance: &Instance, taker: &mut T) -> Result<(), T::Fault>
     ensures { Takes T.Taker (events (rows_of (week_of instance.now))) taker.old taker.new result }
 {
-    give_hard_rows(instance, taker)?;
+    give_unit(instance, taker)?;
+    walk_rule_rows(instance, taker)?;
     give_item_rows(instance, taker)
 }

@@ -6,7 +6,7 @@ ghost use Rattle.rota_items.specs.Events.{events};
 ghost use Rattle.rota_items.specs.HardRows.{rows_of_hard_rule, rule_rows};
 ghost use Rattle.rota_items.specs.RowTakes.{TakesRows};
 ghost use Rattle.rota_items.specs.Takes.{Takes};
-ghost use Rattle.rota_items.specs.WeekModel.{hard_rows, unit_row};
+ghost use Rattle.rota_items.specs.WeekModel.{unit_row};
 
 mod held;
 mod minimum;
@@ -20,8 +20,8 @@ mod row_walk;
 mod skills;
 mod succession;
 
+use crate::cell_sum::CellSum;
 use crate::hard::row_takers::RowTaker;
-use crate::items::soft_item::ItemSum;
 use crate::part::Part;
 use crate::rows::{Row, give_row};
 use crate::takers::Taker;
@@ -57,25 +57,17 @@ pub fn walk_rule_rows<T: RowTaker>(instance: &Instance, taker: &mut T) -> Result
     Ok(())
 }
 
-// The row that makes the unit variable true.
-fn give_unit<T: Taker>(instance: &Instance, taker: &mut T) -> Result<(), T::Fault>
+/// The row that makes the unit variable true.
+pub fn give_unit<T: Taker>(instance: &Instance, taker: &mut T) -> Result<(), T::Fault>
     ensures { Takes T.Taker (events (unit_row (unit_number (week_of instance.now)) ∷ []))
         taker.old taker.new result }
 {
     let row = Row {
         part: Part::Hard(Rule::Unit),
-        sum: ItemSum::NoCells,
+        sum: CellSum::NoCells,
         first: unit_var(instance),
         count: 1,
         degree: 1,
     };
     give_row(instance, taker, row)
-}
-
-/// Hands the taker the row of the unit variable and those of the hard rules.
-pub fn give_hard_rows<T: Taker>(instance: &Instance, taker: &mut T) -> Result<(), T::Fault>
-    ensures { Takes T.Taker (events (hard_rows (week_of instance.now))) taker.old taker.new result }
-{
-    give_unit(instance, taker)?;
-    walk_rule_rows(instance, taker)
 }

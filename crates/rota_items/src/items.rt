@@ -2,8 +2,6 @@
 
 // The rows of items, handed to a taker of rows.
 pub mod item_rows;
-// The terms of items.
-pub mod item_sums;
 // What takes the items of the soft rules, item by item.
 pub mod item_takers;
 // The weights of items' slacks, handed to a taker of rows as terms of the objective.

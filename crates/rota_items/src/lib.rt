@@ -14,10 +14,12 @@
 
 // The rows: what each stands for, what takes them event by event, the numbers of their variables, their
 // sums of cells, and the rows of the hard rules.
+mod cell_sum;
 mod days;
 mod hard;
 mod part;
 mod rows;
+mod sum_terms;
 mod sums;
 mod takers;
 mod variables;

@@ -2,14 +2,14 @@
 ghost use Rattle.std.specs.Prelude.{◌+◌, ◌<◌};
 ghost use Rattle.rota_core.specs.InstanceTables.{week_of};
 ghost use Rattle.rota_items.specs.Events.{row_events};
-ghost use Rattle.rota_items.specs.ItemValues.{IsSumOf};
+ghost use Rattle.rota_items.specs.CellSums.{IsSumOf};
 ghost use Rattle.rota_items.specs.RowValues.{row_of};
 ghost use Rattle.rota_items.specs.Takes.{Takes};
 ghost use Rattle.rota_items.specs.Limits.{word_limit};
 
-use crate::items::item_sums::give_sum;
-use crate::items::soft_item::ItemSum;
+use crate::cell_sum::CellSum;
 use crate::part::Part;
+use crate::sum_terms::give_sum;
 use crate::sums::give_range;
 use crate::takers::Taker;
 use rota_core::Instance;
@@ -19,7 +19,7 @@ use rota_core::Instance;
 #[derive(Clone, Copy)]
 pub struct Row {
     pub part: Part,
-    pub sum: ItemSum,
+    pub sum: CellSum,
     pub first: u32,
     pub count: u32,
     pub degree: i64,

@@ -15,6 +15,8 @@ mod consecutive_assignments;
 mod consecutive_days_off;
 // Which totals count in the week.
 mod counted_totals;
+// A step of a walk over items.
+mod item_walk;
 mod optimal_coverage;
 mod shift_off_requests;
 mod total_assignments;

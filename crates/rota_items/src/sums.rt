@@ -1,10 +1,10 @@
 //! Sums of cells, term by term.
-ghost use Rattle.std.specs.Prelude.{◌≡◌, ◌+◌, ◌<◌, [], ◌∷◌};
+ghost use Rattle.std.specs.Prelude.{◌≡◌, ◌+◌, ◌<◌};
 ghost use Rattle.std.specs.List.{range_with_len};
 ghost use Rattle.rota_core.specs.InstanceTables.{week_of};
-ghost use Rattle.rota_core.specs.Roster.{InWeek, cell};
+ghost use Rattle.rota_core.specs.Roster.{cell};
 ghost use Rattle.rota_items.specs.CellEvents.{coefficient_of, sum_events};
-ghost use Rattle.rota_items.specs.ModelWords.{demand_cells, each_below, nurse_cells, on_cells, skill_cells, times, work_cells};
+ghost use Rattle.rota_items.specs.ModelWords.{demand_cells, nurse_cells, on_cells, skill_cells, times, work_cells};
 ghost use Rattle.rota_items.specs.Events.{term_events};
 ghost use Rattle.rota_items.specs.Takes.{Takes};
 ghost use Rattle.rota_items.specs.Limits.{word_limit};
@@ -102,24 +102,6 @@ pub fn give_nurse_cells<T: Taker>(
     give_range(taker, coefficient(sign), first, cells)
 }
 
-/// One cell, with the sign.
-pub fn give_cell<T: Taker>(
-    instance: &Instance,
-    taker: &mut T,
-    sign: Sign,
-    cell: Cell,
-) -> Result<(), T::Fault>
-    requires { InWeek (week_of instance.now) cell }
-    ensures { Takes T.Taker (sum_events (week_of instance.now) sign (cell ∷ []))
-        taker.old taker.new result }
-{
-    let variable = cell_var(instance, cell);
-    match sign {
-        Sign::Plus => taker.term(1, variable),
-        Sign::Minus => taker.term(-1, variable),
-    }
-}
-
 /// The cells of a day's shift type and skill, one for each nurse.
 #[tactic(auto, using(crate::proofs::Taking::taking))]
 pub fn give_demand_cells<T: Taker>(
@@ -143,35 +125,7 @@ pub fn give_demand_cells<T: Taker>(
             shift,
             skill,
         };
-        give_cell(instance, taker, Sign::Plus, cell)?;
-    }
-    Ok(())
-}
-
-// The cells of a nurse's day that need the skill, each with -1.
-#[tactic(auto, using(crate::proofs::Taking::taking))]
-fn give_skill_cells_on<T: Taker>(
-    instance: &Instance,
-    taker: &mut T,
-    nurse: u16,
-    day: u8,
-    skill: u8,
-) -> Result<(), T::Fault>
-    requires nurse_in { nurse < (week_of instance.now).nurses }
-    requires day_in { day < 7 }
-    requires skill_in { skill < (week_of instance.now).skills }
-    ensures { let week = week_of instance.now in
-        Takes T.Taker (sum_events week Sign.Minus (each_below week.shifts (λ s. cell nurse day s skill ∷ [])))
-        taker.old taker.new result }
-{
-    for shift in 0..instance.shifts() {
-        let cell = Cell {
-            nurse,
-            day,
-            shift,
-            skill,
-        };
-        give_cell(instance, taker, Sign::Minus, cell)?;
+        taker.term(1, cell_var(instance, cell))?;
     }
     Ok(())
 }
@@ -191,7 +145,15 @@ pub fn give_skill_cells<T: Taker>(
         taker.old taker.new result }
 {
     for day in 0..7 {
-        give_skill_cells_on(instance, taker, nurse, day, skill)?;
+        for shift in 0..instance.shifts() {
+            let cell = Cell {
+                nurse,
+                day,
+                shift,
+                skill,
+            };
+            taker.term(-1, cell_var(instance, cell))?;
+        }
     }
     Ok(())
 }

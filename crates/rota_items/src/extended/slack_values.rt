@@ -3,19 +3,18 @@ ghost use Rattle.std.specs.Prelude.{◌≡◌};
 ghost use Rattle.rota_core.specs.InstanceTables.{IsInstance, week_of};
 ghost use Rattle.rota_core.specs.RosterTables.{HasShapeOf, set_of};
 ghost use Rattle.rota_items.specs.ItemTaking.{numbered_item};
-ghost use Rattle.rota_items.specs.ItemValues.{IsSumOf};
-ghost use Rattle.rota_items.specs.Judging.{extended, fresh};
+ghost use Rattle.rota_items.specs.CellSums.{IsSumOf};
 ghost use Rattle.rota_items.specs.LiteralTakes.{TakesLiterals};
 ghost use Rattle.rota_items.specs.SlackValues.{first_true, slack_truths, with_terms_of};
 
 use crate::extended::literal_takers::LiteralTaker;
-use crate::items::item_sums::give_sum;
 use crate::items::item_takers::{ItemTaker, RunTaker};
 use crate::items::soft_item::{NurseRuns, SoftItem};
 use crate::judge::Judge;
 use crate::part::Part;
 use crate::rules::walk_soft_items;
 use crate::runs::run_walk::walk_runs;
+use crate::sum_terms::give_sum;
 use crate::takers::Taker;
 use rota_core::{Instance, Roster};
 use std::convert::Infallible;
@@ -79,21 +78,6 @@ impl<'r, 'j, 't, T: LiteralTaker> RunTaker for SlackValues<'r, 'j, 't, T> {
     }
 }
 
-// Hands on the slacks of all items of the instance's week.
-fn give_values<T: LiteralTaker>(
-    instance: &Instance,
-    roster: &Roster,
-    values: &mut SlackValues<'_, '_, '_, T>,
-) -> Result<(), T::Fault>
-    requires limits { IsInstance instance.now }
-    requires judge { values.old.judge.now ≡ fresh instance.now (extended roster.now) }
-    ensures same_taker { values.new.taker.ghost_name ≡ values.old.taker.ghost_name }
-    ensures takes { TakesLiterals T.LiteralTaker (slack_truths (week_of instance.now) (set_of roster.now))
-        values.old.taker.now values.new.taker.now result }
-{
-    walk_soft_items(instance, values)
-}
-
 /// Hands the taker the literals of the slacks of all items, by rising variable: of each item the first
 /// slacks are true, as many as it lacks on the roster.
 pub fn give_slack_values<T: LiteralTaker>(
@@ -111,5 +95,5 @@ pub fn give_slack_values<T: LiteralTaker>(
         judge: &mut judge,
         taker,
     };
-    give_values(instance, roster, &mut values)
+    walk_soft_items(instance, &mut values)
 }

@@ -3,8 +3,8 @@ ghost use Rattle.rota_core.specs.InstanceTables.{week_of};
 ghost use Rattle.rota_items.specs.HardRows.{h5_rows};
 ghost use Rattle.rota_items.specs.RowTakes.{TakesRows};
 
+use crate::cell_sum::CellSum;
 use crate::hard::row_takers::{HardRow, RowTaker};
-use crate::items::soft_item::ItemSum;
 use rota_core::{Instance, Rule};
 
 /// Each held cell, by rising variable.
@@ -16,7 +16,7 @@ pub fn walk<T: RowTaker>(instance: &Instance, taker: &mut T) -> Result<(), T::Fa
     for cell in instance.held_cells() {
         let row = HardRow {
             rule: Rule::H5,
-            sum: ItemSum::One(cell),
+            sum: CellSum::One(cell),
             degree: 1,
         };
         taker.row(instance, row)?;

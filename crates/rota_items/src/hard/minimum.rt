@@ -3,9 +3,9 @@ ghost use Rattle.rota_core.specs.InstanceTables.{week_of};
 ghost use Rattle.rota_items.specs.HardRows.{h2_rows};
 ghost use Rattle.rota_items.specs.RowTakes.{TakesRows};
 
+use crate::cell_sum::CellSum;
 use crate::hard::row_takers::{HardRow, RowTaker};
 use crate::hard::row_walk::row_where;
-use crate::items::soft_item::ItemSum;
 use rota_core::{Instance, Rule};
 
 /// The least number of nurses, for each day, shift type and skill, where one is asked for.
@@ -20,7 +20,7 @@ pub fn walk<T: RowTaker>(instance: &Instance, taker: &mut T) -> Result<(), T::Fa
                 let minimum = instance.demand(day, shift, skill).minimum;
                 let row = HardRow {
                     rule: Rule::H2,
-                    sum: ItemSum::Demand { day, shift, skill },
+                    sum: CellSum::Demand { day, shift, skill },
                     degree: i64::from(minimum),
                 };
                 row_where(instance, taker, minimum > 0, row)?;

@@ -3,8 +3,8 @@ ghost use Rattle.rota_core.specs.InstanceTables.{week_of};
 ghost use Rattle.rota_items.specs.HardRows.{h1_rows};
 ghost use Rattle.rota_items.specs.RowTakes.{TakesRows};
 
+use crate::cell_sum::CellSum;
 use crate::hard::row_takers::{HardRow, RowTaker};
-use crate::items::soft_item::ItemSum;
 use rota_core::{Instance, Rule};
 
 /// At most one cell for each nurse and day.
@@ -17,7 +17,7 @@ pub fn walk<T: RowTaker>(instance: &Instance, taker: &mut T) -> Result<(), T::Fa
         for day in 0..7 {
             let row = HardRow {
                 rule: Rule::H1,
-                sum: ItemSum::Day { nurse, day },
+                sum: CellSum::Day { nurse, day },
                 degree: -1,
             };
             taker.row(instance, row)?;

@@ -1,11 +1,12 @@
 //! What takes the rows of the hard rules, row by row.
 ghost use Rattle.std.specs.Prelude.{◌≡◌, ℕ, MatchResult};
 ghost use Rattle.rota_core.specs.InstanceTables.{week_of};
-ghost use Rattle.rota_items.specs.ItemValues.{IsSumOf, hard_row_of};
+ghost use Rattle.rota_items.specs.CellSums.{IsSumOf};
+ghost use Rattle.rota_items.specs.ItemValues.{hard_row_of};
 ghost use Rattle.rota_items.specs.ModelWords.{LinearRow};
 ghost use Rattle.rota_items.specs.WeekModel.{numbered_row};
 
-use crate::items::soft_item::ItemSum;
+use crate::cell_sum::CellSum;
 use crate::part::Part;
 use crate::rows::{Row, give_row};
 use crate::takers::Taker;
@@ -15,7 +16,7 @@ use rota_core::{Instance, Rule};
 #[derive(Clone, Copy)]
 pub struct HardRow {
     pub rule: Rule,
-    pub sum: ItemSum,
+    pub sum: CellSum,
     pub degree: i64,
 }
 

@@ -1,7 +1,8 @@
 //! A step of a walk over the rows of the hard rules.
 ghost use Rattle.rota_core.specs.InstanceTables.{week_of};
 ghost use Rattle.rota_core.specs.Lists.{only_if};
-ghost use Rattle.rota_items.specs.ItemValues.{IsSumOf, hard_row_of};
+ghost use Rattle.rota_items.specs.CellSums.{IsSumOf};
+ghost use Rattle.rota_items.specs.ItemValues.{hard_row_of};
 ghost use Rattle.rota_items.specs.RowTakes.{TakesRows};
 
 use crate::hard::row_takers::{HardRow, RowTaker};

@@ -3,9 +3,9 @@ ghost use Rattle.rota_core.specs.InstanceTables.{week_of};
 ghost use Rattle.rota_items.specs.HardRows.{h4_rows};
 ghost use Rattle.rota_items.specs.RowTakes.{TakesRows};
 
+use crate::cell_sum::CellSum;
 use crate::hard::row_takers::{HardRow, RowTaker};
 use crate::hard::row_walk::row_where;
-use crate::items::soft_item::ItemSum;
 use rota_core::{Instance, Rule};
 
 /// No cell of a nurse that needs a skill, for each nurse and skill that she lacks.
@@ -18,7 +18,7 @@ pub fn walk<T: RowTaker>(instance: &Instance, taker: &mut T) -> Result<(), T::Fa
         for skill in 0..instance.skills() {
             let row = HardRow {
                 rule: Rule::H4,
-                sum: ItemSum::Skill { nurse, skill },
+                sum: CellSum::Skill { nurse, skill },
                 degree: 0,
             };
             row_where(instance, taker, !instance.has_skill(nurse, skill), row)?;

@@ -4,9 +4,9 @@ ghost use Rattle.rota_core.specs.InstanceTables.{week_of};
 ghost use Rattle.rota_items.specs.HardRows.{h3_monday_rows, h3_rows, h3_rows_between, h3_rows_of, is_forbidden_after};
 ghost use Rattle.rota_items.specs.RowTakes.{TakesRows};
 
+use crate::cell_sum::CellSum;
 use crate::hard::row_takers::{HardRow, RowTaker};
 use crate::hard::row_walk::row_where;
-use crate::items::soft_item::ItemSum;
 use rota_core::{Instance, Rule};
 
 // Whether the nurse may not have the shift type on Monday, after the last one of the history.
@@ -32,7 +32,7 @@ fn walk_monday<T: RowTaker>(instance: &Instance, taker: &mut T, nurse: u16) -> R
     for shift in 0..instance.shifts() {
         let row = HardRow {
             rule: Rule::H3,
-            sum: ItemSum::OnDay {
+            sum: CellSum::OnDay {
                 nurse,
                 shift,
                 day: 0,
@@ -66,7 +66,7 @@ fn walk_between<T: RowTaker>(
         for second in 0..instance.shifts() {
             let row = HardRow {
                 rule: Rule::H3,
-                sum: ItemSum::InTurn {
+                sum: CellSum::InTurn {
                     nurse,
                     day,
                     first,

@@ -1,11 +1,6 @@
 //! The rows of items, handed to a taker of rows.
-ghost use Rattle.std.specs.Prelude.{◌≡◌, ◌+◌, ◌<◌};
-ghost use Rattle.rota_core.specs.InstanceTables.{IsInstance, week_of};
+ghost use Rattle.rota_core.specs.InstanceTables.{week_of};
 ghost use Rattle.rota_items.specs.Events.{events};
-ghost use Rattle.rota_items.specs.ItemRows.{row_of_item};
-ghost use Rattle.rota_items.specs.ItemTaking.{numbered_item};
-ghost use Rattle.rota_items.specs.ItemValues.{IsSumOf};
-ghost use Rattle.rota_items.specs.Limits.{word_limit};
 ghost use Rattle.rota_items.specs.WeekModel.{item_rows, first_slack, numbered_items};
 ghost use Rattle.rota_items.specs.Takes.{Takes};
 
@@ -18,28 +13,6 @@ use crate::runs::run_walk::walk_runs;
 use crate::takers::Taker;
 use crate::variables::unit_var;
 use rota_core::Instance;
-
-// The row of an item: its terms, and its slacks from the first on.
-fn give_item_row<T: Taker>(
-    instance: &Instance,
-    taker: &mut T,
-    first: u32,
-    item: SoftItem,
-) -> Result<(), T::Fault>
-    requires sum_in { IsSumOf (week_of instance.now) item.sum }
-    requires slacks_fit { first + item.slacks < word_limit }
-    ensures { Takes T.Taker (row_of_item (numbered_item (week_of instance.now) item) first)
-        taker.old taker.new result }
-{
-    let row = Row {
-        part: Part::Soft(item.rule, u64::from(item.weight)),
-        sum: item.sum,
-        first,
-        count: item.slacks,
-        degree: item.degree,
-    };
-    give_row(instance, taker, row)
-}
 
 // Hands a taker of rows the row of each item, whose slacks follow those of the item before.
 #[derive(Drop)]
@@ -63,7 +36,14 @@ impl<'t, T: Taker> ItemTaker for ItemRows<'t, T> {
 
     fn item(&mut self, instance: &Instance, item: SoftItem) -> Result<(), T::Fault> {
         let item = item.within_numbers(self.next);
-        give_item_row(instance, self.taker, self.next, item)?;
+        let row = Row {
+            part: Part::Soft(item.rule, u64::from(item.weight)),
+            sum: item.sum,
+            first: self.next,
+            count: item.slacks,
+            degree: item.degree,
+        };
+        give_row(instance, self.taker, row)?;
         self.next += item.slacks;
         Ok(())
     }
@@ -73,18 +53,6 @@ impl<'t, T: Taker> RunTaker for ItemRows<'t, T> {
     fn runs(&mut self, instance: &Instance, runs: NurseRuns) -> Result<(), T::Fault> {
         walk_runs(instance, self, runs)
     }
-}
-
-// Hands on the rows of all items of the instance's week.
-fn give_rows<T: Taker>(instance: &Instance, rows: &mut ItemRows<'_, T>) -> Result<(), T::Fault>
-    requires limits { IsInstance instance.now }
-    requires next { rows.old.next ≡ first_slack (week_of instance.now) }
-    ensures same_taker { rows.new.taker.ghost_name ≡ rows.old.taker.ghost_name }
-    ensures takes { let week = week_of instance.now in
-        Takes T.Taker (events (item_rows (first_slack week) (numbered_items week)))
-        rows.old.taker.now rows.new.taker.now result }
-{
-    walk_soft_items(instance, rows)
 }
 
 /// Hands the taker the row of each item of the soft rules, in the order of the rules.
@@ -100,5 +68,5 @@ pub fn give_item_rows<T: Taker>(instance: &Instance, taker: &mut T) -> Result<()
         taker,
         next: unit_var(instance) + 1,
     };
-    give_rows(instance, &mut rows)
+    walk_soft_items(instance, &mut rows)
 }

@@ -3,7 +3,8 @@ ghost use Rattle.std.specs.Prelude.{◌≡◌, ℕ, MatchResult};
 ghost use Rattle.rota_core.specs.InstanceTables.{week_of};
 ghost use Rattle.rota_items.specs.ModelWords.{Item};
 ghost use Rattle.rota_items.specs.ItemTaking.{numbered_item, numbered_list};
-ghost use Rattle.rota_items.specs.ItemValues.{IsChargeOf, IsSumOf, runs_of};
+ghost use Rattle.rota_items.specs.CellSums.{IsSumOf};
+ghost use Rattle.rota_items.specs.ItemValues.{IsChargeOf, runs_of};
 ghost use Rattle.rota_items.specs.RunItems.{run_items};
 ghost use Rattle.rota_items.specs.Takes.{TakesAll};
 

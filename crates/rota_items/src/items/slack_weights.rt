@@ -1,6 +1,5 @@
 //! The weights of items' slacks, handed to a taker of rows as terms of the objective.
-ghost use Rattle.std.specs.Prelude.{◌≡◌};
-ghost use Rattle.rota_core.specs.InstanceTables.{IsInstance, week_of};
+ghost use Rattle.rota_core.specs.InstanceTables.{week_of};
 ghost use Rattle.rota_items.specs.Events.{term_events};
 ghost use Rattle.rota_items.specs.WeekModel.{slack_weights, first_slack, numbered_items};
 ghost use Rattle.rota_items.specs.Takes.{Takes};
@@ -48,21 +47,6 @@ impl<'t, T: Taker> RunTaker for SlackWeights<'t, T> {
     }
 }
 
-// Hands on the slacks of all items of the instance's week, with their weights.
-fn give_weights<T: Taker>(
-    instance: &Instance,
-    weights: &mut SlackWeights<'_, T>,
-) -> Result<(), T::Fault>
-    requires limits { IsInstance instance.now }
-    requires next { weights.old.next ≡ first_slack (week_of instance.now) }
-    ensures same_taker { weights.new.taker.ghost_name ≡ weights.old.taker.ghost_name }
-    ensures takes { let week = week_of instance.now in
-        Takes T.Taker (term_events (slack_weights (first_slack week) (numbered_items week)))
-        weights.old.taker.now weights.new.taker.now result }
-{
-    walk_soft_items(instance, weights)
-}
-
 /// Hands the taker a term for each slack of the soft rules' items, by rising variable: the weight of
 /// its item.
 pub fn give_slack_weights<T: Taker>(instance: &Instance, taker: &mut T) -> Result<(), T::Fault>
@@ -74,5 +58,5 @@ pub fn give_slack_weights<T: Taker>(instance: &Instance, taker: &mut T) -> Resul
         taker,
         next: unit_var(instance) + 1,
     };
-    give_weights(instance, &mut weights)
+    walk_soft_items(instance, &mut weights)
 }

@@ -5,8 +5,9 @@ ghost use Rattle.rota_core.specs.InstanceTables.{week_of};
 ghost use Rattle.rota_items.specs.ItemTakes.{TakesItems};
 ghost use Rattle.rota_items.specs.rules.CompleteWeekends.Items.{complete_weekends_of};
 
+use crate::cell_sum::DayProperty;
 use crate::items::item_takers::ItemTaker;
-use crate::items::soft_item::{DayProperty, RunCharge};
+use crate::items::soft_item::RunCharge;
 use crate::rules::weekend_walk::walk_weekend;
 use rota_core::{Instance, Rule};
 

@@ -8,8 +8,9 @@ ghost use Rattle.rota_items.specs.RunItems.{run_items};
 ghost use Rattle.rota_items.specs.rules.ConsecutiveAssignments.Items.{assignment_runs_of, shift_runs, work_runs};
 ghost use Rattle.rota_items.specs.rules.ConsecutiveAssignments.Cost.{history_on};
 
+use crate::cell_sum::DayProperty;
 use crate::items::item_takers::RunTaker;
-use crate::items::soft_item::{DayProperty, NurseRuns, RunCharge};
+use crate::items::soft_item::{NurseRuns, RunCharge};
 use rota_core::{Instance, Rule};
 
 // What a day costs that a run on a shift type is too long or too short.

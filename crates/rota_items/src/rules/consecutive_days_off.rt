@@ -6,8 +6,9 @@ ghost use Rattle.rota_items.specs.ItemValues.{IsChargeOf, runs_of};
 ghost use Rattle.rota_items.specs.RunItems.{run_items};
 ghost use Rattle.rota_items.specs.rules.ConsecutiveDaysOff.Items.{off_runs};
 
+use crate::cell_sum::DayProperty;
 use crate::items::item_takers::RunTaker;
-use crate::items::soft_item::{DayProperty, NurseRuns, RunCharge};
+use crate::items::soft_item::{NurseRuns, RunCharge};
 use rota_core::{Instance, Rule};
 
 // What a day costs that a run is too long or too short.

@@ -3,15 +3,18 @@ ghost use Rattle.std.specs.Prelude.{◌≡◌, ◌<◌, ◌≤◌, ◌&&◌, nat
 ghost use Rattle.rota_core.specs.InstanceTables.{week_of};
 ghost use Rattle.rota_items.specs.CountedTotals.{greatest_totals_count, least_totals_count};
 ghost use Rattle.rota_items.specs.ItemTakes.{TakesItems};
-ghost use Rattle.rota_items.specs.ItemValues.{IsSumOf, item_of};
-ghost use Rattle.rota_items.specs.rules.TotalAssignments.Items.{assignment_constant_of, assignments_above, greatest_total_item, greatest_totals_of, least_total_item, least_totals_of, still_allowed, still_wanted, totals_of, wanted_beyond_days};
+ghost use Rattle.rota_items.specs.CellSums.{IsSumOf};
+ghost use Rattle.rota_items.specs.ItemValues.{item_of};
+ghost use Rattle.rota_items.specs.rules.TotalAssignments.Items.{assignment_constant_of, assignments_above, greatest_total_item, least_total_item, still_allowed, still_wanted, totals_of, wanted_beyond_days};
 
+use crate::cell_sum::CellSum;
 use crate::days::DAYS;
 use crate::items::item_takers::ItemTaker;
-use crate::items::soft_item::{ItemSum, SoftItem};
+use crate::items::soft_item::SoftItem;
 use crate::rules::counted_totals::{
     excess_before_counts, greatest_totals_count, least_totals_count,
 };
+use crate::rules::item_walk::item_where;
 use crate::sums::Sign;
 use rota_core::{Instance, Rule};
 
@@ -65,7 +68,7 @@ fn least_total(instance: &Instance, nurse: u16) -> SoftItem
         rule: Rule::S6,
         weight: WEIGHT,
         slacks: u32::from(missing),
-        sum: ItemSum::Total {
+        sum: CellSum::Total {
             nurse,
             sign: Sign::Plus,
         },
@@ -84,7 +87,7 @@ fn greatest_total(instance: &Instance, nurse: u16) -> SoftItem
         rule: Rule::S6,
         weight: WEIGHT,
         slacks: u32::from(u16::from(DAYS).saturating_sub(room)),
-        sum: ItemSum::Total {
+        sum: CellSum::Total {
             nurse,
             sign: Sign::Minus,
         },
@@ -92,45 +95,17 @@ fn greatest_total(instance: &Instance, nurse: u16) -> SoftItem
     }
 }
 
-// The item of a nurse's least total, where it counts and asks for more.
-#[tactic(auto, using(crate::proofs::Walking::walking, crate::proofs::Exits::item_where), unfolding(rota_core::specs::Lists::only_if))]
-fn walk_least<T: ItemTaker>(instance: &Instance, taker: &mut T, nurse: u16) -> Result<(), T::Fault>
-    requires nurse_in { nurse < (week_of instance.now).nurses }
-    ensures { let week = week_of instance.now in
-        TakesItems T.ItemTaker week (least_totals_of week nurse) taker.old taker.new result }
-{
-    if !asks_for_more(instance, nurse) {
-        return Ok(());
-    }
-    taker.item(instance, least_total(instance, nurse))
-}
-
-// The item of a nurse's greatest total, where it counts and the week can exceed it.
-#[tactic(auto, using(crate::proofs::Walking::walking, crate::proofs::Exits::item_where), unfolding(rota_core::specs::Lists::only_if))]
-fn walk_greatest<T: ItemTaker>(
-    instance: &Instance,
-    taker: &mut T,
-    nurse: u16,
-) -> Result<(), T::Fault>
-    requires nurse_in { nurse < (week_of instance.now).nurses }
-    ensures { let week = week_of instance.now in
-        TakesItems T.ItemTaker week (greatest_totals_of week nurse) taker.old taker.new result }
-{
-    if !can_exceed(instance, nurse) {
-        return Ok(());
-    }
-    taker.item(instance, greatest_total(instance, nurse))
-}
-
-/// The items of a nurse's least and of her greatest total.
-#[tactic(auto, using(crate::proofs::Exits::item_walks))]
+/// The item of a nurse's least total, where it counts and asks for more, and that of her greatest, where
+/// it counts and the week can exceed it.
 pub fn walk<T: ItemTaker>(instance: &Instance, taker: &mut T, nurse: u16) -> Result<(), T::Fault>
     requires nurse_in { nurse < (week_of instance.now).nurses }
     ensures { let week = week_of instance.now in
         TakesItems T.ItemTaker week (totals_of week nurse) taker.old taker.new result }
 {
-    walk_least(instance, taker, nurse)?;
-    walk_greatest(instance, taker, nurse)
+    let asks = asks_for_more(instance, nurse);
+    item_where(instance, taker, asks, least_total(instance, nurse))?;
+    let exceeds = can_exceed(instance, nurse);
+    item_where(instance, taker, exceeds, greatest_total(instance, nurse))
 }
 
 // The nurse's assignments that are wanted beyond one for each day of the week.

@@ -2,11 +2,13 @@
 ghost use Rattle.std.specs.Prelude.{◌≡◌, [], ◌∷◌};
 ghost use Rattle.rota_core.specs.InstanceTables.{week_of};
 ghost use Rattle.rota_items.specs.ItemTakes.{TakesItems};
-ghost use Rattle.rota_items.specs.ItemValues.{IsChargeOf, IsInWeek, charged_items, pattern_of};
+ghost use Rattle.rota_items.specs.CellSums.{IsInWeek, pattern_of};
+ghost use Rattle.rota_items.specs.ItemValues.{IsChargeOf, charged_items};
 ghost use Rattle.rota_items.specs.RunItems.{only_sunday, saturday};
 
+use crate::cell_sum::DayPattern;
 use crate::items::item_takers::ItemTaker;
-use crate::items::soft_item::{DayPattern, RunCharge};
+use crate::items::soft_item::RunCharge;
 use crate::runs::run_walk::walk_pattern;
 use rota_core::Instance;
 

@@ -5,8 +5,9 @@ ghost use Rattle.rota_items.specs.CountedTotals.{greatest_totals_count};
 ghost use Rattle.rota_items.specs.ItemTakes.{TakesItems};
 ghost use Rattle.rota_items.specs.rules.WorkedWeekends.Items.{weekend_constant_of, weekends_above, worked_weekends_of};
 
+use crate::cell_sum::DayProperty;
 use crate::items::item_takers::ItemTaker;
-use crate::items::soft_item::{DayProperty, RunCharge};
+use crate::items::soft_item::RunCharge;
 use crate::rules::counted_totals::{excess_before_counts, greatest_totals_count};
 use crate::rules::weekend_walk::walk_weekend;
 use rota_core::{Instance, Rule};

@@ -1,10 +1,12 @@
 //! The patterns of days that charge a nurse's runs, as items.
 ghost use Rattle.std.specs.Prelude.{◌≡◌, ◌<◌, ◌≤◌, pos, ◌-ℤ◌, [], ◌∷◌, count_by};
 ghost use Rattle.rota_core.specs.Week.{Week};
-ghost use Rattle.rota_items.specs.ItemValues.{AreInWeek, IsInWeek, charged_items, days_of, is_plain_of, item_of, pattern_of, patterns_given};
+ghost use Rattle.rota_items.specs.CellSums.{AreInWeek, IsInWeek, days_of, is_plain_of, pattern_of, patterns_given};
+ghost use Rattle.rota_items.specs.ItemValues.{charged_items, item_of};
 ghost use Rattle.rota_items.specs.RunItems.{closed_patterns_at, edge_patterns_on, windows_on};
 
-use crate::items::soft_item::{DayPattern, DayProperty, ItemSum, RunCharge, SoftItem};
+use crate::cell_sum::{CellSum, DayPattern, DayProperty};
+use crate::items::soft_item::{RunCharge, SoftItem};
 use rota_core::Span;
 
 // How many of the pattern's days have a sum that must be 1, and not 0.
@@ -32,13 +34,13 @@ fn pattern_degree(property: DayProperty, pattern: DayPattern) -> i64
 pub fn pattern_item(charge: RunCharge, pattern: DayPattern) -> SoftItem
     requires days_in { IsInWeek pattern }
     ensures item { (week : Week) → item_of week result ∷ [] ≡ charged_items week charge (pattern_of pattern ∷ []) }
-    ensures sum { result.sum ≡ ItemSum.Days charge.nurse charge.property pattern }
+    ensures sum { result.sum ≡ CellSum.Days charge.nurse charge.property pattern }
 {
     SoftItem {
         rule: charge.rule,
         weight: u32::from(charge.weight) * u32::from(pattern.units),
         slacks: 1,
-        sum: ItemSum::Days {
+        sum: CellSum::Days {
             nurse: charge.nurse,
             property: charge.property,
             pattern,

@@ -3,13 +3,15 @@ ghost use Rattle.std.specs.Prelude.{◌<◌};
 ghost use Rattle.rota_core.specs.InstanceTables.{week_of};
 ghost use Rattle.rota_core.specs.Lists.{each_below};
 ghost use Rattle.rota_items.specs.ItemTakes.{TakesItems};
-ghost use Rattle.rota_items.specs.ItemValues.{AreInWeek, IsChargeOf, charged_items, patterns_given, runs_of};
+ghost use Rattle.rota_items.specs.CellSums.{AreInWeek, patterns_given};
+ghost use Rattle.rota_items.specs.ItemValues.{IsChargeOf, charged_items, runs_of};
 ghost use Rattle.rota_items.specs.RunItemParts.{pattern_items_on, window_items_on};
 ghost use Rattle.rota_items.specs.RunItems.{run_items};
 
+use crate::cell_sum::DayPattern;
 use crate::days::DAYS;
 use crate::items::item_takers::ItemTaker;
-use crate::items::soft_item::{DayPattern, NurseRuns, RunCharge};
+use crate::items::soft_item::{NurseRuns, RunCharge};
 use crate::runs::run_patterns::{closed_before, edge_before, pattern_item, window_on};
 use rota_core::Instance;
 

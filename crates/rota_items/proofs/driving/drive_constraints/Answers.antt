@@ -1,9 +1,19 @@
-use Rattle.rota_items.proofs.Common.{events_join, exits, goes_on, stop}
+use Rattle.rota_items.proofs.Common.{[], ◌∷◌, numbered_rows, events_join, exits, go_on, goes_on, stop}
+use Rattle.rota_items.proofs.RowTaking.{rows_refused, rows_taken}
 use Rattle.rota_items.proofs.driving.drive_constraints.Goals as goal
 
-pub returns-in_err-give_hard_rows : goal.returns-in_err-give_hard_rows
-returns-in_err-give_hard_rows g c =
-    exits _ _ _ _ c.from_residual.ensures.0 (stop events_join _ _ _ _ c.in_err-give_hard_rows.ensures)
+pub returns-in_err-give_unit : goal.returns-in_err-give_unit
+returns-in_err-give_unit g c = exits _ _ _ _ c.from_residual.ensures.0 (stop events_join (_ ∷ []) _ _ _ c.in_err-give_unit.ensures)
+
+pub returns-in_err-walk_rule_rows : goal.returns-in_err-walk_rule_rows
+unfolding numbered_rows
+returns-in_err-walk_rule_rows g c =
+    exits _ _ _ _ c.from_residual-in_err-walk_rule_rows.ensures.0
+    (go_on events_join (_ ∷ []) _ _ _ _ c.in_ok-give_unit.ensures
+    (stop events_join _ _ _ _ (rows_refused g.T.Taker _ _ _ c.in_err-walk_rule_rows.ensures)))
 
 pub returns : goal.returns
-returns g c = goes_on events_join _ _ _ _ _ _ c.in_ok-give_hard_rows.ensures c.give_item_rows.ensures
+unfolding numbered_rows
+returns g c =
+    goes_on events_join (_ ∷ []) _ _ _ _ _ c.in_ok-give_unit.ensures
+    (goes_on events_join _ _ _ _ _ _ (rows_taken g.T.Taker _ _ _ c.in_ok-walk_rule_rows.ensures) c.give_item_rows.ensures)

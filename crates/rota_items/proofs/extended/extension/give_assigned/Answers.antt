@@ -1,4 +1,4 @@
-use Rattle.rota_items.proofs.Common.{◌≡◌, ℕ, ◌+◌, ◌∙◌, ap, sym, refl, true, arith, exits, unit_number, week_of}
+use Rattle.rota_items.proofs.Common.{◌≡◌, ◌+◌, ◌∙◌, ap, sym, refl, true, arith, exits, unit_number, week_of}
 use Rattle.rota_core.specs.RosterTables.{set_of}
 use Rattle.rota_items.specs.WeekModel.{assignment_of}
 use Rattle.rota_items.proofs.AssignmentOf.{assignment_of-unit, place-assigned}

@@ -1,4 +1,4 @@
-use Rattle.rota_items.proofs.Common.{arith, ints, extension_of, roster_of}
+use Rattle.rota_items.proofs.Common.{arith, ints}
 use Rattle.rota_items.proofs.Extension.{extension-satisfies, extension-objective, satisfying-keeps, satisfying-objective}
 use Rattle.rota_items.proofs.laws.model_laws.least_objective_is_least_penalty.Goals as goal
 

@@ -1,9 +1,10 @@
-use Rattle.rota_items.proofs.Common.{arith, exits, loop_refused, items_join}
+use Rattle.rota_items.proofs.Common.{rules, w64, to_z-of_z, arith, exits, loop_refused, items_join}
 use Rattle.rota_items.proofs.rules.optimal_coverage.walk.Goals as goal
 
-pub returns-in_err-walk_at : goal.returns-in_err-walk_at
-returns-in_err-walk_at g c =
+pub returns-in_err-item_where : goal.returns-in_err-item_where
+returns-in_err-item_where g c =
     exits _ _ _ _ c.from_residual.ensures.0
     (loop_refused (items_join _) _ _ _ _ _ _ (omega arith) c.loop-day.invariant
     (loop_refused (items_join _) _ _ _ _ _ _ (omega arith) c.loop-shift.invariant
-    (loop_refused (items_join _) _ _ _ _ _ _ (omega arith) c.loop-skill.invariant c.in_err-walk_at.ensures)))
+    (loop_refused (items_join _) _ _ _ _ _ _ (omega arith) c.loop-skill.invariant
+    (rw (to_z-of_z w64 c.from-in-loop-skill.result (search rules), c.from-in-loop-skill.ensures, c.from.ensures, c.saturating_sub.ensures, c.demand-demand.ensures) at c.in_err-item_where.ensures))))

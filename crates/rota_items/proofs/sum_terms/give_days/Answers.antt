@@ -1,6 +1,6 @@
 use Rattle.rota_items.proofs.Common.{arith, exits}
 use Rattle.rota_items.proofs.DayTerms.{days_none, days_more, days_refused}
-use Rattle.rota_items.proofs.items.item_sums.give_days.Goals as goal
+use Rattle.rota_items.proofs.sum_terms.give_days.Goals as goal
 
 pub loop-day-init : goal.loop-day-init
 loop-day-init g c = days_none _ _ g.T.Taker c.args.first 0 _

@@ -1,17 +1,18 @@
-//! The terms of items.
+//! A sum of cells, handed to a taker term by term, whatever it is of.
 ghost use Rattle.std.specs.Prelude.{◌≡◌, ◌<◌, ◌≤◌, IsTrue, flat_map, if◌then◌else◌, pos, negsuc, count_by};
 ghost use Rattle.rota_core.specs.InstanceTables.{week_of};
 ghost use Rattle.rota_items.specs.CellEvents.{cell_term_events, coefficient_of, sum_events};
-ghost use Rattle.rota_items.specs.ItemValues.{AreInTurn, IsInWeek, IsPropertyOf, IsSumOf, days_of, is_plain_of, property_cells, property_of, sum_terms};
+ghost use Rattle.rota_items.specs.CellSums.{AreInTurn, IsInWeek, IsPropertyOf, IsSumOf, days_of, is_plain_of, property_cells, property_of, sum_terms};
 ghost use Rattle.rota_core.specs.Lists.{only_if};
 ghost use Rattle.rota_items.specs.RunItems.{day_terms, days_with, without_property};
 ghost use Rattle.rota_items.specs.Takes.{Takes};
 
-use crate::items::soft_item::{DayPattern, DayProperty, ItemSum};
+use crate::cell_sum::{CellSum, DayPattern, DayProperty};
 use crate::sums::{
-    Sign, give_cell, give_demand_cells, give_nurse_cells, give_on, give_skill_cells, give_work,
+    Sign, give_demand_cells, give_nurse_cells, give_on, give_skill_cells, give_work,
 };
 use crate::takers::Taker;
+use crate::variables::cell_var;
 use rota_core::Instance;
 
 // The cells that tell whether a nurse's day has the property.
@@ -165,42 +166,42 @@ fn give_in_turn<T: Taker>(
 ) -> Result<(), T::Fault>
     requires { AreInTurn (week_of instance.now) nurse day first second }
     ensures { let week = week_of instance.now in
-        Takes T.Taker (cell_term_events week (sum_terms week (ItemSum.InTurn nurse day first second)))
+        Takes T.Taker (cell_term_events week (sum_terms week (CellSum.InTurn nurse day first second)))
         taker.old taker.new result }
 {
     give_on(instance, taker, Sign::Minus, nurse, first, day)?;
     give_on(instance, taker, Sign::Minus, nurse, second, day + 1)
 }
 
-/// The terms at cells of an item, or of a row of a hard rule.
+/// The terms of a sum of cells.
 #[tactic(auto, using(crate::proofs::Taking::taking))]
-pub fn give_sum<T: Taker>(instance: &Instance, taker: &mut T, sum: ItemSum) -> Result<(), T::Fault>
+pub fn give_sum<T: Taker>(instance: &Instance, taker: &mut T, sum: CellSum) -> Result<(), T::Fault>
     requires { IsSumOf (week_of instance.now) sum }
     ensures { let week = week_of instance.now in
         Takes T.Taker (cell_term_events week (sum_terms week sum)) taker.old taker.new result }
 {
     match sum {
-        ItemSum::NoCells => Ok(()),
-        ItemSum::Demand { day, shift, skill } => {
+        CellSum::NoCells => Ok(()),
+        CellSum::Demand { day, shift, skill } => {
             give_demand_cells(instance, taker, day, shift, skill)
         }
-        ItemSum::Days {
+        CellSum::Days {
             nurse,
             property,
             pattern,
         } => give_pattern_days(instance, taker, nurse, property, pattern),
-        ItemSum::Total { nurse, sign } => give_nurse_cells(instance, taker, sign, nurse),
-        ItemSum::Day { nurse, day } => give_work(instance, taker, Sign::Minus, nurse, day),
-        ItemSum::OnDay { nurse, shift, day } => {
+        CellSum::Total { nurse, sign } => give_nurse_cells(instance, taker, sign, nurse),
+        CellSum::Day { nurse, day } => give_work(instance, taker, Sign::Minus, nurse, day),
+        CellSum::OnDay { nurse, shift, day } => {
             give_on(instance, taker, Sign::Minus, nurse, shift, day)
         }
-        ItemSum::InTurn {
+        CellSum::InTurn {
             nurse,
             day,
             first,
             second,
         } => give_in_turn(instance, taker, nurse, day, first, second),
-        ItemSum::Skill { nurse, skill } => give_skill_cells(instance, taker, nurse, skill),
-        ItemSum::One(cell) => give_cell(instance, taker, Sign::Plus, cell),
+        CellSum::Skill { nurse, skill } => give_skill_cells(instance, taker, nurse, skill),
+        CellSum::One(cell) => taker.term(1, cell_var(instance, cell)),
     }
 }

@@ -1,6 +1,6 @@
 use Rattle.rota_items.proofs.Common.{exits}
 use Rattle.rota_items.proofs.DayTerms.{refused_before, refused_held, takes_after}
-use Rattle.rota_items.proofs.items.item_sums.give_pattern_days.Goals as goal
+use Rattle.rota_items.proofs.sum_terms.give_pattern_days.Goals as goal
 
 pub returns-in_err-give_day_without : goal.returns-in_err-give_day_without
 returns-in_err-give_day_without g c =

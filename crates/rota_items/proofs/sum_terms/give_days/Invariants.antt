@@ -1,5 +1,5 @@
 use Rattle.rota_items.proofs.Common.{flat_map, week_of, cell_term_events, property_of, day_terms, Took, days_with}
-use Rattle.rota_items.proofs.items.item_sums.give_days.Given as goal
+use Rattle.rota_items.proofs.sum_terms.give_days.Given as goal
 
 abbrev pub invariant-loop-day : goal.invariant-loop-day
 invariant-loop-day g l =

@@ -1,5 +1,5 @@
 use Rattle.rota_items.proofs.Common.{Minus, cells_join, exits, goes_on, stop}
-use Rattle.rota_items.proofs.items.item_sums.give_in_turn.Goals as goal
+use Rattle.rota_items.proofs.sum_terms.give_in_turn.Goals as goal
 
 pub returns-in_err-give_on : goal.returns-in_err-give_on
 returns-in_err-give_on g c =
