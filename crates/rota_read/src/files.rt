@@ -1,36 +1,20 @@
 //! Reads whole files.
 
 ghost use Rattle.std.specs.Prelude.{◌≡◌, IfOk, IfErr};
-ghost use Rattle.rota_core.specs.Parts.{scenario_of};
 ghost use Rattle.rota_core.specs.declared.fault.FileName.TheVariants as files;
 ghost use Rattle.rota_read.specs.FileFaults.{fault_in};
 ghost use Rattle.rota_read.specs.Files.{Spells};
 ghost use Rattle.rota_read.specs.FileAnswers.{IsFaultOf};
 ghost use Rattle.rota_read.specs.OneMeaning.{OneMeaning};
-ghost use Rattle.rota_read.specs.Reading.{opened, read_file, ReadsFile};
 ghost use Rattle.rota_read.specs.ScenarioLayout.{scenario};
 
-use crate::cursor::Cursor;
-use crate::fault::{Fault, Stop};
-use rota_core::{FileFault, FileName, Kind, Scenario, ScenarioParts};
+use crate::fault::Stop;
+use crate::scenario::scenario_parts;
+use rota_core::{FileFault, FileName, Scenario};
 use std::alloc::Global;
 
 /// The greatest number of bytes of a file.
 pub const LONGEST: usize = 4_194_304;
-
-/// A cursor at the front of the text, where that is not too long.
-#[tactic(auto, unfolding(crate::specs::Reading::opened))]
-pub(crate) fn open(text: &[u8]) -> Result<Cursor<'_>, Stop>
-    ensures { ReadsFile (λ cursor. cursor) result (opened text.now) }
-{
-    if text.len() > LONGEST {
-        return Err(Stop::Fault(Fault {
-            kind: Kind::Limit,
-            line: 0,
-        }));
-    }
-    Ok(Cursor::new(text))
-}
 
 impl Stop {
     pub(crate) fn in_file(self, file: FileName) -> FileFault
@@ -45,17 +29,6 @@ impl Stop {
             },
         }
     }
-}
-
-// The rows of a scenario, from the whole text.
-#[tactic(auto, using(crate::proofs::EndLemmas::front_fails), unfolding(crate::specs::Reading::read_file))]
-fn scenario_parts(alloc: Global, text: &[u8]) -> Result<ScenarioParts, Stop>
-    ensures { ReadsFile scenario_of result (read_file scenario text.now) }
-{
-    let mut cursor = open(text)?;
-    let parts = cursor.scenario(alloc)?;
-    cursor.finish()?;
-    Ok(parts)
 }
 
 /// The scenario that the text spells.

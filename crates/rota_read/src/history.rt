@@ -16,7 +16,6 @@ ghost use Rattle.rota_read.specs.Reading.{read, Reads, read_file, ReadsFile};
 
 use crate::cursor::Cursor;
 use crate::fault::Stop;
-use crate::files::open;
 use crate::slots::MOST;
 use rota_core::{FileFault, FileName, History, HistoryParts, Past, Scenario};
 use std::alloc::{AllocError, Global};
@@ -103,22 +102,6 @@ impl<'a> Cursor<'a> {
         self.exactly(b"NURSE_HISTORY")?;
         Ok(week)
     }
-
-    #[tactic(auto, unfolding(crate::specs::HistoryLayout::history, crate::specs::Reading::read))]
-    pub fn history(&mut self, alloc: Global, scenario: &Scenario) -> Result<HistoryParts, Stop>
-        ensures read { Reads history_of result self.new (read (history scenario.now) self.old) }
-        ensures limits { IfOk result (λ parts. HasLimitedNumbers (history_of parts)) }
-    {
-        let week = self.history_heading()?;
-        let pasts = self.past_rows(alloc, scenario)?;
-        Ok(HistoryParts {
-            nurses: scenario.nurses(),
-            shifts: scenario.shifts(),
-            skills: scenario.skills(),
-            week,
-            past: each_past(alloc, &pasts)?,
-        })
-    }
 }
 
 fn no_rows(alloc: Global, count: u16) -> Result<Vec<Option<Past>>, AllocError>
@@ -138,15 +121,22 @@ fn each_past(alloc: Global, pasts: &[Option<Past>]) -> Result<Vec<Past>, AllocEr
 }
 
 // The rows of a history, from the whole text.
-#[tactic(auto, using(crate::proofs::EndLemmas::front_fails), unfolding(crate::specs::Reading::read_file))]
+#[tactic(auto, using(crate::proofs::EndLemmas::front_fails), unfolding(crate::specs::HistoryLayout::history, crate::specs::Reading::read, crate::specs::Reading::read_file))]
 fn history_parts(alloc: Global, scenario: &Scenario, text: &[u8]) -> Result<HistoryParts, Stop>
     ensures read { ReadsFile history_of result (read_file (history scenario.now) text.now) }
     ensures limits { IfOk result (λ parts. HasLimitedNumbers (history_of parts)) }
 {
-    let mut cursor = open(text)?;
-    let parts = cursor.history(alloc, scenario)?;
+    let mut cursor = Cursor::open(text)?;
+    let week = cursor.history_heading()?;
+    let pasts = cursor.past_rows(alloc, scenario)?;
     cursor.finish()?;
-    Ok(parts)
+    Ok(HistoryParts {
+        nurses: scenario.nurses(),
+        shifts: scenario.shifts(),
+        skills: scenario.skills(),
+        week,
+        past: each_past(alloc, &pasts)?,
+    })
 }
 
 /// The history that the text spells, for a scenario.

@@ -1,13 +1,13 @@
 //! Reads the requirements of a week's file.
 
-ghost use Rattle.std.specs.Prelude.{◌≡◌, ◌<◌, ◌*◌, ◌+◌, length, IfOk};
+ghost use Rattle.std.specs.Prelude.{◌≡◌, ◌<◌, ◌*◌, ◌+◌, length};
 ghost use Rattle.rota_read.specs.Reading.{read, Reads};
-ghost use Rattle.rota_read.specs.WeekLayout.{demand, demands_of_days, requirement, requirement_row, most_rows, no_requirements, requirement_rows, requirements_part};
+ghost use Rattle.rota_read.specs.WeekLayout.{demand, demands_of_days, requirement_row, requirement_rows, requirements_part};
 
 use crate::cursor::Cursor;
 use crate::fault::Stop;
 use rota_core::{Demand, Scenario};
-use std::alloc::{AllocError, Global};
+use std::alloc::Global;
 
 impl<'a> Cursor<'a> {
     // A minimum and an optimal number.
@@ -39,29 +39,8 @@ impl<'a> Cursor<'a> {
         ])
     }
 
-    // What follows the shift type in a row of requirements.
-    #[tactic(auto, using(crate::proofs::NameSteps::known_taken), unfolding(crate::specs::WeekLayout::requirement, crate::specs::Reading::read))]
-    fn requirement(
-        &mut self,
-        scenario: &Scenario,
-        shift: u8,
-        rows: &mut Vec<Option<[Demand; 7]>>,
-    ) -> Result<(), Stop>
-        requires shift { shift < length scenario.now.shifts }
-        requires rows { length rows.old.items ≡ length scenario.now.shifts * length scenario.now.skills }
-        ensures read { Reads (λ _. rows.new.items) result self.new (read (requirement scenario.now.skills shift rows.old.items) self.old) }
-        ensures rows { length rows.new.items ≡ length rows.old.items }
-    {
-        let skill = self.skill(scenario)?;
-        let place = pair_place(scenario, shift, skill);
-        self.unless_taken(rows[place].is_some())?;
-        let demands = self.demands_of_days()?;
-        rows[place] = Some(demands);
-        Ok(())
-    }
-
     // One more row of requirements, or the word that ends them: whether there was a row.
-    #[tactic(auto, unfolding(crate::specs::WeekLayout::requirement_row, crate::specs::Reading::read))]
+    #[tactic(auto, using(crate::proofs::NameSteps::known_taken), unfolding(crate::specs::WeekLayout::requirement_row, crate::specs::WeekLayout::requirement, crate::specs::Reading::read))]
     fn requirement_row(
         &mut self,
         scenario: &Scenario,
@@ -74,7 +53,10 @@ impl<'a> Cursor<'a> {
         let Some(shift) = self.shift_or(b"SHIFT_OFF_REQUESTS", scenario)? else {
             return Ok(false);
         };
-        self.requirement(scenario, shift, rows)?;
+        let skill = self.skill(scenario)?;
+        let place = usize::from(shift) * usize::from(scenario.skills()) + usize::from(skill);
+        self.unless_taken(rows[place].is_some())?;
+        rows[place] = Some(self.demands_of_days()?);
         Ok(true)
     }
 
@@ -86,8 +68,10 @@ impl<'a> Cursor<'a> {
     ) -> Result<Vec<Option<[Demand; 7]>>, Stop>
         ensures { Reads (λ v. v.items) result self.new (read (requirement_rows scenario.now) self.old) }
     {
-        let mut rows = no_requirements(alloc, scenario)?;
-        for _ in 0..most_rows(scenario) {
+        // one row more than there are pairs of a shift type and a skill
+        let pairs = usize::from(scenario.shifts()) * usize::from(scenario.skills());
+        let mut rows = vec![in alloc; None; pairs]?;
+        for _ in 0..pairs + 1 {
             if !self.requirement_row(scenario, &mut rows)? {
                 return Ok(rows);
             }
@@ -108,32 +92,4 @@ impl<'a> Cursor<'a> {
         self.exactly(b"REQUIREMENTS")?;
         self.requirement_rows(alloc, scenario)
     }
-}
-
-// One row more than there are pairs of a shift type and a skill.
-fn most_rows(scenario: &Scenario) -> usize
-    ensures { result ≡ most_rows scenario.now }
-{
-    usize::from(scenario.shifts()) * usize::from(scenario.skills()) + 1
-}
-
-// For each pair of a shift type and a skill, that no row has the two.
-fn no_requirements(
-    alloc: Global,
-    scenario: &Scenario,
-) -> Result<Vec<Option<[Demand; 7]>>, AllocError>
-    ensures { IfOk result (λ v. v.items ≡ no_requirements scenario.now) }
-{
-    let pairs = usize::from(scenario.shifts()) * usize::from(scenario.skills());
-    vec![in alloc; None; pairs]
-}
-
-// The place of a shift type and a skill among the pairs of these.
-fn pair_place(scenario: &Scenario, shift: u8, skill: u8) -> usize
-    requires shift { shift < length scenario.now.shifts }
-    requires skill { skill < length scenario.now.skills }
-    ensures place { result ≡ shift * length scenario.now.skills + skill }
-    ensures below { result < length scenario.now.shifts * length scenario.now.skills }
-{
-    usize::from(shift) * usize::from(scenario.skills()) + usize::from(skill)
 }

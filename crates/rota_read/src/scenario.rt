@@ -2,7 +2,7 @@
 
 ghost use Rattle.std.specs.Prelude.{◌≡◌, ◌≤◌, [], IfOk};
 ghost use Rattle.rota_core.specs.Parts.{bytes_of, scenario_of};
-ghost use Rattle.rota_read.specs.Reading.{read, Reads};
+ghost use Rattle.rota_read.specs.Reading.{read, read_file, Reads, ReadsFile};
 ghost use Rattle.rota_read.specs.ScenarioRows.{tables_of, IsEmpty};
 ghost use Rattle.rota_read.specs.ScenarioLayout.{heading, skills_part, scenario};
 
@@ -72,14 +72,18 @@ impl<'a> Cursor<'a> {
             &mut rows.nurses,
         )
     }
+}
 
-    pub fn scenario(&mut self, alloc: Global) -> Result<ScenarioParts, Stop>
-        ensures { Reads scenario_of result self.new (read scenario self.old) }
-    {
-        let mut rows = no_rows(alloc);
-        self.sections(alloc, &mut rows)?;
-        Ok(parts_of(rows))
-    }
+/// The parts of a scenario, from the whole text.
+#[tactic(auto, using(crate::proofs::EndLemmas::front_fails), unfolding(crate::specs::Reading::read_file))]
+pub fn scenario_parts(alloc: Global, text: &[u8]) -> Result<ScenarioParts, Stop>
+    ensures { ReadsFile scenario_of result (read_file scenario text.now) }
+{
+    let mut cursor = Cursor::open(text)?;
+    let mut rows = no_rows(alloc);
+    cursor.sections(alloc, &mut rows)?;
+    cursor.finish()?;
+    Ok(parts_of(rows))
 }
 
 // What is there before the first section.

@@ -3,10 +3,10 @@
 ghost use Rattle.std.specs.Prelude.{◌≡◌, IfOk, ◌≤◌, ◌∷◌, [], min, Some, None, MatchResult, if◌then◌else◌};
 ghost use Rattle.rota_core.specs.declared.fault.Kind.TheVariants.{Ended};
 ghost use Rattle.rota_core.specs.Numeral.{is_decimal, decimal};
-ghost use Rattle.rota_read.specs.Layout.{exactly, number, any_word, is_sign_token};
+ghost use Rattle.rota_read.specs.Layout.{exactly, number, any_word};
 ghost use Rattle.rota_read.specs.Reading.{read, Reads, at_end, ReadsFile};
 
-use crate::cursor::{Cursor, Token};
+use crate::cursor::{Cursor, Token, is_sign};
 use crate::fault::{Fault, Stop};
 use rota_core::Kind;
 
@@ -28,12 +28,6 @@ fn decimal_of(word: &[u8]) -> Option<u16>
 }
 
 impl Token<'_> {
-    fn is_sign(&self) -> bool
-        ensures { result ≡ is_sign_token self.now.word.now }
-    {
-        matches!(self.word, [b'(' | b')' | b',' | b'=', ..])
-    }
-
     pub(crate) fn fault(&self, kind: Kind) -> Stop
         ensures { result ≡ Stop.Fault (record { kind = kind; line = self.now.line }) }
     {
@@ -65,7 +59,7 @@ impl<'a> Cursor<'a> {
         ensures line { IfOk result (λ t. t.line ≡ self.new.last) }
     {
         let token = self.token()?;
-        if token.is_sign() {
+        if token.word.first().is_some_and(|b| is_sign(*b)) {
             return Err(token.fault(Kind::OtherWord));
         }
         Ok(token)

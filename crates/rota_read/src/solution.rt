@@ -15,7 +15,6 @@ ghost use Rattle.rota_read.specs.RosterReading.{ReadsRoster, ReadsRosterFile};
 
 use crate::cursor::Cursor;
 use crate::fault::Stop;
-use crate::files::open;
 use crate::slots::MOST;
 use rota_core::laws::{numerals_tell_their_numbers, rosters_list_their_cells};
 use rota_core::{Cell, FileFault, FileName, Instance, Roster};
@@ -72,42 +71,18 @@ impl<'a> Cursor<'a> {
         self.word()?;
         self.setting(b"ASSIGNMENTS", 0, MOST)
     }
-
-    #[tactic(auto, unfolding(crate::specs::SolutionLayout::solution, crate::specs::Reading::read))]
-    fn solution(&mut self, alloc: Global, instance: &Instance) -> Result<Roster, Stop>
-        ensures { ReadsRoster (week_of instance.now) result self.new (read (solution instance.now.scenario) self.old) }
-    {
-        let count = self.solution_heading()?;
-        self.assignment_rows(alloc, instance, count)
-    }
 }
 
 // The roster of a solution, from the whole text.
-#[tactic(auto, unfolding(crate::specs::Reading::read_file))]
+#[tactic(auto, using(crate::proofs::EndLemmas::front_fails), unfolding(crate::specs::SolutionLayout::solution, crate::specs::Reading::read, crate::specs::Reading::read_file))]
 fn solution_roster(alloc: Global, instance: &Instance, text: &[u8]) -> Result<Roster, Stop>
     ensures { ReadsRosterFile (week_of instance.now) result (read_file (solution instance.now.scenario) text.now) }
 {
-    let mut cursor = open(text)?;
-    let roster = cursor.solution(alloc, instance)?;
+    let mut cursor = Cursor::open(text)?;
+    let count = cursor.solution_heading()?;
+    let roster = cursor.assignment_rows(alloc, instance, count)?;
     cursor.finish()?;
     Ok(roster)
-}
-
-// The roster that the text of a solution file spells. The fault names the file.
-#[tactic(auto, using(crate::proofs::FileLaws::file_steps))]
-fn roster_of(
-    alloc: Global,
-    instance: &Instance,
-    text: &[u8],
-    file: FileName,
-) -> Result<Roster, FileFault>
-    ensures spelled { IfOk result (SpellsRoster instance.now text.now) }
-    ensures fault { IfErr result (IsFaultOf file (solution instance.now.scenario) text.now) }
-{
-    match solution_roster(alloc, instance, text) {
-        Ok(roster) => Ok(roster),
-        Err(stop) => Err(stop.in_file(file)),
-    }
 }
 
 /// The roster that the text spells, for an instance.
@@ -129,11 +104,12 @@ fn roster_of(
 /// `Bad` is the text's one fault: that of the first token that does not fit its place, with the
 /// token's line, or that of the end, with the last line; a text of more than 4,194,304 bytes has
 /// `Limit` on line 0. `Memory` comes only where memory runs out before a fault was met.
+#[tactic(auto, using(crate::proofs::SolutionLaws::roster_steps))]
 pub fn read_solution(alloc: Global, instance: &Instance, text: &[u8]) -> Result<Roster, FileFault>
     ensures spelled { IfOk result (SpellsRoster instance.now text.now) }
     ensures fault { IfErr result (IsFaultOf files.Solution (solution instance.now.scenario) text.now) }
 {
-    roster_of(alloc, instance, text, FileName::Solution)
+    solution_roster(alloc, instance, text).map_err(|stop| stop.in_file(FileName::Solution))
 }
 
 /// The cells that are to be held, as `read_solution` reads a roster.
@@ -141,11 +117,12 @@ pub fn read_solution(alloc: Global, instance: &Instance, text: &[u8]) -> Result<
 /// # Errors
 ///
 /// Those of `read_solution`, with the name `Fixed`.
+#[tactic(auto, using(crate::proofs::SolutionLaws::roster_steps))]
 pub fn read_fixed(alloc: Global, instance: &Instance, text: &[u8]) -> Result<Roster, FileFault>
     ensures spelled { IfOk result (SpellsRoster instance.now text.now) }
     ensures fault { IfErr result (IsFaultOf files.Fixed (solution instance.now.scenario) text.now) }
 {
-    roster_of(alloc, instance, text, FileName::Fixed)
+    solution_roster(alloc, instance, text).map_err(|stop| stop.in_file(FileName::Fixed))
 }
 
 /// A law: for each scenario, every text spells the assignments of one solution or has one fault, and

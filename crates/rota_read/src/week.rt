@@ -17,7 +17,6 @@ ghost use Rattle.rota_read.specs.WeekLayout.{request_row, requests_part, week};
 
 use crate::cursor::Cursor;
 use crate::fault::Stop;
-use crate::files::open;
 use crate::slots::MOST;
 use crate::week_tables::{demands_of, requests_of};
 use rota_core::{FileFault, FileName, Scenario, Week, WeekParts};
@@ -74,36 +73,27 @@ impl<'a> Cursor<'a> {
         let count = self.number(0, MOST)?;
         self.request_rows(alloc, scenario, count)
     }
-
-    #[tactic(auto, unfolding(crate::specs::WeekLayout::week, crate::specs::Reading::read))]
-    fn week(&mut self, alloc: Global, scenario: &Scenario) -> Result<WeekParts, Stop>
-        ensures read { Reads week_tables_of result self.new (read (week scenario.now) self.old) }
-        ensures within { IfOk result (λ _. AreWithin scenario.now) }
-    {
-        let requirements = self.requirements_part(alloc, scenario)?;
-        let requests = self.requests_part(alloc, scenario)?;
-        let nurses = scenario.nurses();
-        let shifts = scenario.shifts();
-        Ok(WeekParts {
-            nurses,
-            shifts,
-            skills: scenario.skills(),
-            demands: demands_of(alloc, &requirements)?,
-            requests: requests_of(alloc, nurses, shifts, &requests)?,
-        })
-    }
 }
 
 // The rows of a week, from the whole text.
-#[tactic(auto, using(crate::proofs::EndLemmas::front_fails), unfolding(crate::specs::Reading::read_file))]
+#[tactic(auto, using(crate::proofs::EndLemmas::front_fails), unfolding(crate::specs::WeekLayout::week, crate::specs::Reading::read, crate::specs::Reading::read_file))]
 fn week_parts(alloc: Global, scenario: &Scenario, text: &[u8]) -> Result<WeekParts, Stop>
     ensures read { ReadsFile week_tables_of result (read_file (week scenario.now) text.now) }
     ensures within { IfOk result (λ _. AreWithin scenario.now) }
 {
-    let mut cursor = open(text)?;
-    let parts = cursor.week(alloc, scenario)?;
+    let mut cursor = Cursor::open(text)?;
+    let requirements = cursor.requirements_part(alloc, scenario)?;
+    let requests = cursor.requests_part(alloc, scenario)?;
     cursor.finish()?;
-    Ok(parts)
+    let nurses = scenario.nurses();
+    let shifts = scenario.shifts();
+    Ok(WeekParts {
+        nurses,
+        shifts,
+        skills: scenario.skills(),
+        demands: demands_of(alloc, &requirements)?,
+        requests: requests_of(alloc, nurses, shifts, &requests)?,
+    })
 }
 
 /// The week that the text spells, for a scenario.

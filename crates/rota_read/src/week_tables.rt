@@ -1,8 +1,8 @@
 //! The tables that the rows of a week's file make.
 
-ghost use Rattle.std.specs.Prelude.{◌≡◌, ◌*◌, ◌+◌, ◌<◌, ◌≤◌, ◌++◌, ◌&&◌, ℕ, IfOk, OnOk, length, map, nat_le, nat_lt, slice_index, if◌then◌else◌};
+ghost use Rattle.std.specs.Prelude.{◌≡◌, ◌*◌, ◌+◌, ◌<◌, ◌≤◌, ◌&&◌, ℕ, IfOk, length, nat_le, nat_lt, slice_index, if◌then◌else◌};
 ghost use Rattle.std.specs.List.{All};
-ghost use Rattle.rota_read.specs.WeekLayout.{demand_on, demand_table, asks_at, request_table};
+ghost use Rattle.rota_read.specs.WeekLayout.{demand_table, asks_at, request_table};
 ghost use Rattle.rota_read.specs.WeekRows.{IsRequest};
 
 use crate::slots::MOST;
@@ -16,31 +16,6 @@ const NO_DEMAND: Demand = Demand {
     optimal: 0,
 };
 
-fn demand_on(row: &Option<[Demand; 7]>, day: usize) -> Demand
-    requires { day < 7 }
-    ensures { result ≡ demand_on day row.now }
-{
-    match row {
-        Some(demands) => demands[day],
-        None => NO_DEMAND,
-    }
-}
-
-// Appends what each row asks for on the day.
-fn append_day(
-    out: &mut Vec<Demand>,
-    rows: &[Option<[Demand; 7]>],
-    day: usize,
-) -> Result<(), AllocError>
-    requires { day < 7 }
-    ensures { OnOk result (out.new.items ≡ out.old.items ++ map (demand_on day) rows.now) }
-{
-    for row in rows {
-        out.push(demand_on(row, day))?;
-    }
-    Ok(())
-}
-
 /// The demands of all pairs of a shift type and a skill, day by day.
 #[tactic(auto, using(crate::proofs::TableLemmas::one_more_row))]
 pub fn demands_of(alloc: Global, rows: &[Option<[Demand; 7]>]) -> Result<Vec<Demand>, AllocError>
@@ -48,7 +23,12 @@ pub fn demands_of(alloc: Global, rows: &[Option<[Demand; 7]>]) -> Result<Vec<Dem
 {
     let mut demands = Vec::new(alloc);
     for day in 0..7 {
-        append_day(&mut demands, rows, day)?;
+        for row in rows {
+            demands.push(match row {
+                Some(of_week) => of_week[day],
+                None => NO_DEMAND,
+            })?;
+        }
     }
     Ok(demands)
 }
