@@ -6,7 +6,7 @@ ghost use Rattle.rota_core.specs.Ports.{Begins};
 ghost use Rattle.opb_text.specs.Pieces.{piece_text, pieces_text};
 ghost use Rattle.opb_text.specs.TermText.{unit_text};
 
-use crate::text_buffer::{MOST_DIGITS, MOST_TERM, TextBuffer, front};
+use crate::text_buffer::{CAPACITY, MOST_DIGITS, MOST_TERM, TextBuffer};
 use itoa::Buffer;
 use rota_core::{PortFault, Target};
 
@@ -62,11 +62,13 @@ impl<'a, W: Target> Sink<'a, W> {
         ensures takes { PutsText self.old result piece.now self.new }
         ensures for_good { sink_failed self.old ≡ true → IsErr result }
     {
-        if self.failed {
-            return Err(PortFault);
-        }
-        if piece.len() > self.buffer.room() {
-            return self.put_past_buffer(piece);
+        if self.failed || piece.len() > self.buffer.room() {
+            self.empty_buffer()?;
+            if piece.len() > CAPACITY {
+                let sent = send(self.target, piece);
+                self.failed = sent.is_err();
+                return sent;
+            }
         }
         self.buffer.append(piece);
         Ok(())
@@ -84,11 +86,19 @@ impl<'a, W: Target> Sink<'a, W> {
     }
 
     /// Appends the number in decimal digits. It fails only where the target does.
+    #[inline]
     pub fn natural(&mut self, number: u64) -> Result<(), PortFault>
         ensures takes { PutsText self.old result (numeral number) self.new }
         ensures for_good { sink_failed self.old ≡ true → IsErr result }
     {
-        self.number(number as i128)
+        if number >= 1 << 32 {
+            return self.number(number as i128);
+        }
+        if self.failed || self.buffer.room() < MOST_DIGITS {
+            self.empty_buffer()?;
+        }
+        self.buffer.append_number(number as u32);
+        Ok(())
     }
 
     /// Appends the pieces, one behind the other. It fails only where the target does.
@@ -128,19 +138,9 @@ impl<'a, W: Target> Sink<'a, W> {
         ensures takes { PutsText self.old result (before.now ++ numeral number ++ behind.now) self.new }
         ensures for_good { sink_failed self.old ≡ true → IsErr result }
     {
-        let room = self.buffer.room();
-        if self.failed
-            || number >= 1 << 32
-            || room < MOST_DIGITS
-            || before.len() > room - MOST_DIGITS
-            || behind.len() > room - MOST_DIGITS - before.len()
-        {
-            return self.number_in_pieces(before, number, behind);
-        }
-        self.buffer.append(before);
-        self.buffer.append_number(number as u32);
-        self.buffer.append(behind);
-        Ok(())
+        self.put(before)?;
+        self.natural(number)?;
+        self.put(behind)
     }
 
     // Appends a term with the coefficient 1 or -1, and a blank.
@@ -150,7 +150,7 @@ impl<'a, W: Target> Sink<'a, W> {
         ensures for_good { sink_failed self.old ≡ true → IsErr result }
     {
         if self.failed || self.buffer.room() < MOST_TERM {
-            return self.unit_term_in_pieces(positive, variable);
+            self.empty_buffer()?;
         }
         self.buffer.append_term(positive, variable);
         Ok(())
@@ -161,80 +161,32 @@ impl<'a, W: Target> Sink<'a, W> {
     pub fn finish(&mut self) -> Result<(), PortFault>
         ensures finishes { FinishesSink self.old result [] self.new }
     {
-        if self.failed {
-            return Err(PortFault);
-        }
-        self.send_buffer()?;
+        self.empty_buffer()?;
         let flushed = self.target.flush();
         self.failed = flushed.is_err();
         flushed
     }
 
-    // Appends the pieces and the number, one behind the other.
+    // Sends what is in the buffer. A sink that had failed answers that it failed.
     #[cold]
     #[inline(never)]
-    fn number_in_pieces(
-        &mut self,
-        before: &[u8],
-        number: u64,
-        behind: &[u8],
-    ) -> Result<(), PortFault>
-        ensures takes { PutsText self.old result (before.now ++ numeral number ++ behind.now) self.new }
-        ensures for_good { sink_failed self.old ≡ true → IsErr result }
-    {
-        self.put(before)?;
-        self.natural(number)?;
-        self.put(behind)
-    }
-
-    // Appends the pieces of a term one after the other.
-    #[cold]
-    #[inline(never)]
-    fn unit_term_in_pieces(&mut self, positive: bool, variable: u32) -> Result<(), PortFault>
-        ensures takes { PutsText self.old result (unit_text positive variable) self.new }
-        ensures for_good { sink_failed self.old ≡ true → IsErr result }
-    {
-        self.number_in_pieces(front(positive), u64::from(variable), b" ")
-    }
-
-    // Appends a piece for which the buffer has no room.
-    #[cold]
-    #[inline(never)]
-    fn put_past_buffer(&mut self, piece: &[u8]) -> Result<(), PortFault>
-        requires { sink_failed self.old ≡ false }
-        ensures { PutsText self.old result piece.now self.new }
-    {
-        self.send_buffer()?;
-        if piece.len() <= self.buffer.room() {
-            self.buffer.append(piece);
-            return Ok(());
-        }
-        let sent = send(self.target, piece);
-        self.failed = sent.is_err();
-        sent
-    }
-
-    // Sends what is in the buffer.
-    fn send_buffer(&mut self) -> Result<(), PortFault>
-        requires { sink_failed self.old ≡ false }
+    fn empty_buffer(&mut self) -> Result<(), PortFault>
         ensures takes { PutsText self.old result [] self.new }
         ensures empty { OnOk result (self.new.buffer ≡ []) }
-        ensures err { OnErr result (Begins (sent_by self.new) (stands_for self.old)) }
+        ensures for_good { sink_failed self.old ≡ true → IsErr result }
     {
-        match send(self.target, self.buffer.as_slice()) {
-            Ok(()) => {
-                self.buffer.clear();
-                Ok(())
-            }
-            Err(fault) => {
-                self.failed = true;
-                Err(fault)
-            }
+        if self.failed {
+            return Err(PortFault);
         }
+        let sent = send(self.target, self.buffer.as_slice());
+        self.failed = sent.is_err();
+        self.buffer.clear();
+        sent
     }
 }
 
 // Sends the whole piece.
+#[inline(never)]
 fn send<W: Target>(target: &mut W, piece: &[u8]) -> Result<(), PortFault>
     ensures ok { OnOk result (W.sent target.new ≡ append_known (W.sent target.old) piece.now) }
     ensures err { OnErr result (Begins (W.sent target.new) (append_known (W.sent target.old) piece.now)) }

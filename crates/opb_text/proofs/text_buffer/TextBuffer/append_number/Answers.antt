@@ -1,6 +1,8 @@
-use Rattle.std.proofs.Common.{◌≡◌, ◌+◌, ◌≤◌, ℕ, List, length, take, ◌++◌, sym, ap, ◌∙◌, arith, decimal}
+use Rattle.std.proofs.Common.{◌≡◌, ◌+◌, ◌≤◌, ℕ, List, length, take, ◌++◌, sym, ap, ◌∙◌, arith, decimal, length-append}
 use Rattle.std.proofs.lemmas.List.{length-take-le}
 use Rattle.std.proofs.lemmas.Fmt.{length-decimal-le}
+use Rattle.rota_core.specs.Numeral.{numeral}
+use Rattle.opb_text.proofs.StdNumerals.{numeral_is}
 use Rattle.opb_text.proofs.Pieces.{digits_behind, front_of_refill}
 use Rattle.opb_text.proofs.text_buffer.TextBuffer.append_number.Goals as goal
 
@@ -20,8 +22,8 @@ write_digits-requires c =
     let most : length (decimal c.args.number) ≤ 10 = length-decimal-le 10 c.args.number (omega arith) (omega arith) (omega arith) in
     (omega (arith, same, c.count_digits.ensures), omega (arith, c.count_digits.ensures, most, long, c.requires, full))
 
-pub returns : goal.returns
-returns c =
+pub returns-clause-text : goal.returns-clause-text
+returns-clause-text c =
     let bytes = c.as_mut_slice.result.now in
     let start = c.self.inside.len in
     let within : start ≤ 4096 = c.self.invariant.0 in
@@ -39,4 +41,12 @@ returns c =
     c.write_digits.ensures.start (omega (arith, at, within, full)) c.write_digits.ensures.written c.write_digits.ensures.before
     ∙ ap (λ (n : ℕ). take n bytes ++ decimal c.from.result) at
     ∙ ap (λ (m : ℕ). take start bytes ++ decimal m) c.from.ensures
-    ∙ ap (λ (xs : List ℕ). xs ++ decimal c.args.number) text
+    ∙ ap (λ (ds : List ℕ). take start bytes ++ ds) (numeral_is c.args.number (omega arith))
+    ∙ ap (λ (xs : List ℕ). xs ++ numeral c.args.number) text
+
+pub returns-clause-short : goal.returns-clause-short
+returns-clause-short c =
+    let n = c.args.number in
+    let most : length (decimal n) ≤ 10 = length-decimal-le 10 n (omega arith) (omega arith) (omega arith) in
+    let same : length (decimal n) ≡ length (numeral n) = ap length (numeral_is n (omega arith)) in
+    omega (arith, ap length (returns-clause-text c), length-append c.args.self.now (numeral n), same, most)
