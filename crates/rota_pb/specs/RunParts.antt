@@ -1,7 +1,7 @@
--- What the parts of a run do: a file is read whole, a text is sent, and a file's fault is among those of a run.
-use Rattle.std.specs.Prelude.{ℕ, List, MatchResult, Result}
+-- What the parts of a run do: a file is read whole, and a file's fault is among those of a run.
+use Rattle.std.specs.Prelude.{ℕ}
 use Rattle.rota_pb.specs.Words.{Fault, File, FileFault, Memory, Read}
-use Rattle.rota_pb.specs.RunPorts.{Reader, IsReadInPart, FailsWithin, Writer, WritesText, WritesBeginning}
+use Rattle.rota_pb.specs.RunPorts.{Reader, IsReadInPart, FailsWithin}
 use Rattle.rota_core.specs.declared.fault.FileFault.TheVariants as refusals
 
 -- why a source is not read up to its end or `limit` bytes: it failed before, or no room was had for the bytes
@@ -9,10 +9,6 @@ abbrev pub StopsReading : ℕ → Reader → Fault → Type 0
 StopsReading limit reader Memory = IsReadInPart reader
 StopsReading limit reader Read = FailsWithin limit reader
 StopsReading limit reader _ = ⊥
-
--- the text went out whole, or the writer failed after a beginning of it
-abbrev pub SendsText : {E : Type 0} → Writer → List ℕ → Result (Unit {0}) E → Type 0
-SendsText writer text result = MatchResult result (λ _. WritesText writer text) (λ _. WritesBeginning writer text)
 
 -- what a file's fault is among the faults of a run
 abbrev pub fault_of_file : FileFault → Fault

@@ -5,23 +5,13 @@ ghost use Rattle.opb_text.specs.ModelText.{opb_text};
 ghost use Rattle.rota_pb.specs.Encoding.{EncodeOutcome};
 ghost use Rattle.rota_pb.specs.RunPorts.{reader_of, week_readers, writer_of};
 ghost use Rattle.rota_pb.specs.Runs.{send};
-ghost use Rattle.rota_pb.specs.RunParts.{SendsText};
 
 use crate::fault::Fault;
 use crate::model_text::model_text_means_the_rules;
 use crate::week_files::{Choice, read_instance};
 use opb_text::{OpbTaker, Sink, put_model};
-use rota_core::{Instance, PortFault, Source, Target};
+use rota_core::{Instance, Source, Target};
 use std::alloc::Global;
-
-// Sends the text of the model, and makes it flushed.
-fn send_model<W: Target>(instance: &Instance, out: &mut W) -> Result<(), PortFault>
-    ensures { SendsText (writer_of W.Target out.old out.new) (opb_text (model_of (week_of instance.now))) result }
-{
-    let mut taker = OpbTaker::new(Sink::new(out));
-    put_model(instance, &mut taker)?;
-    taker.finish()
-}
 
 /// Writes the whole model of the week, hard and soft rules, in the linear format of the Pseudo-Boolean
 /// Competition: the first line, the objective where it has a term, and the constraints.
@@ -38,10 +28,9 @@ fn send_model<W: Target>(instance: &Instance, out: &mut W) -> Result<(), PortFau
 pub fn encode<W: Target>(instance: &Instance, out: &mut W) -> Result<(), Fault>
     ensures { (send (writer_of W.Target out.old out.new) (opb_text (model_of (week_of instance.now)))).ends result }
 {
-    match send_model(instance, out) {
-        Ok(()) => Ok(()),
-        Err(_) => Err(Fault::Write),
-    }
+    let mut taker = OpbTaker::new(Sink::new(out));
+    put_model(instance, &mut taker).map_err(|_| Fault::Write)?;
+    taker.finish().map_err(|_| Fault::Write)
 }
 
 /// Reads the files of a week, each to its end, and writes the model of the week in the linear format

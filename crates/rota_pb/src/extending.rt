@@ -4,12 +4,14 @@ ghost use Rattle.rota_core.specs.RosterTables.{HasShapeOf, set_of};
 ghost use Rattle.rota_pb.specs.Extending.{ExtendOutcome, extend_roster};
 ghost use Rattle.rota_pb.specs.RunPorts.{reader_of, week_readers, writer_of};
 
-use crate::extension_answer::send_extension;
+use crate::extension_answer::put_answer;
 use crate::fault::Fault;
 use crate::given_roster::read_roster;
 use crate::week_files::{Choice, read_instance};
+use opb_text::Sink;
 use rota_core::{Instance, Roster, Source, Target};
 use rota_items::{Judge, verdict_of};
+use solver_text::AnswerWriter;
 use std::alloc::Global;
 
 /// Writes the answer that a solver would give for the roster, in the output format of the
@@ -28,10 +30,8 @@ pub fn extend<W: Target>(instance: &Instance, roster: &Roster, out: &mut W) -> R
     if let Some((_, rule)) = verdict.unmet {
         return Err(Fault::Breaks(rule));
     }
-    match send_extension(instance, roster, verdict.objective, out) {
-        Ok(()) => Ok(()),
-        Err(_) => Err(Fault::Write),
-    }
+    let mut writer = AnswerWriter::new(Sink::new(out));
+    put_answer(instance, roster, verdict.objective, &mut writer).map_err(|_| Fault::Write)
 }
 
 /// Reads the files of a week and a solution file, each to its end, and writes the answer that a solver

@@ -7,10 +7,7 @@ ghost use Rattle.opb_text.specs.Sink.{FinishesSink, PutsText};
 ghost use Rattle.solver_text.specs.AnswerWriter.{literals_of, literals_text, phase_of, sink_of};
 ghost use Rattle.solver_text.specs.declared.answer_writer.Phase.TheVariants.{New, Started};
 ghost use Rattle.rota_pb.specs.Extending.{extension_answer};
-ghost use Rattle.rota_pb.specs.RunParts.{SendsText};
-ghost use Rattle.rota_pb.specs.RunPorts.{writer_of};
 
-use opb_text::Sink;
 use rota_core::{Instance, PortFault, Roster, Target};
 use rota_items::laws::{
     extension_truths_are_those_of_the_variables, instances_are_within_limits, variables_are_few,
@@ -85,8 +82,8 @@ fn put_literals<W: Target>(
     take_extension(instance, roster, &mut answer)
 }
 
-// Puts the answer of the roster's extension with this objective, and finishes the sink.
-fn put_answer<W: Target>(
+/// Puts the answer of the roster's extension with this objective, and finishes the sink.
+pub(crate) fn put_answer<W: Target>(
     instance: &Instance,
     roster: &Roster,
     objective: u64,
@@ -101,19 +98,4 @@ fn put_answer<W: Target>(
     writer.start(objective)?;
     put_literals(instance, roster, writer)?;
     writer.finish()
-}
-
-/// Sends the answer of the roster's extension with this objective, and makes it flushed.
-pub(crate) fn send_extension<W: Target>(
-    instance: &Instance,
-    roster: &Roster,
-    objective: u64,
-    out: &mut W,
-) -> Result<(), PortFault>
-    requires shape { HasShapeOf (week_of instance.now) roster.now }
-    ensures { SendsText (writer_of W.Target out.old out.new)
-        (extension_answer objective (week_of instance.now) (set_of roster.now)) result }
-{
-    let mut writer = AnswerWriter::new(Sink::new(out));
-    put_answer(instance, roster, objective, &mut writer)
 }

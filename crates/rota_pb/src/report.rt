@@ -7,7 +7,6 @@ ghost use Rattle.rota_pb.specs.Decoded.{FindsRoster};
 ghost use Rattle.rota_pb.specs.Report.{cost_lines, last_o_line, number_line, report_text};
 ghost use Rattle.rota_pb.specs.Runs.{send};
 ghost use Rattle.rota_pb.specs.RunPorts.{writer_of};
-ghost use Rattle.rota_pb.specs.RunParts.{SendsText};
 
 use crate::decoded::Decoded;
 use crate::fault::Fault;
@@ -76,15 +75,6 @@ fn put_report<W: Target>(sink: &mut Sink<W>, decoded: &Decoded) -> Result<(), Po
     put_last_o_line(sink, decoded.last_o)
 }
 
-// Sends the text of the report, and makes it flushed.
-fn send_report<W: Target>(decoded: &Decoded, out: &mut W) -> Result<(), PortFault>
-    ensures { SendsText (writer_of W.Target out.old out.new) (report_text decoded.now) result }
-{
-    let mut sink = Sink::new(out);
-    put_report(&mut sink, decoded)?;
-    sink.finish()
-}
-
 /// Writes the report on a decoded answer, a line each: the status, the objective, the penalty, the
 /// costs of the soft rules, and the last `o` value where the answer had one.
 ///
@@ -94,8 +84,7 @@ pub fn write_report<W: Target>(decoded: &Decoded, out: &mut W) -> Result<(), Fau
     requires finds { FindsRoster decoded.now.status }
     ensures { (send (writer_of W.Target out.old out.new) (report_text decoded.now)).ends result }
 {
-    match send_report(decoded, out) {
-        Ok(()) => Ok(()),
-        Err(_) => Err(Fault::Write),
-    }
+    let mut sink = Sink::new(out);
+    put_report(&mut sink, decoded).map_err(|_| Fault::Write)?;
+    sink.finish().map_err(|_| Fault::Write)
 }

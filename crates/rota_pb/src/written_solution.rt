@@ -11,7 +11,6 @@ ghost use Rattle.opb_text.specs.Sink.{PutsText, sink_failed};
 ghost use Rattle.rota_core.specs.RosterCells.{cells_of};
 ghost use Rattle.rota_pb.specs.Runs.{send};
 ghost use Rattle.rota_pb.specs.RunPorts.{writer_of};
-ghost use Rattle.rota_pb.specs.RunParts.{SendsText};
 
 use crate::fault::Fault;
 use opb_text::{Piece, Sink};
@@ -94,21 +93,6 @@ fn put_solution<W: Target>(
     put_assignments(sink, instance, roster)
 }
 
-// Sends the text of the solution file, and makes it flushed.
-fn send_solution<W: Target>(
-    instance: &Instance,
-    roster: &Roster,
-    out: &mut W,
-) -> Result<(), PortFault>
-    requires shape { HasShapeOf (week_of instance.now) roster.now }
-    ensures limits { IsInstance instance.now }
-    ensures sends { SendsText (writer_of W.Target out.old out.new) (solution_text instance.now (set_of roster.now)) result }
-{
-    let mut sink = Sink::new(out);
-    put_solution(&mut sink, instance, roster)?;
-    sink.finish()
-}
-
 /// Writes the solution file of the roster, in the text form of INRC-II: the week's number and the
 /// scenario's name, the number of assignments, and a line for each, by nurse, day, shift type and
 /// skill. `read_solution` of `rota_read` gives the roster back, where the text has at most 4,194,304
@@ -131,8 +115,7 @@ pub fn write_solution<W: Target>(
         SpellsRoster instance.now (solution_text instance.now (set_of roster.now)) roster.now) }
 {
     each_roster_has_its_text();
-    match send_solution(instance, roster, out) {
-        Ok(()) => Ok(()),
-        Err(_) => Err(Fault::Write),
-    }
+    let mut sink = Sink::new(out);
+    put_solution(&mut sink, instance, roster).map_err(|_| Fault::Write)?;
+    sink.finish().map_err(|_| Fault::Write)
 }

@@ -1,16 +1,11 @@
-use Rattle.std.proofs.Common.{refl}
+use Rattle.std.proofs.Common.{refl, rules}
 use Rattle.rota_pb.specs.Runs.{stopped, went_on}
 use Rattle.rota_pb.proofs.extending.extend.Goals as goal
 
 pub returns-in-Some : goal.returns-in-Some
 returns-in-Some g c = stopped _ refl (rw (c.of_roster.ensures, c.in-Some.is) at c.verdict_of-verdict.ensures.model) (λ kept. refl)
 
-pub returns-in-Ok : goal.returns-in-Ok
-returns-in-Ok g c =
+pub returns : goal.returns
+returns g c =
     let extends = rw (c.of_roster.ensures, c.in_default.is) at c.verdict_of-verdict.ensures.model in
-    went_on tt extends.keeps (rw extends.objective at c.in-Ok.ensures)
-
-pub returns-in-Err : goal.returns-in-Err
-returns-in-Err g c =
-    let extends = rw (c.of_roster.ensures, c.in_default.is) at c.verdict_of-verdict.ensures.model in
-    went_on tt extends.keeps (refl, rw extends.objective at c.in-Err.ensures)
+    went_on tt extends.keeps (rw (← extends.objective) (search rules))
