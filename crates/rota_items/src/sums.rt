@@ -9,6 +9,7 @@ ghost use Rattle.rota_items.specs.Events.{term_events};
 ghost use Rattle.rota_items.specs.Takes.{Takes};
 ghost use Rattle.rota_items.specs.Limits.{word_limit};
 
+use crate::days::DAYS;
 use crate::takers::Taker;
 use crate::variables::{cell_var, first_var_on};
 use rota_core::{Cell, Instance};
@@ -144,7 +145,7 @@ pub fn give_skill_cells<T: Taker>(
         Takes T.Taker (sum_events week Sign.Minus (skill_cells week nurse skill))
         taker.old taker.new result }
 {
-    for day in 0..7 {
+    for day in 0..DAYS {
         for shift in 0..instance.shifts() {
             let cell = Cell {
                 nurse,

@@ -4,6 +4,7 @@ ghost use Rattle.rota_items.specs.HardRows.{h2_rows};
 ghost use Rattle.rota_items.specs.RowTakes.{TakesRows};
 
 use crate::cell_sum::CellSum;
+use crate::days::DAYS;
 use crate::hard::row_takers::{HardRow, RowTaker};
 use crate::hard::row_walk::row_where;
 use rota_core::{Instance, Rule};
@@ -14,7 +15,7 @@ pub fn walk<T: RowTaker>(instance: &Instance, taker: &mut T) -> Result<(), T::Fa
     ensures { let week = week_of instance.now in
         TakesRows T.RowTaker week (h2_rows week) taker.old taker.new result }
 {
-    for day in 0..7 {
+    for day in 0..DAYS {
         for shift in 0..instance.shifts() {
             for skill in 0..instance.skills() {
                 let minimum = instance.demand(day, shift, skill).minimum;

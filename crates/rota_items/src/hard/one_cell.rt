@@ -4,6 +4,7 @@ ghost use Rattle.rota_items.specs.HardRows.{h1_rows};
 ghost use Rattle.rota_items.specs.RowTakes.{TakesRows};
 
 use crate::cell_sum::CellSum;
+use crate::days::DAYS;
 use crate::hard::row_takers::{HardRow, RowTaker};
 use rota_core::{Instance, Rule};
 
@@ -14,7 +15,7 @@ pub fn walk<T: RowTaker>(instance: &Instance, taker: &mut T) -> Result<(), T::Fa
         TakesRows T.RowTaker week (h1_rows week) taker.old taker.new result }
 {
     for nurse in 0..instance.nurses() {
-        for day in 0..7 {
+        for day in 0..DAYS {
             let row = HardRow {
                 rule: Rule::H1,
                 sum: CellSum::Day { nurse, day },

@@ -5,6 +5,7 @@ ghost use Rattle.rota_items.specs.HardRows.{h3_monday_rows, h3_rows, h3_rows_bet
 ghost use Rattle.rota_items.specs.RowTakes.{TakesRows};
 
 use crate::cell_sum::CellSum;
+use crate::days::DAYS;
 use crate::hard::row_takers::{HardRow, RowTaker};
 use crate::hard::row_walk::row_where;
 use rota_core::{Instance, Rule};
@@ -88,7 +89,7 @@ fn walk_nurse<T: RowTaker>(instance: &Instance, taker: &mut T, nurse: u16) -> Re
         TakesRows T.RowTaker week (h3_rows_of week nurse) taker.old taker.new result }
 {
     walk_monday(instance, taker, nurse)?;
-    for day in 0..6 {
+    for day in 0..DAYS - 1 {
         walk_between(instance, taker, nurse, day)?;
     }
     Ok(())

@@ -7,6 +7,7 @@ ghost use Rattle.rota_items.specs.ItemValues.{IsChargeOf, charged_items};
 ghost use Rattle.rota_items.specs.RunItems.{only_sunday, saturday};
 
 use crate::cell_sum::DayPattern;
+use crate::days::DAYS;
 use crate::items::item_takers::ItemTaker;
 use crate::items::soft_item::RunCharge;
 use crate::runs::run_walk::walk_pattern;
@@ -35,7 +36,7 @@ fn only_sunday() -> DayPattern
 {
     DayPattern {
         first: 6,
-        end: 7,
+        end: DAYS,
         off_before: true,
         off_after: false,
         units: 1,
