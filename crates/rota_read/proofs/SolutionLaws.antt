@@ -8,8 +8,8 @@ use Rattle.rota_read.specs.SolutionLayout.{solution, SpellsRoster}
 use Rattle.rota_read.proofs.FileLaws.{spells-read, fault_in-read}
 
 -- a roster that is read is the one that the text spells
-pub roster-read : (tables : InstanceTables) (text : List ℕ) (roster : RosterTables) → ReadsRosterFile (week_of tables) (Ok roster) (read_file (solution tables.scenario) text)
-    → SpellsRoster tables text roster
+pub roster-read : (tables : InstanceTables) (text : List ℕ) (roster : RosterTables)
+    → ReadsRosterFile (week_of tables) (Ok roster) (read_file (solution tables.scenario) text) → SpellsRoster tables text roster
 roster-read tables text roster h = record { rows = h.0; spelled = spells-read (solution tables.scenario) text h.0 h.2; cells = h.1 }
 
 -- what the reader of a solution says, by what reading gives

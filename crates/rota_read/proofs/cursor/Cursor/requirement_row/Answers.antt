@@ -22,19 +22,24 @@ returns-in_err-unless_taken-clause-read c =
     let below = c.in_ok-shift.ensures.below c.in-Some.shift c.in-Some.is in
     let pair = c.in-Some.shift * skills + c.in_ok-skill.skill in
     let within : pair < length rows = grind (arith, below, c.in_ok-skill.ensures.below) in
-    let place : c.from.result * c.from-2.result + c.from-3.result ≡ pair = rw (c.from.ensures, c.from-2.ensures, c.from-3.ensures, c.skills.ensures.count) refl in
-    let found = get_or_default rows pair None c.index.result.now within ∙ ap (λ n. get_or rows n c.index.result.now) (sym place) ∙ sym c.index.ensures in
-    let taken : is_listed rows pair ≡ true = ap (λ (row : Option (List Demand)). is_some row) found ∙ sym c.is_some.ensures ∙ c.in_err-unless_taken.ensures.0 in
+    let place : c.from.result * c.from-2.result + c.from-3.result ≡ pair =
+    rw (c.from.ensures, c.from-2.ensures, c.from-3.ensures, c.skills.ensures.count) refl in
+    let at = c.index.result.now in
+    let found = get_or_default rows pair None at within ∙ ap (λ n. get_or rows n at) (sym place) ∙ sym c.index.ensures in
+    let taken : is_listed rows pair ≡ true =
+    ap (λ (row : Option (List Demand)). is_some row) found ∙ sym c.is_some.ensures ∙ c.in_err-unless_taken.ensures.0 in
     rw (shift, known_taken, c.in_ok-skill.ensures.read, taken) (search rules)
 
 pub returns-in_err-demands_of_days-clause-read : goal.returns-in_err-demands_of_days-clause-read
 unfolding requirement_row requirement read
 returns-in_err-demands_of_days-clause-read c =
     let shift = rw c.in-Some.is at c.in_ok-shift.ensures.read in
-    rw shift (grind (arith, known_taken, front_fails, c.in_ok-skill.ensures.read, c.in_ok-unless_taken.ensures, c.in_err-demands_of_days.ensures))
+    let free = c.in_ok-unless_taken.ensures in
+    rw shift (grind (arith, known_taken, front_fails, c.in_ok-skill.ensures.read, free, c.in_err-demands_of_days.ensures))
 
 pub returns-clause-read : goal.returns-clause-read
 unfolding requirement_row requirement read
 returns-clause-read c =
     let shift = rw c.in-Some.is at c.in_ok-shift.ensures.read in
-    rw shift (grind (arith, known_taken, c.in_ok-skill.ensures.read, c.in_ok-unless_taken.ensures, c.in_ok-demands_of_days.ensures))
+    let free = c.in_ok-unless_taken.ensures in
+    rw shift (grind (arith, known_taken, c.in_ok-skill.ensures.read, free, c.in_ok-demands_of_days.ensures))

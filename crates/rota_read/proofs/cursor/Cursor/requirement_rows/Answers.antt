@@ -8,7 +8,5 @@ unfolding requirement_rows
 loop-init c =
     let none : c.in_ok-rows.rows.items ≡ no_requirements c.args.scenario.now = search rules in
     let all : most_rows c.args.scenario.now - 0 ≡ most_rows c.args.scenario.now = omega arith in
-    record {
-      read = rw (all, none) refl;
-      rows = ap (λ (rows : Requirements). length rows) none ∙ length-replicate (length c.args.scenario.now.shifts * length c.args.scenario.now.skills) None;
-    }
+    let pairs = length c.args.scenario.now.shifts * length c.args.scenario.now.skills in
+    record { read = rw (all, none) refl; rows = ap (λ (rows : Requirements). length rows) none ∙ length-replicate pairs None }
