@@ -162,7 +162,8 @@ module _ {S F : Type 0} (T : Ghosts S F) where
   pub cell_refused : (week : Week) (sign : Sign) (cell : Cell) (variable : ℕ) (s t : S) → variable ≡ cell_number week cell →
       T.left (T.value s) (term (coefficient_of sign) variable) t → Refused T (sum_events week sign (cell ∷ [])) s t
   unfolding cell_term_events
-  cell_refused week sign cell variable s t same refused = term_refused (coefficient_of sign) (cell_number week cell) s t (rw same at refused)
+  cell_refused week sign cell variable s t same refused =
+      term_refused (coefficient_of sign) (cell_number week cell) s t (rw same at refused)
 
   -- ---- a list of one row
 

@@ -6,4 +6,5 @@ pub returns : goal.returns
 unfolding numbered_list
 returns g c =
     slacks_given c.args.instance.now c.args.roster.now g.T.LiteralTaker _ c.walk_soft_items.new.taker (λ it. it.taker.ghost_name)
-    (λ it. it.taker.now) (λ it. it.judge.now) c.of_roster-judge.ensures c.requires.limits c.walk_soft_items.result _ (search rules) c.walk_soft_items.ensures
+    (λ it. it.taker.now) (λ it. it.judge.now) c.of_roster-judge.ensures c.requires.limits c.walk_soft_items.result _ (search rules)
+    c.walk_soft_items.ensures

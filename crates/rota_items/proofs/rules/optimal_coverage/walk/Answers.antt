@@ -7,4 +7,10 @@ returns-in_err-item_where g c =
     (loop_refused (items_join _) _ _ _ _ _ _ (omega arith) c.loop-day.invariant
     (loop_refused (items_join _) _ _ _ _ _ _ (omega arith) c.loop-shift.invariant
     (loop_refused (items_join _) _ _ _ _ _ _ (omega arith) c.loop-skill.invariant
-    (rw (to_z-of_z w64 c.from-in-loop-skill.result (search rules), c.from-in-loop-skill.ensures, c.from.ensures, c.saturating_sub.ensures, c.demand-demand.ensures) at c.in_err-item_where.ensures))))
+    (rw (
+      to_z-of_z w64 c.from-in-loop-skill.result (search rules),
+      c.from-in-loop-skill.ensures,
+      c.from.ensures,
+      c.saturating_sub.ensures,
+      c.demand-demand.ensures,
+    ) at c.in_err-item_where.ensures))))
