@@ -1,6 +1,5 @@
 -- A file that was read whole, or up to a byte more than a file may have.
-use Rattle.std.proofs.Common.{◌≡◌, ℕ, ◌+◌, ◌≤◌, List, [], ◌++◌, length, Option, None, Some, Result, inl, inr, refl, sym, subst, ◌∙◌, ap, arith, length-append}
-use Rattle.std.specs.Prelude.{IsErrAnd}
+use Rattle.std.proofs.Common.{◌≡◌, ℕ, ◌+◌, ◌≤◌, List, [], ◌++◌, length, Option, None, Some, inl, inr, refl, sym, subst, ◌∙◌, ap, arith, length-append}
 use Rattle.std.specs.Io.KnownBytes.{prepend_known, IsAtEnd}
 use Rattle.std.proofs.lemmas.Bool.{cases_lt}
 use Rattle.std.proofs.lemmas.List.{append-nil}
@@ -14,11 +13,9 @@ use Rattle.rota_read.specs.Files.{LONGEST, HasFault, too_long, misses_slot, goes
 use Rattle.rota_read.specs.FileAnswers.{IsFaultOf}
 use Rattle.rota_pb.specs.declared.fault.Fault.{Fault}
 use Rattle.rota_pb.specs.declared.fault.Fault.TheVariants.{Memory, Read}
-use Rattle.rota_pb.specs.WeekFiles.{FailsCheck, IsRead, read_file}
+use Rattle.rota_pb.specs.WeekFiles.{FailsCheck, IsRead}
 use Rattle.rota_pb.specs.RunParts.{fault_of_file, StopsReading}
 use Rattle.rota_pb.specs.RunPorts.{Reader, IsReadInPart, IsReadUpTo}
-use Rattle.rota_pb.specs.Runs.{EndsInTurn, Run, went_on}
-use Rattle.rota_pb.proofs.Runs.{stopped_by}
 
 some_injective : {A : Type 0} (a b : A) → ◌≡◌ {A = Option A} (Some a) (Some b) → a ≡ b
 some_injective a b same = cc
@@ -83,23 +80,3 @@ pub stops-check : {V : Type 0} (name : FileName) (layout : Layout V) (reader : R
 stops-check name layout reader Memory stops = stops
 stops-check name layout reader Read stops = stops
 stops-check name layout reader _ stops = absurd stops
-
--- ---- a run over a file
-
-module _ {V B : Type 0} {next : V → Run B} (name : FileName) (layout : Layout V) (reader : Reader) where
-  -- a run stops where the file is not read
-  pub stops_unread : (result : Result B Fault) (fault : Fault) → IsErrAnd result (λ e. e ≡ fault) → StopsReading (LONGEST + 1) reader fault →
-      ((found : V) → (next found).untouched) → EndsInTurn (read_file name layout reader) next result
-  stops_unread result fault is stops untouched = stopped_by result fault is (stops-check name layout reader fault stops) untouched
-
-  module _ (text : List ℕ) (read : IsReadUpTo (LONGEST + 1) reader text) where
-    -- and where its text has a fault
-    pub stops_at_fault : (result : Result B Fault) (file : FileFault) → IsErrAnd result (λ e. e ≡ fault_of_file file) →
-        IsFaultOf name layout text file → ((found : V) → (next found).untouched) → EndsInTurn (read_file name layout reader) next result
-    stops_at_fault result file is is_fault untouched =
-        stopped_by result (fault_of_file file) is (fails-check name layout reader text read file is_fault) untouched
-
-    -- it goes on with the value that the text spells
-    pub goes_on_read : {result : Result B Fault} (value : V) → Spells layout text value → (next value).ends result →
-        EndsInTurn (read_file name layout reader) next result
-    goes_on_read value spells ends = went_on value (is-read name layout reader text read value spells) ends

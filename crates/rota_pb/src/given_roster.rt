@@ -4,9 +4,9 @@ ghost use Rattle.rota_pb.specs.RunPorts.{reader_of};
 ghost use Rattle.rota_pb.specs.WeekFiles.{read_roster as roster_reading};
 
 use crate::fault::Fault;
-use crate::whole_read::read_file;
+use crate::whole_read::read_within;
 use rota_core::{Instance, Roster, Source};
-use rota_read::{read_fixed, read_solution};
+use rota_read::{LONGEST, read_fixed, read_solution};
 use std::alloc::Global;
 
 /// Reads a solution file to its end, or to one byte more than it may have, and its roster.
@@ -17,7 +17,7 @@ pub(crate) fn read_roster<S: Source>(
 ) -> Result<Roster, Fault>
     ensures { (roster_reading names.Solution instance.now (reader_of S.Source source.old source.new)).ends result }
 {
-    let text = read_file(alloc, source)?;
+    let text = read_within(alloc, source, LONGEST + 1)?;
     Ok(read_solution(alloc, instance, &text)?)
 }
 
@@ -29,6 +29,6 @@ pub(crate) fn read_held<S: Source>(
 ) -> Result<Roster, Fault>
     ensures { (roster_reading names.Fixed instance.now (reader_of S.Source source.old source.new)).ends result }
 {
-    let text = read_file(alloc, source)?;
+    let text = read_within(alloc, source, LONGEST + 1)?;
     Ok(read_fixed(alloc, instance, &text)?)
 }

@@ -1,12 +1,18 @@
 //! The files of a week, read whole and checked one after the other.
+ghost use Rattle.std.specs.Prelude.{IfOk};
+ghost use Rattle.rota_core.specs.declared.fault.FileName.TheVariants as names;
+ghost use Rattle.rota_core.specs.InstanceTables.{HasNumbersOf};
+ghost use Rattle.rota_read.specs.ScenarioLayout.{scenario as scenario_layout};
+ghost use Rattle.rota_read.specs.HistoryLayout.{history as history_layout};
+ghost use Rattle.rota_read.specs.WeekLayout.{week as week_layout};
 ghost use Rattle.rota_pb.specs.RunPorts.{reader_of, week_readers};
-ghost use Rattle.rota_pb.specs.WeekFiles.{read_tables as tables_reading, read_week as week_reading};
+ghost use Rattle.rota_pb.specs.WeekFiles.{join as joining, read_file, read_tables as tables_reading, read_week as week_reading};
 
 use crate::fault::Fault;
 use crate::given_roster::read_held;
-use crate::whole_read::read_file;
-use rota_core::{Instance, Source};
-use rota_read::{read_history, read_scenario, read_week};
+use crate::whole_read::read_within;
+use rota_core::{History, Instance, Scenario, Source, Week};
+use rota_read::{LONGEST, read_history, read_scenario, read_week};
 use std::alloc::Global;
 
 /// What is asked of a run beside its files.
@@ -16,6 +22,46 @@ pub struct Choice {
     pub early: bool,
     /// The cells of a fix file are held.
     pub fixed: bool,
+}
+
+fn read_scenario_from<S: Source>(alloc: Global, source: &mut S) -> Result<Scenario, Fault>
+    ensures { (read_file names.Scenario scenario_layout (reader_of S.Source source.old source.new)).ends result }
+{
+    let text = read_within(alloc, source, LONGEST + 1)?;
+    Ok(read_scenario(alloc, &text)?)
+}
+
+fn read_history_from<S: Source>(
+    alloc: Global,
+    scenario: &Scenario,
+    source: &mut S,
+) -> Result<History, Fault>
+    ensures fits { IfOk result (λ h. HasNumbersOf scenario.now h.nurses h.shifts h.skills) }
+    ensures reads { (read_file names.History (history_layout scenario.now) (reader_of S.Source source.old source.new)).ends result }
+{
+    let text = read_within(alloc, source, LONGEST + 1)?;
+    Ok(read_history(alloc, scenario, &text)?)
+}
+
+fn read_week_from<S: Source>(
+    alloc: Global,
+    scenario: &Scenario,
+    source: &mut S,
+) -> Result<Week, Fault>
+    ensures fits { IfOk result (λ w. HasNumbersOf scenario.now w.nurses w.shifts w.skills) }
+    ensures reads { (read_file names.Week (week_layout scenario.now) (reader_of S.Source source.old source.new)).ends result }
+{
+    let text = read_within(alloc, source, LONGEST + 1)?;
+    Ok(read_week(alloc, scenario, &text)?)
+}
+
+// The three files joined, where the scenario spans the week.
+fn join(scenario: Scenario, history: History, week: Week, early: bool) -> Result<Instance, Fault>
+    requires history_fits { HasNumbersOf scenario history.nurses history.shifts history.skills }
+    requires week_fits { HasNumbersOf scenario week.nurses week.shifts week.skills }
+    ensures { (joining scenario history week early).ends result }
+{
+    Ok(Instance::join(scenario, history, week, early)?)
 }
 
 // The instance that the three files spell, with no cell held. The first check that fails is the
@@ -30,10 +76,10 @@ fn read_tables<S: Source, H: Source, K: Source>(
     ensures { (tables_reading early
         (reader_of S.Source sce.old sce.new) (reader_of H.Source his.old his.new) (reader_of K.Source week.old week.new)).ends result }
 {
-    let scenario = read_scenario(alloc, &read_file(alloc, sce)?)?;
-    let history = read_history(alloc, &scenario, &read_file(alloc, his)?)?;
-    let week = read_week(alloc, &scenario, &read_file(alloc, week)?)?;
-    Ok(Instance::join(scenario, history, week, early)?)
+    let scenario = read_scenario_from(alloc, sce)?;
+    let history = read_history_from(alloc, &scenario, his)?;
+    let week = read_week_from(alloc, &scenario, week)?;
+    join(scenario, history, week, early)
 }
 
 // The instance that the files of a week spell, with the cells held that the fix file spells, where

@@ -1,30 +1,28 @@
 //! A file read whole.
-ghost use Rattle.std.specs.Prelude.{◌+◌, IfOk, IfErr};
-ghost use Rattle.rota_read.specs.Files.{LONGEST};
+ghost use Rattle.std.specs.Prelude.{IfOk, IfErr};
 ghost use Rattle.rota_pb.specs.declared.fault.Fault.TheVariants.{Memory, Read};
 ghost use Rattle.rota_pb.specs.RunPorts.{reader_of, IsReadUpTo};
 ghost use Rattle.rota_pb.specs.RunParts.{StopsReading};
 
 use crate::fault::Fault;
 use rota_core::Source;
-use rota_read::LONGEST;
 use std::alloc::Global;
 
 const PIECE: usize = 4096;
 
-// One byte more than a file may have.
-const LIMIT: usize = LONGEST + 1;
-
-/// Reads a file up to its end, or to one byte more than it may have. Behind the end, and behind an error, it
-/// reads no more.
-pub(crate) fn read_file<S: Source>(alloc: Global, source: &mut S) -> Result<Vec<u8>, Fault>
-    ensures read { IfOk result (λ text. IsReadUpTo (LONGEST + 1) (reader_of S.Source source.old source.new) text.items) }
-    ensures fault { IfErr result (StopsReading (LONGEST + 1) (reader_of S.Source source.old source.new)) }
+/// Reads up to the end, or `limit` bytes. Behind the end, and behind an error, it reads no more.
+pub(crate) fn read_within<S: Source>(
+    alloc: Global,
+    source: &mut S,
+    limit: usize,
+) -> Result<Vec<u8>, Fault>
+    ensures read { IfOk result (λ text. IsReadUpTo limit (reader_of S.Source source.old source.new) text.items) }
+    ensures fault { IfErr result (StopsReading limit (reader_of S.Source source.old source.new)) }
 {
     let mut text = Vec::new(alloc);
     let mut buffer = [0; PIECE];
-    while text.len() < LIMIT {
-        let room = (LIMIT - text.len()).min(PIECE);
+    while text.len() < limit {
+        let room = (limit - text.len()).min(PIECE);
         let Ok(count) = source.read(&mut buffer[..room]) else {
             return Err(Fault::Read);
         };
