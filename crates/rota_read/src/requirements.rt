@@ -40,7 +40,7 @@ impl<'a> Cursor<'a> {
     }
 
     // One more row of requirements, or the word that ends them: whether there was a row.
-    #[tactic(auto, using(crate::proofs::NameSteps::known_taken), unfolding(crate::specs::WeekLayout::requirement_row, crate::specs::WeekLayout::requirement, crate::specs::Reading::read))]
+    #[tactic(auto, unfolding(crate::specs::WeekLayout::requirement_row, crate::specs::Reading::read))]
     fn requirement_row(
         &mut self,
         scenario: &Scenario,

@@ -17,7 +17,6 @@ const NO_DEMAND: Demand = Demand {
 };
 
 /// The demands of all pairs of a shift type and a skill, day by day.
-#[tactic(auto, using(crate::proofs::TableLemmas::one_more_row))]
 pub fn demands_of(alloc: Global, rows: &[Option<[Demand; 7]>]) -> Result<Vec<Demand>, AllocError>
     ensures { IfOk result (λ v. v.items ≡ demand_table rows.now) }
 {
