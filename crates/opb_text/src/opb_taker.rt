@@ -2,7 +2,7 @@
 ghost use Rattle.std.specs.Prelude.{◌≡◌, [], true, false, IsErr};
 ghost use Rattle.opb_text.specs.ModelText.{first_line, term_text};
 
-use crate::sink::{Piece, Sink};
+use crate::sink::Sink;
 use rota_core::{PortFault, Target};
 use rota_items::{Counts, Part, Taker};
 
@@ -41,13 +41,13 @@ impl<'a, W: Target> OpbTaker<'a, W> {
         ensures takes { PutsText (sink_of self.old) result (first_line counts.variables counts.constraints) (sink_of self.new) }
         ensures for_good { sink_failed (sink_of self.old) ≡ true → IsErr result }
     {
-        self.sink.put_all(&[
-            Piece::Bytes(b"* #variable= "),
-            Piece::Natural(u64::from(counts.variables)),
-            Piece::Bytes(b" #constraint= "),
-            Piece::Natural(u64::from(counts.constraints)),
-            Piece::Bytes(b"\n"),
-        ])
+        self.sink.number_between(
+            b"* #variable= ",
+            u64::from(counts.variables),
+            b" #constraint= ",
+        )?;
+        self.sink
+            .number_between(b"", u64::from(counts.constraints), b"\n")
     }
 
     /// Finishes the sink: Ok says that all that was put is out and flushed. It fails only where the
@@ -67,7 +67,8 @@ impl<'a, W: Target> OpbTaker<'a, W> {
         sink
     }
 
-    // Puts a term and a blank.
+    // Puts a term whose coefficient is neither 1 nor -1, and a blank. Of these two it puts the right
+    // text too, but `unit_term` is faster.
     fn weighted_term(&mut self, coefficient: i64, variable: u32) -> Result<(), PortFault>
         ensures same_row { in_objective self.new ≡ in_objective self.old }
         ensures takes { PutsText (sink_of self.old) result (term_text (coefficient, variable)) (sink_of self.new) }

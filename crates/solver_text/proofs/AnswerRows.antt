@@ -1,5 +1,6 @@
 -- The texts of the literals, with the end, are the rows of an answer.
-use Rattle.std.proofs.Common.{◌≡◌, ℕ, zero, suc, ◌+◌, ◌%◌, ◌<◌, ◌≤◌, Bool, true, false, List, [], ◌∷◌, ◌++◌, length, take, drop, refl, ap, sym, ◌∙◌, arith, append_assoc, append-nil, length-drop}
+use Rattle.std.proofs.Common.{◌≡◌, ℕ, zero, suc, ◌+◌, ◌%◌, ◌<◌, ◌≤◌, Bool, true, false, List, [], ◌∷◌, ◌++◌, length}
+use Rattle.std.proofs.Common.{take, drop, refl, ap, sym, ◌∙◌, arith, append_assoc, append-nil, length-drop}
 use Rattle.std.specs.List.{flat_map}
 use Rattle.std.proofs.lemmas.Bool.{eq-eqb, ne_eqb}
 use Rattle.solver_text.specs.AnswerText.{literal_word, literal_words, rows_within, behind_blank, blank_words, value_line, answer_head}
@@ -21,7 +22,8 @@ rest_text-none n e = let same : n + 0 ≡ n = omega arith in rw (same, full n e)
 rest_text-open : (n : ℕ) → 0 < n % 10 → rest_text n [] ≡ 10 ∷ []
 rest_text-open n some = let same : n + 0 ≡ n = omega arith in rw (same, not_full n some) refl
 
-rest_text-cons : (n : ℕ) (truth : Bool) (truths : List Bool) → rest_text n (truth ∷ truths) ≡ literal_text n truth ++ rest_text (n + 1) truths
+rest_text-cons : (n : ℕ) (truth : Bool) (truths : List Bool) →
+    rest_text n (truth ∷ truths) ≡ literal_text n truth ++ rest_text (n + 1) truths
 rest_text-cons n truth truths =
     let next : n + length (truth ∷ truths) ≡ (n + 1) + length truths = omega arith in
     ap (λ (m : ℕ). (literal_text n truth ++ literals_text (n + 1) truths) ++ end_text m) next
@@ -55,7 +57,8 @@ drop-words_after (suc k) n (truth ∷ truths) =
     drop-words_after k (n + 1) truths ∙ ap (λ (m : ℕ). words_after m (drop k truths)) next
 
 -- a row to its end
-row_rest : (d n : ℕ) (truths : List Bool) → n % 10 + suc d ≡ 10 → 0 < n % 10 → rest_text n truths ≡ blank_words (take (suc d) (words_after n truths)) ++ 10 ∷ rest_text (n + suc d) (drop (suc d) truths)
+row_rest : (d n : ℕ) (truths : List Bool) → n % 10 + suc d ≡ 10 → 0 < n % 10 →
+    rest_text n truths ≡ blank_words (take (suc d) (words_after n truths)) ++ 10 ∷ rest_text (n + suc d) (drop (suc d) truths)
 row_rest d n [] e some =
     let next : (n + suc d) % 10 ≡ 0 = omega arith in
     rest_text-open n some ∙ ap (λ (text : List ℕ). 10 ∷ text) (sym (rest_text-none (n + suc d) next))
@@ -72,16 +75,20 @@ row_rest (suc d) n (truth ∷ truths) e some =
     rest_text-cons n truth truths
     ∙ ap (λ (text : List ℕ). text ++ rest_text (n + 1) truths) (literal_within n truth some next)
     ∙ ap (λ (text : List ℕ). blank_word n truth ++ text) (row_rest d (n + 1) truths rest next)
-    ∙ ap (λ (m : ℕ). blank_word n truth ++ (blank_words (take (suc d) (words_after (n + 1) truths)) ++ 10 ∷ rest_text m (drop (suc d) truths))) same
-    ∙ sym (append_assoc (blank_word n truth) (blank_words (take (suc d) (words_after (n + 1) truths))) (10 ∷ rest_text (n + suc (suc d)) (drop (suc d) truths)))
+    ∙ ap
+    (λ (m : ℕ). blank_word n truth ++ (blank_words (take (suc d) (words_after (n + 1) truths)) ++ 10 ∷ rest_text m (drop (suc d) truths))) same
+    ∙ sym
+    (append_assoc (blank_word n truth) (blank_words (take (suc d) (words_after (n + 1) truths))) (10 ∷ rest_text (n + suc (suc d)) (drop (suc d) truths)))
 
 -- a line of values and what follows
-line_then : (word : List ℕ) (words : List (List ℕ)) (text : List ℕ) → (118 ∷ behind_blank word) ++ (blank_words words ++ 10 ∷ text) ≡ value_line (word ∷ words) ++ text
+line_then : (word : List ℕ) (words : List (List ℕ)) (text : List ℕ) →
+    (118 ∷ behind_blank word) ++ (blank_words words ++ 10 ∷ text) ≡ value_line (word ∷ words) ++ text
 line_then word words text =
     ap (λ (t : List ℕ). 118 ∷ t)
     (sym (append_assoc (behind_blank word) (blank_words words) (10 ∷ text)) ∙ sym (append_assoc (blank_words (word ∷ words)) (10 ∷ []) text))
 
-rest_text-rows : (k n : ℕ) (truths : List Bool) → length truths ≤ k → n % 10 ≡ 0 → rest_text n truths ≡ flat_map value_line (rows_within k (words_after n truths))
+rest_text-rows : (k n : ℕ) (truths : List Bool) → length truths ≤ k → n % 10 ≡ 0 →
+    rest_text n truths ≡ flat_map value_line (rows_within k (words_after n truths))
 rest_text-rows zero n [] le e = rest_text-none n e
 rest_text-rows (suc k) n [] le e = rest_text-none n e
 rest_text-rows zero n (truth ∷ truths) le e = absurd (omega arith)

@@ -1,5 +1,6 @@
 -- Numerals as words: digits without blanks, which spell their number.
-use Rattle.std.proofs.Common.{◌≡◌, ℕ, ◌^◌, ◌<◌, ◌≤◌, Bool, true, false, List, [], ◌∷◌, Option, Some, None, length, refl, ap, ◌∙◌, arith, pos}
+use Rattle.std.proofs.Common.{◌≡◌, ℕ, ◌^◌, ◌<◌, ◌≤◌, Bool, true, false, List, [], ◌∷◌, Option}
+use Rattle.std.proofs.Common.{Some, None, length, refl, ap, ◌∙◌, arith, pos}
 use Rattle.std.specs.Prelude.{All}
 use Rattle.std.specs.Option.{option_map_or}
 use Rattle.std.proofs.lemmas.Bool.{lt-ltb, le-leb, ne_eqb}
@@ -25,21 +26,24 @@ pub record IsWord (word : List ℕ) : Type 0 where
 
 digits-word_bytes : (digits : List ℕ) → AreDigits digits → All IsWordByte digits
 digits-word_bytes [] these = All-nil IsWordByte
-digits-word_bytes (b ∷ digits) these = All-cons IsWordByte b digits (word_byte b (omega (arith, these.0))) (digits-word_bytes digits these.2)
+digits-word_bytes (b ∷ digits) these =
+    All-cons IsWordByte b digits (word_byte b (omega (arith, these.0))) (digits-word_bytes digits these.2)
 
 has_some_bytes : (word : List ℕ) → 0 < length word → has_bytes word ≡ true
 has_some_bytes [] some = absurd (omega arith)
 has_some_bytes (b ∷ word) some = refl
 
 -- digits that name the variable
-variable-digits : (positive : Bool) (digits : List ℕ) → 0 < length digits → is_decimal digits ≡ true → variable_of positive digits ≡ Some (record { positive = positive; variable = decimal digits })
+variable-digits : (positive : Bool) (digits : List ℕ) → 0 < length digits → is_decimal digits ≡ true →
+    variable_of positive digits ≡ Some (record { positive = positive; variable = decimal digits })
 variable-digits positive [] some e = absurd (omega arith)
 variable-digits positive (b ∷ digits) some e = rw e refl
 
 abbrev literal_of_variable : Bool → ℕ → Option Literal
 literal_of_variable positive n = Some (record { positive = positive; variable = n })
 
-magnitude-digits : (digits : List ℕ) → 0 < length digits → length digits ≤ 18 → is_decimal digits ≡ true → magnitude_of digits ≡ Some (decimal digits)
+magnitude-digits : (digits : List ℕ) → 0 < length digits → length digits ≤ 18 → is_decimal digits ≡ true →
+    magnitude_of digits ≡ Some (decimal digits)
 magnitude-digits digits some short e = rw (e, lt-ltb 0 (length digits) some, le-leb (length digits) 18 short) refl
 
 -- digits without a sign spell a number that is not negative
@@ -73,7 +77,8 @@ module _ (tells : (n : ℕ) → TellsNumber n) where
       ∙ ap (λ (m : ℕ). literal_of_variable positive m) (tells n).number
 
   -- a literal's word names the literal
-  pub literal_of-literal_word : (variable : ℕ) (truth : Bool) → literal_of (literal_word variable truth) ≡ Some (record { positive = truth; variable = variable })
+  pub literal_of-literal_word : (variable : ℕ) (truth : Bool) →
+      literal_of (literal_word variable truth) ≡ Some (record { positive = truth; variable = variable })
   literal_of-literal_word variable true = variable-numeral true variable
   literal_of-literal_word variable false = variable-numeral false variable
 

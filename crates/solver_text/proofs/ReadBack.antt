@@ -1,5 +1,7 @@
 -- The text of an answer is read as what it was written for.
-use Rattle.std.proofs.Common.{◌≡◌, ℕ, suc, ◌+◌, ◌-◌, ◌^◌, ◌<◌, ◌≤◌, ◌&&◌, Bool, true, false, not, List, [], ◌∷◌, ◌++◌, Option, Some, Result, Ok, ℤ, pos, length, length-append, map, replicate, get_or, set, refl, sym, ap, ◌∙◌, arith, append_assoc, append-nil}
+use Rattle.std.proofs.Common.{◌≡◌, ℕ, suc, ◌+◌, ◌-◌, ◌^◌, ◌<◌, ◌≤◌, ◌&&◌, Bool, true, false, not, List, [], ◌∷◌}
+use Rattle.std.proofs.Common.{◌++◌, Option, Some, Result, Ok, ℤ, pos, length, length-append, map, replicate}
+use Rattle.std.proofs.Common.{get_or, set, refl, sym, ap, ◌∙◌, arith, append_assoc, append-nil}
 use Rattle.std.specs.Prelude.{All, codes}
 use Rattle.std.specs.List.{flat_map, list_all}
 use Rattle.solver_text.specs.Lines.{is_line_feed, words}
@@ -12,7 +14,8 @@ use Rattle.rota_core.specs.NumeralLaws.{TellsNumber}
 use Rattle.solver_text.specs.AnswerLaws.{WrittenAnswerIsRead}
 use Rattle.solver_text.specs.AnswerText.{literal_word, literal_words, rows_of_ten, value_line, answer_head, answer_text}
 use Rattle.solver_text.specs.declared.outcome.Solved.{Solved}
-use Rattle.solver_text.specs.Answers.{Facts, Judgement, of_status, of_objective, of_literal, Literal, judgements_of_line, judgements, judge, judge_all, judge_literal, judge_variable, see_variable, and_then, at_end, no_facts}
+use Rattle.solver_text.specs.Answers.{Facts, Judgement, of_status, of_objective, of_literal, Literal, judgements_of_line, judgements, judge}
+use Rattle.solver_text.specs.Answers.{judge_all, judge_literal, judge_variable, see_variable, and_then, at_end, no_facts}
 use Rattle.solver_text.specs.declared.outcome.AnswerFault.{AnswerFault}
 use Rattle.solver_text.specs.declared.outcome.Status.{Status}
 use Rattle.solver_text.specs.declared.outcome.Status.TheVariants as statuses
@@ -32,7 +35,8 @@ abbrev literal_at : Bool → ℕ → Literal
 literal_at positive n = record { positive = positive; variable = n }
 
 abbrev with_seen : Option Status → Option ℤ → List Bool → List Bool → Result Facts AnswerFault
-with_seen status value seen_true seen_false = Ok (record { status = status; last_o = value; seen_true = seen_true; seen_false = seen_false })
+with_seen status value seen_true seen_false =
+    Ok (record { status = status; last_o = value; seen_true = seen_true; seen_false = seen_false })
 
 -- one value more at the end of a list before others
 joined : (truths others : List Bool) (truth : Bool) → truths ++ truth ∷ others ≡ (truths ++ truth ∷ []) ++ others
@@ -46,7 +50,9 @@ length-map_not : (truths : List Bool) → length (map not truths) ≡ length tru
 length-map_not [] = refl
 length-map_not (truth ∷ truths) = ap suc (length-map_not truths)
 
-seen-next : (status : Option Status) (value : Option ℤ) (truths : List Bool) (truth : Bool) (more : ℕ) → see_variable (facts_behind status value truths (suc more)) truth (length truths + 1) ≡ Ok (facts_behind status value (truths ++ truth ∷ []) more)
+seen-next : (status : Option Status) (value : Option ℤ) (truths : List Bool) (truth : Bool) (more : ℕ) →
+    see_variable (facts_behind status value truths (suc more)) truth (length truths + 1) ≡
+    Ok (facts_behind status value (truths ++ truth ∷ []) more)
 seen-next status value truths true more =
     let others = replicate more false in
     let place : length truths + 1 - 1 ≡ length truths = omega arith in
@@ -68,13 +74,15 @@ seen-next status value truths false more =
     (ap (λ (bits : List Bool). with_seen status value bits (map not truths ++ true ∷ others)) (joined truths others false)
     ∙ ap (λ (bits : List Bool). with_seen status value ((truths ++ false ∷ []) ++ others) bits) (joined-not truths others false))
 
-in_range : (facts : Facts) (truth : Bool) (n : ℕ) → 0 < n → n ≤ length facts.seen_true → judge_variable facts (literal_at truth n) ≡ see_variable facts truth n
+in_range : (facts : Facts) (truth : Bool) (n : ℕ) → 0 < n → n ≤ length facts.seen_true →
+    judge_variable facts (literal_at truth n) ≡ see_variable facts truth n
 in_range facts truth n some most = rw (ne_eqb n 0 (λ e. omega arith), le-ltb (length facts.seen_true) n most) refl
 
 abbrev literals_from : ℕ → List Bool → List Judgement
 literals_from variable truths = map of_literal (literal_words variable truths)
 
-judge_all-cons : (facts : Facts) (judgement : Judgement) (others : List Judgement) → judge_all (Ok facts) (judgement ∷ others) ≡ judge_all (judge facts judgement) others
+judge_all-cons : (facts : Facts) (judgement : Judgement) (others : List Judgement) →
+    judge_all (Ok facts) (judgement ∷ others) ≡ judge_all (judge facts judgement) others
 unfolding judge_all
 judge_all-cons facts judgement others = refl
 
@@ -103,29 +111,40 @@ objective_line objective = 111 ∷ 32 ∷ numeral objective
 abbrev satisfied : Option ℤ → List Bool → Result Solved AnswerFault
 satisfied value truths = Ok (record { status = statuses.Satisfiable; last_o = value; bits = truths })
 
-end-solved : (value : Option ℤ) (truths : List Bool) → and_then (Ok (facts_behind (Some statuses.Satisfiable) value truths 0)) at_end ≡ Ok (record { status = statuses.Satisfiable; last_o = value; bits = truths })
+end-solved : (value : Option ℤ) (truths : List Bool) →
+    and_then (Ok (facts_behind (Some statuses.Satisfiable) value truths 0)) at_end ≡
+    Ok (record { status = statuses.Satisfiable; last_o = value; bits = truths })
 end-solved value truths =
     ap (λ (all : List Bool). satisfied value all) (append-nil truths)
 
 -- as numerals tell their numbers
 module _ (tells : (n : ℕ) → TellsNumber n) where
-  literal-next : (status : Option Status) (value : Option ℤ) (truths : List Bool) (truth : Bool) (more : ℕ) → judge (facts_behind status value truths (suc more)) (of_literal (literal_word (length truths + 1) truth)) ≡ Ok (facts_behind status value (truths ++ truth ∷ []) more)
+  literal-next : (status : Option Status) (value : Option ℤ) (truths : List Bool) (truth : Bool) (more : ℕ) →
+      judge (facts_behind status value truths (suc more)) (of_literal (literal_word (length truths + 1) truth)) ≡
+      Ok (facts_behind status value (truths ++ truth ∷ []) more)
   literal-next status value truths truth more =
       let facts = facts_behind status value truths (suc more) in
-      let room : length truths + 1 ≤ length (truths ++ replicate (suc more) false) = omega (arith, length-append truths (replicate (suc more) false), length-replicate (suc more) false) in
+      let room : length truths + 1 ≤ length (truths ++ replicate (suc more) false) =
+      omega (arith, length-append truths (replicate (suc more) false), length-replicate (suc more) false)
+      in
       ap (λ (literal : Option Literal). judge_literal facts literal) (literal_of-literal_word tells (length truths + 1) truth)
       ∙ in_range facts truth (length truths + 1) (omega arith) room
       ∙ seen-next status value truths truth more
 
-  literals-judged : (status : Option Status) (value : Option ℤ) (before truths : List Bool) → judge_all (Ok (facts_behind status value before (length truths))) (literals_from (length before + 1) truths) ≡ Ok (facts_behind status value (before ++ truths) 0)
+  literals-judged : (status : Option Status) (value : Option ℤ) (before truths : List Bool) →
+      judge_all (Ok (facts_behind status value before (length truths))) (literals_from (length before + 1) truths) ≡
+      Ok (facts_behind status value (before ++ truths) 0)
   literals-judged status value before [] =
       judge_all-none (Ok (facts_behind status value before 0))
       ∙ ap (λ (truths : List Bool). Ok (facts_behind status value truths 0)) (sym (append-nil before))
   literals-judged status value before (truth ∷ truths) =
       let next : (length before + 1) + 1 ≡ length (before ++ truth ∷ []) + 1 = omega (arith, length-append before (truth ∷ [])) in
-      judge_all-cons (facts_behind status value before (suc (length truths))) (of_literal (literal_word (length before + 1) truth)) (literals_from ((length before + 1) + 1) truths)
-      ∙ ap (λ (result : Result Facts AnswerFault). judge_all result (literals_from ((length before + 1) + 1) truths)) (literal-next status value before truth (length truths))
-      ∙ ap (λ (variable : ℕ). judge_all (Ok (facts_behind status value (before ++ truth ∷ []) (length truths))) (literals_from variable truths)) next
+      judge_all-cons (facts_behind status value before (suc (length truths)))
+      (of_literal (literal_word (length before + 1) truth)) (literals_from ((length before + 1) + 1) truths)
+      ∙ ap (λ (result : Result Facts AnswerFault). judge_all result (literals_from ((length before + 1) + 1) truths))
+      (literal-next status value before truth (length truths))
+      ∙ ap
+      (λ (variable : ℕ). judge_all (Ok (facts_behind status value (before ++ truth ∷ []) (length truths))) (literals_from variable truths)) next
       ∙ literals-judged status value (before ++ truth ∷ []) truths
       ∙ ap (λ (all : List Bool). Ok (facts_behind status value all 0)) (append_assoc before (truth ∷ []) truths)
 
@@ -141,7 +160,9 @@ module _ (tells : (n : ℕ) → TellsNumber n) where
       (All-cons NoFeed 32 (numeral objective) refl (no_feed (numeral objective) (numeral-is_word tells objective).bytes))
 
   -- the lines before the values
-  head-line : (objective : ℕ) (rest : List ℕ) → judgements (answer_head objective ++ rest) ≡ of_objective (numeral objective ∷ []) ∷ of_status (codes "SATISFIABLE" ∷ []) ∷ judgements rest
+  head-line : (objective : ℕ) (rest : List ℕ) →
+      judgements (answer_head objective ++ rest) ≡
+      of_objective (numeral objective ∷ []) ∷ of_status (codes "SATISFIABLE" ∷ []) ∷ judgements rest
   head-line objective rest =
       let behind = codes "s SATISFIABLE\n" ++ rest in
       ap (λ (text : List ℕ). judgements text) (append_assoc (objective_line objective) (codes "\ns SATISFIABLE\n") rest)
@@ -156,7 +177,9 @@ module _ (tells : (n : ℕ) → TellsNumber n) where
       All-cons IsWord (literal_word variable truth) (literal_words (variable + 1) truths) (literal-is_word tells variable truth)
       (literal-words_are_words (variable + 1) truths)
 
-  text-judgements : (objective : ℕ) (truths : List Bool) → judgements (answer_text objective truths) ≡ of_objective (numeral objective ∷ []) ∷ of_status (codes "SATISFIABLE" ∷ []) ∷ literals_from 1 truths
+  text-judgements : (objective : ℕ) (truths : List Bool) →
+      judgements (answer_text objective truths) ≡
+      of_objective (numeral objective ∷ []) ∷ of_status (codes "SATISFIABLE" ∷ []) ∷ literals_from 1 truths
   text-judgements objective truths =
       let these = literal_words 1 truths in
       head-line objective (flat_map value_line (rows_of_ten these))
@@ -164,7 +187,9 @@ module _ (tells : (n : ℕ) → TellsNumber n) where
       (judgements-rows (length these) these (omega arith) (literal-words_are_words 1 truths))
 
   -- the judgement of the lines before the values
-  head-judged : (objective variables : ℕ) (others : List Judgement) → objective < 10 ^ 18 → judge_all (Ok (no_facts variables)) (of_objective (numeral objective ∷ []) ∷ of_status (codes "SATISFIABLE" ∷ []) ∷ others) ≡ judge_all (Ok (facts_behind (Some statuses.Satisfiable) (Some (pos objective)) [] variables)) others
+  head-judged : (objective variables : ℕ) (others : List Judgement) → objective < 10 ^ 18 →
+      judge_all (Ok (no_facts variables)) (of_objective (numeral objective ∷ []) ∷ of_status (codes "SATISFIABLE" ∷ []) ∷ others) ≡
+      judge_all (Ok (facts_behind (Some statuses.Satisfiable) (Some (pos objective)) [] variables)) others
   unfolding judge_all
   head-judged objective variables others small = rw (number_of-numeral tells objective small) refl
 

@@ -1,5 +1,6 @@
 -- What is judged in lines that words were joined to.
-use Rattle.std.proofs.Common.{◌≡◌, ℕ, zero, suc, ◌≤◌, true, false, List, [], ◌∷◌, ◌++◌, length, map, take, drop, refl, sym, ap, ◌∙◌, arith, append_assoc, append-nil, length-drop}
+use Rattle.std.proofs.Common.{◌≡◌, ℕ, zero, suc, ◌≤◌, true, false, List, [], ◌∷◌, ◌++◌, length, map, take, drop}
+use Rattle.std.proofs.Common.{refl, sym, ap, ◌∙◌, arith, append_assoc, append-nil, length-drop}
 use Rattle.std.specs.Prelude.{All}
 use Rattle.std.specs.List.{flat_map, filter, slice_split}
 use Rattle.std.proofs.lemmas.List.{map-append, take-append-drop}
@@ -21,7 +22,8 @@ pub no_feed : (word : List ℕ) → All IsWordByte word → All NoFeed word
 no_feed word these = All-weaker IsWordByte NoFeed (λ b h. h.1) word these
 
 -- a word before a blank, and what follows
-filter-words : (word : List ℕ) (others : List (List ℕ)) → has_bytes word ≡ true → filter has_bytes (word ∷ others) ≡ word ∷ filter has_bytes others
+filter-words : (word : List ℕ) (others : List (List ℕ)) → has_bytes word ≡ true →
+    filter has_bytes (word ∷ others) ≡ word ∷ filter has_bytes others
 filter-words word others e = rw e refl
 
 -- words that a blank joins
@@ -34,7 +36,8 @@ words-joined word (next ∷ these) is are =
     ap (λ (parts : List (List ℕ)). filter has_bytes parts)
     (slice_split_at is_blank word 32 (next ++ blank_words these) (no_blank word is.bytes) refl)
     ∙ filter-words word (slice_split is_blank (next ++ blank_words these)) is.some
-    ∙ ap (λ (others : List (List ℕ)). word ∷ others) (words-joined next these (All-head IsWord next these are) (All-tail IsWord next these are))
+    ∙ ap (λ (others : List (List ℕ)). word ∷ others)
+    (words-joined next these (All-head IsWord next these are) (All-tail IsWord next these are))
 
 -- words behind blanks are the words of the bytes
 pub words-behind_blanks : (these : List (List ℕ)) → All IsWord these → words (blank_words these) ≡ these
@@ -45,7 +48,8 @@ words-behind_blanks (word ∷ these) are =
 
 -- a line and what follows it
 pub judgements-line : (line rest : List ℕ) → All NoFeed line → judgements (line ++ 10 ∷ rest) ≡ judgements_of_line line ++ judgements rest
-judgements-line line rest none = ap (λ (parts : List (List ℕ)). flat_map judgements_of_line parts) (slice_split_at is_line_feed line 10 rest none refl)
+judgements-line line rest none =
+    ap (λ (parts : List (List ℕ)). flat_map judgements_of_line parts) (slice_split_at is_line_feed line 10 rest none refl)
 
 feed_free-blanks : (these : List (List ℕ)) → All IsWord these → All NoFeed (blank_words these)
 feed_free-blanks [] are = All-nil NoFeed
@@ -58,14 +62,16 @@ judgements-values : (these : List (List ℕ)) → All IsWord these → judgement
 judgements-values [] are = refl
 judgements-values (word ∷ these) are = ap (λ (all : List (List ℕ)). map of_literal all) (words-behind_blanks (word ∷ these) are)
 
-judgements-value_line : (these : List (List ℕ)) (rest : List ℕ) → All IsWord these → judgements (value_line these ++ rest) ≡ map of_literal these ++ judgements rest
+judgements-value_line : (these : List (List ℕ)) (rest : List ℕ) → All IsWord these →
+    judgements (value_line these ++ rest) ≡ map of_literal these ++ judgements rest
 judgements-value_line these rest are =
     ap (λ (text : List ℕ). judgements text) (append_assoc (118 ∷ blank_words these) (10 ∷ []) rest)
     ∙ judgements-line (118 ∷ blank_words these) rest (All-cons NoFeed 118 (blank_words these) refl (feed_free-blanks these are))
     ∙ ap (λ (these : List Judgement). these ++ judgements rest) (judgements-values these are)
 
 -- the literals of rows are those of the words
-pub judgements-rows : (k : ℕ) (these : List (List ℕ)) → length these ≤ k → All IsWord these → judgements (flat_map value_line (rows_within k these)) ≡ map of_literal these
+pub judgements-rows : (k : ℕ) (these : List (List ℕ)) → length these ≤ k → All IsWord these →
+    judgements (flat_map value_line (rows_within k these)) ≡ map of_literal these
 judgements-rows zero [] le are = refl
 judgements-rows (suc k) [] le are = refl
 judgements-rows zero (word ∷ these) le are = absurd (omega arith)

@@ -19,18 +19,23 @@ at_fault (Err other) fault e = cc
 abbrev with_place : LineState → Result Facts AnswerFault → Result (Facts × LineState) AnswerFault
 with_place kept result = and_then result (λ facts. Ok (facts, kept))
 
-state-fault : (variables : ℕ) (text : List ℕ) (fault : AnswerFault) → fault_within variables text ≡ Err fault → state_after variables text ≡ Err fault
-state-fault variables text fault e = ap (with_place (line_state_in (lines text).open_part)) (at_fault (judged_within variables text) fault e)
+state-fault : (variables : ℕ) (text : List ℕ) (fault : AnswerFault) → fault_within variables text ≡ Err fault →
+    state_after variables text ≡ Err fault
+state-fault variables text fault e =
+    ap (with_place (line_state_in (lines text).open_part)) (at_fault (judged_within variables text) fault e)
 
-later-fault : (variables : ℕ) (text more : List ℕ) (fault : AnswerFault) → variables < 2 ^ 32 → fault_within variables text ≡ Err fault → state_after variables (text ++ more) ≡ Err fault
+later-fault : (variables : ℕ) (text more : List ℕ) (fault : AnswerFault) → variables < 2 ^ 32 →
+    fault_within variables text ≡ Err fault → state_after variables (text ++ more) ≡ Err fault
 later-fault variables text more fault few e =
     state_after-append variables text more (omega arith)
     ∙ ap (λ (s : Result (Facts × LineState) AnswerFault). and_then s (λ x. take_bytes x.0 x.1 more)) (state-fault variables text fault e)
 
 pub fault-stays : FaultStays
 fault-stays = record {
-  within = λ variables text more fault few e. fault_within-state variables (text ++ more) (Err fault) (later-fault variables text more fault few e);
+  within = λ variables text more fault few e. fault_within-state variables (text ++ more) (Err fault)
+      (later-fault variables text more fault few e);
   whole = λ variables text more fault few e.
       outcome-state variables (text ++ more) (omega arith)
-      ∙ ap (λ (s : Result (Facts × LineState) AnswerFault). and_then s (λ x. and_then (end_line x.0 x.1.line x.1.word) at_end)) (later-fault variables text more fault few e);
+      ∙ ap (λ (s : Result (Facts × LineState) AnswerFault). and_then s (λ x. and_then (end_line x.0 x.1.line x.1.word) at_end))
+      (later-fault variables text more fault few e);
 }

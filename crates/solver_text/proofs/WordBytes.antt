@@ -39,7 +39,8 @@ take_bytes-digit facts positive n word b bytes digit =
     no_blank : (b : ℕ) → is_ascii_digit b ≡ true → is_blank b ≡ false
     no_blank b digit = grind arith
 
-    with_it : (is : Bool) → is ≡ true → (cond is (Number positive (min (with_digit n b) MOST)) Bad) ≡ Number positive (min (with_digit n b) MOST)
+    with_it : (is : Bool) → is ≡ true →
+        (cond is (Number positive (min (with_digit n b) MOST)) Bad) ≡ Number positive (min (with_digit n b) MOST)
     with_it true e = refl
     with_it false e = absurd (true≢false (sym e))
 
@@ -64,6 +65,8 @@ pub take_bytes-blank : (facts : Facts) (front : LiteralFront) (word : List ℕ) 
     take_bytes facts (in_word front word) (b ∷ bytes) ≡ and_then judged (λ after. take_bytes after (in_word Empty word) bytes)
 unfolding take_bytes
 take_bytes-blank facts front word b bytes (Ok after) blank e =
-    ap (λ (next : Result (Facts × LineState) AnswerFault). and_then next (λ s. take_bytes s.0 s.1 bytes)) (judged_at_blank facts front word b (Ok after) blank e)
+    ap (λ (next : Result (Facts × LineState) AnswerFault). and_then next (λ s. take_bytes s.0 s.1 bytes))
+    (judged_at_blank facts front word b (Ok after) blank e)
 take_bytes-blank facts front word b bytes (Err fault) blank e =
-    ap (λ (next : Result (Facts × LineState) AnswerFault). and_then next (λ s. take_bytes s.0 s.1 bytes)) (judged_at_blank facts front word b (Err fault) blank e)
+    ap (λ (next : Result (Facts × LineState) AnswerFault). and_then next (λ s. take_bytes s.0 s.1 bytes))
+    (judged_at_blank facts front word b (Err fault) blank e)

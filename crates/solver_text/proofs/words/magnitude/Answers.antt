@@ -1,4 +1,5 @@
-use Rattle.std.proofs.Common.{◌≡◌, ◌<◌, ◌≤◌, ◌^◌, ℕ, length, arith, pos, to_z, w64, Some, None, Option, ℤ, Bool, true, false, List, ap, sym, ◌∙◌, take, nat_lt, nat_le, ◌==◌, [], ◌∷◌, true≢false, subst}
+use Rattle.std.proofs.Common.{◌≡◌, ◌<◌, ◌≤◌, ◌^◌, ℕ, length, arith, pos, to_z, w64, Some, None, Option, ℤ, Bool, true, false}
+use Rattle.std.proofs.Common.{List, ap, sym, ◌∙◌, take, nat_lt, nat_le, ◌==◌, [], ◌∷◌, true≢false, subst}
 use Rattle.std.proofs.Math.Nat.{pow-le-pow_right}
 use Rattle.std.proofs.lemmas.Int.{to_z_pos}
 use Rattle.std.proofs.lemmas.List.{take_all}
@@ -27,7 +28,8 @@ some_bytes : (digits : List ℕ) {empty : Bool} → empty ≡ false → empty �
 some_bytes [] e g = absurd (true≢false (sym g ∙ e))
 some_bytes (d ∷ digits) e g = omega arith
 
-magnitude_at : (digits : List ℕ) (n : ℕ) → is_decimal digits ≡ true → n ≡ decimal digits → 0 < length digits → length digits ≤ 18 → magnitude_of digits ≡ Some n
+magnitude_at : (digits : List ℕ) (n : ℕ) → is_decimal digits ≡ true → n ≡ decimal digits → 0 < length digits →
+    length digits ≤ 18 → magnitude_of digits ≡ Some n
 magnitude_at digits n e is some short =
     let nonempty : nat_lt 0 (length digits) ≡ true = lt-ltb 0 (length digits) some in
     let fits : nat_le (length digits) 18 ≡ true = le-leb (length digits) 18 short in
@@ -38,9 +40,14 @@ returns c =
     let digits = c.args.digits.now in
     let i = c.loop-b.b-index in
     let all : take i digits ≡ digits = take_all i digits (omega arith) in
-    let decimals : is_decimal digits ≡ true = (let P : List ℕ → Type 0 = λ ds. is_decimal ds ≡ true in subst P all c.loop-b.invariant.digits) in
+    let decimals : is_decimal digits ≡ true =
+    (let P : List ℕ → Type 0 = λ ds. is_decimal ds ≡ true in subst P all c.loop-b.invariant.digits)
+    in
     let value : c.loop-b.value ≡ decimal digits = c.loop-b.invariant.value ∙ ap (λ (ds : List ℕ). decimal ds) all in
     let small = below_all c.loop-b.value i c.loop-b.invariant.small (omega arith) in
     let positive : to_z w64 c.loop-b.value ≡ pos c.loop-b.value = to_z_pos w64 c.loop-b.value (omega arith) in
     ap (λ (z : ℤ). Some z) positive
-    ∙ sym (ap (λ (m : Option ℕ). option_map_or (λ n. Some (pos n)) m None) (magnitude_at digits c.loop-b.value decimals value (omega (arith, some_bytes digits c.if-is_empty.false c.is_empty.ensures)) c.if-digits-gt-MOST_DIGITS.false))
+    ∙ sym
+    (ap (λ (m : Option ℕ). option_map_or (λ n. Some (pos n)) m None)
+    (magnitude_at digits c.loop-b.value decimals value
+    (omega (arith, some_bytes digits c.if-is_empty.false c.is_empty.ensures)) c.if-digits-gt-MOST_DIGITS.false))

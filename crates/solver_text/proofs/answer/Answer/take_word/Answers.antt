@@ -26,12 +26,14 @@ returns-in_err-take_byte-in-Some-2-clause-taken c =
     let p = err_from_is_err_and c.from_residual-in_err-take_byte-in-Some-2.result c.from_residual-in_err-take_byte-in-Some-2.ensures.1 in
     let read = take_bytes-in_word (facts_of c.args.self.now.facts) (line_of c.args.self.now) c.args.front
     c.read_on-front.result.0 c.args.bytes.now c.read_on-front.result.1.now c.requires.values c.read_on-front.ensures.reads
-    ∙ ap (λ (kept : LineState). take_bytes (facts_of c.args.self.now.facts) kept c.read_on-front.result.1.now) (sym c.go_to-in-Some-2.ensures) in
+    ∙ ap (λ (kept : LineState). take_bytes (facts_of c.args.self.now.facts) kept c.read_on-front.result.1.now)
+    (sym c.go_to-in-Some-2.ensures) in
     rw (p.1, p.2) (read ∙ rw c.in-Some.ensures.cases.0 (taken_err _ _ _ _ _ c.in_err-take_byte-in-Some-2.ensures))
 
 pub returns-in_ok-take_byte-in-Some-2-clause-taken : goal.returns-in_ok-take_byte-in-Some-2-clause-taken
 returns-in_ok-take_byte-in-Some-2-clause-taken c =
     let read = take_bytes-in_word (facts_of c.args.self.now.facts) (line_of c.args.self.now) c.args.front
     c.read_on-front.result.0 c.args.bytes.now c.read_on-front.result.1.now c.requires.values c.read_on-front.ensures.reads
-    ∙ ap (λ (kept : LineState). take_bytes (facts_of c.args.self.now.facts) kept c.read_on-front.result.1.now) (sym c.go_to-in-Some-2.ensures) in
+    ∙ ap (λ (kept : LineState). take_bytes (facts_of c.args.self.now.facts) kept c.read_on-front.result.1.now)
+    (sym c.go_to-in-Some-2.ensures) in
     read ∙ rw c.in-Some.ensures.cases.0 (taken_on _ _ _ _ _ c.in_ok-take_byte-in-Some-2.ensures)

@@ -5,7 +5,8 @@ use Rattle.solver_text.proofs.literal.LiteralFront.read_on.Given as goal
 
 abbrev pub invariant-loop-b : goal.invariant-loop-b
 invariant-loop-b l = (((facts : Facts) (word : List ℕ) →
-    take_bytes facts (in_word l.fn.self word) l.fn.bytes ≡ take_bytes facts (in_word l.front word) l.rest)) × (length l.rest ≤ length l.fn.bytes)
+    take_bytes facts (in_word l.fn.self word) l.fn.bytes ≡ take_bytes facts
+    (in_word l.front word) l.rest)) × (length l.rest ≤ length l.fn.bytes)
 
 abbrev pub decreases-loop-b : goal.decreases-loop-b
 decreases-loop-b l = length l.rest
