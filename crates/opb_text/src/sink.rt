@@ -30,7 +30,7 @@ pub struct Sink<'a, W: Target> {
 }
 
 impl<'a, W: Target> Sink<'a, W> {
-    ghost use Rattle.opb_text.specs.Sink.{stands_for, sink_failed, target_name, target_of, sent_by, FinishesSink, PutsText};
+    ghost use Rattle.opb_text.specs.Sink.{stands_for, sink_failed, target_name, target_of, FinishesSink, PutsText};
 
     /// A sink over the target, which stands for what the target was sent.
     ///
