@@ -1,12 +1,10 @@
 //! A buffer of fixed size before a target.
-ghost use Rattle.std.specs.Prelude.{◌||◌, is_err, ◌≡◌, true, false, [], ◌++◌, OnOk, OnErr, IsErr};
+ghost use Rattle.std.specs.Prelude.{◌≡◌, true, false, [], ◌++◌, OnOk, IsErr};
 ghost use Rattle.rota_core.specs.Numeral.{numeral, signed_numeral};
-ghost use Rattle.std.specs.Io.KnownBytes.{append_known};
-ghost use Rattle.rota_core.specs.Ports.{Begins};
 ghost use Rattle.opb_text.specs.Pieces.{piece_text, pieces_text};
 ghost use Rattle.opb_text.specs.TermText.{unit_text};
 
-use crate::text_buffer::{CAPACITY, MOST_DIGITS, MOST_TERM, TextBuffer};
+use crate::text_buffer::{CAPACITY, MOST_DIGITS, MOST_TERM, TextBuffer, send};
 use itoa::Buffer;
 use rota_core::{PortFault, Target};
 
@@ -32,7 +30,7 @@ pub struct Sink<'a, W: Target> {
 }
 
 impl<'a, W: Target> Sink<'a, W> {
-    ghost use Rattle.opb_text.specs.Sink.{stands_for, sink_failed, target_name, target_of, sent_by, FinishesSink, PutsText};
+    ghost use Rattle.opb_text.specs.Sink.{stands_for, sink_failed, target_name, target_of, FinishesSink, PutsText};
 
     /// A sink over the target, which stands for what the target was sent.
     ///
@@ -178,24 +176,8 @@ impl<'a, W: Target> Sink<'a, W> {
         if self.failed {
             return Err(PortFault);
         }
-        let sent = send(self.target, self.buffer.as_slice());
+        let sent = self.buffer.send_to(self.target);
         self.failed = sent.is_err();
-        self.buffer.clear();
         sent
     }
-}
-
-// Sends the whole piece.
-#[inline(never)]
-fn send<W: Target>(target: &mut W, piece: &[u8]) -> Result<(), PortFault>
-    ensures ok { OnOk result (W.sent target.new ≡ append_known (W.sent target.old) piece.now) }
-    ensures err { OnErr result (Begins (W.sent target.new) (append_known (W.sent target.old) piece.now)) }
-    ensures failure { W.has_failed target.new ≡ (W.has_failed target.old || is_err result) }
-{
-    let mut rest = piece;
-    while !rest.is_empty() {
-        let count = target.write(rest)?;
-        rest = &rest[count..];
-    }
-    Ok(())
 }
