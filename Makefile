@@ -7,17 +7,8 @@ SHARE = $(DESTDIR)$(PREFIX)/share
 
 all: build who_fits
 
-# `rt run` proves a program and all it stands on, crate after crate, and leaves it in its crate. The first time the readers are
-# proved before it, beside the model and its texts, since neither stands on the other.
-READERS_AND_TEXTS = crates/rota_read/out/rlib/stamp crates/solver_text/out/rlib/stamp
-
-$(READERS_AND_TEXTS): | crates/rota_core/out/rlib/stamp
-
-crates/%/out/rlib/stamp:
-	cd crates/$* && rt check
-
+# `rt run` proves a program and all it stands on, and leaves it in its crate.
 build:
-	@$(MAKE) --no-print-directory --silent -j2 $(READERS_AND_TEXTS)
 	cd crates/inrc2pb && rt run -- --version
 	mkdir -p out
 	cp crates/inrc2pb/out/inrc2pb out
