@@ -7,8 +7,13 @@ SHARE = $(DESTDIR)$(PREFIX)/share
 
 all: build who_fits
 
-# `rt run` proves a program and all it stands on, and leaves it in its crate.
+# What the program stands on, from below: each crate is proved when those that it uses are, so that `rt` need not read the
+# sources of all of them once before it proves the first.
+LIBRARIES = rota_core rota_read rota_items opb_text solver_text rota_pb inrc2pb_job
+
+# `rt lib` proves a library, and `rt run` a program, which it leaves in its crate.
 build:
+	for library in $(LIBRARIES); do (cd crates/$$library && rt lib) || exit; done
 	cd crates/inrc2pb && rt run -- --version
 	mkdir -p out
 	cp crates/inrc2pb/out/inrc2pb out

@@ -5,7 +5,8 @@ usage: edits.py [map | many | none | stale] [CRATE..]
 
   map     each function that an edit turns, its promises, and its edits
   many    the same, where a function has two edits or more
-  none    the public functions that no edit turns, beside the laws, whose bodies call laws or nothing
+  none    the public functions that no edit turns, beside the laws, whose bodies call laws or nothing, and the drops, which
+          promise nothing
   stale   the edits whose old text is not in its file exactly once; the word may be left out
 
 A promise is told by its label, or by its text where it has none; `=` stands before one that fixes the whole result.
@@ -135,7 +136,7 @@ def edits_by_function(crate, tables):
 def tell(asked, path, one, edits):
     """Prints the function where it is asked for."""
     line = f"{path}: {one.name} [{', '.join(one.promises)}]"
-    if asked == "none" and one.public and not one.law and not edits:
+    if asked == "none" and one.public and not one.law and not one.name.endswith("::drop") and not edits:
         print(line)
     if asked == "map" and edits or asked == "many" and len(edits) > 1:
         print(f"{line}\n    {' '.join(edits)}")

@@ -40,10 +40,15 @@ impl<R: Files> Opens for HostFiles<'_, R> {
 }
 
 /// Standard input, which is taken at the first read.
-#[derive(Drop)]
 pub struct StandardInput<'a, R: Input> {
     rt: &'a R,
     reader: Option<R::Reader>,
+}
+
+impl<R: Input> Drop for StandardInput<'_, R> {
+    fn drop(self) {
+        let StandardInput { rt: _, reader: _ } = self;
+    }
 }
 
 impl<'a, R: Input> StandardInput<'a, R> {
@@ -63,12 +68,22 @@ impl<R: Input> Read for StandardInput<'_, R> {
 
 /// A file that is made at the first write to it. One that is at the path loses its text then, and
 /// keeps it where nothing is written. Without a path each write fails.
-#[derive(Drop)]
 pub struct FileOnFirstWrite<'a, R: Files> {
     rt: &'a R,
     path: Option<&'a str>,
     file: Option<ToWrite<R::File>>,
     failed: bool,
+}
+
+impl<R: Files> Drop for FileOnFirstWrite<'_, R> {
+    fn drop(self) {
+        let FileOnFirstWrite {
+            rt: _,
+            path: _,
+            file: _,
+            failed: _,
+        } = self;
+    }
 }
 
 impl<'a, R: Files> FileOnFirstWrite<'a, R> {

@@ -35,23 +35,12 @@ OpensEach opener paths = OpensAll opener.at paths opener.asked_before opener.ask
 abbrev pub FailsToOpen : {F : Type 0} → Opener F → List Path → Type 0
 FailsToOpen opener paths = StopsOpening opener.at paths opener.asked_before opener.asked
 
--- What a run over open inputs did: the inputs are left in some state, and it encoded, decoded or extended what they gave.
-abbrev pub EncodesOpened : {F : Type 0} → Ghosts F → OpenInputs F → Writer → Result (Unit {0}) Fault → Type 0
-EncodesOpened port opened out result = (left : OpenInputs _) × EncodeOutcome opened.choice (readers_of port opened left) out result
-
-abbrev pub DecodesOpened : {F : Type 0} → Ghosts F → OpenInputs F → Reader → Writer → Writer → Result (Unit {0}) Fault → Type 0
-DecodesOpened port opened answer sol report result =
-    (left : OpenInputs _) × DecodeOutcome opened.choice (readers_of port opened left) answer sol report result
-
-abbrev pub ExtendsOpened : {F : Type 0} → Ghosts F → OpenInputs F → Reader → Writer → Result (Unit {0}) Fault → Type 0
-ExtendsOpened port opened given out result =
-    (left : OpenInputs _) × ExtendOutcome opened.choice (readers_of port opened left) given out result
-
--- A file did not open, and nothing was written; or the inputs were open at their paths, and the run encoded what they gave.
+-- A file did not open, and nothing was written; or the inputs were open at their paths, and the run encoded what they gave: they were
+-- `opened` before it, and are `left` after it.
 pub data Encodes {F : Type 0} (opener : Opener F) (inputs : Inputs) (out : Writer) (result : Result (Unit {0}) Fault) : Type 0 where
   refused : result ≡ Err Read → FailsToOpen opener (week_paths inputs) → out.untouched → Encodes opener inputs out result
-  ran : OpensEach opener (week_paths inputs) → (opened : OpenInputs F) → AreOpen opener.port opener.at inputs opened →
-      EncodesOpened opener.port opened out result → Encodes opener inputs out result
+  ran : OpensEach opener (week_paths inputs) → (opened left : OpenInputs F) → AreOpen opener.port opener.at inputs opened →
+      EncodeOutcome opened.choice (readers_of opener.port opened left) out result → Encodes opener inputs out result
 
 -- A file did not open, and nothing was touched; or the inputs were open at their paths, and the run decoded the answer: that in the file
 -- at its path, where one is named for it, and else the input.
@@ -60,13 +49,14 @@ pub data Decodes {F : Type 0} (opener : Opener F) (inputs : Inputs) (answer : Op
   refused : result ≡ Err Read → FailsToOpen opener (week_paths inputs ++ paths_of answer) →
       input.untouched → sol.untouched → report.untouched → Decodes opener inputs answer input sol report result
   ran_on_file : (path : Path) → answer ≡ Some path → OpensEach opener (week_paths inputs ++ path ∷ []) →
-      (opened : OpenInputs F) → AreOpen opener.port opener.at inputs opened →
+      (opened left : OpenInputs F) → AreOpen opener.port opener.at inputs opened →
       (old new : F) → IsNew opener.port (opener.at path) old → input.untouched →
-      DecodesOpened opener.port opened (reader_of opener.port old new) sol report result →
+      DecodeOutcome opened.choice (readers_of opener.port opened left) (reader_of opener.port old new) sol report result →
       Decodes opener inputs answer input sol report result
   ran_on_input : answer ≡ None → OpensEach opener (week_paths inputs) →
-      (opened : OpenInputs F) → AreOpen opener.port opener.at inputs opened →
-      DecodesOpened opener.port opened input sol report result → Decodes opener inputs answer input sol report result
+      (opened left : OpenInputs F) → AreOpen opener.port opener.at inputs opened →
+      DecodeOutcome opened.choice (readers_of opener.port opened left) input sol report result →
+      Decodes opener inputs answer input sol report result
 
 -- A file did not open, and nothing was touched; or the inputs were open at their paths and the roster at its own, and the run extended it.
 pub data Extends {F : Type 0} (opener : Opener F) (inputs : Inputs) (from : Path) (out : Writer) (result : Result (Unit {0}) Fault) :
@@ -74,9 +64,10 @@ pub data Extends {F : Type 0} (opener : Opener F) (inputs : Inputs) (from : Path
   refused : result ≡ Err Read → FailsToOpen opener (week_paths inputs ++ from ∷ []) → out.untouched →
       Extends opener inputs from out result
   ran : OpensEach opener (week_paths inputs ++ from ∷ []) →
-      (opened : OpenInputs F) → AreOpen opener.port opener.at inputs opened →
+      (opened left : OpenInputs F) → AreOpen opener.port opener.at inputs opened →
       (old new : F) → IsNew opener.port (opener.at from) old →
-      ExtendsOpened opener.port opened (reader_of opener.port old new) out result → Extends opener inputs from out result
+      ExtendOutcome opened.choice (readers_of opener.port opened left) (reader_of opener.port old new) out result →
+      Extends opener inputs from out result
 
 -- The model went to the file where one is named for it, else to the output; the other was not touched.
 abbrev pub EncodesTo : {F : Type 0} → Opener F → Inputs → Option Path → Writer → Writer → Result (Unit {0}) Fault → Type 0

@@ -1,5 +1,5 @@
 -- The inputs of a job, open.
-use Rattle.std.specs.Prelude.{⊤, Bool, false, List, [], Option, Some, None, option_map, string_bytes}
+use Rattle.std.specs.Prelude.{⊤, false, [], Option, Some, None, option_map, string_bytes}
 use Rattle.rota_core.specs.declared.ports.Source.{Ghosts}
 use Rattle.rota_pb.specs.RunPorts.{WeekReaders, reader_of, week_readers}
 use Rattle.inrc2pb_job.specs.Jobs.{IsChoiceOf}

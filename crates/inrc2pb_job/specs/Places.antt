@@ -1,5 +1,5 @@
 -- What is at a path, and the paths that were asked for.
-use Rattle.std.specs.Prelude.{◌≡◌, ℕ, List, ◌++◌, Bool, false, Option, Some, option_map, ⊤}
+use Rattle.std.specs.Prelude.{◌≡◌, ℕ, List, ◌++◌, false, Option, Some, option_map, ⊤}
 use Rattle.rota_core.specs.declared.ports.Source.{Ghosts}
 
 abbrev pub Path : Type 0

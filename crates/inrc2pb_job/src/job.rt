@@ -6,13 +6,24 @@ use rota_pb::Choice;
 
 /// What every job is given: a scenario, the history before the week, the week's data and, where one is
 /// named, the file of the cells that are held; and whether excess is charged early.
-#[derive(Drop)]
 pub struct Inputs {
     pub sce: String,
     pub his: String,
     pub week: String,
     pub fix: Option<String>,
     pub early: bool,
+}
+
+impl Drop for Inputs {
+    fn drop(self) {
+        let Inputs {
+            sce: _,
+            his: _,
+            week: _,
+            fix: _,
+            early: _,
+        } = self;
+    }
 }
 
 impl Inputs {
@@ -28,7 +39,6 @@ impl Inputs {
 }
 
 /// What the program is asked to do, with the paths as they were given.
-#[derive(Drop)]
 pub enum Job {
     /// Write the model of the week, to standard output where no file is named for it.
     Encode {
@@ -47,6 +57,20 @@ pub enum Job {
         inputs: Inputs,
         from: String,
     },
+}
+
+impl Drop for Job {
+    fn drop(self) {
+        match self {
+            Job::Encode { inputs: _, opb: _ } => (),
+            Job::Decode {
+                inputs: _,
+                sol: _,
+                answer: _,
+            } => (),
+            Job::Extend { inputs: _, from: _ } => (),
+        }
+    }
 }
 
 impl Job {

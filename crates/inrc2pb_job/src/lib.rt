@@ -12,8 +12,6 @@ mod opened;
 mod places;
 // A job, performed.
 mod performing;
-// A run over inputs that are open.
-mod runs;
 
 pub use fix_file::FixFile;
 pub use job::{Inputs, Job};

@@ -12,13 +12,24 @@ use crate::places::Opens;
 use rota_pb::{Choice, Fault};
 
 /// The inputs that every job has, open, and what is asked of its run beside them.
-#[derive(Drop)]
 pub struct OpenInputs<F> {
     pub choice: Choice,
     pub sce: F,
     pub his: F,
     pub week: F,
     pub fix: FixFile<F>,
+}
+
+impl<F: Drop> Drop for OpenInputs<F> {
+    fn drop(self) {
+        let OpenInputs {
+            choice: _,
+            sce: _,
+            his: _,
+            week: _,
+            fix: _,
+        } = self;
+    }
 }
 
 /// Opens the inputs, in the order in which they are checked.

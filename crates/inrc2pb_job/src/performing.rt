@@ -2,14 +2,15 @@
 ghost use Rattle.std.specs.Prelude.{◌≡◌, None, option_map, string_bytes};
 ghost use Rattle.inrc2pb_job.specs.JobOutcomes.{Decodes, Encodes, EncodesTo, Extends, JobOutcome, opener_of};
 ghost use Rattle.inrc2pb_job.specs.Jobs.{output_path_of};
+ghost use Rattle.inrc2pb_job.specs.Opened.{readers_of};
+ghost use Rattle.rota_pb.specs.Decoding.{DecodeOutcome};
 ghost use Rattle.rota_pb.specs.RunPorts.{reader_of, writer_of};
 
 use crate::job::{Inputs, Job};
-use crate::opened::{open, open_inputs};
+use crate::opened::{OpenInputs, open, open_inputs};
 use crate::places::{Opens, Placed};
-use crate::runs::{decode_opened, encode_opened, extend_opened};
 use rota_core::{Source, Target};
-use rota_pb::Fault;
+use rota_pb::{Fault, run_decode, run_encode, run_extend};
 use std::alloc::Global;
 
 /// Performs the job: its files are opened among `files`, `file` is the one that it writes, and `input` and `output` are the program's own.
@@ -76,8 +77,16 @@ fn encode_to<O: Opens, W: Target>(
     ensures { Encodes (opener_of O.File.Source (O.at files.old) (O.asked files.old) (O.asked files.new))
         inputs.now (writer_of W.Target out.old out.new) result }
 {
-    let opened = open_inputs(files, inputs)?;
-    encode_opened(alloc, opened, out)
+    let mut opened = open_inputs(files, inputs)?;
+    run_encode(
+        alloc,
+        opened.choice,
+        &mut opened.sce,
+        &mut opened.his,
+        &mut opened.week,
+        &mut opened.fix,
+        out,
+    )
 }
 
 fn decode<O: Opens, A: Source, F: Target, W: Target>(
@@ -93,14 +102,38 @@ fn decode<O: Opens, A: Source, F: Target, W: Target>(
         inputs.now (option_map string_bytes answer.now) (reader_of A.Source input.old input.new)
         (writer_of F.Target sol.old sol.new) (writer_of W.Target report.old report.new) result }
 {
-    let opened = open_inputs(files, inputs)?;
+    let mut opened = open_inputs(files, inputs)?;
     match answer {
         Some(path) => {
             let mut given = open(files, path.as_str())?;
-            decode_opened(alloc, opened, &mut given, sol, report)
+            decode_opened(alloc, &mut opened, &mut given, sol, report)
         }
-        None => decode_opened(alloc, opened, input, sol, report),
+        None => decode_opened(alloc, &mut opened, input, sol, report),
     }
+}
+
+fn decode_opened<F: Source, A: Source, W: Target, R: Target>(
+    alloc: Global,
+    opened: &mut OpenInputs<F>,
+    answer: &mut A,
+    sol: &mut W,
+    report: &mut R,
+) -> Result<(), Fault>
+    ensures { DecodeOutcome opened.old.choice (readers_of F.Source opened.old opened.new)
+        (reader_of A.Source answer.old answer.new)
+        (writer_of W.Target sol.old sol.new) (writer_of R.Target report.old report.new) result }
+{
+    run_decode(
+        alloc,
+        opened.choice,
+        &mut opened.sce,
+        &mut opened.his,
+        &mut opened.week,
+        &mut opened.fix,
+        answer,
+        sol,
+        report,
+    )
 }
 
 fn extend<O: Opens, W: Target>(
@@ -113,7 +146,16 @@ fn extend<O: Opens, W: Target>(
     ensures { Extends (opener_of O.File.Source (O.at files.old) (O.asked files.old) (O.asked files.new))
         inputs.now from.now (writer_of W.Target out.old out.new) result }
 {
-    let opened = open_inputs(files, inputs)?;
+    let mut opened = open_inputs(files, inputs)?;
     let mut given = open(files, from)?;
-    extend_opened(alloc, opened, &mut given, out)
+    run_extend(
+        alloc,
+        opened.choice,
+        &mut opened.sce,
+        &mut opened.his,
+        &mut opened.week,
+        &mut opened.fix,
+        &mut given,
+        out,
+    )
 }

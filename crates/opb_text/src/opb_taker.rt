@@ -127,8 +127,11 @@ impl<'a, W: Target> Taker for OpbTaker<'a, W> {
         if self.in_objective {
             return self.sink.put(b";\n");
         }
-        let relation: &[u8] = if degree < 0 { b">= -" } else { b">= " };
-        self.sink
-            .number_between(relation, degree.unsigned_abs(), b" ;\n")
+        let number = degree.unsigned_abs();
+        if degree < 0 {
+            self.sink.number_between(b">= -", number, b" ;\n")
+        } else {
+            self.sink.number_between(b">= ", number, b" ;\n")
+        }
     }
 }

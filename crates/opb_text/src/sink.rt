@@ -55,7 +55,7 @@ impl<'a, W: Target> Sink<'a, W> {
     }
 
     /// Appends the piece. It fails only where the target does.
-    #[inline]
+    #[inline(always)]
     pub fn put(&mut self, piece: &[u8]) -> Result<(), PortFault>
         ensures takes { PutsText self.old result piece.now self.new }
         ensures for_good { sink_failed self.old ≡ true → IsErr result }
@@ -126,7 +126,7 @@ impl<'a, W: Target> Sink<'a, W> {
 
     /// Appends a piece, the number in decimal digits, and another piece behind it. It fails only where
     /// the target does.
-    #[inline]
+    #[inline(always)]
     pub fn number_between(
         &mut self,
         before: &[u8],

@@ -5,10 +5,15 @@ use std::marker::Model;
 
 /// A list of truth values of fixed length, packed in words of 64. Place i stands for variable i + 1 of
 /// a model.
-#[derive(Drop)]
 pub struct Bits {
     words: Vec<u64>,
     len: u32,
+}
+
+impl Drop for Bits {
+    fn drop(self) {
+        let Bits { words: _, len: _ } = self;
+    }
 }
 
 impl Model for Bits {

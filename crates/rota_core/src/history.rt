@@ -18,9 +18,14 @@ pub struct HistoryParts {
 
 /// A history within the limits: a row for each nurse, numbers up to 9999, and last shifts among the
 /// shift types.
-#[derive(Drop)]
 pub struct History {
     parts: HistoryParts,
+}
+
+impl Drop for History {
+    fn drop(self) {
+        let History { parts: _ } = self;
+    }
 }
 
 impl Model for History {
@@ -53,6 +58,7 @@ impl History {
         ensures tables { history_of result ≡ self }
         ensures within { IsHistory self }
     {
-        self.parts
+        let Self { parts } = self;
+        parts
     }
 }

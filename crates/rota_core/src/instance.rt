@@ -16,13 +16,24 @@ use std::marker::Model;
 /// all for the same nurses, shift types and skills. Beside them are whether excess is charged in each week, and the cells
 /// that are held. Nurses, shift types and skills are numbered from 0 in the order of the scenario's file, and days are 0
 /// (Monday) to 6 (Sunday).
-#[derive(Drop)]
 pub struct Instance {
     scenario: Scenario,
     history: HistoryParts,
     week: WeekParts,
     early: bool,
     held: Option<Roster>,
+}
+
+impl Drop for Instance {
+    fn drop(self) {
+        let Instance {
+            scenario: _,
+            history: _,
+            week: _,
+            early: _,
+            held: _,
+        } = self;
+    }
 }
 
 impl Model for Instance {
@@ -87,9 +98,19 @@ impl Instance {
         ensures holds { result ≡ holding self roster }
         ensures limits { IsInstance result }
     {
+        let Instance {
+            scenario,
+            history,
+            week,
+            early,
+            held: _,
+        } = self;
         Instance {
+            scenario,
+            history,
+            week,
+            early,
             held: Some(roster),
-            ..self
         }
     }
 

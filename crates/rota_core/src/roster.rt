@@ -13,12 +13,22 @@ use std::marker::Model;
 
 /// A set of cells within the numbers of an instance: its nurses, the days 0 to 6, its shift types and
 /// its skills.
-#[derive(Drop)]
 pub struct Roster {
     nurses: u16,
     shifts: u8,
     skills: u8,
     bits: Bits,
+}
+
+impl Drop for Roster {
+    fn drop(self) {
+        let Roster {
+            nurses: _,
+            shifts: _,
+            skills: _,
+            bits: _,
+        } = self;
+    }
 }
 
 impl Model for Roster {

@@ -29,9 +29,14 @@ pub struct ScenarioParts {
 
 /// A scenario within the limits: 1 to 16 skills and shift types, 1 to 64 contracts, 1 to 1000
 /// nurses, 1 to 52 weeks, other numbers up to 9999.
-#[derive(Drop)]
 pub struct Scenario {
     parts: ScenarioParts,
+}
+
+impl Drop for Scenario {
+    fn drop(self) {
+        let Scenario { parts: _ } = self;
+    }
 }
 
 impl Model for Scenario {
@@ -64,7 +69,8 @@ impl Scenario {
         ensures tables { scenario_of result ≡ self }
         ensures within { IsScenario self }
     {
-        self.parts
+        let Self { parts } = self;
+        parts
     }
 
     /// The number of weeks that the scenario spans, 1 to 52.

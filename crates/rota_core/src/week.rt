@@ -19,9 +19,14 @@ pub struct WeekParts {
 }
 
 /// A week within the limits: a row for each place, and numbers up to 9999.
-#[derive(Drop)]
 pub struct Week {
     parts: WeekParts,
+}
+
+impl Drop for Week {
+    fn drop(self) {
+        let Week { parts: _ } = self;
+    }
 }
 
 impl Model for Week {
@@ -54,6 +59,7 @@ impl Week {
         ensures tables { week_tables_of result ≡ self }
         ensures within { IsWeek self }
     {
-        self.parts
+        let Self { parts } = self;
+        parts
     }
 }

@@ -59,7 +59,7 @@ fn walk_nurse<T: RunTaker>(
 }
 
 // The items of a rule that charges each nurse.
-#[tactic(auto, using(crate::proofs::Walking::walking, crate::proofs::Exits::item_loop))]
+#[tactic(auto, using(crate::proofs::Walking::walking))]
 fn walk_nurses<T: RunTaker>(instance: &Instance, taker: &mut T, rule: Rule) -> Result<(), T::Fault>
     ensures { let week = week_of instance.now in
         TakesItems T.ItemTaker week (each_below week.nurses (nurse_items week rule))

@@ -28,5 +28,5 @@ decode_run choice readers answer sol report = do
   tables ← read_week choice readers
   decode_answer tables answer sol report
 
-abbrev pub DecodeOutcome : Choice → WeekReaders → Reader → Writer → Writer → Result (Unit {0}) Fault → Type 0
+unfoldable pub DecodeOutcome : Choice → WeekReaders → Reader → Writer → Writer → Result (Unit {0}) Fault → Type 0
 DecodeOutcome choice readers answer sol report = (decode_run choice readers answer sol report).ends

@@ -23,5 +23,5 @@ encode_run choice readers out = do
   text ← find (IsModelText (week_of tables))
   send out text
 
-abbrev pub EncodeOutcome : Choice → WeekReaders → Writer → Result (Unit {0}) Fault → Type 0
+unfoldable pub EncodeOutcome : Choice → WeekReaders → Writer → Result (Unit {0}) Fault → Type 0
 EncodeOutcome choice readers out = (encode_run choice readers out).ends

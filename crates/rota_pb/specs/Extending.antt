@@ -49,7 +49,7 @@ extend_run choice readers given out = do
   roster ← read_roster names.Solution tables given
   extend_roster (week_of tables) (set_of roster) out
 
-abbrev pub ExtendOutcome : Choice → WeekReaders → Reader → Writer → Result (Unit {0}) Fault → Type 0
+unfoldable pub ExtendOutcome : Choice → WeekReaders → Reader → Writer → Result (Unit {0}) Fault → Type 0
 ExtendOutcome choice readers given out = (extend_run choice readers given out).ends
 
 -- what the answer of a roster's extension says of the week's model, and of the roster

@@ -17,7 +17,6 @@ use rota_core::ScenarioParts;
 use std::alloc::Global;
 
 // What the sections of a scenario file hold.
-#[derive(Drop)]
 pub struct ScenarioRows {
     pub name: Vec<u8>,
     pub weeks: u16,
@@ -26,6 +25,64 @@ pub struct ScenarioRows {
     pub forbidden: Vec<bool>,
     pub contracts: ContractRows,
     pub nurses: NurseRows,
+}
+
+impl Drop for ScenarioRows {
+    fn drop(self) {
+        let ScenarioRows {
+            name: _,
+            weeks: _,
+            skills: _,
+            shifts: _,
+            forbidden: _,
+            contracts: _,
+            nurses: _,
+        } = self;
+    }
+}
+
+impl ScenarioRows {
+    // What is there before the first section.
+    fn new(alloc: Global) -> ScenarioRows
+        ensures { IsEmpty result }
+    {
+        ScenarioRows {
+            name: Vec::new(alloc),
+            weeks: 0,
+            skills: IndexSet::new(alloc),
+            shifts: no_shift_types(alloc),
+            forbidden: Vec::new(alloc),
+            contracts: no_contracts(alloc),
+            nurses: no_nurses(alloc),
+        }
+    }
+
+    // The parts of the scenario that the sections make.
+    fn into_parts(self) -> ScenarioParts
+        ensures { scenario_of result ≡ tables_of self }
+    {
+        let ScenarioRows {
+            name,
+            weeks,
+            skills,
+            shifts,
+            forbidden,
+            contracts,
+            nurses,
+        } = self;
+        ScenarioParts {
+            name,
+            weeks,
+            skills,
+            shifts: shifts.names,
+            nurses: nurses.names,
+            limits: shifts.limits,
+            forbidden,
+            contracts: contracts.contracts,
+            contract_of: nurses.contract_of,
+            has_skill: nurses.has_skill,
+        }
+    }
 }
 
 impl<'a> Cursor<'a> {
@@ -80,44 +137,8 @@ pub fn scenario_parts(alloc: Global, text: &[u8]) -> Result<ScenarioParts, Stop>
     ensures { ReadsFile scenario_of result (read_file scenario text.now) }
 {
     let mut cursor = Cursor::open(text)?;
-    let mut rows = no_rows(alloc);
+    let mut rows = ScenarioRows::new(alloc);
     cursor.sections(alloc, &mut rows)?;
     cursor.finish()?;
-    Ok(parts_of(rows))
-}
-
-// What is there before the first section.
-fn no_rows(alloc: Global) -> ScenarioRows
-    ensures { IsEmpty result }
-{
-    ScenarioRows {
-        name: Vec::new(alloc),
-        weeks: 0,
-        skills: IndexSet::new(alloc),
-        shifts: no_shift_types(alloc),
-        forbidden: Vec::new(alloc),
-        contracts: no_contracts(alloc),
-        nurses: no_nurses(alloc),
-    }
-}
-
-// The parts of the scenario that the sections make.
-fn parts_of(rows: ScenarioRows) -> ScenarioParts
-    ensures { scenario_of result ≡ tables_of rows }
-{
-    let shifts = rows.shifts;
-    let contracts = rows.contracts;
-    let nurses = rows.nurses;
-    ScenarioParts {
-        name: rows.name,
-        weeks: rows.weeks,
-        skills: rows.skills,
-        shifts: shifts.names,
-        nurses: nurses.names,
-        limits: shifts.limits,
-        forbidden: rows.forbidden,
-        contracts: contracts.contracts,
-        contract_of: nurses.contract_of,
-        has_skill: nurses.has_skill,
-    }
+    Ok(rows.into_parts())
 }

@@ -164,12 +164,7 @@ impl<'a> Taker for Judge<'a> {
         if !self.counts(variable) {
             return Ok(());
         }
-        let sums = &mut self.tally.sums;
-        if self.unit < variable {
-            sums.slacks = sums.slacks.saturating_add(coefficient);
-        } else {
-            sums.others = sums.others.saturating_add(coefficient);
-        }
+        self.tally.sums.add(coefficient, self.unit < variable);
         Ok(())
     }
 

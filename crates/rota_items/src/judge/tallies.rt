@@ -1,8 +1,8 @@
 //! What a judge adds up, row by row.
-ghost use Rattle.std.specs.Prelude.{◌≡◌, ◌<◌};
+ghost use Rattle.std.specs.Prelude.{◌≡◌, ◌<◌, if◌then◌else◌};
 ghost use Rattle.rota_items.specs.ModelWords.{positive_part};
 ghost use Rattle.rota_items.specs.Judged.{subject_of};
-ghost use Rattle.rota_items.specs.Judging.{closed, constraint_closed, lacking_in, no_sums, no_tally, objective_closed, with_cost};
+ghost use Rattle.rota_items.specs.Judging.{closed, constraint_closed, lacking_in, no_sums, no_tally, objective_closed, plus, with_cost};
 ghost use Rattle.rota_items.specs.Limits.{signed_limit};
 
 use crate::judge::subjects::Subject;
@@ -25,6 +25,19 @@ impl RowSums {
         RowSums {
             others: 0,
             slacks: 0,
+        }
+    }
+
+    /// One term more, at a slack or not.
+    pub fn add(&mut self, coefficient: i64, at_slack: bool)
+        ensures { self.new ≡ (if at_slack
+            then record self.old { slacks = plus self.old.slacks coefficient }
+            else record self.old { others = plus self.old.others coefficient }) }
+    {
+        if at_slack {
+            self.slacks = self.slacks.saturating_add(coefficient);
+        } else {
+            self.others = self.others.saturating_add(coefficient);
         }
     }
 

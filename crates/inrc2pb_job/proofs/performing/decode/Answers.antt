@@ -19,17 +19,17 @@ returns-in_err-given-in-Some g c =
     rw c.in-Some.is (refused (rw (p.1, p.2, c.in_err-given-in-Some.ensures.fault) refl)
     (stops_later _ _ _ _ _ _ _ c.open_inputs.ensures.same c.in_ok-opened.ensures.all stops) refl refl refl)
 
-pub returns-in_ok-given-in-Some : goal.returns-in_ok-given-in-Some
-returns-in_ok-given-in-Some g c =
+pub returns-in-Some : goal.returns-in-Some
+returns-in-Some g c =
     let last = rw c.as_str.ensures.value at c.in_ok-given-in-Some.ensures.all in
     let new = rw c.as_str.ensures.value at c.in_ok-given-in-Some.ensures.open in
     let at = g.O.Opens.at c.args.files.now in
     let then = g.O.Opens.at c.open_inputs.new.files in
     rw c.in-Some.is (ran_on_file (string_bytes c.in-Some.path) refl
     (opens_both _ _ _ _ _ _ _ c.open_inputs.ensures.same c.in_ok-opened.ensures.all last)
-    c.in_ok-opened.opened c.in_ok-opened.ensures.open c.in_ok-given-in-Some.given c.decode_opened.new.answer
+    c.in_ok-opened.opened c.decode_opened.new.opened c.in_ok-opened.ensures.open c.in_ok-given-in-Some.given c.decode_opened.new.answer
     (new_before g.O.File.Source at then _ _ c.open_inputs.ensures.same new) refl c.decode_opened.ensures)
 
-pub returns-in-None : goal.returns-in-None
-returns-in-None g c = rw c.in-None.is (ran_on_input refl c.in_ok-opened.ensures.all c.in_ok-opened.opened c.in_ok-opened.ensures.open
+pub returns : goal.returns
+returns g c = rw c.in-None.is (ran_on_input refl c.in_ok-opened.ensures.all c.in_ok-opened.opened c.decode_opened-in-None.new.opened c.in_ok-opened.ensures.open
     c.decode_opened-in-None.ensures)

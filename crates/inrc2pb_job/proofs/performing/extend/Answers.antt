@@ -3,6 +3,7 @@ use Rattle.std.proofs.lemmas.Result.{err_from_is_err_and}
 use Rattle.inrc2pb_job.specs.JobOutcomes.Extends.{ran, refused}
 use Rattle.inrc2pb_job.specs.Jobs.{week_paths}
 use Rattle.inrc2pb_job.proofs.OpeningLemmas.{new_before, opens_both, stops_early, stops_later}
+use Rattle.inrc2pb_job.specs.declared.opened.OpenInputs.{OpenInputs}
 use Rattle.inrc2pb_job.proofs.performing.extend.Goals as goal
 
 pub returns-in_err-opened : goal.returns-in_err-opened
@@ -21,6 +22,13 @@ pub returns : goal.returns
 returns g c =
     let at = g.O.Opens.at c.args.files.now in
     let then = g.O.Opens.at c.open_inputs.new.files in
+    let left : OpenInputs _ = record {
+      choice = c.in_ok-opened.opened.choice;
+      sce = c.run_extend.new.sce;
+      his = c.run_extend.new.his;
+      week = c.run_extend.new.week;
+      fix = c.run_extend.new.fix_file;
+    } in
     ran (opens_both _ _ _ _ _ _ _ c.open_inputs.ensures.same c.in_ok-opened.ensures.all c.in_ok-given.ensures.all)
-    c.in_ok-opened.opened c.in_ok-opened.ensures.open c.in_ok-given.given c.extend_opened.new.given
-    (new_before g.O.File.Source at then _ _ c.open_inputs.ensures.same c.in_ok-given.ensures.open) c.extend_opened.ensures
+    c.in_ok-opened.opened left c.in_ok-opened.ensures.open c.in_ok-given.given c.run_extend.new.given
+    (new_before g.O.File.Source at then _ _ c.open_inputs.ensures.same c.in_ok-given.ensures.open) c.run_extend.ensures.outcome

@@ -8,9 +8,7 @@ loop-day-init g c = days_none _ _ g.T.Taker c.args.first 0 _
 pub returns-in_err-give_day : goal.returns-in_err-give_day
 returns-in_err-give_day g c =
     exits _ _ _ _ c.from_residual.ensures.0
-    (days_refused _ _ g.T.Taker c.args.first c.loop-day.day _ _ _ _ (omega arith) (omega arith) c.loop-day.invariant
-    c.in_err-give_day.ensures)
+    (days_refused _ _ g.T.Taker c.args.first c.loop-day.day _ _ _ _ (omega arith) (omega arith) c.loop-day.invariant c.in_err-give_day.ensures)
 
 pub loop-day-preserved : goal.loop-day-preserved
-loop-day-preserved g c =
-    days_more _ _ g.T.Taker c.args.first c.loop-day.day _ _ _ (omega arith) c.loop-day.invariant c.in_ok-give_day.ensures
+loop-day-preserved g c = days_more _ _ g.T.Taker c.args.first c.loop-day.day _ _ _ (omega arith) c.loop-day.invariant c.in_ok-give_day.ensures

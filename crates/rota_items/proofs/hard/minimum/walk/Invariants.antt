@@ -13,5 +13,4 @@ invariant-loop-shift g l =
 
 abbrev pub invariant-loop-skill : goal.invariant-loop-skill
 invariant-loop-skill g l =
-    let week = week_of l.fn.instance in
-    TookRows g.T.RowTaker week (each_below l.skill (h2_rows_at week l.day l.shift)) l.initial.taker l.taker
+    let week = week_of l.fn.instance in TookRows g.T.RowTaker week (each_below l.skill (h2_rows_at week l.day l.shift)) l.initial.taker l.taker

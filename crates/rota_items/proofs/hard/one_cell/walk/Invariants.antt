@@ -8,5 +8,4 @@ invariant-loop-nurse g l =
 
 abbrev pub invariant-loop-day : goal.invariant-loop-day
 invariant-loop-day g l =
-    let week = week_of l.fn.instance in
-    TookRows g.T.RowTaker week (each_below l.day (λ d. h1_row week l.nurse d ∷ [])) l.initial.taker l.taker
+    let week = week_of l.fn.instance in TookRows g.T.RowTaker week (each_below l.day (λ d. h1_row week l.nurse d ∷ [])) l.initial.taker l.taker

@@ -8,5 +8,4 @@ invariant-loop-nurse g l =
 
 abbrev pub invariant-loop-skill : goal.invariant-loop-skill
 invariant-loop-skill g l =
-    let week = week_of l.fn.instance in
-    TookRows g.T.RowTaker week (each_below l.skill (h4_rows_at week l.nurse)) l.initial.taker l.taker
+    let week = week_of l.fn.instance in TookRows g.T.RowTaker week (each_below l.skill (h4_rows_at week l.nurse)) l.initial.taker l.taker

@@ -3,5 +3,4 @@ use Rattle.rota_items.proofs.hard.succession.walk.Goals as goal
 
 pub returns-in_err-walk_nurse : goal.returns-in_err-walk_nurse
 returns-in_err-walk_nurse g c =
-    exits _ _ _ _ c.from_residual.ensures.0
-    (loop_refused (rows_join _) _ _ _ _ _ _ (omega arith) c.loop-nurse.invariant c.in_err-walk_nurse.ensures)
+    exits _ _ _ _ c.from_residual.ensures.0 (loop_refused (rows_join _) _ _ _ _ _ _ (omega arith) c.loop-nurse.invariant c.in_err-walk_nurse.ensures)

@@ -2,8 +2,7 @@ use Rattle.rota_items.proofs.Common.{arith, exits, go_on, loop_refused, rows_joi
 use Rattle.rota_items.proofs.hard.succession.walk_nurse.Goals as goal
 
 pub returns-in_err-walk_monday : goal.returns-in_err-walk_monday
-returns-in_err-walk_monday g c =
-    exits _ _ _ _ c.from_residual.ensures.0 (stop (rows_join _) _ _ _ _ c.in_err-walk_monday.ensures)
+returns-in_err-walk_monday g c = exits _ _ _ _ c.from_residual.ensures.0 (stop (rows_join _) _ _ _ _ c.in_err-walk_monday.ensures)
 
 pub returns-in_err-walk_between : goal.returns-in_err-walk_between
 returns-in_err-walk_between g c =

@@ -1,16 +1,21 @@
 use Rattle.rota_items.proofs.Common.{rules, w64, to_z-of_z, arith, exits, loop_refused, items_join}
+use Rattle.rota_items.proofs.Walking.{walking}
 use Rattle.rota_items.proofs.rules.optimal_coverage.walk.Goals as goal
 
 pub returns-in_err-item_where : goal.returns-in_err-item_where
 returns-in_err-item_where g c =
+    let exact = rw (to_z-of_z w64 c.from-in-loop-skill.result (search rules), c.from-in-loop-skill.ensures) at c.in_err-item_where.ensures in
     exits _ _ _ _ c.from_residual.ensures.0
     (loop_refused (items_join _) _ _ _ _ _ _ (omega arith) c.loop-day.invariant
     (loop_refused (items_join _) _ _ _ _ _ _ (omega arith) c.loop-shift.invariant
     (loop_refused (items_join _) _ _ _ _ _ _ (omega arith) c.loop-skill.invariant
-    (rw (
-      to_z-of_z w64 c.from-in-loop-skill.result (search rules),
-      c.from-in-loop-skill.ensures,
-      c.from.ensures,
-      c.saturating_sub.ensures,
-      c.demand-demand.ensures,
-    ) at c.in_err-item_where.ensures))))
+    (rw (c.from.ensures, c.saturating_sub.ensures, c.demand-demand.ensures) at exact))))
+
+pub loop-skill-preserved : goal.loop-skill-preserved
+loop-skill-preserved g c = grind (arith, walking)
+
+pub loop-shift-preserved : goal.loop-shift-preserved
+loop-shift-preserved g c = grind (arith, walking)
+
+pub loop-day-preserved : goal.loop-day-preserved
+loop-day-preserved g c = grind (arith, walking)

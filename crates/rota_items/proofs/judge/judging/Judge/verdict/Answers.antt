@@ -11,9 +11,7 @@ returns-clause-judges c =
     (rw (c.charge_constants.ensures, c.charge.ensures, c.saturating_sub-requests.ensures, c.at_unit.ensures, ← c.self.view_is) refl))
 
 pub returns-clause-rules : goal.returns-clause-rules
-returns-clause-rules c =
-    rules-judged _ _ _ _ (returns-clause-judges c) (agrees (week_of c.args.self.now.instance) c.args.self.now.subject)
+returns-clause-rules c = rules-judged _ _ _ _ (returns-clause-judges c) (agrees (week_of c.args.self.now.instance) c.args.self.now.subject)
 
 pub returns-clause-model : goal.returns-clause-model
-returns-clause-model c =
-    settles_model (week_of c.args.self.now.instance) c.args.self.now.subject _ (returns-clause-judges c)
+returns-clause-model c = settles_model (week_of c.args.self.now.instance) c.args.self.now.subject _ (returns-clause-judges c)
