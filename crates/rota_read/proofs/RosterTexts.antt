@@ -166,11 +166,9 @@ module _ (tells : (n : ℕ) → TellsNumber n) (tables : InstanceTables) (valid 
       AllByRecursion-append (λ other. place other < place one + 1) rows (one ∷ [])
       (all_below rows first (place one + 1) (omega (arith, rises.0)) before) (omega arith, tt) in
       let rest = rows-spelled (rows ++ one ∷ []) cells (place one + 1) last next rises.1 in_week.1 in
-      subst
-      (λ n. FillsAsPiece (repeat n (assignment_row scenario) rows) (flat_map (assignment_text scenario) (one ∷ cells)) (rows ++ one ∷ cells))
-      (sym count)
-      (subst
-      (FillsAsPiece (repeat (suc (length cells)) (assignment_row scenario) rows) (flat_map (assignment_text scenario) (one ∷ cells)))
+      let text = flat_map (assignment_text scenario) (one ∷ cells) in
+      subst (λ n. FillsAsPiece (repeat n (assignment_row scenario) rows) text (rows ++ one ∷ cells)) (sym count)
+      (subst (FillsAsPiece (repeat (suc (length cells)) (assignment_row scenario) rows) text)
       (append_assoc rows (one ∷ []) cells)
       (piece-bind (assignment_row scenario rows) (repeat (length cells) (assignment_row scenario))
       (assignment_text scenario one) (flat_map (assignment_text scenario) cells) (rows ++ one ∷ []) ((rows ++ one ∷ []) ++ cells)

@@ -39,5 +39,6 @@ pub returns : goal.returns
 returns c =
     let most : c.from.result * c.from-2.result + 1 ≡ most_rows c.args.scenario.now =
     rw (c.from.ensures, c.from-2.ensures, c.shifts.ensures.count, c.skills.ensures.count) refl in
-    let none = no_until (requirement_row c.args.scenario.now) c.loop.rows.items (most_rows c.args.scenario.now) c.loop.counter c.loop.self in
+    let none =
+    no_until (requirement_row c.args.scenario.now) c.loop.rows.items (most_rows c.args.scenario.now) c.loop.counter c.loop.self in
     rw (← c.loop.invariant.read) (none (rw most at c.loop-test.false))
