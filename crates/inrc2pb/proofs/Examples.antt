@@ -20,7 +20,9 @@ unfolding clap_on_literals
 sce_given = refl
 
 abbrev early_words : List Text
-early_words = codes "inrc2pb" ∷ codes "extend" ∷ codes "--early" ∷ codes "--sce=s" ∷ codes "--his=h" ∷ codes "--week=w" ∷ codes "--fix" ∷ codes "f" ∷ codes "--from=r" ∷ []
+early_words =
+    codes "inrc2pb" ∷ codes "extend" ∷ codes "--early" ∷ codes "--sce=s" ∷ codes "--his=h" ∷ codes "--week=w"
+    ∷ codes "--fix" ∷ codes "f" ∷ codes "--from=r" ∷ []
 
 pub taken_early : takes inrc2pb_app early_words ≡ true
 unfolding clap_on_literals

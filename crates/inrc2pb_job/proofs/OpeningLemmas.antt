@@ -11,16 +11,18 @@ asked_both None xs ys = refl
 asked_both (Some before) xs ys = ap Some (append_assoc before xs ys)
 
 -- files opened at these paths, and then at those
-pub opens_both : (at then : Path → Place) (front back : List Path) (before middle after : Asked) → then ≡ at → OpensAll at front before middle
-    → OpensAll then back middle after → OpensAll at (front ++ back) before after
+pub opens_both : (at then : Path → Place) (front back : List Path) (before middle after : Asked) → then ≡ at →
+    OpensAll at front before middle → OpensAll then back middle after → OpensAll at (front ++ back) before after
 opens_both at then front back before middle after same one other = record {
-  opened = All-append (λ path. MayOpen (at path)) front back one.opened (subst (λ (t : Path → Place). OpensAll t back middle after) same other).opened;
+  opened =
+      All-append (λ path. MayOpen (at path)) front back
+      one.opened (subst (λ (t : Path → Place). OpensAll t back middle after) same other).opened;
   in_order = other.in_order ∙ ap (λ asked. asked_more asked back) one.in_order ∙ asked_both before front back;
 }
 
 -- files opened at these paths, and then not at all of those
-pub stops_later : (at then : Path → Place) (front back : List Path) (before middle after : Asked) → then ≡ at → OpensAll at front before middle
-    → StopsOpening then back middle after → StopsOpening at (front ++ back) before after
+pub stops_later : (at then : Path → Place) (front back : List Path) (before middle after : Asked) → then ≡ at →
+    OpensAll at front before middle → StopsOpening then back middle after → StopsOpening at (front ++ back) before after
 stops_later at then front back before middle after same one other =
     let stops = subst (λ (t : Path → Place). StopsOpening t back middle after) same other in
     record {

@@ -1,5 +1,6 @@
 -- The table of endings.
-use Rattle.std.proofs.Common.{◌≡◌, ℕ, zero, suc, ◌+◌, ◌-◌, ◌*◌, ◌/◌, ◌%◌, ◌<◌, Bool, true, ◌&&◌, T, eqb, get_or, inl, inr, arith, eq-zero-or-pos, eqb→eq}
+use Rattle.std.proofs.Common.{◌≡◌, ℕ, zero, suc, ◌+◌, ◌-◌, ◌*◌, ◌/◌, ◌%◌, ◌<◌, Bool, true, ◌&&◌, T, eqb}
+use Rattle.std.proofs.Common.{get_or, inl, inr, arith, eq-zero-or-pos, eqb→eq}
 use lib.Ieee.Fits.{and_l, and_r}
 use Rattle.opb_text.specs.declared.digits.TheConstants.{ENDINGS}
 

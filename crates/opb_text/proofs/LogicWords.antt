@@ -1,5 +1,6 @@
 -- Words of the logic: how the texts join that a sink takes one after another, and beginnings of them.
-use Rattle.std.proofs.Common.{◌≡◌, ℕ, List, [], ◌++◌, Bool, true, false, ◌||◌, None, Some, Ok, Err, refl, sym, ap, ◌∙◌, subst, append_assoc}
+use Rattle.std.proofs.Common.{◌≡◌, ℕ, Bool, true, false, ◌||◌, refl, sym, ap, ◌∙◌, subst, append_assoc}
+use Rattle.std.proofs.Common.{List, [], ◌++◌, None, Some, Ok, Err}
 use Rattle.std.specs.Prelude.{Result, is_err, MatchResult, IsErr}
 use Rattle.std.specs.Io.KnownBytes.{append_known}
 use Rattle.std.proofs.lemmas.List.{append-nil}
@@ -18,10 +19,14 @@ append_known-append None xs ys = refl
 append_known-append (Some ws) xs ys = ap Some (append_assoc ws xs ys)
 
 -- a beginning of a text is one of a longer text
-pub Begins-longer : (part told : Told) (xs ys : List ℕ) → Begins part (append_known told xs) → Begins part (append_known told (xs ++ ys))
+pub Begins-longer : (part told : Told) (xs ys : List ℕ) → Begins part (append_known told xs) →
+    Begins part (append_known told (xs ++ ys))
 Begins-longer part told xs ys begins = record {
   rest = begins.rest ++ ys;
-  joined = sym (append_known-append part begins.rest ys) ∙ ap (λ told. append_known told ys) begins.joined ∙ append_known-append told xs ys;
+  joined =
+      sym (append_known-append part begins.rest ys)
+      ∙ ap (λ told. append_known told ys) begins.joined
+      ∙ append_known-append told xs ys;
 }
 
 -- ---- what a sink takes
@@ -36,11 +41,13 @@ or_true false = refl
 
 module _ {W : Type 0} {target : Ghosts W} where
   -- another way to write the text
-  pub puts_same : {old new : Sink W target} {r : Result (Unit {0}) PortFault} {xs ys : List ℕ} → xs ≡ ys → PutsText old r ys new → PutsText old r xs new
+  pub puts_same : {old new : Sink W target} {r : Result (Unit {0}) PortFault} {xs ys : List ℕ} → xs ≡ ys →
+      PutsText old r ys new → PutsText old r xs new
   puts_same {old} {new} {r} same takes = subst (λ (text : List ℕ). PutsText old r text new) (sym same) takes
 
   -- a text that failed to go in begins a longer one that failed
-  pub puts_stop : {old new : Sink W target} {e d : PortFault} {xs : List ℕ} (ys : List ℕ) → PutsText old (Err e) xs new → PutsText old (Err d) (xs ++ ys) new
+  pub puts_stop : {old new : Sink W target} {e d : PortFault} {xs : List ℕ} (ys : List ℕ) → PutsText old (Err e) xs new →
+      PutsText old (Err d) (xs ++ ys) new
   puts_stop {old} {new} {e} {d} {xs} ys takes = record {
     same_target = takes.same_target;
     failure = takes.failure;
@@ -50,11 +57,13 @@ module _ {W : Type 0} {target : Ghosts W} where
   }
 
   -- a text that went in, and then another
-  pub puts_then : {old middle new : Sink W target} {u : Unit {0}} {r : Result (Unit {0}) PortFault} {xs ys : List ℕ} → PutsText old (Ok u) xs middle → PutsText middle r ys new → PutsText old r (xs ++ ys) new
+  pub puts_then : {old middle new : Sink W target} {u : Unit {0}} {r : Result (Unit {0}) PortFault} {xs ys : List ℕ} →
+      PutsText old (Ok u) xs middle → PutsText middle r ys new → PutsText old r (xs ++ ys) new
   puts_then {old} {middle} {new} {u} {r} {xs} {ys} first second = record {
     same_target = second.same_target ∙ first.same_target;
     failure = second.failure ∙ ap (λ b. b || is_err r) (first.failure ∙ or_false (sink_failed old));
-    target_failure = second.target_failure ∙ ap (λ b. b || is_err r) (first.target_failure ∙ or_false (target.has_failed (target_of old)));
+    target_failure =
+        second.target_failure ∙ ap (λ b. b || is_err r) (first.target_failure ∙ or_false (target.has_failed (target_of old)));
     silent = λ failed.
         let middle_failed : sink_failed middle ≡ true = first.failure ∙ or_false (sink_failed old) ∙ failed in
         second.silent middle_failed ∙ first.silent failed;
@@ -87,7 +96,8 @@ module _ {W : Type 0} {target : Ghosts W} where
   }
 
   -- the exit of a `?`: another error of the same text
-  pub puts_exit : {old new : Sink W target} {e : PortFault} {xs : List ℕ} (r : Result (Unit {0}) PortFault) → IsErr r → PutsText old (Err e) xs new → PutsText old r xs new
+  pub puts_exit : {old new : Sink W target} {e : PortFault} {xs : List ℕ} (r : Result (Unit {0}) PortFault) → IsErr r →
+      PutsText old (Err e) xs new → PutsText old r xs new
   puts_exit {old} {new} {e} {xs} (Err d) failed takes = record {
     same_target = takes.same_target;
     failure = takes.failure;
@@ -98,8 +108,8 @@ module _ {W : Type 0} {target : Ghosts W} where
   puts_exit {old} {new} {e} {xs} (Ok u) failed takes = cc
 
   -- a text that went in, and then another with which the sink was finished
-  pub puts_finish : {old middle new : Sink W target} {u : Unit {0}} {r : Result (Unit {0}) PortFault} {text xs ys : List ℕ} → text ≡ xs ++ ys →
-      PutsText old (Ok u) xs middle → FinishesSink middle r ys new → FinishesSink old r text new
+  pub puts_finish : {old middle new : Sink W target} {u : Unit {0}} {r : Result (Unit {0}) PortFault} {text xs ys : List ℕ} →
+      text ≡ xs ++ ys → PutsText old (Ok u) xs middle → FinishesSink middle r ys new → FinishesSink old r text new
   puts_finish {old} {middle} {new} {u} {r} {text} {xs} {ys} same first last = record {
     takes = puts_same same (puts_then first last.takes);
     sent = last.sent;
@@ -109,7 +119,8 @@ module _ {W : Type 0} {target : Ghosts W} where
   }
 
   -- a text that failed to go in before the sink was finished
-  pub finish_exit : {old new : Sink W target} {e : PortFault} {xs : List ℕ} (r : Result (Unit {0}) PortFault) → IsErr r → PutsText old (Err e) xs new → FinishesSink old r xs new
+  pub finish_exit : {old new : Sink W target} {e : PortFault} {xs : List ℕ} (r : Result (Unit {0}) PortFault) → IsErr r →
+      PutsText old (Err e) xs new → FinishesSink old r xs new
   finish_exit (Err d) failed takes = record {
     takes = puts_exit (Err d) failed takes;
     sent = tt;

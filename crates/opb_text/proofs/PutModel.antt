@@ -48,7 +48,8 @@ spelled week constraints variables count variables_are count_is before between =
     ap (λ c. first_line (model_of week).variables c ++ objective_part week before ++ rows_part week between)
     (count_is ∙ length-map (rows_of week) linear_constraint) ∙
     events_spell_their_model (model_of week).variables (objective_terms week) (rows_of week) before between
-    (all-weaker (λ (row : LinearRow ℕ). row.part ≢ Objective) IsConstraint (λ row differs. is_constraint row.part differs) (rows_of week) constraints)
+    (all-weaker (λ (row : LinearRow ℕ). row.part ≢ Objective) IsConstraint (λ row differs. is_constraint row.part differs)
+    (rows_of week) constraints)
 
 module _ {W : Type 0} {target : Ghosts W} (week : Week) (constraints : AreConstraints (rows_of week)) (variables count : ℕ)
     (variables_are : variables ≡ (model_of week).variables) (count_is : count ≡ length (model_of week).constraints) where

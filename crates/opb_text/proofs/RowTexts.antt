@@ -63,4 +63,5 @@ events_spell_their_model variables objective rows before between constraints =
     let constraints_part = events_text between (events rows) in
     ap (λ count. first_line variables count ++ objective_part ++ constraints_part) (sym (length-map rows linear_constraint)) ∙
     ap (λ text. first_line variables (length (map linear_constraint rows)) ++ text ++ constraints_part) (objective_text before objective) ∙
-    ap (λ text. first_line variables (length (map linear_constraint rows)) ++ objective_line objective ++ text) (constraints_text between rows constraints)
+    ap (λ text. first_line variables (length (map linear_constraint rows)) ++ objective_line objective ++ text)
+    (constraints_text between rows constraints)

@@ -15,7 +15,8 @@ below_power (suc n) = omega (arith, below_power n)
 pub numeral_is : (n : ℕ) → n < 10 ^ 64 → decimal n ≡ numeral n
 unfolding numeral
 numeral_is n small =
-    sym (decimal_from_appends_wide numeral_within numeral_steps (suc n) n small (length-decimal-le_wide (suc n) n (omega arith) (below_power n) small))
+    sym (decimal_from_appends_wide numeral_within numeral_steps (suc n) n small
+    (length-decimal-le_wide (suc n) n (omega arith) (below_power n) small))
 
 pub signed_numeral_is : (z : ℤ) → mag z < 2 ^ 127 → signed_decimal z ≡ signed_numeral z
 signed_numeral_is (pos n) small = numeral_is n (omega arith)

@@ -1,5 +1,6 @@
 -- What a taker over a sink puts that takes an event, or a list of events.
-use Rattle.std.proofs.Common.{◌≡◌, ℕ, List, [], ◌∷◌, ◌++◌, Bool, true, false, Option, None, Some, Result, Ok, Err, refl, sym, ap, ◌∙◌, subst, append_assoc}
+use Rattle.std.proofs.Common.{◌≡◌, ℕ, Bool, true, false, refl, sym, ap, ◌∙◌, subst, append_assoc}
+use Rattle.std.proofs.Common.{List, [], ◌∷◌, ◌++◌, Option, None, Some, Result, Ok, Err}
 use Rattle.std.specs.Prelude.{if◌then◌else◌, MatchResult, OnOk}
 use Rattle.std.specs.List.{fold}
 use Rattle.std.specs.Io.KnownBytes.{append_known}
@@ -127,7 +128,8 @@ module _ {Self W E Kept : Type 0} {target : Ghosts W} (sink_of : Self → Sink W
       let middle = fold texts.after kept refused.taken in
       let before = with_events texts (writing old) refused.taken in
       let leaves : FailedAt texts before refused.event (sink_of new) =
-      subst (λ (w : Writing W Kept). FailedAt texts w refused.event (sink_of new)) (fold-with_event texts (writing old) refused.taken) refused.leaves in
+      subst (λ (w : Writing W Kept). FailedAt texts w refused.event (sink_of new))
+      (fold-with_event texts (writing old) refused.taken) refused.leaves in
       let front = joined_texts texts kept refused.taken in
       let text = texts.text middle refused.event in
       let rest = joined_texts texts (texts.after middle refused.event) refused.untold in

@@ -1,5 +1,6 @@
 -- Truth values in words.
-use Rattle.std.proofs.Common.{◌≡◌, ◌≢◌, ℕ, ◌*◌, ◌^◌, ◌/◌, ◌%◌, ◌<◌, ◌≤◌, true, false, List, length, map, get_or, set, replicate, refl, sym, ◌∙◌, arith, inl, inr}
+use Rattle.std.proofs.Common.{◌≡◌, ◌≢◌, ℕ, ◌*◌, ◌^◌, ◌/◌, ◌%◌, ◌<◌, ◌≤◌, true, false, refl, sym, ◌∙◌, arith, inl, inr}
+use Rattle.std.proofs.Common.{List, length, map, get_or, set, replicate}
 use Rattle.std.proofs.Math.ListN.{length-set}
 use Rattle.std.specs.Prelude.{bit_or}
 use Rattle.std.specs.Int.{w64}
@@ -38,7 +39,10 @@ is_set-with_bit_same : (words : List ℕ) (i : ℕ) → i / 64 < length words
     → is_set (set words (i / 64) (with_bit (get_or words (i / 64) 0) (i % 64))) i ≡ true
 is_set-with_bit_same words i h =
     let small : i % 64 < 64 = omega arith in
-    rw (get_or-set_same words (i / 64) (with_bit (get_or words (i / 64) 0) (i % 64)) 0 h, bit_at_set_same w64 (get_or words (i / 64) 0) (i % 64) small) refl
+    rw (
+      get_or-set_same words (i / 64) (with_bit (get_or words (i / 64) 0) (i % 64)) 0 h,
+      bit_at_set_same w64 (get_or words (i / 64) 0) (i % 64) small,
+    ) refl
 
 is_set-with_bit_other : (words : List ℕ) (i j : ℕ) → i / 64 < length words → j ≢ i
     → is_set (set words (i / 64) (with_bit (get_or words (i / 64) 0) (i % 64))) j ≡ is_set words j

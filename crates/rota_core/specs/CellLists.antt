@@ -15,7 +15,8 @@ pub record ListsCells (week : Week) (roster : Roster) : Type 0 where
   pub rise : RisesWithin (cell_place week.shifts week.skills) 0 (place_count week.nurses week.shifts week.skills) (cells_of week roster)
   pub theirs : AllByRecursion (Has week roster) (cells_of week roster)
   -- a test that none of them passes is passed by no cell of the roster
-  pub all_there : (test : Cell → Bool) → list_any test (cells_of week roster) ≡ false → (one : Cell) → Has week roster one → test one ≡ false
+  pub all_there : (test : Cell → Bool) → list_any test (cells_of week roster) ≡ false →
+      (one : Cell) → Has week roster one → test one ≡ false
   pub few : KeepsOneCell week roster → length (cells_of week roster) ≤ week.nurses * 7
 
 -- tables of a week's shape have these cells, and as many

@@ -1,5 +1,6 @@
 -- What sums of cells stand for, and the days of a nurse's pattern.
-use Rattle.std.specs.Prelude.{ℕ, ◌+◌, ◌-◌, ◌<◌, ◌≤◌, pos, negsuc, Bool, not, IsTrue, Option, Some, None, IfSome, List, [], ◌∷◌, ◌++◌, flat_map, ⊤}
+use Rattle.std.specs.Prelude.{ℕ, ◌+◌, ◌-◌, ◌<◌, ◌≤◌, pos, negsuc, Bool, not, IsTrue, ⊤}
+use Rattle.std.specs.Prelude.{Option, Some, None, IfSome, List, [], ◌∷◌, ◌++◌, flat_map}
 use Rattle.rota_core.specs.declared.values.Cell.{Cell}
 use Rattle.rota_core.specs.Lists.{only_if}
 use Rattle.rota_core.specs.Roster.{InWeek}

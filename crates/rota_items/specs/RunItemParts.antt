@@ -2,7 +2,8 @@
 use Rattle.std.specs.Prelude.{◌≤◌, ◌<◌, ◌++◌, ◌≡◌, ◌+◌, if◌then◌else◌}
 use Rattle.rota_items.specs.Words.{ℕ, Bool, List, map, count_by, length, range_with_len, Span, not, list_any}
 use Rattle.rota_items.specs.ModelWords.{Item}
-use Rattle.rota_items.specs.RunItems.{Pattern, closed_patterns_at, edge_patterns_on, windows_on, patterns_on, Property, variables_on, Runs, pattern_items, Present, Absent}
+use Rattle.rota_items.specs.RunItems.{Pattern, closed_patterns_at, edge_patterns_on, windows_on, patterns_on}
+use Rattle.rota_items.specs.RunItems.{Property, variables_on, Runs, pattern_items, Present, Absent}
 use Rattle.rota_items.specs.Runs.{is_over, missing_on}
 
 -- the items of one day's window, of a closed pattern, of the edge pattern and of all patterns that end before the day

@@ -1,10 +1,13 @@
 -- The words that costs and model are said in: lists and numbers, weeks, rosters and rules.
-pub use Rattle.std.specs.Prelude.{ℕ, Bool, not, zero, suc, nat_le, nat_lt, count_by, sum_by, List, false, slice_index_or, Option, Some, None, ℤ, int_le, pos, negsuc, map, [], flat_map, length, true, All, MatchOption, min}
+pub use Rattle.std.specs.Prelude.{ℕ, zero, suc, nat_le, nat_lt, min, ℤ, int_le, pos, negsuc, Bool, true, false, not}
+pub use Rattle.std.specs.Prelude.{List, [], map, flat_map, length, count_by, sum_by, slice_index_or, All, Option, Some, None, MatchOption}
 pub use Rattle.std.specs.List.{range_with_len, list_any}
 pub use Rattle.rota_core.specs.Below.{sum_below, count_below}
 pub use Rattle.rota_core.specs.Week.{Week}
 pub use Rattle.rota_core.specs.Roster.{Roster, cell, InWeek}
-pub use Rattle.rota_core.specs.HardRules.{works, is_on, is_off, nurses_at, KeepsHardRules, KeepsOneCell, KeepsMinimum, KeepsSuccession, KeepsSkills, KeepsHeld, KeepsCompetitionRules}
+pub use Rattle.rota_core.specs.HardRules.{works, is_on, is_off, nurses_at}
+pub use Rattle.rota_core.specs.HardRules.{KeepsHardRules, KeepsOneCell, KeepsMinimum, KeepsSuccession, KeepsSkills}
+pub use Rattle.rota_core.specs.HardRules.{KeepsHeld, KeepsCompetitionRules}
 pub use Rattle.rota_core.specs.Rules.{soft_rules, hard_rules}
 pub use Rattle.rota_core.specs.declared.values.Cell.{Cell}
 pub use Rattle.rota_core.specs.declared.values.Span.{Span}

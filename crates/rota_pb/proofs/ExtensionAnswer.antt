@@ -39,7 +39,8 @@ on_ok_any (Err e) holds = tt
 
 -- ---- the same writer
 
-same-writer : {W : Type 0} (before : Writing W Putting) (truths : List Bool) → (fold (with_event literal_texts) before truths).kept.writer ≡ before.kept.writer
+same-writer : {W : Type 0} (before : Writing W Putting) (truths : List Bool) →
+    (fold (with_event literal_texts) before truths).kept.writer ≡ before.kept.writer
 same-writer before [] = refl
 same-writer before (truth ∷ truths) = same-writer (with_event literal_texts before truth) truths
 

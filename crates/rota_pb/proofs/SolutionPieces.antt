@@ -17,8 +17,9 @@ heading-regrouped : (week name count : List ℕ) →
 heading-regrouped week name count = simp append_assoc
 
 pub heading-pieces : (tables : InstanceTables) (count : ℕ) →
-    heading_text tables count
-    ≡ codes "SOLUTION\n" ++ (numeral tables.history.week ++ (codes " " ++ (tables.scenario.name ++ (codes "\n\nASSIGNMENTS = " ++ (numeral count ++ codes "\n")))))
+    heading_text tables count ≡
+    codes "SOLUTION\n" ++ (numeral tables.history.week ++ (codes " " ++ (tables.scenario.name ++
+    (codes "\n\nASSIGNMENTS = " ++ (numeral count ++ codes "\n")))))
 unfolding heading_text
 heading-pieces tables count = heading-regrouped (numeral tables.history.week) tables.scenario.name (numeral count)
 
@@ -33,7 +34,8 @@ pub assignment-pieces : (tables : ScenarioTables) (one : Cell) →
     (name_at tables.shifts one.shift ++ (codes " " ++ (name_at tables.skills one.skill ++ codes "\n"))))))
 unfolding assignment_text
 assignment-pieces tables one =
-    assignment-regrouped (name_at tables.nurses one.nurse) (name_at day_names one.day) (name_at tables.shifts one.shift) (name_at tables.skills one.skill)
+    assignment-regrouped (name_at tables.nurses one.nurse) (name_at day_names one.day) (name_at tables.shifts one.shift)
+    (name_at tables.skills one.skill)
 
 -- the name of a number, where there is one
 pub name_at-is : (names : List (List ℕ)) (place : ℕ) (name : List ℕ) → slice_get names place ≡ Some name → name_at names place ≡ name

@@ -1,5 +1,6 @@
 -- A file that was read whole, or up to a byte more than a file may have.
-use Rattle.std.proofs.Common.{◌≡◌, ℕ, ◌+◌, ◌≤◌, List, [], ◌++◌, length, Option, None, Some, inl, inr, refl, sym, subst, ◌∙◌, ap, arith, length-append}
+use Rattle.std.proofs.Common.{◌≡◌, ℕ, ◌+◌, ◌≤◌, inl, inr, refl, sym, subst, ◌∙◌, ap, arith}
+use Rattle.std.proofs.Common.{List, [], ◌++◌, length, length-append, Option, None, Some}
 use Rattle.std.specs.Io.KnownBytes.{prepend_known, IsAtEnd}
 use Rattle.std.proofs.lemmas.Bool.{cases_lt}
 use Rattle.std.proofs.lemmas.List.{append-nil}
@@ -31,14 +32,17 @@ module _ {V : Type 0} (name : FileName) (layout : Layout V) (reader : Reader) (t
   -- a text that is not too long is the whole file
   whole : length text ≤ LONGEST → (bytes : List ℕ) → reader.given ≡ Some bytes → text ≡ bytes
   whole short bytes told =
-      let parts : (rest : List ℕ) × (reader.left ≡ Some rest) × (text ++ rest ≡ bytes) = told_are reader.given reader.left text bytes read.front told in
+      let parts : (rest : List ℕ) × (reader.left ≡ Some rest) × (text ++ rest ≡ bytes) =
+      told_are reader.given reader.left text bytes read.front told in
       let none : parts.0 ≡ [] = subst IsAtEnd parts.1 (read.ended (omega arith)).none_left in
       sym (append-nil text) ∙ ap (λ (r : List ℕ). text ++ r) (sym none) ∙ parts.2
 
   -- the file has the fault of what was read: a longer one is too long as that is
-  fault-of_file : (fault : TextFault) → HasFault layout text fault → (bytes : List ℕ) → reader.given ≡ Some bytes → HasFault layout bytes fault
+  fault-of_file : (fault : TextFault) → HasFault layout text fault → (bytes : List ℕ) → reader.given ≡ Some bytes →
+      HasFault layout bytes fault
   fault-of_file fault (too_long long is_long) bytes told =
-      let parts : (rest : List ℕ) × (reader.left ≡ Some rest) × (text ++ rest ≡ bytes) = told_are reader.given reader.left text bytes read.front told in
+      let parts : (rest : List ℕ) × (reader.left ≡ Some rest) × (text ++ rest ≡ bytes) =
+      told_are reader.given reader.left text bytes read.front told in
       subst (λ (b : List ℕ). HasFault layout b fault) parts.2 (too_long (omega (arith, length-append text parts.0)) is_long)
   fault-of_file fault (misses_slot short misses) bytes told =
       subst (λ (b : List ℕ). HasFault layout b fault) (whole short bytes told) (misses_slot short misses)

@@ -18,8 +18,8 @@ FindsRoster Satisfiable = Unit {0}
 FindsRoster Optimum = Unit {0}
 FindsRoster _ = ⊥
 
--- The variables that the answer makes true satisfy the model of the week. The roster has exactly the cells whose variable is true, keeps the
--- hard rules, and costs the penalty, which is at most the objective.
+-- The variables that the answer makes true satisfy the model of the week. The roster has exactly the cells whose variable is true, keeps
+-- the hard rules, and costs the penalty, which is at most the objective.
 pub record IsDecoded (week : Week) (solved : Solved) (decoded : Decoded) : Type 0 where
   pub finds : FindsRoster solved.status
   pub satisfies : SatisfiesModel (truth_of solved.bits) (model_of week)

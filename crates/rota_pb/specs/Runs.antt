@@ -12,7 +12,8 @@ pub record Run (A : Type 0) : Type 1 where
 -- One step, and then what follows it. Where the step ends with a fault, so does the run, and nothing that follows is begun, whatever the
 -- step would have found.
 pub data EndsInTurn {A B : Type 0} (step : Run A) (next : A → Run B) (result : Result B Fault) : Type 0 where
-  stopped : (fault : Fault) → result ≡ Err fault → step.ends (Err fault) → ((found : A) → (next found).untouched) → EndsInTurn step next result
+  stopped : (fault : Fault) → result ≡ Err fault → step.ends (Err fault) → ((found : A) → (next found).untouched) →
+      EndsInTurn step next result
   went_on : (found : A) → step.ends (Ok found) → (next found).ends result → EndsInTurn step next result
 
 infixl 10 ◌>>=◌

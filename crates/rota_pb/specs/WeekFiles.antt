@@ -33,7 +33,8 @@ IsRefused name layout given refusals.Memory = ⊥
 -- Why a file is not taken: it was read to its end, or to one byte more than a file may have, and its bytes have the fault; or memory ran
 -- out, after some of it was read, and its source did not fail meanwhile; or its source failed before its end, and before that byte.
 abbrev pub FailsCheck : {V : Type 0} → FileName → Layout V → Reader → Fault → Type 0
-FailsCheck name layout reader (File file) = IsRefused name layout reader.given file × ((taken : List ℕ) × IsReadUpTo (LONGEST + 1) reader taken)
+FailsCheck name layout reader (File file) =
+    IsRefused name layout reader.given file × ((taken : List ℕ) × IsReadUpTo (LONGEST + 1) reader taken)
 FailsCheck name layout reader Memory = IsReadInPart reader
 FailsCheck name layout reader Read = FailsWithin (LONGEST + 1) reader
 FailsCheck name layout reader _ = ⊥

@@ -1,5 +1,6 @@
 -- Each row of requirements takes a pair of a shift type and a skill that had none, so a greater bound on the rows changes nothing.
-use Rattle.std.proofs.Common.{◌≡◌, ℕ, zero, suc, ◌+◌, ◌*◌, ◌<◌, ◌≤◌, Bool, true, false, List, Option, Some, None, Result, Ok, Err, length, get_or, is_some, slice_set, codes, if◌then◌else◌, refl, ap, ◌∙◌, arith}
+use Rattle.std.proofs.Common.{◌≡◌, ℕ, zero, suc, ◌+◌, ◌*◌, ◌<◌, ◌≤◌, Bool, true, false, if◌then◌else◌, refl, ap, ◌∙◌, arith}
+use Rattle.std.proofs.Common.{List, Option, Some, None, Result, Ok, Err, length, get_or, is_some, slice_set, codes}
 use Rattle.std.specs.List.{count_by}
 use Rattle.std.proofs.lemmas.List.{length-replicate, length-set}
 use Rattle.std.proofs.lemmas.List.Sums.{count_by-le-length, sum_by-set}
@@ -11,7 +12,8 @@ use Rattle.rota_read.specs.Tokens.{Token}
 use Rattle.rota_read.specs.Reading.{Reading, and_then, read}
 use Rattle.rota_read.specs.Layout.{Layout, shift_or}
 use Rattle.rota_read.specs.Files.{Fills}
-use Rattle.rota_read.specs.WeekLayout.{Requirements, is_listed, requirement, requirement_of, requirement_row, after_row, repeat_until, most_rows, no_requirements, requirement_rows}
+use Rattle.rota_read.specs.WeekLayout.{Requirements, is_listed, requirement, requirement_of, requirement_row}
+use Rattle.rota_read.specs.WeekLayout.{after_row, repeat_until, most_rows, no_requirements, requirement_rows}
 use Rattle.rota_read.specs.WeekBound.{BoundEndsNoRows}
 use Rattle.rota_read.proofs.FileLaws.{fills-read}
 use Rattle.rota_read.proofs.SlotLaws.{known_name-below, known_name-free, shift_or-below}
@@ -33,7 +35,8 @@ vacant_at None h = refl
 vacant_at (Some days) h = absurd (cc)
 
 -- a row was put where there was none
-one_less : (rows : Requirements) (place : ℕ) (days : List Demand) → place < length rows → is_listed rows place ≡ false → vacant rows ≡ suc (vacant (slice_set rows place (Some days)))
+one_less : (rows : Requirements) (place : ℕ) (days : List Demand) → place < length rows → is_listed rows place ≡ false →
+    vacant rows ≡ suc (vacant (slice_set rows place (Some days)))
 one_less rows place days lt free =
     let e = sum_by-set as_number rows place (Some days) None lt in
     let one = vacant_at (get_or rows place None) free in
@@ -43,47 +46,58 @@ one_less rows place days lt free =
 abbrev OneLess : Requirements → Requirements → Type 0
 OneLess rows next = (length next ≡ length rows) × (vacant rows ≡ suc (vacant next))
 
-requirement-takes : (shifts skills : List (List ℕ)) (shift : ℕ) (rows : Requirements) (front : List Token) (next : Requirements) → shift < length shifts → length rows ≡ length shifts * length skills
-    → Fills (requirement skills shift rows) front next → OneLess rows next
+requirement-takes : (shifts skills : List (List ℕ)) (shift : ℕ) (rows : Requirements) (front : List Token) (next : Requirements) →
+    shift < length shifts → length rows ≡ length shifts * length skills →
+    Fills (requirement skills shift rows) front next → OneLess rows next
 unfolding Fills requirement
 requirement-takes shifts skills shift rows front next lt size h =
     let place = shift * length skills + h.0 in
     let days = h.5.0 in
-    let skill = known_name-below skills (λ k. is_listed rows (shift * length skills + k)) h.1 h.0 h.4 in
+    let listed : ℕ → Bool = λ k. is_listed rows (shift * length skills + k) in
+    let skill = known_name-below skills listed h.1 h.0 h.4 in
     let turned : place < length skills * length shifts = mul-add-lt shift (length skills) h.0 (length shifts) lt skill in
     let same : length skills * length shifts ≡ length shifts * length skills = omega arith in
     let within : place < length rows = omega (arith, turned, same, size) in
-    rw h.5.5.1 (length-set rows place (Some days), one_less rows place days within (known_name-free skills (λ k. is_listed rows (shift * length skills + k)) h.1 h.0 h.4))
+    let free = known_name-free skills listed h.1 h.0 h.4 in
+    rw h.5.5.1 (length-set rows place (Some days), one_less rows place days within free)
 
-requirement_row-takes : (t : ScenarioTables) (rows : Requirements) (front : List Token) (next : Requirements) → length rows ≡ length t.shifts * length t.skills → Fills (requirement_row t rows) front (true, next) → OneLess rows next
+requirement_row-takes : (t : ScenarioTables) (rows : Requirements) (front : List Token) (next : Requirements) →
+    length rows ≡ length t.shifts * length t.skills → Fills (requirement_row t rows) front (true, next) → OneLess rows next
 unfolding Fills requirement_row
 requirement_row-takes t rows front next size h = by h.0 h.1 h.4 h.2 h.5
   where
-    by : (shift : Option ℕ) (first : List Token) → Fills (shift_or (codes "SHIFT_OFF_REQUESTS") t.shifts) first shift → (second : List Token) → Fills (requirement_of t.skills rows shift) second (true, next) → OneLess rows next
+    by : (shift : Option ℕ) (first : List Token) → Fills (shift_or (codes "SHIFT_OFF_REQUESTS") t.shifts) first shift →
+        (second : List Token) → Fills (requirement_of t.skills rows shift) second (true, next) → OneLess rows next
     by None first f second h = absurd (let e : true ≡ false = ap (λ (x : Bool × Requirements). x.0) h.1 in cc)
     by (Some shift) first f second h =
         let e : next ≡ h.0 = ap (λ (x : Bool × Requirements). x.1) h.5.1 in
-        rw e (requirement-takes t.shifts t.skills shift rows h.1 h.0 (shift_or-below (codes "SHIFT_OFF_REQUESTS") t.shifts first (Some shift) f shift refl) size h.4)
+        let below = shift_or-below (codes "SHIFT_OFF_REQUESTS") t.shifts first (Some shift) f shift refl in
+        rw e (requirement-takes t.shifts t.skills shift rows h.1 h.0 below size h.4)
 
 -- ---- two bounds
 
-and_then-same : {A B : Type 0} (r : Result A Fault) (f g : A → Result B Fault) → ((a : A) → r ≡ Ok a → f a ≡ g a) → and_then r f ≡ and_then r g
+and_then-same : {A B : Type 0} (r : Result A Fault) (f g : A → Result B Fault) → ((a : A) → r ≡ Ok a → f a ≡ g a) →
+    and_then r f ≡ and_then r g
 and_then-same (Ok a) f g same = same a refl
 and_then-same (Err e) f g same = refl
 
-after_row-same : (rows rows' : Requirements → Layout Requirements) (more : Bool) (state : Requirements) (left : Reading) → (more ≡ true → read (rows state) left ≡ read (rows' state) left)
-    → read (after_row rows more state) left ≡ read (after_row rows' more state) left
+after_row-same : (rows rows' : Requirements → Layout Requirements) (more : Bool) (state : Requirements) (left : Reading) →
+    (more ≡ true → read (rows state) left ≡ read (rows' state) left) →
+    read (after_row rows more state) left ≡ read (after_row rows' more state) left
 after_row-same rows rows' true state left same = same refl
 after_row-same rows rows' false state left same = refl
 
 -- two bounds that are above the number of pairs without a row read the same
-bounds_agree : (t : ScenarioTables) (n m : ℕ) (rows : Requirements) (left : Reading) → length rows ≡ length t.shifts * length t.skills → vacant rows < n → vacant rows < m
-    → read (repeat_until n (requirement_row t) rows) left ≡ read (repeat_until m (requirement_row t) rows) left
+bounds_agree : (t : ScenarioTables) (n m : ℕ) (rows : Requirements) (left : Reading) →
+    length rows ≡ length t.shifts * length t.skills → vacant rows < n → vacant rows < m →
+    read (repeat_until n (requirement_row t) rows) left ≡ read (repeat_until m (requirement_row t) rows) left
 unfolding read repeat_until
 bounds_agree t zero m rows left size few few' = absurd (omega arith)
 bounds_agree t (suc n) zero rows left size few few' = absurd (omega arith)
 bounds_agree t (suc n) (suc m) rows left size few few' =
-    and_then-same (read (requirement_row t rows) left) (λ x. read (after_row (repeat_until n (requirement_row t)) x.0.0 x.0.1) x.1) (λ x. read (after_row (repeat_until m (requirement_row t)) x.0.0 x.0.1) x.1)
+    and_then-same (read (requirement_row t rows) left)
+    (λ x. read (after_row (repeat_until n (requirement_row t)) x.0.0 x.0.1) x.1)
+    (λ x. read (after_row (repeat_until m (requirement_row t)) x.0.0 x.0.1) x.1)
     (λ x is.
     after_row-same (repeat_until n (requirement_row t)) (repeat_until m (requirement_row t)) x.0.0 x.0.1 x.1
     (λ more.

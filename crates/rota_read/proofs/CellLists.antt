@@ -20,7 +20,8 @@ none_passes test (x ∷ xs) all = or_from (test x) (list_any test xs) all.0 (non
 is_same_cell-itself : (one : Cell) → is_same_cell one one ≡ true
 is_same_cell-itself one = grind (arith, nat_tests)
 
-same_cell : (one other : Cell) → one.nurse ≡ other.nurse → one.day ≡ other.day → one.shift ≡ other.shift → one.skill ≡ other.skill → one ≡ other
+same_cell : (one other : Cell) → one.nurse ≡ other.nurse → one.day ≡ other.day → one.shift ≡ other.shift → one.skill ≡ other.skill →
+    one ≡ other
 same_cell one other n d s k = λ i. record { nurse = n i; day = d i; shift = s i; skill = k i }
 
 same_from_test : (one other : Cell) → is_same_cell one other ≡ true → one ≡ other

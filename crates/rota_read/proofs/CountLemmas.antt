@@ -13,7 +13,8 @@ module _ (nurses shifts : ℕ) where
   pub no_rows_counted : replicate (nurses * 7 * shifts) 0 ≡ request_table nurses shifts []
   no_rows_counted =
       let size = nurses * 7 * shifts in
-      fill_by_all (λ place. count_by (asks_at shifts place) []) (replicate size 0) size 0 (length-replicate size 0) (λ k lt. get_or-replicate size k 0 0 lt)
+      fill_by_all (λ place. count_by (asks_at shifts place) []) (replicate size 0) size 0 (length-replicate size 0)
+      (λ k lt. get_or-replicate size k 0 0 lt)
 
   pub request_table-length : (rows : List RequestRow) → length (request_table nurses shifts rows) ≡ nurses * 7 * shifts
   request_table-length rows = length-map-range_with_len (λ place. count_by (asks_at shifts place) rows) 0 (nurses * 7 * shifts)
@@ -25,13 +26,18 @@ module _ (nurses shifts : ℕ) where
       (λ k d lt. let e = count_by-le-length (asks_at shifts (get_or (range_with_len 0 (nurses * 7 * shifts)) k d)) rows in omega arith)
 
   -- one more row was counted
-  pub row_counted : (rows : List RequestRow) (i : ℕ) (d : RequestRow) (old new : List ℕ) → i < length rows → old ≡ request_table nurses shifts (take i rows) → length new ≡ length old
-      → ((k : ℕ) → get_or new k 0 ≡ get_or old k 0 + (if asks_at shifts k (get_or rows i d) then 1 else 0)) → new ≡ request_table nurses shifts (take (i + 1) rows)
+  pub row_counted : (rows : List RequestRow) (i : ℕ) (d : RequestRow) (old new : List ℕ) → i < length rows →
+      old ≡ request_table nurses shifts (take i rows) → length new ≡ length old →
+      ((k : ℕ) → get_or new k 0 ≡ get_or old k 0 + (if asks_at shifts k (get_or rows i d) then 1 else 0)) →
+      new ≡ request_table nurses shifts (take (i + 1) rows)
   row_counted rows i d old new lt is_old same sums =
       let size = nurses * 7 * shifts in
-      fill_by_all (λ place. count_by (asks_at shifts place) (take (i + 1) rows)) new size 0 (same ∙ ap (λ (ns : List ℕ). length ns) is_old ∙ request_table-length (take i rows))
+      fill_by_all (λ place. count_by (asks_at shifts place) (take (i + 1) rows)) new size 0
+      (same ∙ ap (λ (ns : List ℕ). length ns) is_old ∙ request_table-length (take i rows))
       (λ k below.
+      let one : ℕ = if asks_at shifts k (get_or rows i d) then 1 else 0 in
       sums k
-      ∙ ap (λ (ns : List ℕ). get_or ns k 0 + (if asks_at shifts k (get_or rows i d) then 1 else 0)) is_old
-      ∙ ap (λ n. n + (if asks_at shifts k (get_or rows i d) then 1 else 0)) (get_or-map-range_with_len (λ place. count_by (asks_at shifts place) (take i rows)) 0 size k k 0 below (omega arith))
+      ∙ ap (λ (ns : List ℕ). get_or ns k 0 + one) is_old
+      ∙ ap (λ n. n + one)
+      (get_or-map-range_with_len (λ place. count_by (asks_at shifts place) (take i rows)) 0 size k k 0 below (omega arith))
       ∙ sym (sum_by_more (λ r. if asks_at shifts k r then 1 else 0) rows i d lt))

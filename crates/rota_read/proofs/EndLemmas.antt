@@ -22,15 +22,18 @@ pub is_not_longer : (n : ℕ) → nat_lt LONGEST n ≡ false → n ≤ LONGEST
 is_not_longer n h = grind (arith, nat_tests)
 
 -- what reading a short text gives
-pub read_short : {V : Type 0} (l : Layout V) (text : List ℕ) → length text ≤ LONGEST → read_file l text ≡ and_then (read l (begin text)) (λ x. and_then (at_end x.1.rest) (λ _. Ok x.0))
+pub read_short : {V : Type 0} (l : Layout V) (text : List ℕ) → length text ≤ LONGEST →
+    read_file l text ≡ and_then (read l (begin text)) (λ x. and_then (at_end x.1.rest) (λ _. Ok x.0))
 unfolding read_file opened
 read_short l text short = rw (not_longer (length text) short) refl
 
-pub read_long : {V : Type 0} (l : Layout V) (text : List ℕ) → LONGEST < length text → read_file l text ≡ Err (record { kind = kinds.Limit; line = 0 })
+pub read_long : {V : Type 0} (l : Layout V) (text : List ℕ) → LONGEST < length text →
+    read_file l text ≡ Err (record { kind = kinds.Limit; line = 0 })
 unfolding read_file opened
 read_long l text long = rw (longer (length text) long) refl
 
 -- what is read in front fails
-pub front_fails : {A B : Type 0} (front : Result A Fault) (behind : A → Result B Fault) (e : Stop) → Fails e front → Fails e (and_then front behind)
+pub front_fails : {A B : Type 0} (front : Result A Fault) (behind : A → Result B Fault) (e : Stop) → Fails e front →
+    Fails e (and_then front behind)
 front_fails front behind stops.Memory h = tt
 front_fails front behind (stops.Fault f) h = ap (λ r. and_then r behind) h

@@ -1,5 +1,6 @@
 -- What a history's text spells is within the limits, and each nurse has her past.
-use Rattle.std.proofs.Common.{◌≡◌, ℕ, zero, suc, ◌+◌, ◌<◌, ◌≤◌, Bool, false, List, [], ◌∷◌, length, codes, map, Option, Some, None, unwrap_or, is_some, cond, set, replicate, refl, sym, ap, ◌∙◌, subst, arith}
+use Rattle.std.proofs.Common.{◌≡◌, ℕ, zero, suc, ◌+◌, ◌<◌, ◌≤◌, Bool, false, cond, refl, sym, ap, ◌∙◌, subst, arith}
+use Rattle.std.proofs.Common.{List, [], ◌∷◌, length, codes, map, set, replicate, Option, Some, None, unwrap_or, is_some}
 use Rattle.std.specs.List.{AllByRecursion, count_by}
 use Rattle.std.proofs.lemmas.List.{length-set, length-map, length-replicate}
 use Rattle.std.proofs.lemmas.List.Sums.{sum_by-cons, sum_by-set, count_by-le-length}
@@ -29,7 +30,11 @@ past-is_past shifts front one h =
     rw off_run.5.1 (record {
       totals = ((number-within 0 9999 h.1 h.0 h.4).1, (number-within 0 9999 weekends.1 weekends.0 weekends.4).1);
       last = shift_or-below (codes "None") shifts last.1 last.0 last.4;
-      runs = ((number-within 0 9999 shift_run.1 shift_run.0 shift_run.4).1, (number-within 0 9999 work_run.1 work_run.0 work_run.4).1, (number-within 0 9999 off_run.1 off_run.0 off_run.4).1);
+      runs = (
+        (number-within 0 9999 shift_run.1 shift_run.0 shift_run.4).1,
+        (number-within 0 9999 work_run.1 work_run.0 work_run.4).1,
+        (number-within 0 9999 off_run.1 off_run.0 off_run.4).1,
+      );
     })
 
 -- ---- all pasts
@@ -41,19 +46,24 @@ all_set P (y ∷ xs) (suc i) x all p = (all.0, all_set P xs i x all.1 p)
 
 -- the pasts of the nurses, of whom i have one
 abbrev Kept : ℕ → ℕ → ℕ → Pasts → Type 0
-Kept nurses shifts i pasts = (length pasts ≡ nurses) × AllByRecursion (λ one. IsPast shifts (unwrap_or one no_past)) pasts × (count_by is_some pasts ≡ i)
+Kept nurses shifts i pasts =
+    (length pasts ≡ nurses)
+    × AllByRecursion (λ one. IsPast shifts (unwrap_or one no_past)) pasts
+    × (count_by is_some pasts ≡ i)
 
 abbrev number_of : Bool → ℕ
 number_of b = cond b 1 0
 
-one_more : (pasts : Pasts) (nurse : ℕ) (one : Past) → nurse < length pasts → has_past pasts nurse ≡ false → count_by is_some (set pasts nurse (Some one)) ≡ suc (count_by is_some pasts)
+one_more : (pasts : Pasts) (nurse : ℕ) (one : Past) → nurse < length pasts → has_past pasts nurse ≡ false →
+    count_by is_some (set pasts nurse (Some one)) ≡ suc (count_by is_some pasts)
 one_more pasts nurse one lt free =
     let e = sum_by-set (λ (o : Option Past). number_of (is_some o)) pasts nurse (Some one) None lt in
     let none = ap (λ (b : Bool). number_of b) free in
     omega (arith, e, none)
 
-past_row-keeps : (tables : ScenarioTables) (i : ℕ) (pasts : Pasts) (front : List Token) (next : Pasts) → Fills (past_row tables pasts) front next
-    → Kept (length tables.nurses) (length tables.shifts) i pasts → Kept (length tables.nurses) (length tables.shifts) (suc i) next
+past_row-keeps : (tables : ScenarioTables) (i : ℕ) (pasts : Pasts) (front : List Token) (next : Pasts) →
+    Fills (past_row tables pasts) front next →
+    Kept (length tables.nurses) (length tables.shifts) i pasts → Kept (length tables.nurses) (length tables.shifts) (suc i) next
 unfolding Fills past_row
 past_row-keeps tables i pasts front next h k =
     let nurse = h.0 in
@@ -62,7 +72,8 @@ past_row-keeps tables i pasts front next h k =
     let free = known_name-free tables.nurses (has_past pasts) h.1 nurse h.4 in
     rw h.5.5.1 (
       length-set pasts nurse (Some one) ∙ k.0,
-      all_set (λ one. IsPast (length tables.shifts) (unwrap_or one no_past)) pasts nurse (Some one) k.1 (past-is_past tables.shifts h.5.1 one h.5.4),
+      all_set (λ one. IsPast (length tables.shifts) (unwrap_or one no_past)) pasts nurse (Some one) k.1
+          (past-is_past tables.shifts h.5.1 one h.5.4),
       one_more pasts nurse one (omega (arith, below, k.0)) free ∙ ap suc k.2,
     )
 
@@ -82,8 +93,9 @@ none_counted zero = refl
 none_counted (suc n) = none_counted n
 
 -- what each row keeps holds after all of them
-rows-keep : (tables : ScenarioTables) (n i : ℕ) (pasts : Pasts) (front : List Token) (last : Pasts) → Fills (repeat n (past_row tables) pasts) front last
-    → Kept (length tables.nurses) (length tables.shifts) i pasts → Kept (length tables.nurses) (length tables.shifts) (n + i) last
+rows-keep : (tables : ScenarioTables) (n i : ℕ) (pasts : Pasts) (front : List Token) (last : Pasts) →
+    Fills (repeat n (past_row tables) pasts) front last →
+    Kept (length tables.nurses) (length tables.shifts) i pasts → Kept (length tables.nurses) (length tables.shifts) (n + i) last
 unfolding Fills repeat
 rows-keep tables zero i pasts front last h k =
     let e : i ≡ 0 + i = omega arith in
@@ -93,13 +105,15 @@ rows-keep tables (suc n) i pasts front last h k =
     let e : n + suc i ≡ suc n + i = omega arith in
     subst (λ j. Kept (length tables.nurses) (length tables.shifts) j last) e (rows-keep tables n (suc i) h.0 h.2 last h.5 one)
 
-past_rows-kept : (tables : ScenarioTables) (front : List Token) (pasts : Pasts) → Fills (past_rows tables) front pasts
-    → Kept (length tables.nurses) (length tables.shifts) (length tables.nurses) pasts
+past_rows-kept : (tables : ScenarioTables) (front : List Token) (pasts : Pasts) → Fills (past_rows tables) front pasts →
+    Kept (length tables.nurses) (length tables.shifts) (length tables.nurses) pasts
 unfolding past_rows
 past_rows-kept tables front pasts h =
     let nurses = length tables.nurses in
     let shifts = length tables.shifts in
-    let kept = rows-keep tables nurses 0 (replicate nurses None) front pasts h (length-replicate nurses None, none_yet shifts nurses, none_counted nurses) in
+    let kept =
+    rows-keep tables nurses 0 (replicate nurses None) front pasts h
+    (length-replicate nurses None, none_yet shifts nurses, none_counted nurses) in
     let e : nurses + 0 ≡ nurses = omega arith in
     subst (λ n. Kept nurses shifts n pasts) e kept
 
@@ -116,7 +130,8 @@ all_given (Some one ∷ pasts) h =
 
 -- ---- whole histories
 
-all_past : (shifts : ℕ) (pasts : Pasts) → AllByRecursion (λ one. IsPast shifts (unwrap_or one no_past)) pasts → AllByRecursion (IsPast shifts) (map (λ past. unwrap_or past no_past) pasts)
+all_past : (shifts : ℕ) (pasts : Pasts) → AllByRecursion (λ one. IsPast shifts (unwrap_or one no_past)) pasts →
+    AllByRecursion (IsPast shifts) (map (λ past. unwrap_or past no_past) pasts)
 all_past shifts [] h = tt
 all_past shifts (one ∷ pasts) h = (h.0, all_past shifts pasts h.1)
 
@@ -132,7 +147,8 @@ gives_each_past tables front pasts h =
     let kept = past_rows-kept tables front pasts h in
     all_given pasts (kept.2 ∙ sym kept.0)
 
-history-is_history : (tables : ScenarioTables) (front : List Token) (spelled : HistoryTables) → HasLimitedNumbers spelled → Fills (history tables) front spelled → IsHistory spelled
+history-is_history : (tables : ScenarioTables) (front : List Token) (spelled : HistoryTables) →
+    HasLimitedNumbers spelled → Fills (history tables) front spelled → IsHistory spelled
 unfolding Fills history
 history-is_history tables front spelled numbers h =
     let rows = h.5 in
@@ -147,10 +163,12 @@ history-is_history tables front spelled numbers h =
     })
 
 -- a text spells histories only
-pub spells-is_history : (tables : ScenarioTables) (text : List ℕ) (spelled : HistoryTables) → HasLimitedNumbers spelled → Spells (history tables) text spelled → IsHistory spelled
+pub spells-is_history : (tables : ScenarioTables) (text : List ℕ) (spelled : HistoryTables) →
+    HasLimitedNumbers spelled → Spells (history tables) text spelled → IsHistory spelled
 spells-is_history tables text spelled numbers h = history-is_history tables (tokens text) spelled numbers h.filled
 
 -- the numbers of a history are those of its scenario
-pub spells-HasNumbersOf : (tables : ScenarioTables) (text : List ℕ) (spelled : HistoryTables) → Spells (history tables) text spelled → HasNumbersOf tables spelled.nurses spelled.shifts spelled.skills
+pub spells-HasNumbersOf : (tables : ScenarioTables) (text : List ℕ) (spelled : HistoryTables) →
+    Spells (history tables) text spelled → HasNumbersOf tables spelled.nurses spelled.shifts spelled.skills
 unfolding Fills history
 spells-HasNumbersOf tables text spelled h = rw h.filled.5.5.1 (record { same_nurses = refl; same_shifts = refl; same_skills = refl })

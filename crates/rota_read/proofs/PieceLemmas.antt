@@ -1,5 +1,6 @@
 -- Pieces of a text that fill parts of a layout, whatever is behind them.
-use Rattle.std.proofs.Common.{◌≡◌, ℕ, ◌≤◌, Bool, true, false, ◌||◌, List, [], ◌∷◌, ◌++◌, Some, None, refl, sym, ap, ◌∙◌, subst, arith, append_assoc}
+use Rattle.std.proofs.Common.{◌≡◌, ℕ, ◌≤◌, Bool, true, false, ◌||◌, refl, sym, ap, ◌∙◌, subst, arith, append_assoc}
+use Rattle.std.proofs.Common.{List, [], ◌∷◌, ◌++◌, Some, None}
 use Rattle.std.specs.Prelude.{nat_le, unwrap_or}
 use Rattle.std.specs.List.{list_all}
 use Rattle.std.proofs.lemmas.Bool.{and_parts, or_parts, not-true}
@@ -8,7 +9,8 @@ use Rattle.std.proofs.lemmas.List.{append-nil}
 use Rattle.rota_core.specs.Words.{place_of, is_blank, is_sign, is_word_byte, IsWord}
 use Rattle.rota_core.specs.Numeral.{numeral, decimal}
 use Rattle.rota_read.specs.Tokens.{Token, tokens_from, lengthen, line_after}
-use Rattle.rota_read.specs.Layout.{Slot, wants_exactly, wants_number, wants_word, wants_known, Layout, end, slot, ◌>>=◌, misfit, is_sign_token, exactly, number, any_word, known_name}
+use Rattle.rota_read.specs.Layout.{Slot, wants_exactly, wants_number, wants_word, wants_known, Layout, end, slot, ◌>>=◌}
+use Rattle.rota_read.specs.Layout.{misfit, is_sign_token, exactly, number, any_word, known_name}
 use Rattle.rota_read.specs.Files.{Fills}
 use Rattle.rota_core.specs.NumeralLaws.{TellsNumber}
 use Rattle.rota_read.proofs.TokenLemmas.{tokens_from-sign, one_blank, one_longer, last_byte}

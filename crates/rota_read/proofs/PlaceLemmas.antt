@@ -1,5 +1,6 @@
 -- The places of the requests that a row asks for.
-use Rattle.std.proofs.Common.{◌≡◌, ◌==◌, ℕ, ◌+◌, ◌-◌, ◌*◌, ◌/◌, ◌%◌, ◌<◌, Bool, true, false, ◌&&◌, nat_le, nat_lt, refl, sym, ap, ◌∙◌, arith}
+use Rattle.std.proofs.Common.{◌≡◌, ℕ, ◌+◌, ◌-◌, ◌*◌, ◌/◌, ◌%◌, ◌<◌, refl, sym, ap, ◌∙◌, arith}
+use Rattle.std.proofs.Common.{◌==◌, nat_le, nat_lt, Bool, true, false, ◌&&◌}
 use Rattle.std.proofs.lemmas.Bool.Decides.{nat_tests}
 use Rattle.std.proofs.lemmas.Nat.{div-mul-add, mod-mul-add, mod_below, div-add-mod'}
 
@@ -9,8 +10,10 @@ same_bools false true f g = g refl
 same_bools false false f g = refl
 
 -- one place of a row of width places
-pub one_place : (row width col k : ℕ) → col < width → (row == k / width && col == k % width) ≡ (nat_le (row * width + col) k && nat_lt k (row * width + col + 1))
-one_place row width col k lt = same_bools (row == k / width && col == k % width) (nat_le (row * width + col) k && nat_lt k (row * width + col + 1)) there back
+pub one_place : (row width col k : ℕ) → col < width →
+    (row == k / width && col == k % width) ≡ (nat_le (row * width + col) k && nat_lt k (row * width + col + 1))
+one_place row width col k lt =
+    same_bools (row == k / width && col == k % width) (nat_le (row * width + col) k && nat_lt k (row * width + col + 1)) there back
   where
     there : (row == k / width && col == k % width) ≡ true → (nat_le (row * width + col) k && nat_lt k (row * width + col + 1)) ≡ true
     there h =
@@ -28,8 +31,10 @@ one_place row width col k lt = same_bools (row == k / width && col == k % width)
         grind (arith, nat_tests)
 
 -- all places of a row
-pub whole_row : (row width k : ℕ) → 0 < width → (row == k / width && true) ≡ (nat_le (row * width) k && nat_lt k (row * width + width))
-whole_row row width k some = same_bools (row == k / width && true) (nat_le (row * width) k && nat_lt k (row * width + width)) there back
+pub whole_row : (row width k : ℕ) → 0 < width →
+    (row == k / width && true) ≡ (nat_le (row * width) k && nat_lt k (row * width + width))
+whole_row row width k some =
+    same_bools (row == k / width && true) (nat_le (row * width) k && nat_lt k (row * width + width)) there back
   where
     there : (row == k / width && true) ≡ true → (nat_le (row * width) k && nat_lt k (row * width + width)) ≡ true
     there h =

@@ -1,5 +1,6 @@
 -- The text of a roster spells it.
-use Rattle.std.proofs.Common.{◌≡◌, ℕ, suc, ◌+◌, ◌<◌, ◌≤◌, Bool, true, false, List, [], ◌∷◌, ◌++◌, length, codes, refl, sym, ap, ◌∙◌, subst, arith, append_assoc}
+use Rattle.std.proofs.Common.{◌≡◌, ℕ, suc, ◌+◌, ◌<◌, ◌≤◌, Bool, true, false, refl, sym, ap, ◌∙◌, subst, arith, append_assoc}
+use Rattle.std.proofs.Common.{List, [], ◌∷◌, ◌++◌, length, codes}
 use Rattle.std.specs.List.{AllByRecursion, IsDistinct, flat_map}
 use Rattle.std.proofs.lemmas.Bool.{or_from}
 use Rattle.std.proofs.lemmas.Bool.Decides.{nat_tests}
@@ -25,13 +26,15 @@ use Rattle.rota_read.specs.Tokens.{tokens_from, tokens}
 use Rattle.rota_core.specs.RosterCells.{cells_of}
 use Rattle.rota_read.proofs.CellLists.{is_one_cell-cells_of}
 use Rattle.rota_read.proofs.NamePlaces.{holds-name_at, place_of-name_at}
-use Rattle.rota_read.proofs.PieceLemmas.{FillsAsPiece, piece-bind, piece-end, piece-map, piece-blank, piece-sign, piece-exactly, piece-any_word, piece-number, piece-known_name}
+use Rattle.rota_read.proofs.PieceLemmas.{FillsAsPiece, piece-bind, piece-end, piece-map, piece-blank}
+use Rattle.rota_read.proofs.PieceLemmas.{piece-sign, piece-exactly, piece-any_word, piece-number, piece-known_name}
 
 -- ---- days
 
 day_words : AllByRecursion IsWord day_names
 day_words =
-    ((omega arith, refl), ((omega arith, refl), ((omega arith, refl), ((omega arith, refl), ((omega arith, refl), ((omega arith, refl), ((omega arith, refl), tt)))))))
+    let weekend : AllByRecursion IsWord (codes "Sat" ∷ codes "Sun" ∷ []) = ((omega arith, refl), ((omega arith, refl), tt)) in
+    ((omega arith, refl), ((omega arith, refl), ((omega arith, refl), ((omega arith, refl), ((omega arith, refl), weekend)))))
 
 distinct_days : AreDistinct day_names
 unfolding IsDistinct
@@ -46,11 +49,12 @@ distinct_days = (
 -- ---- one assignment
 
 -- the line of an assignment, cut behind each of its blanks
-cut_row : (a b c d : List ℕ) → ended (spaced a (spaced b (spaced c d)))
-    ≡ (a ++ 32 ∷ []) ++ ((b ++ 32 ∷ []) ++ ((c ++ 32 ∷ []) ++ (d ++ 10 ∷ [])))
+cut_row : (a b c d : List ℕ) →
+    ended (spaced a (spaced b (spaced c d))) ≡ (a ++ 32 ∷ []) ++ ((b ++ 32 ∷ []) ++ ((c ++ 32 ∷ []) ++ (d ++ 10 ∷ [])))
 cut_row a b c d =
     append_assoc a (32 ∷ (b ++ 32 ∷ (c ++ 32 ∷ d))) (10 ∷ [])
-    ∙ ap (λ rest. a ++ 32 ∷ rest) (append_assoc b (32 ∷ (c ++ 32 ∷ d)) (10 ∷ []) ∙ ap (λ rest. b ++ 32 ∷ rest) (append_assoc c (32 ∷ d) (10 ∷ [])))
+    ∙ ap (λ rest. a ++ 32 ∷ rest)
+    (append_assoc b (32 ∷ (c ++ 32 ∷ d)) (10 ∷ []) ∙ ap (λ rest. b ++ 32 ∷ rest) (append_assoc c (32 ∷ d) (10 ∷ [])))
     ∙ ap (λ rest. a ++ 32 ∷ rest) (ap (λ rest. b ++ 32 ∷ rest) (sym (append_assoc c (32 ∷ []) (d ++ 10 ∷ []))))
     ∙ ap (λ rest. a ++ 32 ∷ rest) (sym (append_assoc b (32 ∷ []) ((c ++ 32 ∷ []) ++ (d ++ 10 ∷ []))))
     ∙ sym (append_assoc a (32 ∷ []) ((b ++ 32 ∷ []) ++ ((c ++ 32 ∷ []) ++ (d ++ 10 ∷ []))))
@@ -68,14 +72,16 @@ cut_count : (digits : List ℕ) → ended [] ++ ended (codes "ASSIGNMENTS = " ++
     ≡ (10 ∷ (codes "ASSIGNMENTS" ++ 32 ∷ [])) ++ ((61 ∷ []) ++ (32 ∷ (digits ++ 10 ∷ [])))
 cut_count digits = refl
 
-cut_heading : (a b digits : List ℕ) → ended (codes "SOLUTION") ++ ended (spaced a b) ++ ended [] ++ ended (codes "ASSIGNMENTS = " ++ digits)
-    ≡ ended (codes "SOLUTION") ++ ((a ++ 32 ∷ []) ++ ((b ++ 10 ∷ [])
+cut_heading : (a b digits : List ℕ) →
+    ended (codes "SOLUTION") ++ ended (spaced a b) ++ ended [] ++ ended (codes "ASSIGNMENTS = " ++ digits) ≡
+    ended (codes "SOLUTION") ++ ((a ++ 32 ∷ []) ++ ((b ++ 10 ∷ [])
     ++ ((10 ∷ (codes "ASSIGNMENTS" ++ 32 ∷ [])) ++ ((61 ∷ []) ++ (32 ∷ (digits ++ 10 ∷ []))))))
 cut_heading a b digits =
     append_assoc (ended (codes "SOLUTION") ++ ended (spaced a b)) (ended []) (ended (codes "ASSIGNMENTS = " ++ digits))
     ∙ append_assoc (ended (codes "SOLUTION")) (ended (spaced a b)) (ended [] ++ ended (codes "ASSIGNMENTS = " ++ digits))
     ∙ ap (λ rest. ended (codes "SOLUTION") ++ rest)
-    (cut_line a b (ended [] ++ ended (codes "ASSIGNMENTS = " ++ digits)) ∙ ap (λ rest. (a ++ 32 ∷ []) ++ ((b ++ 10 ∷ []) ++ rest)) (cut_count digits))
+    (cut_line a b (ended [] ++ ended (codes "ASSIGNMENTS = " ++ digits))
+    ∙ ap (λ rest. (a ++ 32 ∷ []) ++ ((b ++ 10 ∷ []) ++ rest)) (cut_count digits))
 
 shift_words : (names : List (List ℕ)) → AllByRecursion IsShiftName names → AllByRecursion IsWord names
 shift_words [] all = tt
@@ -114,7 +120,8 @@ module _ (tells : (n : ℕ) → TellsNumber n) (tables : InstanceTables) (valid 
       (holds-name_at IsWord scenario.skills one.skill skills.1 in_week.skill_in) refl
       (place_of-name_at scenario.skills one.skill skills.2 in_week.skill_in) is_new in
       subst (λ text. FillsAsPiece (assignment_row scenario rows) text (rows ++ one ∷ []))
-      (sym (cut_row (name_at scenario.nurses one.nurse) (name_at day_names one.day) (name_at scenario.shifts one.shift) (name_at scenario.skills one.skill)))
+      (sym (cut_row (name_at scenario.nurses one.nurse) (name_at day_names one.day) (name_at scenario.shifts one.shift)
+      (name_at scenario.skills one.skill)))
       (piece-bind (known_name scenario.nurses none_taken) _ _ _ one.nurse (rows ++ one ∷ []) nurse
       (piece-bind (known_name day_names none_taken) _ _ _ one.day (rows ++ one ∷ []) day
       (piece-bind (known_name scenario.shifts none_taken) _ _ _ one.shift (rows ++ one ∷ []) shift
@@ -159,14 +166,12 @@ module _ (tells : (n : ℕ) → TellsNumber n) (tables : InstanceTables) (valid 
       AllByRecursion-append (λ other. place other < place one + 1) rows (one ∷ [])
       (all_below rows first (place one + 1) (omega (arith, rises.0)) before) (omega arith, tt) in
       let rest = rows-spelled (rows ++ one ∷ []) cells (place one + 1) last next rises.1 in_week.1 in
-      subst
-      (λ n. FillsAsPiece (repeat n (assignment_row scenario) rows) (flat_map (assignment_text scenario) (one ∷ cells)) (rows ++ one ∷ cells))
-      (sym count)
-      (subst
-      (FillsAsPiece (repeat (suc (length cells)) (assignment_row scenario) rows) (flat_map (assignment_text scenario) (one ∷ cells)))
+      let text = flat_map (assignment_text scenario) (one ∷ cells) in
+      subst (λ n. FillsAsPiece (repeat n (assignment_row scenario) rows) text (rows ++ one ∷ cells)) (sym count)
+      (subst (FillsAsPiece (repeat (suc (length cells)) (assignment_row scenario) rows) text)
       (append_assoc rows (one ∷ []) cells)
-      (piece-bind (assignment_row scenario rows) (repeat (length cells) (assignment_row scenario)) (assignment_text scenario one)
-      (flat_map (assignment_text scenario) cells) (rows ++ one ∷ []) ((rows ++ one ∷ []) ++ cells)
+      (piece-bind (assignment_row scenario rows) (repeat (length cells) (assignment_row scenario))
+      (assignment_text scenario one) (flat_map (assignment_text scenario) cells) (rows ++ one ∷ []) ((rows ++ one ∷ []) ++ cells)
       (row-spelled rows one in_week.0 (is_new rows first one before rises.0)) rest))
 
   -- ---- the lines before them
@@ -179,31 +184,34 @@ module _ (tells : (n : ℕ) → TellsNumber n) (tables : InstanceTables) (valid 
       let number_line : List ℕ = 32 ∷ (numeral count ++ 10 ∷ []) in
       let count_line : List ℕ = (10 ∷ (codes "ASSIGNMENTS" ++ 32 ∷ [])) ++ ((61 ∷ []) ++ number_line) in
       subst (λ text. FillsAsPiece solution_heading text count) (sym (cut_heading week name (numeral count)))
-      (piece-bind (exactly (codes "SOLUTION")) _ (codes "SOLUTION" ++ 10 ∷ []) ((week ++ 32 ∷ []) ++ ((name ++ 10 ∷ []) ++ count_line))
-      (codes "SOLUTION") count
+      (piece-bind (exactly (codes "SOLUTION")) _ (codes "SOLUTION" ++ 10 ∷ [])
+      ((week ++ 32 ∷ []) ++ ((name ++ 10 ∷ []) ++ count_line)) (codes "SOLUTION") count
       (piece-exactly (codes "SOLUTION") 10 (omega arith, refl) refl refl)
       (piece-bind (number 0 9999) _ (week ++ 32 ∷ []) ((name ++ 10 ∷ []) ++ count_line) tables.history.week count
       (piece-number tells 0 9999 tables.history.week 32 (omega arith) valid.history.week refl)
       (piece-bind any_word _ (name ++ 10 ∷ []) count_line name count (piece-any_word name 10 valid.scenario.name refl)
-      (piece-bind (exactly (codes "ASSIGNMENTS")) _ (10 ∷ (codes "ASSIGNMENTS" ++ 32 ∷ [])) ((61 ∷ []) ++ number_line) (codes "ASSIGNMENTS") count
+      (piece-bind (exactly (codes "ASSIGNMENTS")) _ (10 ∷ (codes "ASSIGNMENTS" ++ 32 ∷ [])) ((61 ∷ []) ++ number_line)
+      (codes "ASSIGNMENTS") count
       (piece-blank (exactly (codes "ASSIGNMENTS")) 10 (codes "ASSIGNMENTS" ++ 32 ∷ []) (codes "ASSIGNMENTS") refl
       (piece-exactly (codes "ASSIGNMENTS") 32 (omega arith, refl) refl refl))
       (piece-bind (exactly (codes "=")) _ (61 ∷ []) number_line (codes "=") count (piece-sign 61 refl refl refl)
-      (piece-blank (number 0 9999) 32 (numeral count ++ 10 ∷ []) count refl (piece-number tells 0 9999 count 10 (omega arith) few refl)))))))
+      (piece-blank (number 0 9999) 32 (numeral count ++ 10 ∷ []) count refl
+      (piece-number tells 0 9999 count 10 (omega arith) few refl)))))))
 
   -- ---- the whole text
 
-  pub roster_text-spelled : ((roster : Roster) → ListsCells (week_of tables) roster) → (roster : RosterTables) → HasShapeOf (week_of tables) roster →
-      KeepsOneCell (week_of tables) (set_of roster) → length (solution_text tables (set_of roster)) ≤ LONGEST →
-      SpellsRoster tables (solution_text tables (set_of roster)) roster
+  pub roster_text-spelled : ((roster : Roster) → ListsCells (week_of tables) roster) →
+      (roster : RosterTables) → HasShapeOf (week_of tables) roster → KeepsOneCell (week_of tables) (set_of roster) →
+      length (solution_text tables (set_of roster)) ≤ LONGEST → SpellsRoster tables (solution_text tables (set_of roster)) roster
   unfolding solution text_of_cells tokens_from
   roster_text-spelled lists roster shape one_cell short =
       let week = week_of tables in
       let cells : List Cell = cells_of week (set_of roster) in
       let listed = lists (set_of roster) in
       let few : length cells ≤ 9999 = omega (arith, listed.few one_cell, valid.scenario.nurses.0.1) in
+      let theirs = all-weaker (Has week (set_of roster)) (InWeek week) (λ one has. has.in_week) cells listed.theirs in
       let rows : FillsAsPiece (repeat (length cells) (assignment_row scenario) []) (flat_map (assignment_text scenario) cells) cells =
-      rows-spelled [] cells _ _ tt listed.rise (all-weaker (Has week (set_of roster)) (InWeek week) (λ one has. has.in_week) cells listed.theirs) in
+      rows-spelled [] cells _ _ tt listed.rise theirs in
       let whole : FillsAsPiece (solution scenario) (solution_text tables (set_of roster)) cells =
       piece-bind solution_heading (λ count. repeat count (assignment_row scenario) []) (heading_text tables (length cells))
       (flat_map (assignment_text scenario) cells) (length cells) cells (heading-spelled (length cells) few) rows in

@@ -8,7 +8,8 @@ use Rattle.rota_read.specs.WeekLayout.{after_row, repeat_until}
 
 module _ {S : Type 0} (row : S → Layout S) (state : S) (count i : ℕ) (left : Reading) where
   -- a row, and those behind it
-  pub next_row : i < count → read (repeat (count - i) row state) left ≡ and_then (read (row state) left) (λ x. read (repeat (count - (i + 1)) row x.0) x.1)
+  pub next_row : i < count →
+      read (repeat (count - i) row state) left ≡ and_then (read (row state) left) (λ x. read (repeat (count - (i + 1)) row x.0) x.1)
   unfolding repeat read
   next_row lt =
       let k : count - i ≡ suc (count - (i + 1)) = omega arith in
@@ -16,7 +17,8 @@ module _ {S : Type 0} (row : S → Layout S) (state : S) (count i : ℕ) (left :
 
   -- a row was not read
   pub row_fails : (e : Stop) → i < count → Fails e (read (row state) left) → Fails e (read (repeat (count - i) row state) left)
-  row_fails e lt h = rw (next_row lt) (front_fails (read (row state) left) (λ x. read (repeat (count - (i + 1)) row x.0) x.1) e h)
+  row_fails e lt h =
+      rw (next_row lt) (front_fails (read (row state) left) (λ x. read (repeat (count - (i + 1)) row x.0) x.1) e h)
 
   -- all rows were read
   pub no_row : count ≤ i → read (repeat (count - i) row state) left ≡ Ok (state, left)
@@ -29,14 +31,19 @@ pub ruleset row_steps = (next_row, no_row, row_fails)
 
 module _ {S : Type 0} (row : S → Layout (Bool × S)) (state : S) (count i : ℕ) (left : Reading) where
   -- a row, and those behind it where there are more
-  pub next_until : i < count → read (repeat_until (count - i) row state) left ≡ and_then (read (row state) left) (λ x. read (after_row (repeat_until (count - (i + 1)) row) x.0.0 x.0.1) x.1)
+  pub next_until : i < count →
+      read (repeat_until (count - i) row state) left ≡
+      and_then (read (row state) left) (λ x. read (after_row (repeat_until (count - (i + 1)) row) x.0.0 x.0.1) x.1)
   unfolding repeat_until read
   next_until lt =
       let k : count - i ≡ suc (count - (i + 1)) = omega arith in
       rw k refl
 
-  pub until_fails : (e : Stop) → i < count → Fails e (read (row state) left) → Fails e (read (repeat_until (count - i) row state) left)
-  until_fails e lt h = rw (next_until lt) (front_fails (read (row state) left) (λ x. read (after_row (repeat_until (count - (i + 1)) row) x.0.0 x.0.1) x.1) e h)
+  pub until_fails : (e : Stop) → i < count → Fails e (read (row state) left) →
+      Fails e (read (repeat_until (count - i) row state) left)
+  until_fails e lt h =
+      rw (next_until lt)
+      (front_fails (read (row state) left) (λ x. read (after_row (repeat_until (count - (i + 1)) row) x.0.0 x.0.1) x.1) e h)
 
   -- as many rows as there may be were read
   pub no_until : count ≤ i → read (repeat_until (count - i) row state) left ≡ Ok (state, left)

@@ -1,5 +1,6 @@
 -- The slots of a history file.
-use Rattle.std.specs.Prelude.{ℕ, Bool, List, Option, Some, None, codes, length, map, unwrap_or, is_some, replicate, slice_index_or, slice_set}
+use Rattle.std.specs.Prelude.{ℕ, Bool, List, codes, length, map, replicate, slice_index_or, slice_set}
+use Rattle.std.specs.Prelude.{Option, Some, None, unwrap_or, is_some}
 use Rattle.rota_core.specs.declared.values.Past.{Past}
 use Rattle.rota_core.specs.ScenarioTables.{ScenarioTables}
 use Rattle.rota_core.specs.Week.{no_past}
@@ -15,7 +16,14 @@ past shifts = do
   shift_run ← number 0 MOST
   work_run ← number 0 MOST
   off_run ← number 0 MOST
-  end (record { assignments = assignments; weekends = weekends; last = last; shift_run = shift_run; work_run = work_run; off_run = off_run })
+  end (record {
+    assignments = assignments;
+    weekends = weekends;
+    last = last;
+    shift_run = shift_run;
+    work_run = work_run;
+    off_run = off_run;
+  })
 
 -- by nurse, her past where a row has given it
 abbrev pub Pasts : Type 0

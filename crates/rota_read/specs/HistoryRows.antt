@@ -10,7 +10,8 @@ use Rattle.rota_read.specs.Files.{Fills}
 -- The rows give the past of each nurse, so that none is made up.
 abbrev pub GivesEachPast : ScenarioTables → Type 0
 GivesEachPast tables =
-    (front : List Token) (pasts : Pasts) → Fills (past_rows tables) front pasts → pasts ≡ map Some (map (λ past. unwrap_or past no_past) pasts)
+    (front : List Token) (pasts : Pasts) → Fills (past_rows tables) front pasts →
+    pasts ≡ map Some (map (λ past. unwrap_or past no_past) pasts)
 
 -- the numbers of nurses, shift types and skills are within the limits
 abbrev pub HasLimitedNumbers : HistoryTables → Type 0

@@ -30,7 +30,8 @@ is_sign_token (b ∷ bytes) = is_sign b
 abbrev pub misfit : Slot → List ℕ → Option Kind
 misfit (wants_exactly wanted) word = if bytes_eq wanted word then None else Some kinds.OtherWord
 misfit (wants_number low high) word =
-    if is_decimal word then (if nat_le low (decimal word) && nat_le (decimal word) high then None else Some kinds.Limit) else Some kinds.NoNumber
+    if is_decimal word then (if nat_le low (decimal word) && nat_le (decimal word) high then None else Some kinds.Limit)
+    else Some kinds.NoNumber
 misfit wants_word word = if is_sign_token word then Some kinds.OtherWord else None
 misfit (wants_new names) word =
     if is_sign_token word then Some kinds.OtherWord else (if is_among names word then Some kinds.Repeated else None)

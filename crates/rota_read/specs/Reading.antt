@@ -21,7 +21,9 @@ pub record Reading : Type 0 where
 -- the token that fills a slot, and what is left then
 abbrev pub fill : Slot → ℕ → List Token → Result (List ℕ × Reading) Fault
 fill s last [] = Err (record { kind = kinds.Ended; line = last })
-fill s last (t ∷ tokens) = option_map_or (λ kind. Err (record { kind = kind; line = t.line })) (misfit s t.word) (Ok (t.word, record { last = t.line; rest = tokens }))
+fill s last (t ∷ tokens) =
+    option_map_or (λ kind. Err (record { kind = kind; line = t.line })) (misfit s t.word)
+    (Ok (t.word, record { last = t.line; rest = tokens }))
 
 unfoldable pub read : {V : Type 0} → Layout V → Reading → Result (V × Reading) Fault
 read (end v) left = Ok (v, left)

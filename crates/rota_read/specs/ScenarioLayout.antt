@@ -83,7 +83,11 @@ nurse_row contracts skills most nurses = do
   name ← new_name nurses.names
   contract ← known_name contracts none_taken
   row ← known_names skills most
-  end (record { names = nurses.names ++ name ∷ []; contract_of = nurses.contract_of ++ contract ∷ []; has_skill = nurses.has_skill ++ marks most row })
+  end (record {
+    names = nurses.names ++ name ∷ [];
+    contract_of = nurses.contract_of ++ contract ∷ [];
+    has_skill = nurses.has_skill ++ marks most row;
+  })
 
 unfoldable pub heading : Layout (List ℕ × ℕ)
 heading = do

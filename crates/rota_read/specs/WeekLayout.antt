@@ -1,5 +1,6 @@
 -- The slots of a week's file.
-use Rattle.std.specs.Prelude.{◌==◌, ℕ, zero, suc, ◌+◌, ◌*◌, ◌/◌, ◌%◌, Bool, true, false, ◌&&◌, List, [], ◌∷◌, ◌++◌, Option, Some, None, codes, length, map, is_some, replicate, slice_index_or, slice_set, count_by}
+use Rattle.std.specs.Prelude.{ℕ, zero, suc, ◌==◌, ◌+◌, ◌*◌, ◌/◌, ◌%◌, Bool, true, false, ◌&&◌, Option, Some, None, is_some}
+use Rattle.std.specs.Prelude.{List, [], ◌∷◌, ◌++◌, codes, length, map, replicate, count_by, slice_index_or, slice_set}
 use Rattle.std.specs.List.{flat_map, range_with_len}
 use Rattle.std.specs.Option.{option_map_or}
 use Rattle.rota_core.specs.declared.values.Demand.{Demand}
@@ -7,7 +8,8 @@ use Rattle.rota_core.specs.ScenarioTables.{ScenarioTables}
 use Rattle.rota_core.specs.Week.{no_demand}
 use Rattle.rota_core.specs.WeekTables.{WeekTables}
 use Rattle.rota_read.specs.declared.week.RequestRow.{RequestRow}
-use Rattle.rota_read.specs.Layout.{MOST, Layout, end, ◌>>=◌, exactly, number, any_word, known_name, none_taken, repeat, day_names, pair, shift_or}
+use Rattle.rota_read.specs.Layout.{MOST, Layout, end, ◌>>=◌, repeat}
+use Rattle.rota_read.specs.Layout.{exactly, number, any_word, known_name, none_taken, day_names, pair, shift_or}
 
 -- a minimum and an optimal number
 unfoldable pub demand : Layout Demand
@@ -116,4 +118,10 @@ unfoldable pub week : ScenarioTables → Layout WeekTables
 week t = do
   requirements ← requirements_part t
   requests ← requests_part t
-  end (record { nurses = length t.nurses; shifts = length t.shifts; skills = length t.skills; demands = demand_table requirements; requests = request_table (length t.nurses) (length t.shifts) requests })
+  end (record {
+    nurses = length t.nurses;
+    shifts = length t.shifts;
+    skills = length t.skills;
+    demands = demand_table requirements;
+    requests = request_table (length t.nurses) (length t.shifts) requests;
+  })

@@ -78,7 +78,8 @@ row_rest (suc d) n (truth ∷ truths) e some =
     ∙ ap
     (λ (m : ℕ). blank_word n truth ++ (blank_words (take (suc d) (words_after (n + 1) truths)) ++ 10 ∷ rest_text m (drop (suc d) truths))) same
     ∙ sym
-    (append_assoc (blank_word n truth) (blank_words (take (suc d) (words_after (n + 1) truths))) (10 ∷ rest_text (n + suc (suc d)) (drop (suc d) truths)))
+    (append_assoc (blank_word n truth) (blank_words (take (suc d) (words_after (n + 1) truths)))
+    (10 ∷ rest_text (n + suc (suc d)) (drop (suc d) truths)))
 
 -- a line of values and what follows
 line_then : (word : List ℕ) (words : List (List ℕ)) (text : List ℕ) →

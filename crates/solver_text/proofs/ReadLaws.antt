@@ -268,7 +268,8 @@ pub skips_all : (facts : Facts) (kept : LineState) (bytes : List ℕ) → kept.l
 skips_all facts kept bytes skipped none =
     let all : drop (length bytes) bytes ≡ [] = drop_all (length bytes) bytes (omega arith) in
     rw skipped
-    (skipped-front facts kept.word bytes (length bytes) (omega arith) none ∙ ap (λ (rest : List ℕ). take_bytes facts (at_skipped kept.word) rest) all)
+    (skipped-front facts kept.word bytes (length bytes) (omega arith) none
+    ∙ ap (λ (rest : List ℕ). take_bytes facts (at_skipped kept.word) rest) all)
 
 pub taken_end : (facts : Facts) (kept : LineState) (rest : List ℕ) → length rest ≡ 0 → take_bytes facts kept rest ≡ Ok (facts, kept)
 taken_end facts kept [] none = taken_none facts kept

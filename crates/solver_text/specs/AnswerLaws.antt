@@ -10,8 +10,10 @@ use Rattle.solver_text.specs.declared.outcome.Status.TheVariants as statuses
 
 -- A fault of a beginning is that of each longer beginning and of the whole.
 pub record FaultStays : Type 0 where
-  pub within : (variables : ℕ) (text more : List ℕ) (fault : AnswerFault) → variables < 2 ^ 32 → fault_within variables text ≡ Err fault → fault_within variables (text ++ more) ≡ Err fault
-  pub whole : (variables : ℕ) (text more : List ℕ) (fault : AnswerFault) → variables < 2 ^ 32 → fault_within variables text ≡ Err fault → outcome variables (text ++ more) ≡ Err fault
+  pub within : (variables : ℕ) (text more : List ℕ) (fault : AnswerFault) → variables < 2 ^ 32 →
+      fault_within variables text ≡ Err fault → fault_within variables (text ++ more) ≡ Err fault
+  pub whole : (variables : ℕ) (text more : List ℕ) (fault : AnswerFault) → variables < 2 ^ 32 →
+      fault_within variables text ≡ Err fault → outcome variables (text ++ more) ≡ Err fault
 
 -- whether a positive literal of the variable is judged
 abbrev pub makes_true : ℕ → Judgement → Bool

@@ -1,5 +1,6 @@
 -- What is kept of the bytes of a line so far, and how it follows the next byte.
-use Rattle.std.specs.Prelude.{ℕ, ◌==◌, ◌-◌, ◌^◌, Bool, true, false, min, List, [], ◌∷◌, ◌++◌, Option, Some, None, Result, Ok, Err, ℤ, if◌then◌else◌, fold, take, length, codes, nat_lt, bytes_eq}
+use Rattle.std.specs.Prelude.{ℕ, ◌==◌, ◌-◌, ◌^◌, min, nat_lt, ℤ, Bool, true, false, if◌then◌else◌}
+use Rattle.std.specs.Prelude.{List, [], ◌∷◌, ◌++◌, fold, take, length, codes, bytes_eq, Option, Some, None, Result, Ok, Err}
 use Rattle.std.specs.Option.{option_map_or}
 use Rattle.std.specs.Char.{is_ascii_digit}
 use Rattle.solver_text.specs.declared.outcome.Status.{Status}

@@ -31,5 +31,6 @@ returns-in-Some g c =
     (new_before g.O.File.Source at then _ _ c.open_inputs.ensures.same new) refl c.decode_opened.ensures)
 
 pub returns : goal.returns
-returns g c = rw c.in-None.is (ran_on_input refl c.in_ok-opened.ensures.all c.in_ok-opened.opened c.decode_opened-in-None.new.opened c.in_ok-opened.ensures.open
-    c.decode_opened-in-None.ensures)
+returns g c =
+    rw c.in-None.is (ran_on_input refl c.in_ok-opened.ensures.all c.in_ok-opened.opened c.decode_opened-in-None.new.opened
+    c.in_ok-opened.ensures.open c.decode_opened-in-None.ensures)

@@ -6,7 +6,11 @@ use Rattle.rota_pb.proofs.decoding.run_decode.Goals as goal
 
 pub returns-in_err-instance : goal.returns-in_err-instance
 unfolding DecodeOutcome
-returns-in_err-instance g c = record { outcome = stopped_by _ _ c.from_residual.ensures.1 c.in_err-instance.ensures (λ tables. (refl, λ solved. (tt, λ decoded. (refl, λ sent. refl)))) }
+returns-in_err-instance g c = record {
+  outcome =
+      stopped_by _ _ c.from_residual.ensures.1 c.in_err-instance.ensures
+      (λ tables. (refl, λ solved. (tt, λ decoded. (refl, λ sent. refl))));
+}
 
 pub returns : goal.returns
 unfolding DecodeOutcome

@@ -9,10 +9,16 @@ use Rattle.rota_pb.proofs.encoding.run_encode.Goals as goal
 
 pub returns-in_err-instance : goal.returns-in_err-instance
 unfolding EncodeOutcome
-returns-in_err-instance g c = record { outcome = stopped_by _ _ c.from_residual.ensures.1 c.in_err-instance.ensures (λ tables. (tt, λ text. refl)) }
+returns-in_err-instance g c = record {
+  outcome = stopped_by _ _ c.from_residual.ensures.1 c.in_err-instance.ensures (λ tables. (tt, λ text. refl));
+}
 
 pub returns : goal.returns
 unfolding EncodeOutcome
 returns g c =
     let week = week_of c.in_ok-instance.instance in
-    record { outcome = went_on c.in_ok-instance.instance c.in_ok-instance.ensures (went_on (opb_text (model_of week)) (c.model_text_means_the_rules.ensures week) c.encode.ensures) }
+    record {
+      outcome =
+          went_on c.in_ok-instance.instance c.in_ok-instance.ensures
+          (went_on (opb_text (model_of week)) (c.model_text_means_the_rules.ensures week) c.encode.ensures);
+    }

@@ -6,7 +6,10 @@ use Rattle.rota_pb.proofs.extending.run_extend.Goals as goal
 
 pub returns-in_err-instance : goal.returns-in_err-instance
 unfolding ExtendOutcome
-returns-in_err-instance g c = record { outcome = stopped_by _ _ c.from_residual.ensures.1 c.in_err-instance.ensures (λ tables. (refl, λ roster. (tt, λ kept. refl))) }
+returns-in_err-instance g c = record {
+  outcome =
+      stopped_by _ _ c.from_residual.ensures.1 c.in_err-instance.ensures (λ tables. (refl, λ roster. (tt, λ kept. refl)));
+}
 
 pub returns-in_err-roster : goal.returns-in_err-roster
 unfolding ExtendOutcome
@@ -18,4 +21,8 @@ returns-in_err-roster g c = record {
 
 pub returns : goal.returns
 unfolding ExtendOutcome
-returns g c = record { outcome = went_on c.in_ok-instance.instance c.in_ok-instance.ensures (went_on c.in_ok-roster.roster c.in_ok-roster.ensures c.extend.ensures) }
+returns g c = record {
+  outcome =
+      went_on c.in_ok-instance.instance c.in_ok-instance.ensures
+      (went_on c.in_ok-roster.roster c.in_ok-roster.ensures c.extend.ensures);
+}

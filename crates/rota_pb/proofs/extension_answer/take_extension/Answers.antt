@@ -28,7 +28,8 @@ returns-clause-takes g c =
       c.variables_are_few.ensures week (c.instances_are_within_limits.ensures c.args.instance.now c.drive_extension.ensures.limits),
     ) in
     puts_same (sym (literals-joined (putting_of old) truths few ∙ ap (λ (n : ℕ). literals_text n truths) c.requires.none))
-    (events_put_text (λ answer. sink_of (answer_writer answer)) putting_of literal_texts old c.drive_extension.new.taker truths c.drive_extension.result
+    (events_put_text (λ answer. sink_of (answer_writer answer)) putting_of literal_texts
+    old c.drive_extension.new.taker truths c.drive_extension.result
     (sink-takes old c.drive_extension.new.taker truths c.drive_extension.result c.drive_extension.ensures.takes))
 
 pub returns-clause-literals : goal.returns-clause-literals
@@ -44,7 +45,8 @@ returns-clause-literals g c =
       c.variables_are_few.ensures week (c.instances_are_within_limits.ensures c.args.instance.now c.drive_extension.ensures.limits),
     ) in
     let all : (putting_of old).literals + length truths ≡ length truths = omega (arith, c.requires.none) in
-    MatchResult-weaker c.drive_extension.result (sink-takes old c.drive_extension.new.taker truths c.drive_extension.result c.drive_extension.ensures.takes)
+    MatchResult-weaker c.drive_extension.result
+    (sink-takes old c.drive_extension.new.taker truths c.drive_extension.result c.drive_extension.ensures.takes)
     (λ u took.
     ap (λ (p : Putting). p.literals) (took_events_keep (λ answer. sink_of (answer_writer answer)) putting_of literal_texts truths took) ∙
     literals-counted (putting_of old) truths few ∙ all)

@@ -15,7 +15,8 @@ returns c tables roster valid keeps =
     record {
       outcome =
           ap (λ (n : ℕ). outcome n (extension_text week roster)) (sym (truths.count week roster)) ∙
-          c.written_answer_is_read.ensures (penalty week roster) (extension_truths week roster) (omega (arith, c.penalty_is_small.ensures week roster limits))
+          c.written_answer_is_read.ensures (penalty week roster) (extension_truths week roster)
+          (omega (arith, c.penalty_is_small.ensures week roster limits))
           (omega (arith, truths.count week roster, c.variables_are_few.ensures week limits));
       truths = truths.values week roster;
       same_roster = truths.same_roster week roster;

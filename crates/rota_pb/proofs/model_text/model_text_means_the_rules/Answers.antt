@@ -23,7 +23,8 @@ returns c = λ week.
     let satisfied = c.hard_constraints_mean_hard_rules.ensures week in
     let extends = c.rosters_extend_at_their_penalty.ensures in
     let stands = c.satisfying_assignments_stand_for_rosters.ensures in
-    let is_extension : (roster : Roster) → KeepsHardRules week roster → IsExtension week (model_of week) roster (extension_of week roster) = λ roster keeps. record {
+    let is_extension : (roster : Roster) → KeepsHardRules week roster → IsExtension week (model_of week) roster (extension_of week roster) =
+    λ roster keeps. record {
       satisfies = extends.satisfies week roster keeps;
       objective = extends.objective week roster keeps;
       same_roster = extends.same_roster week roster;

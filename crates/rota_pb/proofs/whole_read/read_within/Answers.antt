@@ -11,7 +11,11 @@ returns-then-is_err-clause-fault g c = record {
   front =
       c.loop-buffer.invariant.bytes ∙ ap (λ (told : Told). prepend_known c.loop-buffer.text.items told) c.in-Ok.ensures.bytes.0 ∙
       sym (prepend_known-append c.loop-buffer.text.items (take c.in-Ok.count c.read.new.buffer) (g.S.Source.left c.read.new.self));
-  begun = inl
-      (omega (arith, length-append c.loop-buffer.text.items (take c.in-Ok.count c.read.new.buffer), length-take c.in-Ok.count c.read.new.buffer, c.in-Ok.ensures.bound));
+  begun = inl (omega (
+    arith,
+    length-append c.loop-buffer.text.items (take c.in-Ok.count c.read.new.buffer),
+    length-take c.in-Ok.count c.read.new.buffer,
+    c.in-Ok.ensures.bound,
+  ));
   sound = c.in-Ok.ensures.failure ∙ or_false _ ∙ c.loop-buffer.invariant.sound;
 }

@@ -23,7 +23,8 @@ pub put_assignment-requires : goal.put_assignment-requires
 put_assignment-requires g c =
     let week = week_of c.args.instance.now in
     let roster = set_of c.args.roster.now in
-    let all : AllByRecursion (InWeek week) (cells_of week roster) = all-weaker (Has week roster) (InWeek week) (λ one has. has.in_week) (cells_of week roster)
+    let all : AllByRecursion (InWeek week) (cells_of week roster) =
+    all-weaker (Has week roster) (InWeek week) (λ one has. has.in_week) (cells_of week roster)
     (c.rosters_list_their_cells.ensures.cells week roster).theirs in
     let left = rw c.in-Some.ensures.steps at c.loop-cell.invariant.left in
     record { in_week = (AllByRecursion-back (InWeek week) c.loop-cell.yielded (c.in-Some.cell ∷ c.next.new.self) (rw left all)).1.0 }

@@ -12,7 +12,9 @@ unfolding text_of_cells
 returns-in_err-put_heading-clause-takes g c =
     let week = week_of c.args.instance.now in
     let roster = c.args.roster.now in
-    let counted = c.count.ensures.count ∙ (c.rosters_list_their_cells.ensures.tables week roster c.requires.shape).count c.count.ensures.within in
+    let counted =
+    c.count.ensures.count
+    ∙ (c.rosters_list_their_cells.ensures.tables week roster c.requires.shape).count c.count.ensures.within in
     puts_exit _ c.from_residual.ensures.0
     (puts_stop (rows_text c.args.instance.now (cells_of week (set_of roster))) (rw counted at c.in_err-put_heading.ensures.takes))
 
@@ -20,5 +22,7 @@ pub returns-clause-takes : goal.returns-clause-takes
 unfolding text_of_cells
 returns-clause-takes g c =
     let week = week_of c.args.instance.now in
-    let counted = c.count.ensures.count ∙ (c.rosters_list_their_cells.ensures.tables week c.args.roster.now c.requires.shape).count c.count.ensures.within in
+    let counted =
+    c.count.ensures.count
+    ∙ (c.rosters_list_their_cells.ensures.tables week c.args.roster.now c.requires.shape).count c.count.ensures.within in
     puts_then (rw counted at c.in_ok-put_heading.ensures.takes) c.put_assignments.ensures

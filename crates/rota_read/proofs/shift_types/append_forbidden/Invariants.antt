@@ -5,4 +5,5 @@ use Rattle.rota_read.specs.ScenarioRows.{successions_of}
 use Rattle.rota_read.proofs.shift_types.append_forbidden.Given as goal
 
 abbrev pub invariant-loop-shift : goal.invariant-loop-shift
-invariant-loop-shift l = l.table.items ≡ flat_map (λ shift. marks l.size (after_shift (successions_of l.rows) shift)) (range_with_len 0 l.shift)
+invariant-loop-shift l =
+    l.table.items ≡ flat_map (λ shift. marks l.size (after_shift (successions_of l.rows) shift)) (range_with_len 0 l.shift)

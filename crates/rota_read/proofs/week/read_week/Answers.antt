@@ -5,10 +5,19 @@ use Rattle.rota_read.proofs.WeekLaws.{spells-is_week, spells-HasNumbersOf}
 use Rattle.rota_read.proofs.week.read_week.Goals as goal
 
 pub of_parts-requires : goal.of_parts-requires
-of_parts-requires c = spells-is_week c.args.scenario.now c.args.text.now (week_tables_of c.in-Ok.parts) c.in-Ok.ensures.within (spells-read (week c.args.scenario.now) c.args.text.now (week_tables_of c.in-Ok.parts) c.in-Ok.ensures.read)
+of_parts-requires c =
+    let scenario = c.args.scenario.now in
+    let parts = week_tables_of c.in-Ok.parts in
+    let spelled = spells-read (week scenario) c.args.text.now parts c.in-Ok.ensures.read in
+    spells-is_week scenario c.args.text.now parts c.in-Ok.ensures.within spelled
 
 pub returns-in-Ok-clause-spelled : goal.returns-in-Ok-clause-spelled
-returns-in-Ok-clause-spelled c = rw c.of_parts.ensures (spells-read (week c.args.scenario.now) c.args.text.now (week_tables_of c.in-Ok.parts) c.in-Ok.ensures.read)
+returns-in-Ok-clause-spelled c =
+    rw c.of_parts.ensures (spells-read (week c.args.scenario.now) c.args.text.now (week_tables_of c.in-Ok.parts) c.in-Ok.ensures.read)
 
 pub returns-in-Ok-clause-numbers : goal.returns-in-Ok-clause-numbers
-returns-in-Ok-clause-numbers c = rw c.of_parts.ensures (spells-HasNumbersOf c.args.scenario.now c.args.text.now (week_tables_of c.in-Ok.parts) (spells-read (week c.args.scenario.now) c.args.text.now (week_tables_of c.in-Ok.parts) c.in-Ok.ensures.read))
+returns-in-Ok-clause-numbers c =
+    let scenario = c.args.scenario.now in
+    let parts = week_tables_of c.in-Ok.parts in
+    let spelled = spells-read (week scenario) c.args.text.now parts c.in-Ok.ensures.read in
+    rw c.of_parts.ensures (spells-HasNumbersOf scenario c.args.text.now parts spelled)

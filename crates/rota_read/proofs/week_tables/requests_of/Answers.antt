@@ -20,4 +20,6 @@ count_row-requires-clause-small c = λ k d lt.
 
 pub loop-row-preserved : goal.loop-row-preserved
 loop-row-preserved c =
-    row_counted c.args.nurses c.args.shifts c.args.rows.now c.loop-row.row-index (record { nurse = 0; shift = None; day = 0 }) c.loop-row.table.items c.count_row.new.table.items c.loop-row-test.true c.loop-row.invariant c.count_row.ensures.length c.count_row.ensures.sums
+    row_counted c.args.nurses c.args.shifts c.args.rows.now c.loop-row.row-index (record { nurse = 0; shift = None; day = 0 })
+    c.loop-row.table.items c.count_row.new.table.items c.loop-row-test.true c.loop-row.invariant
+    c.count_row.ensures.length c.count_row.ensures.sums

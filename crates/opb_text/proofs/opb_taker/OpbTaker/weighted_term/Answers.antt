@@ -38,7 +38,8 @@ parts g c =
 pub returns-in_err-number_between-clause-takes : goal.returns-in_err-number_between-clause-takes
 returns-in_err-number_between-clause-takes g c =
     puts_exit _ c.from_residual.ensures.0
-    (puts_same (parts g (goal.at.returns-in_err-number_between-clause-takes g c).After-unsigned_abs) (puts_stop _ c.in_err-number_between.ensures.takes))
+    (puts_same (parts g (goal.at.returns-in_err-number_between-clause-takes g c).After-unsigned_abs)
+    (puts_stop _ c.in_err-number_between.ensures.takes))
 
 pub returns-clause-takes : goal.returns-clause-takes
 returns-clause-takes g c =

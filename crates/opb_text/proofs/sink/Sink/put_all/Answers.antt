@@ -36,4 +36,5 @@ returns-then-self-clause-takes g c = puts_none c.args.self.now _ _ c.if-self.tru
 pub returns-in_err-put_piece-clause-takes : goal.returns-in_err-put_piece-clause-takes
 returns-in_err-put_piece-clause-takes g c =
     puts_exit _ c.from_residual.ensures.0
-    (piece_failed c.args.pieces.now c.loop-place.place _ (omega arith) c.loop-place.invariant (rw c.in_err-put_piece.was at c.put_piece.ensures))
+    (piece_failed c.args.pieces.now c.loop-place.place _ (omega arith) c.loop-place.invariant
+    (rw c.in_err-put_piece.was at c.put_piece.ensures))

@@ -17,7 +17,8 @@ write_digits-requires c =
     let start = c.self.inside.len in
     let within : start ≤ 4096 = c.self.invariant.0 in
     let full : length c.as_mut_slice.result.now ≡ 4096 = ap length c.as_mut_slice.ensures.value ∙ c.self.invariant.1 in
-    let long : length c.args.self.now ≡ start = ap length (sym c.self.view_is) ∙ length-take-le start bytes (omega (arith, c.self.invariant.1, within)) in
+    let long : length c.args.self.now ≡ start =
+    ap length (sym c.self.view_is) ∙ length-take-le start bytes (omega (arith, c.self.invariant.1, within)) in
     let same : length (decimal c.from.result) ≡ length (decimal c.args.number) = ap (λ (m : ℕ). length (decimal m)) c.from.ensures in
     let most : length (decimal c.args.number) ≤ 10 = length-decimal-le 10 c.args.number (omega arith) (omega arith) (omega arith) in
     (omega (arith, same, c.count_digits.ensures), omega (arith, c.count_digits.ensures, most, long, c.requires, full))

@@ -24,13 +24,27 @@ returns c =
     let most : head.len ≤ 12 = head.fits in
     let middle : length head.bytes ≡ 16 = search rules in
     let ends : length c.ending.result ≡ 4 = search rules in
-    let kept : length new ≡ length items = omega (arith, c.copy_in.auto.bytes, c.copy_in-2.auto.bytes, length-set old start c.if-positive.sign, ap length same) in
+    let kept : length new ≡ length items =
+    omega (arith, c.copy_in.auto.bytes, c.copy_in-2.auto.bytes, length-set old start c.if-positive.sign, ap length same) in
     let some : 100 ≤ head.first = head.some in
     let whole : head.first % 100 ≡ 0 = head.whole in
     let hundreds : head.first / 100 ≡ n / 100 = omega arith in
     let pair : n - head.first ≡ n % 100 = omega arith in
-    let signed : c.if-positive.sign ≡ sign c.args.positive = elim c.if-positive.branch [ then-positive w ↦ w.sign-is ∙ ap sign (sym w.if-positive.true) | else-positive w ↦ w.sign-is ∙ ap sign (sym w.if-positive.false) ] in
+    let signed : c.if-positive.sign ≡ sign c.args.positive =
+    elim c.if-positive.branch [
+      | then-positive w ↦ w.sign-is ∙ ap sign (sym w.if-positive.true)
+      | else-positive w ↦ w.sign-is ∙ ap sign (sym w.if-positive.false)
+    ] in
     front_of_refill items new (start + 1 + head.len + 3) kept (omega arith)
-    ∙ three old c.copy_in.new.bytes new head.bytes c.ending.result start head.len c.if-positive.sign (omega (arith, ap length same)) (omega arith) (omega arith) c.copy_in.ensures c.copy_in-2.ensures
-    ∙ rw (text, signed, c.ending.ensures, pair, head.spells, hundreds, sym (numeral_is n (omega arith)), decimal_hundreds n (omega arith) (omega arith))
-    (simp append_assoc)
+    ∙ three old c.copy_in.new.bytes new head.bytes c.ending.result start head.len c.if-positive.sign
+    (omega (arith, ap length same)) (omega arith) (omega arith) c.copy_in.ensures c.copy_in-2.ensures
+    ∙ rw (
+      text,
+      signed,
+      c.ending.ensures,
+      pair,
+      head.spells,
+      hundreds,
+      sym (numeral_is n (omega arith)),
+      decimal_hundreds n (omega arith) (omega arith),
+    ) (simp append_assoc)

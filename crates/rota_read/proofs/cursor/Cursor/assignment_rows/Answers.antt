@@ -8,8 +8,11 @@ use Rattle.rota_read.proofs.cursor.Cursor.assignment_rows.Goals as goal
 
 pub loop-init : goal.loop-init
 loop-init c =
-    let all : c.args.count - 0 ≡ c.args.count = omega arith in
-    ([], record { shape = c.in_ok-roster.ensures.shape; set = λ one _. c.in_ok-roster.ensures.empty one }, ap (λ (n : ℕ). read (repeat n (assignment_row c.args.instance.now.scenario) []) c.args.self.now) all)
+    let all : c.args.count - 0 ≡ c.args.count = omega arith in (
+      [],
+      record { shape = c.in_ok-roster.ensures.shape; set = λ one _. c.in_ok-roster.ensures.empty one },
+      ap (λ (n : ℕ). read (repeat n (assignment_row c.args.instance.now.scenario) []) c.args.self.now) all,
+    )
 
 pub returns-in_err-assignment_row : goal.returns-in_err-assignment_row
 returns-in_err-assignment_row c =
@@ -19,8 +22,11 @@ returns-in_err-assignment_row c =
 pub loop-preserved : goal.loop-preserved
 loop-preserved c =
     let so_far = c.loop.invariant in
-    let rows : List Cell = so_far.0 ++ c.in_ok-assignment_row.field-0 ∷ [] in
-    (rows, c.in_ok-assignment_row.ensures.put so_far.0 so_far.1, grind (arith, row_steps, so_far.2, c.in_ok-assignment_row.ensures.read so_far.0 so_far.1))
+    let rows : List Cell = so_far.0 ++ c.in_ok-assignment_row.field-0 ∷ [] in (
+      rows,
+      c.in_ok-assignment_row.ensures.put so_far.0 so_far.1,
+      grind (arith, row_steps, so_far.2, c.in_ok-assignment_row.ensures.read so_far.0 so_far.1),
+    )
 
 pub returns : goal.returns
 returns c =

@@ -9,4 +9,5 @@ use Rattle.rota_read.proofs.cursor.Cursor.assignment_rows.Given as goal
 abbrev pub invariant-loop : goal.invariant-loop
 invariant-loop l =
     (rows : List Cell) × HasCells (week_of l.instance) l.roster rows
-    × (read (repeat (l.count - l.counter) (assignment_row l.instance.scenario) rows) l.self ≡ read (repeat l.count (assignment_row l.instance.scenario) []) l.fn.self)
+    × (read (repeat (l.count - l.counter) (assignment_row l.instance.scenario) rows) l.self ≡
+    read (repeat l.count (assignment_row l.instance.scenario) []) l.fn.self)

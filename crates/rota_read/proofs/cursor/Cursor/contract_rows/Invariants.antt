@@ -8,6 +8,8 @@ use Rattle.rota_read.proofs.cursor.Cursor.contract_rows.Given as goal
 
 abbrev pub invariant-loop : goal.invariant-loop
 invariant-loop l = record {
-  read : read (repeat (l.count - l.counter) (contract_row) (contracts_of l.rows)) l.self ≡ read (repeat l.count (contract_row) (contracts_of l.fn.rows)) l.fn.self;
+  read :
+      read (repeat (l.count - l.counter) (contract_row) (contracts_of l.rows)) l.self ≡
+      read (repeat l.count (contract_row) (contracts_of l.fn.rows)) l.fn.self;
   longer : length (bytes_of l.rows.names) ≡ length (bytes_of l.fn.rows.names) + l.counter;
 }

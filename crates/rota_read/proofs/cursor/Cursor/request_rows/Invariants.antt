@@ -8,7 +8,9 @@ use Rattle.rota_read.proofs.cursor.Cursor.request_rows.Given as goal
 
 abbrev pub invariant-loop : goal.invariant-loop
 invariant-loop l = record {
-  read : read (repeat (l.count - l.counter) (request_row l.scenario) l.rows.items) l.self ≡ read (repeat l.count (request_row l.scenario) []) l.fn.self;
+  read :
+      read (repeat (l.count - l.counter) (request_row l.scenario) l.rows.items) l.self ≡
+      read (repeat l.count (request_row l.scenario) []) l.fn.self;
   within : All (IsRequest (length l.scenario.nurses) (length l.scenario.shifts)) l.rows.items;
   count : length l.rows.items ≡ l.counter;
 }

@@ -19,7 +19,8 @@ returns-then-not-branch c =
     let most : c.from.result * c.from-2.result + 1 ≡ most_rows c.args.scenario.now =
     rw (c.from.ensures, c.from-2.ensures, c.shifts.ensures.count, c.skills.ensures.count) refl in
     let more = rw most at c.loop-test.true in
-    let row = next_until (requirement_row c.args.scenario.now) c.loop.rows.items (most_rows c.args.scenario.now) c.loop.counter c.loop.self more in
+    let row =
+    next_until (requirement_row c.args.scenario.now) c.loop.rows.items (most_rows c.args.scenario.now) c.loop.counter c.loop.self more in
     rw (← c.loop.invariant.read, row, c.in_ok-requirement_row.ensures.read, c.if-not-branch.true) refl
 
 pub loop-preserved : goal.loop-preserved
@@ -27,7 +28,8 @@ loop-preserved c =
     let most : c.from.result * c.from-2.result + 1 ≡ most_rows c.args.scenario.now =
     rw (c.from.ensures, c.from-2.ensures, c.shifts.ensures.count, c.skills.ensures.count) refl in
     let more = rw most at c.loop-test.true in
-    let row = next_until (requirement_row c.args.scenario.now) c.loop.rows.items (most_rows c.args.scenario.now) c.loop.counter c.loop.self more in
+    let row =
+    next_until (requirement_row c.args.scenario.now) c.loop.rows.items (most_rows c.args.scenario.now) c.loop.counter c.loop.self more in
     record {
       read = rw (← c.loop.invariant.read, row, c.in_ok-requirement_row.ensures.read, c.if-not-branch.false) refl;
       rows = c.requirement_row.ensures.rows ∙ c.loop.invariant.rows;
@@ -37,5 +39,6 @@ pub returns : goal.returns
 returns c =
     let most : c.from.result * c.from-2.result + 1 ≡ most_rows c.args.scenario.now =
     rw (c.from.ensures, c.from-2.ensures, c.shifts.ensures.count, c.skills.ensures.count) refl in
-    let none = no_until (requirement_row c.args.scenario.now) c.loop.rows.items (most_rows c.args.scenario.now) c.loop.counter c.loop.self in
+    let none =
+    no_until (requirement_row c.args.scenario.now) c.loop.rows.items (most_rows c.args.scenario.now) c.loop.counter c.loop.self in
     rw (← c.loop.invariant.read) (none (rw most at c.loop-test.false))

@@ -5,6 +5,8 @@ use Rattle.rota_read.proofs.cursor.Cursor.requirement_rows.Given as goal
 
 abbrev pub invariant-loop : goal.invariant-loop
 invariant-loop l = record {
-  read : read (repeat_until (most_rows l.scenario - l.counter) (requirement_row l.scenario) l.rows.items) l.self ≡ read (requirement_rows l.scenario) l.fn.self;
+  read :
+      read (repeat_until (most_rows l.scenario - l.counter) (requirement_row l.scenario) l.rows.items) l.self ≡
+      read (requirement_rows l.scenario) l.fn.self;
   rows : length l.rows.items ≡ length l.scenario.shifts * length l.scenario.skills;
 }

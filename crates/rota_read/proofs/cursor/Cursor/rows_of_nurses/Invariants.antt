@@ -5,4 +5,6 @@ use Rattle.rota_read.specs.Reading.{read}
 use Rattle.rota_read.proofs.cursor.Cursor.rows_of_nurses.Given as goal
 
 abbrev pub invariant-loop : goal.invariant-loop
-invariant-loop l = read (repeat (l.count - l.counter) (past_row l.scenario) l.pasts) l.self ≡ read (repeat l.count (past_row l.scenario) l.fn.pasts) l.fn.self
+invariant-loop l =
+    read (repeat (l.count - l.counter) (past_row l.scenario) l.pasts) l.self ≡
+    read (repeat l.count (past_row l.scenario) l.fn.pasts) l.fn.self

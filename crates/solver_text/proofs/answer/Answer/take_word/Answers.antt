@@ -12,14 +12,18 @@ returns-in_err-judge_front-in-Some-clause-taken c =
     let read = take_bytes-in_word (facts_of c.args.self.now.facts) (line_of c.args.self.now) c.args.front
     c.read_on-front.result.0 c.args.bytes.now c.read_on-front.result.1.now c.requires.values c.read_on-front.ensures.reads in
     rw (p.1, p.2)
-    (read ∙ rw c.in-Some.ensures.cases.0 (take_bytes-blank _ _ _ _ _ _ (sym c.is_blank.ensures ∙ c.if-is_blank.true) c.in_err-judge_front-in-Some.ensures))
+    (read
+    ∙ rw c.in-Some.ensures.cases.0
+    (take_bytes-blank _ _ _ _ _ _ (sym c.is_blank.ensures ∙ c.if-is_blank.true) c.in_err-judge_front-in-Some.ensures))
 
 pub returns-in_ok-judge_front-in-Some-clause-taken : goal.returns-in_ok-judge_front-in-Some-clause-taken
 returns-in_ok-judge_front-in-Some-clause-taken c =
     let read = take_bytes-in_word (facts_of c.args.self.now.facts) (line_of c.args.self.now) c.args.front
     c.read_on-front.result.0 c.args.bytes.now c.read_on-front.result.1.now c.requires.values c.read_on-front.ensures.reads in
     rw c.go_to.ensures
-    (read ∙ rw c.in-Some.ensures.cases.0 (take_bytes-blank _ _ _ _ _ _ (sym c.is_blank.ensures ∙ c.if-is_blank.true) c.in_ok-judge_front-in-Some.ensures))
+    (read
+    ∙ rw c.in-Some.ensures.cases.0
+    (take_bytes-blank _ _ _ _ _ _ (sym c.is_blank.ensures ∙ c.if-is_blank.true) c.in_ok-judge_front-in-Some.ensures))
 
 pub returns-in_err-take_byte-in-Some-2-clause-taken : goal.returns-in_err-take_byte-in-Some-2-clause-taken
 returns-in_err-take_byte-in-Some-2-clause-taken c =

@@ -9,7 +9,8 @@ loop-b-preserved-in-Number c = (
   (λ facts word.
       c.loop-b.invariant.0 facts word ∙
       rw c.in-Some.ensures.cases.0
-      (take_bytes-word_byte facts c.loop-b.front word c.in-Some.b.now c.in-Some.behind.now (grind (arith, c.if-b-eq10.false)) (sym c.is_blank.ensures ∙ c.if-is_blank.false)) ∙
+      (take_bytes-word_byte facts c.loop-b.front word c.in-Some.b.now c.in-Some.behind.now
+      (grind (arith, c.if-b-eq10.false)) (sym c.is_blank.ensures ∙ c.if-is_blank.false)) ∙
       ap (λ (front : LiteralFront). take_bytes facts (in_word front word) c.in-Some.behind.now)
       (sym c.with_byte-front.ensures ∙ c.in-Number.is) ∙
       c.read_digits-number.ensures.reads facts word),
@@ -21,6 +22,7 @@ loop-b-preserved c = (
   (λ facts word.
       c.loop-b.invariant.0 facts word ∙
       rw (c.in-Some.ensures.cases.0, c.with_byte-front.ensures)
-      (take_bytes-word_byte facts c.loop-b.front word c.in-Some.b.now c.in-Some.behind.now (grind (arith, c.if-b-eq10.false)) (sym c.is_blank.ensures ∙ c.if-is_blank.false))),
+      (take_bytes-word_byte facts c.loop-b.front word c.in-Some.b.now c.in-Some.behind.now
+      (grind (arith, c.if-b-eq10.false)) (sym c.is_blank.ensures ∙ c.if-is_blank.false))),
   omega (arith, ap length c.in-Some.ensures.cases.0, c.loop-b.invariant.1),
 )
