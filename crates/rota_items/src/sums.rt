@@ -32,7 +32,7 @@ fn coefficient(sign: Sign) -> i64
 }
 
 /// Variables that follow one another from the first on, `count` of them, each with the coefficient.
-#[tactic(auto, using(crate::proofs::SlackTerms::ranges))]
+#[tactic(auto, using(crate::proofs::SlackTerms::ranges), unfolding(crate::specs::Events::term_events))]
 #[inline(always)]
 pub fn give_range<T: Taker>(
     taker: &mut T,
