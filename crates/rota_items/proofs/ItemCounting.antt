@@ -59,3 +59,5 @@ counted-week tables valid =
     omega (arith, variables_fit week limits, slack_count-numbered number items) in
     counted-all (map (numbered number) items) (record { items = 0; slacks = 0 }) (record { items = omega arith; slacks = omega arith }) ∙
     (λ i. record { items = items_are i; slacks = slacks_are i })
+
+pub ruleset week_counted = (counted-week)

@@ -1,5 +1,5 @@
 -- How what a taker took grows in a loop over a list and in one over held cells, and how a walk over items goes on.
-use Rattle.rota_items.proofs.Common.Words.{◌≡◌, ℕ, suc, ◌+◌, ◌<◌, List, [], ◌∷◌, ◌++◌, map, get_or, take, drop, length, refl, subst, map-append, take-append-drop, flat_map-append, flat_map, Week, h5_row, numbered_rows, numbered_row, LinearRow, TookAll, RefusedOne, fold-append, each_below-zero, each_below-more, Cell, cell_number, Item, numbered, numbered_list}
+use Rattle.rota_items.proofs.Common.Words.{◌≡◌, ℕ, suc, ◌+◌, ◌<◌, List, [], ◌∷◌, ◌++◌, map, get_or, take, drop, length, refl, subst, map-append, append_assoc, take-append-drop, flat_map-append, flat_map, Week, h5_row, numbered_rows, numbered_row, LinearRow, TookAll, RefusedOne, fold-append, each_below-zero, each_below-more, Cell, cell_number, Item, numbered, numbered_list}
 use Rattle.std.proofs.Math.Seq.{drop-cons}
 use Rattle.rota_items.proofs.Taking.{Joins, go_on, rows_join, stop}
 
@@ -33,6 +33,9 @@ held_join week = record { none = refl; append = λ xs ys. simp map-append }
 
 -- what a loop that walks over rows needs
 pub ruleset walking_rows = (each_below-zero, each_below-more, rows-none, rows-append, rows-one, fold-append)
+
+-- what the loop over held cells needs
+pub ruleset walking_held = (walking_rows, append_assoc, map-append)
 
 -- ---- a walk over items
 
