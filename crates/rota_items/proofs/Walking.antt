@@ -1,5 +1,5 @@
--- How what a taker took grows in a loop over a list and in one over held cells, and how a walk over items goes on.
-use Rattle.rota_items.proofs.Common.Words.{◌≡◌, ℕ, suc, ◌+◌, ◌<◌, List, [], ◌∷◌, ◌++◌, map, get_or, take, drop, length, refl, subst, map-append, append_assoc, take-append-drop, flat_map-append, flat_map, Week, h5_row, numbered_rows, numbered_row, LinearRow, TookAll, RefusedOne, fold-append, each_below-zero, each_below-more, Cell, cell_number, Item, numbered, numbered_list}
+-- How what a taker took grows in a loop over a list and in one over held cells, and how a walk over rows or items goes on.
+use Rattle.rota_items.proofs.Common.Words.{◌≡◌, ℕ, suc, ◌+◌, ◌<◌, List, [], ◌∷◌, ◌++◌, map, get_or, take, drop, length, refl, subst, map-append, append_assoc, take-append-drop, flat_map-append, flat_map, Week, h5_row, numbered_rows, TookAll, RefusedOne, fold-append, each_below-zero, each_below-more, cell_number, numbered, numbered_list}
 use Rattle.std.proofs.Math.Seq.{drop-cons}
 use Rattle.rota_items.proofs.Taking.{Joins, go_on, rows_join, stop}
 
@@ -14,44 +14,18 @@ module _ {S V E : Type 0} {value : S → V} {step : V → E → V} {left : V →
       (rw (drop-cons xs i other below, flat_map-append f (take i xs) (get_or xs i other ∷ drop (suc i) xs))
       (go_on joins _ (f (get_or xs i other) ++ rest) s t u before (stop joins _ rest t u here)))
 
--- ---- a walk over the rows of the hard rules
-
-pub rows-none : (week : Week) → numbered_rows week [] ≡ []
-rows-none week = (rows_join week).none
-
-pub rows-append : (week : Week) (xs ys : List (LinearRow Cell)) → numbered_rows week (xs ++ ys) ≡ numbered_rows week xs ++ numbered_rows week ys
-rows-append week = (rows_join week).append
-
-pub rows-one : (week : Week) (row : LinearRow Cell) → numbered_rows week (row ∷ []) ≡ numbered_row week row ∷ []
-unfolding numbered_rows
-rows-one week row = refl
+-- ---- a walk over rows and one over items
 
 -- the rows of held cells, cell by cell
 pub held_join : (week : Week) → Joins (λ cells. numbered_rows week (map h5_row cells))
 unfolding numbered_rows
 held_join week = record { none = refl; append = λ xs ys. simp map-append }
 
--- what a loop that walks over rows needs
-pub ruleset walking_rows = (each_below-zero, each_below-more, rows-none, rows-append, rows-one, fold-append)
-
--- what the loop over held cells needs
-pub ruleset walking_held = (walking_rows, append_assoc, map-append)
-
--- ---- a walk over items
-
 pub items_join : (week : Week) → Joins (numbered_list week)
 unfolding numbered_list
 items_join week = record { none = refl; append = map-append (numbered (cell_number week)) }
 
-pub items-none : (week : Week) → numbered_list week [] ≡ []
-items-none week = (items_join week).none
+-- what a loop that walks over rows or items needs where the list of those with numbers is open, and the one over held cells
+pub ruleset walking = (each_below-zero, each_below-more, map-append, fold-append)
 
-pub items-append : (week : Week) (xs ys : List (Item Cell)) → numbered_list week (xs ++ ys) ≡ numbered_list week xs ++ numbered_list week ys
-items-append week = (items_join week).append
-
-pub items-one : (week : Week) (item : Item Cell) → numbered_list week (item ∷ []) ≡ numbered (cell_number week) item ∷ []
-unfolding numbered_list
-items-one week item = refl
-
--- what a loop that walks over items needs
-pub ruleset walking = (each_below-zero, each_below-more, items-none, items-append, items-one, fold-append)
+pub ruleset walking_held = (walking, append_assoc)

@@ -1,4 +1,4 @@
-use Rattle.rota_items.proofs.Common.{arith, exits, loop_refused, items_join}
+use Rattle.rota_items.proofs.Common.{arith, exits, loop_refused, items_join, numbered_list}
 use Rattle.rota_items.proofs.Walking.{walking}
 use Rattle.rota_items.proofs.rules.walk_nurses.Goals as goal
 
@@ -8,4 +8,5 @@ returns-in_err-walk_nurse g c =
     (loop_refused (items_join _) _ _ _ _ _ _ (omega arith) c.loop-nurse.invariant c.in_err-walk_nurse.ensures)
 
 pub loop-nurse-preserved : goal.loop-nurse-preserved
+unfolding numbered_list
 loop-nurse-preserved g c = grind (arith, walking)

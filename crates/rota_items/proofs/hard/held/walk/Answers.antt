@@ -14,4 +14,5 @@ returns-in_err-row g c =
     (stop (held_join week) (c.in-Some.cell ∷ []) c.next.new.self _ _ (Refused-one _ _ _ c.in_err-row.ensures))))
 
 pub loop-cell-preserved : goal.loop-cell-preserved
+unfolding numbered_rows
 loop-cell-preserved g c = grind (arith, walking_held)

@@ -1,4 +1,4 @@
-use Rattle.rota_items.proofs.Common.{rules, w64, to_z-of_z, arith, exits, loop_refused, items_join}
+use Rattle.rota_items.proofs.Common.{rules, w64, to_z-of_z, arith, exits, loop_refused, items_join, numbered_list}
 use Rattle.rota_items.proofs.Walking.{walking}
 use Rattle.rota_items.proofs.rules.optimal_coverage.walk.Goals as goal
 
@@ -12,10 +12,13 @@ returns-in_err-item_where g c =
     (rw (c.from.ensures, c.saturating_sub.ensures, c.demand-demand.ensures) at exact))))
 
 pub loop-skill-preserved : goal.loop-skill-preserved
+unfolding numbered_list
 loop-skill-preserved g c = grind (arith, walking)
 
 pub loop-shift-preserved : goal.loop-shift-preserved
+unfolding numbered_list
 loop-shift-preserved g c = grind (arith, walking)
 
 pub loop-day-preserved : goal.loop-day-preserved
+unfolding numbered_list
 loop-day-preserved g c = grind (arith, walking)
