@@ -36,19 +36,8 @@ pub rows_join : (week : Week) → Joins (numbered_rows week)
 unfolding numbered_rows
 rows_join week = record { none = refl; append = map-append (numbered_row week) }
 
--- what a loop that hands over rows, terms or cells needs: each law is said of what makes the events
-
-pub terms-none : (week : Week) → cell_term_events week [] ≡ []
-terms-none week = (terms_join week).none
-
-pub terms-append : (week : Week) (xs ys : List (Term Cell)) → cell_term_events week (xs ++ ys) ≡ cell_term_events week xs ++ cell_term_events week ys
-terms-append week = (terms_join week).append
-
-pub terms-one : (week : Week) (one : Term Cell) → cell_term_events week (one ∷ []) ≡ term one.0 (cell_number week one.1) ∷ []
-unfolding cell_term_events term_events
-terms-one week one = refl
-
-pub ruleset taking = (each_below-zero, each_below-more, terms-none, terms-append, terms-one, map-append, fold-append)
+-- what a loop needs that hands over rows, items, terms or cells, where the list of what they stand for is open
+pub ruleset taking = (each_below-zero, each_below-more, map-append, fold-append)
 
 -- the list is the events of one row: it begins, these terms follow, and the degree ends it
 pub record IsRow (all : List Event) (part : Part) (terms : List Event) (degree : ℤ) : Type 0 where

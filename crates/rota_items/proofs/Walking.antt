@@ -1,7 +1,7 @@
 -- How what a taker took grows in a loop over a list and in one over held cells, and how a walk over rows or items goes on.
-use Rattle.rota_items.proofs.Common.Words.{◌≡◌, ℕ, suc, ◌+◌, ◌<◌, List, [], ◌∷◌, ◌++◌, map, get_or, take, drop, length, refl, subst, map-append, append_assoc, take-append-drop, flat_map-append, flat_map, Week, h5_row, numbered_rows, TookAll, RefusedOne, fold-append, each_below-zero, each_below-more, cell_number, numbered, numbered_list}
+use Rattle.rota_items.proofs.Common.Words.{ℕ, suc, ◌+◌, ◌<◌, List, ◌∷◌, ◌++◌, map, get_or, take, drop, length, refl, subst, map-append, append_assoc, take-append-drop, flat_map-append, flat_map, Week, h5_row, numbered_rows, TookAll, RefusedOne, cell_number, numbered, numbered_list}
 use Rattle.std.proofs.Math.Seq.{drop-cons}
-use Rattle.rota_items.proofs.Taking.{Joins, go_on, rows_join, stop}
+use Rattle.rota_items.proofs.Taking.{Joins, go_on, stop, taking}
 
 -- refused at an element of a list: the elements before it were taken
 module _ {S V E : Type 0} {value : S → V} {step : V → E → V} {left : V → E → S → Type 0}
@@ -25,7 +25,5 @@ pub items_join : (week : Week) → Joins (numbered_list week)
 unfolding numbered_list
 items_join week = record { none = refl; append = map-append (numbered (cell_number week)) }
 
--- what a loop that walks over rows or items needs where the list of those with numbers is open, and the one over held cells
-pub ruleset walking = (each_below-zero, each_below-more, map-append, fold-append)
-
-pub ruleset walking_held = (walking, append_assoc)
+-- what the loop over held cells needs
+pub ruleset walking_held = (taking, append_assoc)

@@ -1,5 +1,5 @@
 use Rattle.rota_items.proofs.Common.{arith, exits, loop_refused, items_join, numbered_list}
-use Rattle.rota_items.proofs.Walking.{walking}
+use Rattle.rota_items.proofs.Taking.{taking}
 use Rattle.rota_items.proofs.rules.walk_nurses.Goals as goal
 
 pub returns-in_err-walk_nurse : goal.returns-in_err-walk_nurse
@@ -9,4 +9,4 @@ returns-in_err-walk_nurse g c =
 
 pub loop-nurse-preserved : goal.loop-nurse-preserved
 unfolding numbered_list
-loop-nurse-preserved g c = grind (arith, walking)
+loop-nurse-preserved g c = grind (arith, taking)
