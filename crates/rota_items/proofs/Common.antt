@@ -3,6 +3,6 @@ pub mod Words
 unfoldable pub use Words.*
 pub use Rattle.rota_items.proofs.RisingCells.{nurse_cells-range, on_cells-range, requests-range, work_cells-range}
 pub use Rattle.rota_items.proofs.InstanceLimits.{instance-within_limits}
-pub use Rattle.rota_items.proofs.Lists.{SumOfEach, counting, length-each-is}
-pub use Rattle.rota_items.proofs.Taking.{both, cell_refused, cell_taken, cells_join, events_join, exits, go_on, goes_on, lone_row, loop_ended, loop_refused, nothing, numbers_join, row_closed, row_refused, row_unstarted, rows_join, stop, term_refused, term_takes, terms_join, Refused-one, Took-one, row-is}
-pub use Rattle.rota_items.proofs.Walking.{list_refused, held_join, items_join, item_taken}
+pub use Rattle.rota_items.proofs.Lists.{SumOfEach}
+pub use Rattle.rota_items.proofs.Taking.{both, cell_refused, cell_taken, cells_join, events_join, exits, go_on, goes_on, lone_row, loop_ended, loop_refused, nothing, numbers_join, row_closed, row_refused, row_unstarted, rows_join, stop, takes_one, terms_join, Refused-one, row-is}
+pub use Rattle.rota_items.proofs.Walking.{list_refused, held_join, items_join}

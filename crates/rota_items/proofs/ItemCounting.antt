@@ -1,9 +1,9 @@
 -- What a counter makes of a list of items.
 use Rattle.rota_items.proofs.Common.Words.{◌≡◌, ℕ, ◌+◌, ◌<◌, List, [], ◌∷◌, ◌++◌, map, length, refl, ◌∙◌, arith, length-append, fold, length-map, InstanceTables, IsInstance, week_of, Week, Cell, soft_items, Item, numbered, slack_count, cell_number, Runs, pattern_item, run_items, patterns, windows, word_limit, numbered_list, ItemNumbers, sum_within, with_one}
 use Rattle.rota_items.proofs.InstanceLimits.{instance-within_limits}
-use Rattle.rota_items.proofs.ItemEventLists.{slack_count-cons, slack_count-numbered}
 use Rattle.rota_items.proofs.ItemLists.{have_one-runs, one_slack-each}
 use Rattle.rota_items.proofs.SlackBound.{items-few, variables_fit}
+use Rattle.rota_items.proofs.Lists.{slack_count-cons, slack_count-numbered}
 
 same_numbers : (a b m n : ℕ) → a ≡ b → m ≡ n →
     ◌≡◌ {A = ItemNumbers} (record { items = a; slacks = m }) (record { items = b; slacks = n })
@@ -59,3 +59,5 @@ counted-week tables valid =
     omega (arith, variables_fit week limits, slack_count-numbered number items) in
     counted-all (map (numbered number) items) (record { items = 0; slacks = 0 }) (record { items = omega arith; slacks = omega arith }) ∙
     (λ i. record { items = items_are i; slacks = slacks_are i })
+
+pub ruleset week_counted = (counted-week)

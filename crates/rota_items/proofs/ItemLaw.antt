@@ -81,6 +81,13 @@ pub needed-after : (assignment : ℕ → Bool) (item : Item ℕ) (items : List (
 needed-after assignment item items o =
     let next : item.slacks + o - item.slacks ≡ o = omega arith in rw (le-ltb (item.slacks + o) item.slacks (omega arith), next) refl
 
+-- an assignment that has the slacks of items has those of the others after the first one's
+pub extends-after : (other assignment : ℕ → Bool) (item : Item ℕ) (items : List (Item ℕ)) (first : ℕ) →
+    IsExtension other assignment first (item ∷ items) → IsExtension other assignment (first + item.slacks) items
+extends-after other assignment item items first extends o =
+    let further : first + item.slacks + o ≡ first + (item.slacks + o) = omega arith in
+    ap other further ∙ extends (item.slacks + o) ∙ needed-after assignment item items o
+
 -- an extension has the slacks of its items from the first number on
 pub extension-extends : (assignment : ℕ → Bool) (first : ℕ) (items : List (Item ℕ)) →
     IsExtension (extension assignment first items) assignment first items
@@ -104,9 +111,7 @@ module _ (other assignment : ℕ → Bool) (end : ℕ) (agree : (v : ℕ) → v 
       (recursion_from_All (λ (term : Term ℕ). term.1 < end) item.terms below.0) in
       let rest =
       outcome (first + item.slacks) items
-      (λ o.
-      let further : first + item.slacks + o ≡ first + (item.slacks + o) = omega arith in
-      rw further (extends (item.slacks + o) ∙ needed-after assignment item items o)) below.1 enough.1 in (
+      (extends-after other assignment item items first extends) below.1 enough.1 in (
         ((item_law other item first).1 (omega (arith, count, ap (λ z. positive_part (item.degree -ℤ z)) same)), rest.0),
         omega (
           arith,

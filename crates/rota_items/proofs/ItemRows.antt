@@ -1,9 +1,9 @@
 -- What a taker of rows takes by the items that are handed on to it.
-use Rattle.rota_items.proofs.Common.Words.{◌≡◌, ℕ, ◌+◌, ◌<◌, List, [], ◌∷◌, ◌++◌, Result, Ok, Err, refl, sym, ap, subst, ◌∙◌, arith, append_assoc, fold, fold-append, InstanceTables, IsInstance, week_of, soft_items, Item, item_rows, slack_count, slack_weights, first_slack, numbered_items, cell_number, word_limit, Event, events, term_events, Handing, StopsAt, row_of_item, slacks_within, weights_of_item, with_item, within_numbers, Took, Refused, Takes, TookAll, RefusedOne, TakesAll, Ghosts}
+use Rattle.rota_items.proofs.Common.Words.{◌≡◌, ℕ, ◌+◌, ◌<◌, List, [], ◌∷◌, ◌++◌, Result, Ok, Err, refl, sym, ap, subst, ◌∙◌, arith, append_assoc, fold, fold-append, InstanceTables, IsInstance, week_of, soft_items, Item, item_rows, slack_count, slack_weights, first_slack, numbered_items, cell_number, word_limit, Event, events, term_events, Handing, StopsAt, row_of_item, slacks_within, weights_of_item, with_item, within_numbers, Took, Refused, Takes, TookAll, RefusedOne, TakesAll, Ghosts, sum_by-append}
 use Rattle.rota_items.proofs.InstanceLimits.{instance-within_limits}
-use Rattle.rota_items.proofs.ItemEventLists.{slack_count-cons, slack_count-append, slack_count-numbered}
 use Rattle.rota_items.proofs.SlackBound.{variables_fit}
 use Rattle.rota_items.proofs.Taking.{numbers_join, Refused-before, Refused-after}
+use Rattle.rota_items.proofs.Lists.{slack_count-cons, slack_count-numbered}
 
 -- the slacks of the items have numbers of variables, from this one on
 abbrev pub SlacksFit : ℕ → List (Item ℕ) → Type 0
@@ -102,8 +102,9 @@ module _ {events_of : Item ℕ → ℕ → List Event} {all : ℕ → List (Item
           let item = refused.event in
           let rest = refused.untold in
           let first = next_of old in
+          let joined = sum_by-append (λ (i : Item ℕ). i.slacks) taken (item ∷ rest) in
           let counted : slack_count items ≡ slack_count taken + (item.slacks + slack_count rest) =
-          ap slack_count refused.are ∙ slack_count-append taken (item ∷ rest) ∙ ap (λ n. slack_count taken + n) (slack_count-cons item rest) in
+          omega (arith, ap slack_count refused.are, slack_count-cons item rest) in
           let here : first + slack_count taken + item.slacks < word_limit = omega (arith, counted, fit) in
           let before : SlacksFit first taken = omega (arith, counted, fit) in
           let stops : StopsAt T events_of (after T.step (handing_of old) taken) item (name_of new) (taker_of new) =

@@ -1,7 +1,7 @@
 -- What a judge makes of the rows of items.
 use Rattle.rota_items.proofs.Common.Words.{length-map, ◌≡◌, ℕ, zero, suc, ◌+◌, ◌*◌, ◌<◌, ◌≤◌, Bool, List, [], ◌∷◌, refl, sym, ap, ◌∙◌, arith, min, w64, pos, nat_abs, ◌-ℤ◌, int_le, nat_le, AllByRecursion, count_by, count_by-le-length, range_with_len, sum_by, fold, fold-append, lt-ltb, ints, sum_by-append, sum_by-cons, Roster, set_of, Week, Rule, unit_number, Item, positive_part, shortage, Term, value_of, times, LinearRow, item_row, item_rows, slack_count, slack_variables, slack_weights, assignment_of, extension_of, model_of, saturate_signed, nat_tests, RosterTables, Subject, assigned, extended, assignment_in, roster_in, tallied, true_slacks, truth_of, Tally, row_events, events, half_limit}
 use Rattle.rota_items.proofs.Extension.{extension-below}
-use Rattle.rota_items.proofs.ItemLaw.{IsExtension, count-front, needed-first, needed-after, value_of-item_constraint, value_of-weight}
+use Rattle.rota_items.proofs.ItemLaw.{IsExtension, count-front, extends-after, needed-first, value_of-item_constraint, value_of-weight}
 use Rattle.rota_items.proofs.FirstUnmet.{Named}
 use Rattle.rota_items.proofs.JudgedRows.{Comes, IsJudged, covers, positive-saturated, row-comes, same, Before, counted_other, counted_slack, others-before, slacks-before, sums_of}
 use Rattle.std.proofs.lemmas.List.FromFn.{length-range_with_len as length-range}
@@ -15,12 +15,6 @@ module _ (week : Week) where
   -- a roster's extension has slacks for these items from this number on
   abbrev pub Follows : Roster → ℕ → List (Item ℕ) → Type 0
   Follows roster = IsExtension (extension_of week roster) (assignment_of week roster)
-
-  follows-after : (roster : Roster) (item : Item ℕ) (items : List (Item ℕ)) (first : ℕ) → Follows roster first (item ∷ items) →
-      Follows roster (first + item.slacks) items
-  follows-after roster item items first follows o =
-      let further : first + item.slacks + o ≡ first + (item.slacks + o) = omega arith in
-      ap (extension_of week roster) further ∙ follows (item.slacks + o) ∙ needed-after (assignment_of week roster) item items o
 
   pub shortage-extended : (roster : RosterTables) (item : Item ℕ) → Before week (extended roster) item.terms →
       shortage (extension_of week (set_of roster)) item ≡ shortage (assignment_of week (set_of roster)) item
@@ -165,7 +159,8 @@ module _ (week : Week) (subject : Subject) where
         let more : slack_count (item ∷ items) ≡ item.slacks + slack_count items = sum_by-cons (λ (item : Item ℕ). item.slacks) item items in
         rw (fold-append (tallied week subject) tally (row_events row) (events rows))
         (items-come (fold (tallied week subject) tally (row_events row)) (first + item.slacks) items all.1 (omega (arith, after))
-        (omega (arith, more, in_model)) (follows-after week (roster_in week subject) item items first follows)
+        (omega (arith, more, in_model))
+        (extends-after (extension_of week (roster_in week subject)) (assignment_of week (roster_in week subject)) item items first follows)
         (row-comes week subject named paid total requests tally row item.weight _ _ rows _ _ _ _
         (item-judged item first all.0 items after (omega (arith, more, in_model)) follows) refl
         (λ other. sum_by-cons (charge_of other) item items) comes))

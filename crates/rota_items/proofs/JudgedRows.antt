@@ -137,7 +137,7 @@ capped-sum x more = omega arith
 pub cost-raised : (rule : Rule) (more : ℕ) (f : Rule → ℕ) →
     with_cost rule (capped more) (costs_of f) ≡ costs_of (λ other. f other + same rule other * more)
 cost-raised UnitRule more f = simp (zero-mul, add-zero)
-cost-raised _ more f = simp (capped-sum, one-mul, zero-mul, add-zero)
+cost-raised _ more f = first_of (simp (zero-mul, add-zero), simp (capped-sum, one-mul, zero-mul, add-zero))
 
 -- ---- what is unmet
 

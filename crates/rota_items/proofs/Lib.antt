@@ -1,5 +1,4 @@
 pub mod AlikeRosters
-pub mod AssignmentOf
 pub mod CellCounts
 pub mod Common
 pub mod Counted
@@ -8,7 +7,6 @@ pub mod DayPatterns
 pub mod DayTerms
 pub mod EachPattern
 pub mod EarlyCharges
-pub mod Exits
 pub mod Extension
 pub mod ExtensionTruths
 pub mod FirstUnmet
@@ -16,7 +14,6 @@ pub mod HardRules
 pub mod HeldModel
 pub mod InstanceLimits
 pub mod ItemCounting
-pub mod ItemEventLists
 pub mod ItemLaw
 pub mod ItemLists
 pub mod ItemRows
@@ -49,6 +46,5 @@ pub mod SoftRules
 pub mod SoundTerms
 pub mod Standing
 pub mod Taking
-pub mod Values
 pub mod VerdictMeaning
 pub mod Walking

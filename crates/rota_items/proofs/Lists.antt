@@ -1,5 +1,5 @@
 -- Lists: what holds of each element, their sums, their lengths, and what loops make and add up.
-use Rattle.rota_items.proofs.Common.Words.{List, [], ◌∷◌, map, AllByRecursion, flat_map, AllByRecursion-append, AllByRecursion-each_below, AllByRecursion-only_if, length-only_if, ◌≡◌, ℕ, ◌+◌, Bool, true, false, cond, refl, ap, arith, zero-add, sum_by, fold-map, sum_by-append, sum_by-cons, only_if, zero, suc, ◌*◌, ◌<◌, ◌≤◌, inl, inr, length, ◌∙◌, count_by, list_any, list_any-append, cases_lt, mul-le, sum_below, count_below, any_below, length-each_below, each_below, ◌++◌, length-append, add-one, each_below-more, append-nil, take_all, flat_map-append, take_at_read, map-append}
+use Rattle.rota_items.proofs.Common.Words.{List, [], ◌∷◌, map, AllByRecursion, flat_map, AllByRecursion-append, AllByRecursion-each_below, AllByRecursion-only_if, length-only_if, ◌≡◌, ℕ, ◌+◌, Bool, true, false, cond, refl, ap, arith, zero-add, sum_by, fold-map, sum_by-append, sum_by-cons, only_if, zero, suc, ◌*◌, ◌<◌, ◌≤◌, length, ◌∙◌, count_by, list_any, list_any-append, mul-le, sum_below, count_below, any_below, length-each_below, each_below, ◌++◌, length-append, add-one, append-nil, take_all, flat_map-append, take_at_read, map-append, Cell, Item, numbered, slack_count}
 pub use Rattle.rota_core.proofs.LogicWords.{all-weaker}
 use Rattle.std.proofs.lemmas.List.Concat.{flat_map-cons}
 use Rattle.std.proofs.lemmas.List.Sums.{sum_by_push}
@@ -163,6 +163,12 @@ sum_below-more n number = rw add-one refl
 pub ruleset counting = (sum_below-none, sum_below-more)
 
 -- ---- lengths and slacks
+
+pub slack_count-cons : {X : Type 0} (item : Item X) (items : List (Item X)) → slack_count (item ∷ items) ≡ item.slacks + slack_count items
+slack_count-cons item items = sum_by-cons (λ i. i.slacks) item items
+
+pub slack_count-numbered : (number : Cell → ℕ) (items : List (Item Cell)) → slack_count (map (numbered number) items) ≡ slack_count items
+slack_count-numbered number items = sum_by-map (λ (item : Item ℕ). item.slacks) (numbered number) items
 
 -- as long for each turn
 pub length-each-is : {A : Type 0} (n long : ℕ) (f : ℕ → List A) → ((i : ℕ) → i < n → length (f i) ≡ long) →

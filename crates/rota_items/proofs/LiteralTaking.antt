@@ -1,6 +1,6 @@
 -- How what a taker of literals took grows, literal by literal.
-use Rattle.rota_items.proofs.Common.Words.{◌≡◌, ℕ, ◌+◌, ◌<◌, Bool, List, [], ◌∷◌, Result, MatchResult, MatchResult-weaker, refl, each_below-more}
-use Rattle.rota_items.proofs.Taking.{Joins, Refused-one, Took-one, Takes-then, loop_refused}
+use Rattle.rota_items.proofs.Common.Words.{◌≡◌, ℕ, ◌+◌, ◌<◌, Bool, List, [], ◌∷◌, Result, MatchResult, refl, each_below-more}
+use Rattle.rota_items.proofs.Taking.{Joins, Refused-one, Takes-then, takes_one, loop_refused}
 use Rattle.rota_items.specs.LiteralTakes.{RefusedLiterals, TakesLiterals, TookLiterals}
 use Rattle.rota_items.specs.SlackValues.{truths_below}
 use Rattle.rota_items.specs.declared.extended.literal_takers.LiteralTaker.{Ghosts}
@@ -19,5 +19,4 @@ module _ {S F : Type 0} (T : Ghosts S F) (truth : ℕ → Bool) (place count : �
       MatchResult r (λ _. T.value u ≡ T.step (T.value t) positive) (λ _. T.left (T.value t) positive u) → TakesLiterals T (truths_below count truth) s u r
   literals_end r next takes =
       rw (next, each_below-more place (λ place. truth place ∷ []))
-      (Takes-then (truths_below place truth) (truth place ∷ []) s t u r before
-      (MatchResult-weaker r takes (λ _ e. Took-one (truth place) t u (rw is at e)) (λ _ refused. Refused-one (truth place) t u (rw is at refused))))
+      (Takes-then (truths_below place truth) (truth place ∷ []) s t u r before (takes_one _ _ _ (truth place) t u r (rw is at takes)))

@@ -2,8 +2,7 @@
 use Rattle.rota_items.proofs.Common.Words.{ℕ, inl, refl, pos, All, All-from_recursion, AllByRecursion-append, Week, cell_number, unit_number, numbered, Term, times, LinearRow, linear_constraint, item_row, slack_variables, numbered_row, numbered_terms, model_of, unit_row, IsUnit, HasUnitCoefficients, ◌≡◌, zero, suc, ◌+◌, ◌≤◌, List, [], ◌∷◌, ◌++◌, arith, ℤ, nat_lt, AllByRecursion, range_with_len, sum_by-cons, first_slack, slack_count, constant_terms, cell_terms, constant, Item, Constraint, slack_weights, soft_items, objective_terms, numbered_items, RisesFrom, HasRisingTerms}
 use Rattle.rota_items.proofs.ModelRows.{each-constraint, each-model_row}
 use Rattle.rota_items.proofs.SoundTerms.{AreUnits, coefficients-numbered, units-times}
-use Rattle.rota_items.proofs.ItemEventLists.{slack_count-numbered}
-use Rattle.rota_items.proofs.Lists.{all-weaker}
+use Rattle.rota_items.proofs.Lists.{all-weaker, slack_count-numbered}
 use Rattle.rota_core.specs.RisingLists.{RisesWithin}
 use Rattle.rota_core.proofs.LogicWords.{widen, rises-append, rises-only_if}
 use Rattle.rota_items.proofs.RisingCells.{rises-numbered}

@@ -1,5 +1,5 @@
 -- How many rows the hard rules have in a week within the limits: none has more than there are cells.
-use Rattle.rota_items.proofs.Common.Words.{ℕ, ◌*◌, ◌≤◌, length, arith, length-append, length-map, length-only_if, length-flat_map, sum_by-le-sum_by, each_below, Week, Rule, hard_rules, rows_of_hard_rule, rule_rows, cells_of, h5_row, h3_monday_rows, h3_rows_between, h3_rows_of, IsWithinLimits, H1, H2, H3, H4, H5, most_cells, most_cells_of_nurse, most_nurses, most_shifts, most_skills}
+use Rattle.rota_items.proofs.Common.Words.{ℕ, ◌*◌, ◌≤◌, length, arith, le_trans, length-append, length-map, length-only_if, length-flat_map, sum_by-le-sum_by, each_below, Week, Rule, hard_rules, rows_of_hard_rule, rule_rows, cells_of, h5_row, h3_monday_rows, h3_rows_between, h3_rows_of, IsWithinLimits, H1, H2, H3, H4, H5, most_cells, most_cells_of_nurse, most_nurses, most_shifts, most_skills}
 use Rattle.rota_items.proofs.Lists.{length-at_most}
 
 module _ (week : Week) (limits : IsWithinLimits week) where
@@ -20,19 +20,14 @@ module _ (week : Week) (limits : IsWithinLimits week) where
 
   rows-few : (rule : Rule) → length (rows_of_hard_rule week rule) ≤ most_cells
   rows-few H1 =
-      let few : length (rows_of_hard_rule week H1) ≤ most_nurses * (7 * 1) =
-      length-at_most most_nurses limits.nurses _ (λ n. length-at_most {m = 1} 7 (omega arith) _ (λ d. omega arith)) in
-      omega (arith, few)
+      le_trans (length-at_most most_nurses limits.nurses _ (λ n. length-at_most {m = 1} 7 (omega arith) _ (λ d. omega arith))) (omega arith)
   rows-few H2 =
-      let few : length (rows_of_hard_rule week H2) ≤ 7 * (most_shifts * (most_skills * 1)) =
-      length-at_most 7 (omega arith) _ (λ d. length-at_most most_shifts limits.shifts _ (λ s.
-      length-at_most most_skills limits.skills _ (λ k. length-only_if _ _))) in
-      omega (arith, few)
+      le_trans (length-at_most 7 (omega arith) _ (λ d. length-at_most most_shifts limits.shifts _ (λ s.
+      length-at_most most_skills limits.skills _ (λ k. length-only_if _ _)))) (omega arith)
   rows-few H3 = length-at_most most_nurses limits.nurses _ nurse-few
   rows-few H4 =
-      let few : length (rows_of_hard_rule week H4) ≤ most_nurses * (most_skills * 1) =
-      length-at_most most_nurses limits.nurses _ (λ n. length-at_most most_skills limits.skills _ (λ k. length-only_if _ _)) in
-      omega (arith, few)
+      le_trans (length-at_most most_nurses limits.nurses _ (λ n. length-at_most most_skills limits.skills _ (λ k. length-only_if _ _)))
+      (omega arith)
   rows-few H5 = omega (arith, length-map (cells_of week week.is_held) h5_row, cells-few)
   rows-few _ = omega arith
 

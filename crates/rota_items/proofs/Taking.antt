@@ -1,5 +1,5 @@
 -- How what a taker took grows, call by call and loop by loop.
-use Rattle.rota_items.proofs.Common.Words.{◌≡◌, ℕ, ◌<◌, Bool, true, false, List, [], ◌∷◌, ◌++◌, map, Result, MatchResult, refl, sym, ap, ◌∙◌, append_assoc, append-nil, map-append, flat_map-append, fold-append, MatchResult-from_err, MatchResult-weaker, fold, ℤ, IsErr, each_below-zero, each_below-more, only_if-holds, only_if-fails, each_below, only_if, Week, Cell, cell_number, Term, times, LinearRow, numbered_row, numbered_terms, cell_term_events, numbered_rows, coefficient_of, sum_events, start_row, term, close_row, row_events, term_events, events, TookAll, RefusedOne, TakesAll, Took, Refused, Takes, Sign, Ghosts, in_turn, Event, Part}
+use Rattle.rota_items.proofs.Common.Words.{◌≡◌, ℕ, ◌<◌, List, [], ◌∷◌, ◌++◌, Result, MatchResult, refl, sym, ap, ◌∙◌, append_assoc, append-nil, map-append, flat_map-append, fold-append, MatchResult-from_err, MatchResult-weaker, fold, ℤ, IsErr, each_below-zero, each_below-more, each_below, Week, Cell, cell_number, Term, times, LinearRow, numbered_row, numbered_terms, cell_term_events, numbered_rows, coefficient_of, sum_events, start_row, term, close_row, row_events, term_events, events, TookAll, RefusedOne, TakesAll, Took, Refused, Takes, Sign, Ghosts, in_turn, Event, Part}
 
 -- ---- what makes events of a list, element by element
 
@@ -36,19 +36,8 @@ pub rows_join : (week : Week) → Joins (numbered_rows week)
 unfolding numbered_rows
 rows_join week = record { none = refl; append = map-append (numbered_row week) }
 
--- what a loop that hands over rows, terms or cells needs: each law is said of what makes the events
-
-pub terms-none : (week : Week) → cell_term_events week [] ≡ []
-terms-none week = (terms_join week).none
-
-pub terms-append : (week : Week) (xs ys : List (Term Cell)) → cell_term_events week (xs ++ ys) ≡ cell_term_events week xs ++ cell_term_events week ys
-terms-append week = (terms_join week).append
-
-pub terms-one : (week : Week) (one : Term Cell) → cell_term_events week (one ∷ []) ≡ term one.0 (cell_number week one.1) ∷ []
-unfolding cell_term_events term_events
-terms-one week one = refl
-
-pub ruleset taking = (each_below-zero, each_below-more, terms-none, terms-append, terms-one, map-append, fold-append)
+-- what a loop needs that hands over rows, items, terms or cells, where the list of what they stand for is open
+pub ruleset taking = (each_below-zero, each_below-more, map-append, fold-append)
 
 -- the list is the events of one row: it begins, these terms follow, and the degree ends it
 pub record IsRow (all : List Event) (part : Part) (terms : List Event) (degree : ℤ) : Type 0 where
@@ -134,36 +123,27 @@ module _ {S V E : Type 0} {value : S → V} {step : V → E → V} {left : V →
         TakesAll value step left (h (xs ++ ys)) s u r
     goes_on xs ys s t u r p q = rw joins.append (Takes-then (h xs) (h ys) s t u r p q)
 
+pub takes_one : {S V E R F : Type 0} (value : S → V) (step : V → E → V) (left : V → E → S → Type 0) (event : E) (s t : S) (r : Result R F) →
+    MatchResult r (λ _. value t ≡ step (value s) event) (λ _. left (value s) event t) → TakesAll value step left (event ∷ []) s t r
+takes_one value step left event s t r takes = MatchResult-weaker r takes (λ _. Took-one event s t) (λ _. Refused-one event s t)
+
 -- ---- a taker of rows
 
 module _ {S F : Type 0} (T : Ghosts S F) where
-  -- ---- one term
+  -- ---- the term of one cell
 
-  pub term_refused : (coefficient : ℤ) (variable : ℕ) (s t : S) → T.left (T.value s) (term coefficient variable) t →
-      Refused T (term_events ((coefficient, variable) ∷ [])) s t
-  unfolding term_events
-  term_refused coefficient variable s t h = Refused-one _ s t h
-
-  pub term_takes : (coefficient : ℤ) (variable : ℕ) (s t : S) (r : Result (Unit {0}) F) →
-      MatchResult r (λ _. T.value t ≡ T.step (T.value s) (term coefficient variable)) (λ _. T.left (T.value s) (term coefficient variable) t) →
-      Takes T (term_events ((coefficient, variable) ∷ [])) s t r
-  unfolding term_events
-  term_takes coefficient variable s t r taken = MatchResult-weaker r taken (λ _ e. Took-one _ s t e) (λ _ refused. Refused-one _ s t refused)
-
-  -- one cell
   pub cell_taken : (week : Week) (sign : Sign) (cell : Cell) (variable : ℕ) (s t : S) (r : Result (Unit {0}) F) →
       variable ≡ cell_number week cell →
       MatchResult r (λ _. T.value t ≡ T.step (T.value s) (term (coefficient_of sign) variable))
       (λ _. T.left (T.value s) (term (coefficient_of sign) variable) t) →
       Takes T (sum_events week sign (cell ∷ [])) s t r
-  unfolding cell_term_events
-  cell_taken week sign cell variable s t r same taken = term_takes (coefficient_of sign) (cell_number week cell) s t r (rw same at taken)
+  unfolding cell_term_events term_events
+  cell_taken week sign cell variable s t r same taken = takes_one _ _ _ _ s t r (rw same at taken)
 
   pub cell_refused : (week : Week) (sign : Sign) (cell : Cell) (variable : ℕ) (s t : S) → variable ≡ cell_number week cell →
       T.left (T.value s) (term (coefficient_of sign) variable) t → Refused T (sum_events week sign (cell ∷ [])) s t
-  unfolding cell_term_events
-  cell_refused week sign cell variable s t same refused =
-      term_refused (coefficient_of sign) (cell_number week cell) s t (rw same at refused)
+  unfolding cell_term_events term_events
+  cell_refused week sign cell variable s t same refused = Refused-one _ s t (rw same at refused)
 
   -- ---- a list of one row
 
@@ -183,5 +163,4 @@ module _ {S F : Type 0} (T : Ghosts S F) where
     row_closed s t u v r started taken closes =
         rw is.are
         (Takes-then (start_row part ∷ []) _ s t v r (Took-one (start_row part) s t started)
-        (Takes-then terms (close_row degree ∷ []) t u v r taken
-        (MatchResult-weaker r closes (λ _ e. Took-one _ u v e) (λ _ refused. Refused-one _ u v refused))))
+        (Takes-then terms (close_row degree ∷ []) t u v r taken (takes_one _ _ _ _ u v r closes)))

@@ -1,74 +1,29 @@
--- How what a taker took grows in a loop over a list and in one over held cells, and how a walk over items goes on.
-use Rattle.rota_items.proofs.Common.Words.{◌≡◌, ℕ, suc, ◌+◌, ◌<◌, List, [], ◌∷◌, ◌++◌, map, get_or, take, drop, length, refl, ap, ◌∙◌, subst, arith, take-suc, append-nil, map-append, take-append-drop, flat_map-append, flat_map, Week, h5_row, numbered_rows, numbered_row, LinearRow, TookAll, RefusedOne, Result, MatchResult, fold-append, MatchResult-weaker, each_below-zero, each_below-more, Cell, cell_number, Item, numbered, TakesItems, numbered_list}
-use Rattle.rota_items.proofs.Taking.{Joins, go_on, rows_join, stop, Took-one, Refused-one}
-use Rattle.rota_items.specs.declared.items.item_takers.ItemTaker.{Ghosts}
+-- How what a taker took grows in a loop over a list and in one over held cells, and how a walk over rows or items goes on.
+use Rattle.rota_items.proofs.Common.Words.{ℕ, suc, ◌+◌, ◌<◌, List, ◌∷◌, ◌++◌, map, get_or, take, drop, length, refl, subst, map-append, append_assoc, take-append-drop, flat_map-append, flat_map, Week, h5_row, numbered_rows, TookAll, RefusedOne, cell_number, numbered, numbered_list}
+use Rattle.std.proofs.Math.Seq.{drop-cons}
+use Rattle.rota_items.proofs.Taking.{Joins, go_on, stop, taking}
 
--- the lists of the elements before one, of it, and of those after it
-pub flat_map-next : {X A : Type 0} (f : X → List A) (xs : List X) (i : ℕ) (other : X) → i < length xs →
-    flat_map f (take (i + 1) xs) ≡ flat_map f (take i xs) ++ f (get_or xs i other)
-flat_map-next f xs i other below =
-    let next : i + 1 ≡ suc i = omega arith in
-    rw (next, take-suc xs i other below, flat_map-append f (take i xs) (get_or xs i other ∷ []), append-nil (f (get_or xs i other))) refl
-
--- what holds of the lists of the elements before one, with its own, and of each longer list, holds of all the lists
-pub in_list : {X A : Type 0} (P : List A → Type 0) → ((xs ys : List A) → P xs → P (xs ++ ys)) → (f : X → List A) (xs : List X) (i : ℕ) (other : X) →
-    i < length xs → P (flat_map f (take i xs) ++ f (get_or xs i other)) → P (flat_map f xs)
-in_list P longer f xs i other below here =
-    subst (λ ys. P (flat_map f ys)) (take-append-drop (i + 1) xs)
-    (rw (flat_map-append f (take (i + 1) xs) (drop (i + 1) xs))
-    (longer (flat_map f (take (i + 1) xs)) (flat_map f (drop (i + 1) xs)) (rw (flat_map-next f xs i other below) here)))
-
+-- refused at an element of a list: the elements before it were taken
 module _ {S V E : Type 0} {value : S → V} {step : V → E → V} {left : V → E → S → Type 0}
     {A : Type 0} {h : List A → List E} (joins : Joins h) {X : Type 0} (f : X → List A) (xs : List X) where
   pub list_refused : (i : ℕ) (other : X) (s t u : S) → i < length xs → TookAll value step left (h (flat_map f (take i xs))) s t →
       RefusedOne value step left (h (f (get_or xs i other))) t u → RefusedOne value step left (h (flat_map f xs)) s u
   list_refused i other s t u below before here =
-      in_list (λ ys. RefusedOne value step left (h ys) s u) (λ ys zs. stop joins ys zs s u) f xs i other below
-      (go_on joins (flat_map f (take i xs)) (f (get_or xs i other)) s t u before here)
+      let rest = flat_map f (drop (suc i) xs) in
+      subst (λ ys. RefusedOne value step left (h (flat_map f ys)) s u) (take-append-drop i xs)
+      (rw (drop-cons xs i other below, flat_map-append f (take i xs) (get_or xs i other ∷ drop (suc i) xs))
+      (go_on joins _ (f (get_or xs i other) ++ rest) s t u before (stop joins _ rest t u here)))
 
--- ---- a walk over the rows of the hard rules
-
-pub rows-none : (week : Week) → numbered_rows week [] ≡ []
-rows-none week = (rows_join week).none
-
-pub rows-append : (week : Week) (xs ys : List (LinearRow Cell)) → numbered_rows week (xs ++ ys) ≡ numbered_rows week xs ++ numbered_rows week ys
-rows-append week = (rows_join week).append
-
-pub rows-one : (week : Week) (row : LinearRow Cell) → numbered_rows week (row ∷ []) ≡ numbered_row week row ∷ []
-unfolding numbered_rows
-rows-one week row = refl
+-- ---- a walk over rows and one over items
 
 -- the rows of held cells, cell by cell
 pub held_join : (week : Week) → Joins (λ cells. numbered_rows week (map h5_row cells))
 unfolding numbered_rows
 held_join week = record { none = refl; append = λ xs ys. simp map-append }
 
--- what a loop that walks over rows needs
-pub ruleset walking_rows = (each_below-zero, each_below-more, rows-none, rows-append, rows-one, fold-append)
-
--- ---- a walk over items
-
 pub items_join : (week : Week) → Joins (numbered_list week)
 unfolding numbered_list
 items_join week = record { none = refl; append = map-append (numbered (cell_number week)) }
 
-pub items-none : (week : Week) → numbered_list week [] ≡ []
-items-none week = (items_join week).none
-
-pub items-append : (week : Week) (xs ys : List (Item Cell)) → numbered_list week (xs ++ ys) ≡ numbered_list week xs ++ numbered_list week ys
-items-append week = (items_join week).append
-
-pub items-one : (week : Week) (item : Item Cell) → numbered_list week (item ∷ []) ≡ numbered (cell_number week) item ∷ []
-unfolding numbered_list
-items-one week item = refl
-
--- what a loop that walks over items needs
-pub ruleset walking = (each_below-zero, each_below-more, items-none, items-append, items-one, fold-append)
-
--- a call with one item
-pub item_taken : {S F : Type 0} (T : Ghosts S F) (week : Week) (item : Item Cell) (s t : S) (r : Result (Unit {0}) F) →
-    MatchResult r (λ _. T.value t ≡ T.step (T.value s) (numbered (cell_number week) item)) (λ _. T.left (T.value s) (numbered (cell_number week) item) t) →
-    TakesItems T week (item ∷ []) s t r
-item_taken T week item s t r takes =
-    rw (items-one week item)
-    (MatchResult-weaker r takes (λ _ e. Took-one _ s t e) (λ _ refused. Refused-one _ s t refused))
+-- what the loop over held cells needs
+pub ruleset walking_held = (taking, append_assoc)

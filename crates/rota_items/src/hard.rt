@@ -30,7 +30,7 @@ use rota_core::{Instance, Rule};
 pub use row_counts::count_rule_rows;
 
 // The rows of the rule, if it is a hard one.
-#[tactic(auto, using(crate::proofs::Walking::walking_rows))]
+#[tactic(auto, using(crate::proofs::Taking::taking), unfolding(crate::specs::RowValues::numbered_rows))]
 fn walk_rule<T: RowTaker>(instance: &Instance, taker: &mut T, rule: Rule) -> Result<(), T::Fault>
     ensures { let week = week_of instance.now in
         TakesRows T.RowTaker week (rows_of_hard_rule week rule) taker.old taker.new result }
@@ -46,7 +46,7 @@ fn walk_rule<T: RowTaker>(instance: &Instance, taker: &mut T, rule: Rule) -> Res
 }
 
 /// The rows of all hard rules, in the order of the rules.
-#[tactic(auto, using(crate::proofs::Walking::walking_rows, crate::proofs::Lists::listing))]
+#[tactic(auto, using(crate::proofs::Taking::taking, crate::proofs::Lists::listing), unfolding(crate::specs::RowValues::numbered_rows))]
 pub fn walk_rule_rows<T: RowTaker>(instance: &Instance, taker: &mut T) -> Result<(), T::Fault>
     ensures { let week = week_of instance.now in
         TakesRows T.RowTaker week (rule_rows week) taker.old taker.new result }

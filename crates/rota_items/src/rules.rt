@@ -37,7 +37,7 @@ pub fn soft_place(rule: Rule) -> Option<usize>
 }
 
 // The items of a rule that charges each nurse, at a nurse.
-#[tactic(auto, using(crate::proofs::Walking::walking))]
+#[tactic(auto, using(crate::proofs::Taking::taking), unfolding(crate::specs::ItemTaking::numbered_list))]
 fn walk_nurse<T: RunTaker>(
     instance: &Instance,
     taker: &mut T,
@@ -59,7 +59,7 @@ fn walk_nurse<T: RunTaker>(
 }
 
 // The items of a rule that charges each nurse.
-#[tactic(auto, using(crate::proofs::Walking::walking))]
+#[tactic(auto, using(crate::proofs::Taking::taking), unfolding(crate::specs::ItemTaking::numbered_list))]
 fn walk_nurses<T: RunTaker>(instance: &Instance, taker: &mut T, rule: Rule) -> Result<(), T::Fault>
     ensures { let week = week_of instance.now in
         TakesItems T.ItemTaker week (each_below week.nurses (nurse_items week rule))
@@ -84,7 +84,7 @@ fn walk_rule<T: RunTaker>(instance: &Instance, taker: &mut T, rule: Rule) -> Res
 }
 
 /// The items of all soft rules, in the order of the rules.
-#[tactic(auto, using(crate::proofs::Walking::walking, crate::proofs::Lists::listing))]
+#[tactic(auto, using(crate::proofs::Taking::taking, crate::proofs::Lists::listing), unfolding(crate::specs::ItemTaking::numbered_list))]
 pub fn walk_soft_items<T: RunTaker>(instance: &Instance, taker: &mut T) -> Result<(), T::Fault>
     ensures { let week = week_of instance.now in
         TakesItems T.ItemTaker week (soft_items week) taker.old taker.new result }
@@ -96,7 +96,7 @@ pub fn walk_soft_items<T: RunTaker>(instance: &Instance, taker: &mut T) -> Resul
 }
 
 // Hands the taker the terms that a rule has at cells.
-#[tactic(auto, using(crate::proofs::Taking::taking))]
+#[tactic(auto, using(crate::proofs::Taking::taking), unfolding(crate::specs::CellEvents::cell_term_events, crate::specs::Events::term_events))]
 fn give_cell_terms_of_rule<T: Taker>(
     instance: &Instance,
     taker: &mut T,
@@ -112,7 +112,7 @@ fn give_cell_terms_of_rule<T: Taker>(
 }
 
 /// Hands the taker the terms that the soft rules have at cells.
-#[tactic(auto, using(crate::proofs::Taking::taking, crate::proofs::Lists::listing))]
+#[tactic(auto, using(crate::proofs::Taking::taking, crate::proofs::Lists::listing), unfolding(crate::specs::CellEvents::cell_term_events, crate::specs::Events::term_events))]
 pub fn give_cell_terms<T: Taker>(instance: &Instance, taker: &mut T) -> Result<(), T::Fault>
     ensures { let week = week_of instance.now in
         Takes T.Taker (cell_term_events week (cell_terms week)) taker.old taker.new result }

@@ -101,7 +101,7 @@ fn give_days<T: Taker>(
 }
 
 // A day that must not have the property, if the pattern has one there.
-#[tactic(auto, using(crate::proofs::DayTerms::day_taking), unfolding(rota_core::specs::Lists::only_if))]
+#[tactic(auto, using(crate::proofs::DayTerms::day_taking), unfolding(crate::specs::CellEvents::cell_term_events, crate::specs::Events::term_events, rota_core::specs::Lists::only_if))]
 fn give_day_without<T: Taker>(
     instance: &Instance,
     taker: &mut T,
@@ -174,7 +174,7 @@ fn give_in_turn<T: Taker>(
 }
 
 /// The terms of a sum of cells.
-#[tactic(auto, using(crate::proofs::Taking::taking))]
+#[tactic(auto, using(crate::proofs::Taking::taking), unfolding(crate::specs::CellEvents::cell_term_events, crate::specs::Events::term_events))]
 pub fn give_sum<T: Taker>(instance: &Instance, taker: &mut T, sum: CellSum) -> Result<(), T::Fault>
     requires { IsSumOf (week_of instance.now) sum }
     ensures { let week = week_of instance.now in

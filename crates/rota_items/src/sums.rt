@@ -32,7 +32,7 @@ fn coefficient(sign: Sign) -> i64
 }
 
 /// Variables that follow one another from the first on, `count` of them, each with the coefficient.
-#[tactic(auto, using(crate::proofs::SlackTerms::ranges))]
+#[tactic(auto, using(crate::proofs::SlackTerms::ranges), unfolding(crate::specs::Events::term_events))]
 #[inline(always)]
 pub fn give_range<T: Taker>(
     taker: &mut T,
@@ -105,7 +105,7 @@ pub fn give_nurse_cells<T: Taker>(
 }
 
 /// The cells of a day's shift type and skill, one for each nurse.
-#[tactic(auto, using(crate::proofs::Taking::taking))]
+#[tactic(auto, using(crate::proofs::Taking::taking), unfolding(crate::specs::CellEvents::cell_term_events, crate::specs::Events::term_events))]
 pub fn give_demand_cells<T: Taker>(
     instance: &Instance,
     taker: &mut T,
@@ -133,7 +133,7 @@ pub fn give_demand_cells<T: Taker>(
 }
 
 /// The cells of a nurse that need the skill, each with -1.
-#[tactic(auto, using(crate::proofs::Taking::taking))]
+#[tactic(auto, using(crate::proofs::Taking::taking), unfolding(crate::specs::CellEvents::cell_term_events, crate::specs::Events::term_events))]
 pub fn give_skill_cells<T: Taker>(
     instance: &Instance,
     taker: &mut T,

@@ -1,7 +1,7 @@
 -- What is to be shown of a hard rule and its rows.
 use Rattle.rota_items.proofs.Common.Words.{◌≡◌, ◌↔◌, ℕ, ◌≤◌, ◌≤ℤ◌, ◌-ℤ◌, pos, negsuc, ◌+ℤ◌, Bool, true, false, cond, refl, arith, ints, List, AllByRecursion, count_by, times, KeepsOneCell, KeepsMinimum, KeepsSuccession, KeepsSkills, KeepsHeld, Roster, Week, Rule, Cell, rows_of_hard_rule, value_of, LinearRow, H1, H2, H3, H4, H5, Hard}
 use Rattle.rota_items.proofs.SoundTerms.{AreSound}
-use Rattle.rota_items.proofs.Values.{value_of-plus, value_of-minus}
+use Rattle.rota_items.proofs.PatternItems.{value_of-sum}
 
 -- the row holds on the roster
 abbrev pub Holds : Roster → LinearRow Cell → Type 0
@@ -35,10 +35,10 @@ pub record IsHardRuleSound (week : Week) (rule : Rule) : Type 0 where
 
 module _ (roster : Roster) (cells : List Cell) (n : ℕ) where
   pub at_least : (pos n ≤ℤ value_of roster (times (pos 1) cells)) ↔ (n ≤ count_by roster cells)
-  at_least = let value = value_of-plus roster cells in (λ holds. omega (arith, ints), λ enough. omega (arith, ints))
+  at_least = let value = value_of-sum roster false cells in (λ holds. omega (arith, ints), λ enough. omega (arith, ints))
 
   pub at_most : ((pos 0 -ℤ pos n) ≤ℤ value_of roster (times (negsuc 0) cells)) ↔ (count_by roster cells ≤ n)
-  at_most = let value = value_of-minus roster cells in (λ holds. omega (arith, ints), λ few. omega (arith, ints))
+  at_most = let value = value_of-sum roster true cells in (λ holds. omega (arith, ints), λ few. omega (arith, ints))
 
 -- a sum of one variable is at least 1 exactly where the variable is true
 pub one-where_true : (b : Bool) → (pos 1 ≤ℤ (cond b (pos 1) (pos 0) +ℤ pos 0)) ↔ (b ≡ true)

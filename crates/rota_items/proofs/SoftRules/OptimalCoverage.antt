@@ -1,11 +1,11 @@
 -- The items of the optimal numbers charge the nurses who are missing.
-use Rattle.rota_items.proofs.Common.Words.{◌≡◌, ℕ, ◌-◌, ◌*◌, Bool, refl, ap, arith, nat_lt, ints, AllByRecursion-each_below, AllByRecursion-only_if, nurses_at, KeepsMinimum, Roster, cell, Week, demand_cells, shortage, weighted_shortages, nurse_constant, S1, optimum_cost, optimum_weight, optimum_item, optimum_items, optimum_items_at}
+use Rattle.rota_items.proofs.Common.Words.{◌≡◌, ℕ, ◌-◌, ◌*◌, Bool, false, refl, ap, arith, nat_lt, ints, AllByRecursion-each_below, AllByRecursion-only_if, nurses_at, KeepsMinimum, Roster, cell, Week, demand_cells, shortage, weighted_shortages, nurse_constant, S1, optimum_cost, optimum_weight, optimum_item, optimum_items, optimum_items_at}
 use Rattle.rota_items.proofs.AlikeRosters.{nurses-alike}
 use Rattle.rota_items.proofs.Lists.{sum_by-only_if, sum_by-each-times, count_by-each, sum_below-same, sum_below-zero}
 use Rattle.rota_items.proofs.SmallSums.{positive_part-parts}
 use Rattle.rota_items.proofs.SoftRules.Sound.{IsItemSound, IsSoftRuleSound, weighted}
 use Rattle.rota_items.proofs.SoundTerms.{sound-demand}
-use Rattle.rota_items.proofs.Values.{value_of-plus}
+use Rattle.rota_items.proofs.PatternItems.{value_of-sum}
 
 module _ (week : Week) where
   abbrev is_wanted : ℕ → ℕ → ℕ → Bool
@@ -20,7 +20,7 @@ module _ (week : Week) where
         arith,
         ints,
         positive_part-parts,
-        value_of-plus roster (demand_cells week d s k),
+        value_of-sum roster false (demand_cells week d s k),
         count_by-each roster week.nurses (λ n. cell n d s k),
       )
 

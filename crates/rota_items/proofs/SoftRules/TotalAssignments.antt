@@ -1,5 +1,5 @@
 -- The items of the totals and their part of the constant charge the assignments outside the limits.
-use Rattle.rota_items.proofs.Common.Words.{◌≡◌, ℕ, ◌+◌, ◌-◌, ◌*◌, ◌<◌, ◌≤◌, Bool, ◌&&◌, true, cond, refl, arith, ints, min, ℤ, pos, negsuc, nat_lt, count_by, sum_by-append, AllByRecursion-append, AllByRecursion-only_if, inl, inr, KeepsOneCell, Roster, Week, nurse_cells, work_cells, shortage, times, IsUnit, S6, charged_excess, excess_before_counts, greatest_totals_count, least_totals_count, assignment_weight, assignments_of, greatest_total_item, greatest_totals_of, least_total_item, least_totals_of, still_allowed, still_wanted, AllByRecursion-each_below, InWeek}
+use Rattle.rota_items.proofs.Common.Words.{◌≡◌, ℕ, ◌+◌, ◌-◌, ◌*◌, ◌<◌, ◌≤◌, Bool, ◌&&◌, true, false, cond, refl, arith, ints, min, ℤ, pos, negsuc, nat_lt, count_by, sum_by-append, AllByRecursion-append, AllByRecursion-only_if, inl, inr, KeepsOneCell, Roster, Week, nurse_cells, work_cells, shortage, times, IsUnit, S6, charged_excess, excess_before_counts, greatest_totals_count, least_totals_count, assignment_weight, assignments_of, greatest_total_item, greatest_totals_of, least_total_item, least_totals_of, still_allowed, still_wanted, AllByRecursion-each_below, InWeek}
 use Rattle.rota_items.proofs.AlikeRosters.{count_below-alike, same_cell}
 use Rattle.rota_items.proofs.CellCounts.{work_count, one-work, count-work_cells}
 use Rattle.rota_items.proofs.SoundTerms.{sound-cells, AreSound, in-work_cells}
@@ -7,7 +7,7 @@ use Rattle.rota_items.proofs.Lists.{sum_by-only_if, sum_by-each-is, sum_below-wi
 use Rattle.rota_items.proofs.RisingCells.{rises-nurse_cells}
 use Rattle.rota_items.proofs.SmallSums.{positive_part-parts}
 use Rattle.rota_items.proofs.SoftRules.Sound.{IsItemSound, IsNurseRuleSound, weighted}
-use Rattle.rota_items.proofs.Values.{value_of-plus, value_of-minus}
+use Rattle.rota_items.proofs.PatternItems.{value_of-sum}
 
 -- what item and constant charge of the assignments below the least total, and of those above the greatest
 least_charged : (count : Bool) (least before now lacks : ℕ) → now ≤ 7 → lacks ≡ min (least - before) 7 - now →
@@ -37,10 +37,10 @@ module _ (week : Week) where
         (λ d _. count-work_cells week roster n d)
 
     shortage-least : shortage roster (least_total_item week n) ≡ min (still_wanted week n) 7 - assignments_of week roster n
-    shortage-least = omega (arith, ints, positive_part-parts, value_of-plus roster (nurse_cells week n), count-nurse_cells)
+    shortage-least = omega (arith, ints, positive_part-parts, value_of-sum roster false (nurse_cells week n), count-nurse_cells)
 
     shortage-greatest : shortage roster (greatest_total_item week n) ≡ assignments_of week roster n - still_allowed week n
-    shortage-greatest = omega (arith, ints, positive_part-parts, value_of-minus roster (nurse_cells week n), count-nurse_cells)
+    shortage-greatest = omega (arith, ints, positive_part-parts, value_of-sum roster true (nurse_cells week n), count-nurse_cells)
 
     assignments-le : KeepsOneCell week roster → n < week.nurses → assignments_of week roster n ≤ 7
     assignments-le one n_in =

@@ -49,6 +49,7 @@ impl RunTaker for ItemCounts {
 }
 
 /// The numbers of the soft rules' items and slacks.
+#[tactic(auto, using(crate::proofs::ItemCounting::week_counted))]
 pub fn count_soft_items(instance: &Instance) -> ItemCounts
     requires limits { IsInstance instance.now }
     ensures items { result.items ≡ length (soft_items (week_of instance.now)) }

@@ -10,7 +10,7 @@ use crate::hard::row_walk::row_where;
 use rota_core::{Instance, Rule};
 
 /// The least number of nurses, for each day, shift type and skill, where one is asked for.
-#[tactic(auto, using(crate::proofs::Walking::walking_rows))]
+#[tactic(auto, using(crate::proofs::Taking::taking), unfolding(crate::specs::RowValues::numbered_rows))]
 pub fn walk<T: RowTaker>(instance: &Instance, taker: &mut T) -> Result<(), T::Fault>
     ensures { let week = week_of instance.now in
         TakesRows T.RowTaker week (h2_rows week) taker.old taker.new result }

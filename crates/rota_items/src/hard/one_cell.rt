@@ -9,7 +9,7 @@ use crate::hard::row_takers::{HardRow, RowTaker};
 use rota_core::{Instance, Rule};
 
 /// At most one cell for each nurse and day.
-#[tactic(auto, using(crate::proofs::Walking::walking_rows))]
+#[tactic(auto, using(crate::proofs::Taking::taking), unfolding(crate::specs::RowValues::numbered_rows))]
 pub fn walk<T: RowTaker>(instance: &Instance, taker: &mut T) -> Result<(), T::Fault>
     ensures { let week = week_of instance.now in
         TakesRows T.RowTaker week (h1_rows week) taker.old taker.new result }

@@ -9,7 +9,7 @@ use crate::hard::row_walk::row_where;
 use rota_core::{Instance, Rule};
 
 /// No cell of a nurse that needs a skill, for each nurse and skill that she lacks.
-#[tactic(auto, using(crate::proofs::Walking::walking_rows))]
+#[tactic(auto, using(crate::proofs::Taking::taking), unfolding(crate::specs::RowValues::numbered_rows))]
 pub fn walk<T: RowTaker>(instance: &Instance, taker: &mut T) -> Result<(), T::Fault>
     ensures { let week = week_of instance.now in
         TakesRows T.RowTaker week (h4_rows week) taker.old taker.new result }

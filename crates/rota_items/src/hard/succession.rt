@@ -24,7 +24,7 @@ fn forbidden_on_monday(instance: &Instance, nurse: u16, shift: u8) -> bool
 }
 
 // The shift types that a nurse may not have on Monday, after the last one of the history.
-#[tactic(auto, using(crate::proofs::Walking::walking_rows))]
+#[tactic(auto, using(crate::proofs::Taking::taking), unfolding(crate::specs::RowValues::numbered_rows))]
 fn walk_monday<T: RowTaker>(instance: &Instance, taker: &mut T, nurse: u16) -> Result<(), T::Fault>
     requires nurse_in { nurse < (week_of instance.now).nurses }
     ensures { let week = week_of instance.now in
@@ -51,7 +51,7 @@ fn walk_monday<T: RowTaker>(instance: &Instance, taker: &mut T, nurse: u16) -> R
 }
 
 // Not both shift types on a day and the next, where the second may not follow the first.
-#[tactic(auto, using(crate::proofs::Walking::walking_rows))]
+#[tactic(auto, using(crate::proofs::Taking::taking), unfolding(crate::specs::RowValues::numbered_rows))]
 fn walk_between<T: RowTaker>(
     instance: &Instance,
     taker: &mut T,
@@ -82,7 +82,7 @@ fn walk_between<T: RowTaker>(
 }
 
 // The forbidden successions of a nurse.
-#[tactic(auto, using(crate::proofs::Walking::walking_rows))]
+#[tactic(auto, using(crate::proofs::Taking::taking), unfolding(crate::specs::RowValues::numbered_rows))]
 fn walk_nurse<T: RowTaker>(instance: &Instance, taker: &mut T, nurse: u16) -> Result<(), T::Fault>
     requires nurse_in { nurse < (week_of instance.now).nurses }
     ensures { let week = week_of instance.now in
@@ -96,7 +96,7 @@ fn walk_nurse<T: RowTaker>(instance: &Instance, taker: &mut T, nurse: u16) -> Re
 }
 
 /// No forbidden succession of shift types.
-#[tactic(auto, using(crate::proofs::Walking::walking_rows))]
+#[tactic(auto, using(crate::proofs::Taking::taking), unfolding(crate::specs::RowValues::numbered_rows))]
 pub fn walk<T: RowTaker>(instance: &Instance, taker: &mut T) -> Result<(), T::Fault>
     ensures { let week = week_of instance.now in
         TakesRows T.RowTaker week (h3_rows week) taker.old taker.new result }

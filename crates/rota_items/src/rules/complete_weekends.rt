@@ -15,7 +15,7 @@ use rota_core::{Instance, Rule};
 const WEIGHT: u16 = 30;
 
 /// Saturday without Sunday, and Sunday without Saturday, where the contract asks for complete weekends.
-#[tactic(auto, using(crate::proofs::Walking::walking))]
+#[tactic(auto, using(crate::proofs::Taking::taking), unfolding(crate::specs::ItemTaking::numbered_list))]
 pub fn walk<T: ItemTaker>(instance: &Instance, taker: &mut T, nurse: u16) -> Result<(), T::Fault>
     requires nurse_in { nurse < (week_of instance.now).nurses }
     ensures { let week = week_of instance.now in

@@ -69,7 +69,7 @@ fn work_runs(instance: &Instance, nurse: u16) -> NurseRuns
 }
 
 /// A nurse's runs on each shift type, then those of working days.
-#[tactic(auto, using(crate::proofs::Walking::walking))]
+#[tactic(auto, using(crate::proofs::Taking::taking), unfolding(crate::specs::ItemTaking::numbered_list))]
 pub fn walk<T: RunTaker>(instance: &Instance, taker: &mut T, nurse: u16) -> Result<(), T::Fault>
     requires nurse_in { nurse < (week_of instance.now).nurses }
     ensures { let week = week_of instance.now in

@@ -15,7 +15,7 @@ const WEIGHT: u32 = 30;
 
 /// Each nurse missing below the optimal number, for each day, shift type and skill where it is above the
 /// least.
-#[tactic(auto, using(crate::proofs::Walking::walking))]
+#[tactic(auto, using(crate::proofs::Taking::taking), unfolding(crate::specs::ItemTaking::numbered_list))]
 pub fn walk<T: ItemTaker>(instance: &Instance, taker: &mut T) -> Result<(), T::Fault>
     ensures { let week = week_of instance.now in
         TakesItems T.ItemTaker week (optimum_items week) taker.old taker.new result }

@@ -46,7 +46,7 @@ fn give_terms_on<T: Taker>(
 }
 
 /// The terms of the request rows, by rising cell.
-#[tactic(auto, using(crate::proofs::Taking::taking))]
+#[tactic(auto, using(crate::proofs::Taking::taking), unfolding(crate::specs::CellEvents::cell_term_events, crate::specs::Events::term_events))]
 pub fn give_terms<T: Taker>(instance: &Instance, taker: &mut T) -> Result<(), T::Fault>
     ensures { let week = week_of instance.now in
         Takes T.Taker (cell_term_events week (request_terms week)) taker.old taker.new result }

@@ -27,7 +27,7 @@ fn is_charged(instance: &Instance, nurse: u16) -> bool
 }
 
 /// Work on Saturday, and on Sunday without Saturday, where it is charged.
-#[tactic(auto, using(crate::proofs::Walking::walking))]
+#[tactic(auto, using(crate::proofs::Taking::taking), unfolding(crate::specs::ItemTaking::numbered_list))]
 pub fn walk<T: ItemTaker>(instance: &Instance, taker: &mut T, nurse: u16) -> Result<(), T::Fault>
     requires nurse_in { nurse < (week_of instance.now).nurses }
     ensures { let week = week_of instance.now in

@@ -35,7 +35,7 @@ pub fn walk_pattern<T: ItemTaker>(
 }
 
 // The windows of the week.
-#[tactic(auto, using(crate::proofs::Walking::walking))]
+#[tactic(auto, using(crate::proofs::Taking::taking), unfolding(crate::specs::ItemTaking::numbered_list))]
 fn walk_windows<T: ItemTaker>(
     instance: &Instance,
     taker: &mut T,
@@ -54,7 +54,7 @@ fn walk_windows<T: ItemTaker>(
 }
 
 // The runs that end before a day.
-#[tactic(auto, using(crate::proofs::Walking::walking))]
+#[tactic(auto, using(crate::proofs::Taking::taking), unfolding(crate::specs::ItemTaking::numbered_list))]
 fn walk_patterns_on<T: ItemTaker>(
     instance: &Instance,
     taker: &mut T,
@@ -76,7 +76,7 @@ fn walk_patterns_on<T: ItemTaker>(
 }
 
 // The runs that end in the week.
-#[tactic(auto, using(crate::proofs::Walking::walking))]
+#[tactic(auto, using(crate::proofs::Taking::taking), unfolding(crate::specs::ItemTaking::numbered_list))]
 fn walk_patterns<T: ItemTaker>(
     instance: &Instance,
     taker: &mut T,

@@ -1,4 +1,4 @@
-use Rattle.rota_items.proofs.Common.{to_z_pos, only_if-fails, only_if-holds, ◌≡◌, pos, nat_lt, true, false, ap, ◌∙◌, w64, arith, week_of, nothing, numbers_join, term_takes, constant}
+use Rattle.rota_items.proofs.Common.{to_z_pos, only_if-fails, only_if-holds, ◌≡◌, pos, nat_lt, true, false, ap, ◌∙◌, w64, arith, week_of, nothing, numbers_join, takes_one, term_events, constant}
 use Rattle.rota_items.proofs.RuleSizes.{few-constant}
 use Rattle.rota_items.proofs.objective.give_constant.Goals as goal
 
@@ -8,9 +8,10 @@ returns-then-constant-eq0 g c =
     rw (only_if-fails _ _ none) (nothing numbers_join _)
 
 pub returns : goal.returns
+unfolding term_events
 returns g c =
     let week = week_of c.args.instance.now in
     let few = few-constant c.args.instance.now c.unit_var-unit.ensures.limits in
     let exact = to_z_pos w64 c.constant-constant.result (omega (arith, c.constant-constant.ensures, few)) ∙ ap pos c.constant-constant.ensures in
     let some : nat_lt 0 (constant week) ≡ true = grind (arith, c.constant-constant.ensures) in
-    rw (only_if-holds _ _ some) (term_takes g.T.Taker _ _ _ _ _ (rw (exact, c.unit_var-unit.ensures.number) at c.term.ensures))
+    rw (only_if-holds _ _ some) (takes_one _ _ _ _ _ _ _ (rw (exact, c.unit_var-unit.ensures.number) at c.term.ensures))

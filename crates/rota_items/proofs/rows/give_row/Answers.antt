@@ -1,4 +1,4 @@
-use Rattle.rota_items.proofs.Common.{◌≡◌, w64, to_z, of_z, rules, to_z-of_z, cell_term_events, both, go_on, numbers_join, row-is, row_closed, row_refused, row_unstarted, stop}
+use Rattle.rota_items.proofs.Common.{w64, rules, to_z-of_z, cell_term_events, both, go_on, numbers_join, row-is, row_closed, row_refused, row_unstarted, stop}
 use Rattle.rota_items.proofs.rows.give_row.Goals as goal
 
 pub returns-in_err-start_row : goal.returns-in_err-start_row
@@ -19,7 +19,6 @@ returns-in_err-give_range g c =
 pub returns : goal.returns
 unfolding cell_term_events
 returns g c =
-    let degree = c.args.row.degree in
-    let exact : to_z w64 (of_z w64 degree) ≡ degree = to_z-of_z w64 degree (search rules) in
+    let exact = to_z-of_z w64 c.args.row.degree (search rules) in
     row_closed g.T.Taker (row-is _) _ _ _ _ _ c.in_ok-start_row.ensures
     (both numbers_join _ _ _ _ _ c.in_ok-give_sum.ensures c.in_ok-give_range.ensures) (rw exact at c.close_row.ensures)

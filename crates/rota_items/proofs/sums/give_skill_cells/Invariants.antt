@@ -1,4 +1,4 @@
-use Rattle.rota_items.proofs.Common.{cell, [], ◌∷◌, week_of, sum_events, each_below, Took, Minus}
+use Rattle.rota_items.proofs.Common.{[], cell, ◌∷◌, week_of, sum_events, each_below, Took, Minus}
 use Rattle.rota_items.proofs.sums.give_skill_cells.Given as goal
 
 abbrev pub invariant-loop-day : goal.invariant-loop-day

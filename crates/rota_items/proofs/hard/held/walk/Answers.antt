@@ -1,11 +1,6 @@
-use Rattle.rota_items.proofs.Common.{◌∙◌, ◌∷◌, [], map, subst, week_of, append_assoc, h5_row, both, exits, go_on, nothing, rows_join, stop, numbered_rows, RefusedOne, Refused-one, held_join}
+use Rattle.rota_items.proofs.Common.{◌∷◌, [], map, subst, week_of, h5_row, arith, exits, go_on, stop, numbered_rows, RefusedOne, Refused-one, held_join}
+use Rattle.rota_items.proofs.Walking.{walking_held}
 use Rattle.rota_items.proofs.hard.held.walk.Goals as goal
-
-pub loop-cell-init : goal.loop-cell-init
-loop-cell-init g c = record {
-  taken = nothing (rows_join _) _;
-  left = c.into_iter-cell-iterator.ensures.into_iter_gives ∙ c.held_cells-cell-items.ensures.cells;
-}
 
 pub returns-in_err-row : goal.returns-in_err-row
 unfolding numbered_rows
@@ -20,8 +15,4 @@ returns-in_err-row g c =
 
 pub loop-cell-preserved : goal.loop-cell-preserved
 unfolding numbered_rows
-loop-cell-preserved g c = record {
-  taken = both (held_join (week_of c.args.instance.now)) c.loop-cell.yielded (c.in-Some.cell ∷ []) _ _ _ c.loop-cell.invariant.taken (record { value_is = c.in_ok-row.ensures });
-  left = append_assoc c.loop-cell.yielded (c.in-Some.cell ∷ []) c.next.new.self ∙
-      (rw c.in-Some.ensures.steps at c.loop-cell.invariant.left);
-}
+loop-cell-preserved g c = grind (arith, walking_held)

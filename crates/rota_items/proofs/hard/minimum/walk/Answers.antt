@@ -1,5 +1,5 @@
-use Rattle.rota_items.proofs.Common.{rules, w64, to_z-of_z, arith, exits, loop_refused, rows_join}
-use Rattle.rota_items.proofs.Walking.{walking_rows}
+use Rattle.rota_items.proofs.Common.{rules, w64, to_z-of_z, arith, exits, loop_refused, rows_join, numbered_rows}
+use Rattle.rota_items.proofs.Taking.{taking}
 use Rattle.rota_items.proofs.hard.minimum.walk.Goals as goal
 
 pub returns-in_err-row_where : goal.returns-in_err-row_where
@@ -10,10 +10,13 @@ returns-in_err-row_where g c =
     (loop_refused (rows_join _) _ _ _ _ _ _ (omega arith) c.loop-skill.invariant (rw (to_z-of_z w64 c.from.result (search rules), c.from.ensures, c.demand-minimum.ensures) at c.in_err-row_where.ensures))))
 
 pub loop-skill-preserved : goal.loop-skill-preserved
-loop-skill-preserved g c = grind (arith, walking_rows)
+unfolding numbered_rows
+loop-skill-preserved g c = grind (arith, taking)
 
 pub loop-shift-preserved : goal.loop-shift-preserved
-loop-shift-preserved g c = grind (arith, walking_rows)
+unfolding numbered_rows
+loop-shift-preserved g c = grind (arith, taking)
 
 pub loop-day-preserved : goal.loop-day-preserved
-loop-day-preserved g c = grind (arith, walking_rows)
+unfolding numbered_rows
+loop-day-preserved g c = grind (arith, taking)

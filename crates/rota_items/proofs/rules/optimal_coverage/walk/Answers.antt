@@ -1,5 +1,5 @@
-use Rattle.rota_items.proofs.Common.{rules, w64, to_z-of_z, arith, exits, loop_refused, items_join}
-use Rattle.rota_items.proofs.Walking.{walking}
+use Rattle.rota_items.proofs.Common.{rules, w64, to_z-of_z, arith, exits, loop_refused, items_join, numbered_list}
+use Rattle.rota_items.proofs.Taking.{taking}
 use Rattle.rota_items.proofs.rules.optimal_coverage.walk.Goals as goal
 
 pub returns-in_err-item_where : goal.returns-in_err-item_where
@@ -12,10 +12,13 @@ returns-in_err-item_where g c =
     (rw (c.from.ensures, c.saturating_sub.ensures, c.demand-demand.ensures) at exact))))
 
 pub loop-skill-preserved : goal.loop-skill-preserved
-loop-skill-preserved g c = grind (arith, walking)
+unfolding numbered_list
+loop-skill-preserved g c = grind (arith, taking)
 
 pub loop-shift-preserved : goal.loop-shift-preserved
-loop-shift-preserved g c = grind (arith, walking)
+unfolding numbered_list
+loop-shift-preserved g c = grind (arith, taking)
 
 pub loop-day-preserved : goal.loop-day-preserved
-loop-day-preserved g c = grind (arith, walking)
+unfolding numbered_list
+loop-day-preserved g c = grind (arith, taking)

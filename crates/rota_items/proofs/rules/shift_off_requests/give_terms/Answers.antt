@@ -1,4 +1,4 @@
-use Rattle.rota_items.proofs.Common.{arith, exits, loop_refused, terms_join}
+use Rattle.rota_items.proofs.Common.{arith, exits, loop_refused, terms_join, cell_term_events, term_events}
 use Rattle.rota_items.proofs.Taking.{taking}
 use Rattle.rota_items.proofs.rules.shift_off_requests.give_terms.Goals as goal
 
@@ -10,10 +10,13 @@ returns-in_err-give_terms_on g c =
     (loop_refused (terms_join _) _ _ _ _ _ _ (omega arith) c.loop-shift.invariant c.in_err-give_terms_on.ensures)))
 
 pub loop-shift-preserved : goal.loop-shift-preserved
+unfolding cell_term_events term_events
 loop-shift-preserved g c = grind (arith, taking)
 
 pub loop-day-preserved : goal.loop-day-preserved
+unfolding cell_term_events term_events
 loop-day-preserved g c = grind (arith, taking)
 
 pub loop-nurse-preserved : goal.loop-nurse-preserved
+unfolding cell_term_events term_events
 loop-nurse-preserved g c = grind (arith, taking)

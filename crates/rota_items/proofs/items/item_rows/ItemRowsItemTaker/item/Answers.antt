@@ -1,10 +1,9 @@
-use Rattle.rota_items.proofs.Common.{◌≡◌, w64, to_z, of_z, rules, to_z-of_z, refl, MatchResult-from_err}
+use Rattle.rota_items.proofs.Common.{w64, rules, to_z-of_z, refl, MatchResult-from_err}
 use Rattle.rota_items.proofs.items.item_rows.ItemRowsItemTaker.item.Goals as goal
 
 pub returns-in_err-give_row : goal.returns-in_err-give_row
 returns-in_err-give_row g c =
-    let degree = c.args.item.degree in
-    let exact : to_z w64 (of_z w64 degree) ≡ degree = to_z-of_z w64 degree (search rules) in
+    let exact = to_z-of_z w64 c.args.item.degree (search rules) in
     MatchResult-from_err _ _ _ c.from_residual.ensures.0
     (λ _. record {
       same_taker = refl;

@@ -1,5 +1,5 @@
 use Rattle.rota_items.proofs.Common.{◌<◌, ◌∙◌, arith, le-ltb, week_of, unit_number}
-use Rattle.rota_items.proofs.AssignmentOf.{place-assigned}
+use Rattle.rota_items.proofs.Numbers.{place-assigned}
 use Rattle.rota_items.proofs.judge.judging.Judge.counts.Goals as goal
 
 pub returns-else-self-variable-2 : goal.returns-else-self-variable-2
