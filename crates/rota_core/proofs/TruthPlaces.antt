@@ -1,5 +1,5 @@
 -- The places of true values, one after another.
-use Rattle.std.proofs.Common.{◌≡◌, ℕ, suc, ◌+◌, ◌-◌, ◌<◌, Bool, true, false, List, ◌∷◌, get_or, arith}
+use Rattle.std.proofs.Common.{◌≡◌, ℕ, zero, suc, ◌+◌, ◌-◌, ◌<◌, ◌≤◌, Bool, true, false, List, ◌∷◌, get_or, ◌∙◌, arith}
 use Rattle.rota_core.specs.Bits.{true_from}
 
 -- a true value's place stands before those after it
@@ -10,8 +10,17 @@ true_from-true truths place end before truth =
     rw (more, truth)
 
 -- a false value is passed over
-pub true_from-false : (truths : List Bool) (place end : ℕ) → place < end → get_or truths place false ≡ false
+true_from-false : (truths : List Bool) (place end : ℕ) → place < end → get_or truths place false ≡ false
     → true_from truths place (end - place) ≡ true_from truths (place + 1) (end - (place + 1))
 true_from-false truths place end before truth =
     let more : end - place ≡ suc (end - (place + 1)) = omega arith in
     rw (more, truth)
+
+-- and so are n of them
+pub true_from-falses : (truths : List Bool) (n from to end : ℕ) → from + n ≡ to → to ≤ end
+    → ((k : ℕ) → from ≤ k → k < to → get_or truths k false ≡ false)
+    → true_from truths from (end - from) ≡ true_from truths to (end - to)
+true_from-falses truths zero from to end here within falses = let same : from ≡ to = omega arith in rw same
+true_from-falses truths (suc n) from to end here within falses =
+    true_from-false truths from end (omega arith) (falses from (omega arith) (omega arith)) ∙
+    true_from-falses truths n (from + 1) to end (omega arith) within (λ k after below. falses k (omega arith) below)

@@ -28,7 +28,7 @@ impl Model for Bits {
 }
 
 impl Bits {
-    ghost use Rattle.std.specs.Prelude.{◌≡◌, ◌<◌, false, true, IfOk, length, replicate, slice_index_or, slice_set};
+    ghost use Rattle.std.specs.Prelude.{◌≡◌, ℕ, ◌+◌, ◌<◌, ◌≤◌, false, true, IfOk, length, replicate, slice_index_or, slice_set};
 
     /// A list of `len` truth values, all false.
     pub fn new(alloc: Global, len: u32) -> Result<Bits, AllocError>
@@ -52,6 +52,17 @@ impl Bits {
     {
         let word = self.words[place as usize / 64];
         (word >> (place % 64)) & 1 == 1
+    }
+
+    /// How many values are false from the place on, up to the next true one of its word or else to the word's end.
+    pub(crate) fn falses_from(&self, place: u32) -> u32
+        requires { place < length self.now }
+        ensures falses { (k : ℕ) → place ≤ k → k < place + result → slice_index_or self.now k false ≡ false }
+        ensures none { result ≡ 0 → slice_index_or self.now place false ≡ true }
+    {
+        let column = place % 64;
+        let rest = self.words[place as usize / 64] >> column;
+        rest.trailing_zeros().min(64 - column)
     }
 
     /// Makes the truth value at the place true.

@@ -188,7 +188,7 @@ impl Instance {
     {
         match &self.held {
             Some(roster) => roster.cells(),
-            None => Cells::none(),
+            None => Cells::at(None, self.shifts(), self.skills()),
         }
     }
 

@@ -124,7 +124,8 @@ impl Roster {
         ensures { result ≡ cells_in self.now }
     {
         let count = count_of_places(self.nurses, self.shifts, self.skills);
-        Cells::at(self.bits.true_places_below(count), self.shifts, self.skills)
+        let places = self.bits.true_places_below(count);
+        Cells::at(Some(places), self.shifts, self.skills)
     }
 
     /// How many cells are in the roster.

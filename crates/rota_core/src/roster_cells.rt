@@ -1,8 +1,8 @@
 //! The cells of a roster, one after another.
-ghost use Rattle.std.specs.Prelude.{◌≡◌, [], map};
+ghost use Rattle.std.specs.Prelude.{◌≡◌, map};
 ghost use Rattle.std.specs.Iterator.{YieldsFirst, item_count};
 ghost use Rattle.rota_core.specs.RosterCells.{cell_at};
-ghost use Rattle.rota_core.specs.RosterCalls.{ArePlaces};
+ghost use Rattle.rota_core.specs.RosterCalls.{ArePlaces, places_given};
 
 use crate::cell_places::cell_of_place;
 use crate::true_places::TruePlaces;
@@ -32,24 +32,13 @@ impl<'a> Model for Cells<'a> {
 }
 
 impl<'a> Cells<'a> {
-    /// No cells.
-    pub(crate) fn none() -> Cells<'a>
-        ensures { result ≡ [] }
+    /// Those at the places, if any, where there are these numbers of shift types and skills.
+    pub(crate) fn at(places: Option<TruePlaces<'a>>, shifts: u8, skills: u8) -> Cells<'a>
+        requires { ArePlaces shifts skills (places_given places) }
+        ensures { result ≡ map (cell_at shifts skills) (places_given places.entry) }
     {
         Cells {
-            places: None,
-            shifts: 1,
-            skills: 1,
-        }
-    }
-
-    /// Those at the places, where there are these numbers of shift types and skills.
-    pub(crate) fn at(places: TruePlaces<'a>, shifts: u8, skills: u8) -> Cells<'a>
-        requires { ArePlaces shifts skills places }
-        ensures { result ≡ map (cell_at shifts skills) places.entry }
-    {
-        Cells {
-            places: Some(places),
+            places,
             shifts,
             skills,
         }

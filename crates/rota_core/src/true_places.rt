@@ -57,10 +57,12 @@ impl<'a> Iterator for TruePlaces<'a> {
         let end = self.end;
         while self.next < end {
             let place = self.next;
-            self.next += 1;
-            if self.bits.get(place) {
+            let falses = self.bits.falses_from(place);
+            if falses == 0 {
+                self.next += 1;
                 return Some(place);
             }
+            self.next += falses.min(end - place);
         }
         None
     }

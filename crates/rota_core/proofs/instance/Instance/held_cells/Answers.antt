@@ -14,4 +14,4 @@ returns-in-Some-clause-inside c =
     (rw (← c.self.view_is) (held-inside _ c.self.invariant))
 
 pub returns-in-None-clause-cells : goal.returns-in-None-clause-cells
-returns-in-None-clause-cells c = rw (← c.self.view_is) (c.none.ensures ∙ cells-none_held _ c.self.invariant c.in-None.is)
+returns-in-None-clause-cells c = rw (← c.self.view_is) (c.at.ensures ∙ cells-none_held _ c.self.invariant c.in-None.is)
