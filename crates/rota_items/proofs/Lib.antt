@@ -47,4 +47,3 @@ pub mod SoundTerms
 pub mod Standing
 pub mod Taking
 pub mod VerdictMeaning
-pub mod Walking

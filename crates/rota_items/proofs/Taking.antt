@@ -1,5 +1,6 @@
 -- How what a taker took grows, call by call and loop by loop.
-use Rattle.rota_items.proofs.Common.Words.{◌≡◌, ℕ, ◌<◌, List, [], ◌∷◌, ◌++◌, Result, MatchResult, refl, sym, ap, ◌∙◌, append_assoc, append-nil, map-append, flat_map-append, fold-append, MatchResult-from_err, MatchResult-weaker, fold, ℤ, IsErr, each_below-zero, each_below-more, each_below, Week, Cell, cell_number, Term, times, LinearRow, numbered_row, numbered_terms, cell_term_events, numbered_rows, coefficient_of, sum_events, start_row, term, close_row, row_events, term_events, events, TookAll, RefusedOne, TakesAll, Took, Refused, Takes, Sign, Ghosts, in_turn, Event, Part}
+use Rattle.rota_items.proofs.Common.Words.{◌≡◌, ℕ, ◌<◌, List, [], ◌∷◌, ◌++◌, Result, MatchResult, refl, sym, ap, ◌∙◌, append_assoc, append-nil, map-append, flat_map-append, fold-append, MatchResult-from_err, MatchResult-weaker, fold, ℤ, IsErr, each_below-zero, each_below-more, each_below, Week, Cell, cell_number, Term, times, LinearRow, numbered_row, numbered_terms, cell_term_events, numbered_rows, coefficient_of, sum_events, start_row, term, close_row, row_events, term_events, events, TookAll, RefusedOne, TakesAll, Took, Refused, Takes, Sign, Ghosts, in_turn, Event, Part, suc, map, get_or, take, drop, length, subst, take-append-drop, flat_map, h5_row, numbered, numbered_list}
+use Rattle.std.proofs.Math.Seq.{drop-cons}
 
 -- ---- what makes events of a list, element by element
 
@@ -36,8 +37,19 @@ pub rows_join : (week : Week) → Joins (numbered_rows week)
 unfolding numbered_rows
 rows_join week = record { none = refl; append = map-append (numbered_row week) }
 
+-- the rows of held cells, cell by cell
+pub held_join : (week : Week) → Joins (λ cells. numbered_rows week (map h5_row cells))
+unfolding numbered_rows
+held_join week = record { none = refl; append = λ xs ys. simp map-append }
+
+pub items_join : (week : Week) → Joins (numbered_list week)
+unfolding numbered_list
+items_join week = record { none = refl; append = map-append (numbered (cell_number week)) }
+
 -- what a loop needs that hands over rows, items, terms or cells, where the list of what they stand for is open
 pub ruleset taking = (each_below-zero, each_below-more, map-append, fold-append)
+
+pub ruleset taking_held = (taking, append_assoc)
 
 -- the list is the events of one row: it begins, these terms follow, and the degree ends it
 pub record IsRow (all : List Event) (part : Part) (terms : List Event) (degree : ℤ) : Type 0 where
@@ -112,6 +124,16 @@ module _ {S V E : Type 0} {value : S → V} {step : V → E → V} {left : V →
     pub loop_ended : (i n : ℕ) (f : ℕ → List A) (s t : S) → i ≡ n → TookAll value step left (h (each_below i f)) s t →
         TookAll value step left (h (each_below n f)) s t
     loop_ended i n f s t e p = rw (← e) p
+
+    -- refused at an element of a list: the elements before it were taken
+    pub list_refused : {X : Type 0} (f : X → List A) (xs : List X) (i : ℕ) (other : X) (s t u : S) → i < length xs →
+        TookAll value step left (h (flat_map f (take i xs))) s t → RefusedOne value step left (h (f (get_or xs i other))) t u →
+        RefusedOne value step left (h (flat_map f xs)) s u
+    list_refused f xs i other s t u below before here =
+        let rest = flat_map f (drop (suc i) xs) in
+        subst (λ ys. RefusedOne value step left (h (flat_map f ys)) s u) (take-append-drop i xs)
+        (rw (drop-cons xs i other below, flat_map-append f (take i xs) (get_or xs i other ∷ drop (suc i) xs))
+        (go_on _ (f (get_or xs i other) ++ rest) s t u before (stop _ rest t u here)))
 
     pub nothing : (s : S) → TookAll value step left (h []) s s
     nothing s = rw joins.none (Took-none s)

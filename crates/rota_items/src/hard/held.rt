@@ -8,7 +8,7 @@ use crate::hard::row_takers::{HardRow, RowTaker};
 use rota_core::{Instance, Rule};
 
 /// Each held cell, by rising variable.
-#[tactic(auto, using(crate::proofs::Walking::walking_held), unfolding(crate::specs::RowValues::numbered_rows))]
+#[tactic(auto, using(crate::proofs::Taking::taking_held), unfolding(crate::specs::RowValues::numbered_rows))]
 pub fn walk<T: RowTaker>(instance: &Instance, taker: &mut T) -> Result<(), T::Fault>
     ensures { let week = week_of instance.now in
         TakesRows T.RowTaker week (h5_rows week) taker.old taker.new result }

@@ -1,5 +1,4 @@
-use Rattle.rota_items.proofs.Common.{arith, exits, loop_refused, items_join, numbered_list}
-use Rattle.rota_items.proofs.Taking.{taking}
+use Rattle.rota_items.proofs.Common.{arith, exits, loop_refused, items_join, numbered_list, taking}
 use Rattle.rota_items.proofs.rules.walk_nurses.Goals as goal
 
 pub returns-in_err-walk_nurse : goal.returns-in_err-walk_nurse

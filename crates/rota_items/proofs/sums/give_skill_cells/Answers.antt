@@ -1,5 +1,4 @@
-use Rattle.rota_items.proofs.Common.{arith, exits, cell_refused, cells_join, loop_refused, Minus, cell_term_events, term_events}
-use Rattle.rota_items.proofs.Taking.{taking}
+use Rattle.rota_items.proofs.Common.{arith, exits, cell_refused, cells_join, loop_refused, Minus, cell_term_events, term_events, taking}
 use Rattle.rota_items.proofs.sums.give_skill_cells.Goals as goal
 
 pub returns-in_err-term : goal.returns-in_err-term

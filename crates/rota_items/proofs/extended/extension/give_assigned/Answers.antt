@@ -1,9 +1,8 @@
-use Rattle.rota_items.proofs.Common.{◌≡◌, ◌+◌, ◌∙◌, ap, sym, refl, true, arith, exits, unit_number, week_of}
+use Rattle.rota_items.proofs.Common.{◌≡◌, ◌+◌, ◌∙◌, ap, sym, refl, true, arith, exits, unit_number, week_of, taking}
 use Rattle.rota_core.specs.RosterTables.{set_of}
 use Rattle.rota_items.specs.WeekModel.{assignment_of}
 use Rattle.rota_items.proofs.Numbers.{assignment_of-unit, place-assigned}
 use Rattle.rota_items.proofs.LiteralTaking.{literals_end, literals_refused}
-use Rattle.rota_items.proofs.Taking.{taking}
 use Rattle.rota_items.proofs.extended.extension.give_assigned.Goals as goal
 
 pub has_place-requires : goal.has_place-requires

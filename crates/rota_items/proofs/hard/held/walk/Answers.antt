@@ -1,5 +1,4 @@
-use Rattle.rota_items.proofs.Common.{◌∷◌, [], map, subst, week_of, h5_row, arith, exits, go_on, stop, numbered_rows, RefusedOne, Refused-one, held_join}
-use Rattle.rota_items.proofs.Walking.{walking_held}
+use Rattle.rota_items.proofs.Common.{◌∷◌, [], map, subst, week_of, h5_row, arith, exits, go_on, stop, numbered_rows, RefusedOne, Refused-one, held_join, taking_held}
 use Rattle.rota_items.proofs.hard.held.walk.Goals as goal
 
 pub returns-in_err-row : goal.returns-in_err-row
@@ -15,4 +14,4 @@ returns-in_err-row g c =
 
 pub loop-cell-preserved : goal.loop-cell-preserved
 unfolding numbered_rows
-loop-cell-preserved g c = grind (arith, walking_held)
+loop-cell-preserved g c = grind (arith, taking_held)

@@ -1,5 +1,4 @@
-use Rattle.rota_items.proofs.Common.{rules, w64, to_z-of_z, arith, exits, loop_refused, rows_join, numbered_rows}
-use Rattle.rota_items.proofs.Taking.{taking}
+use Rattle.rota_items.proofs.Common.{rules, w64, to_z-of_z, arith, exits, loop_refused, rows_join, numbered_rows, taking}
 use Rattle.rota_items.proofs.hard.minimum.walk.Goals as goal
 
 pub returns-in_err-row_where : goal.returns-in_err-row_where

@@ -1,5 +1,4 @@
-use Rattle.rota_items.proofs.Common.{rules, w64, to_z-of_z, arith, exits, loop_refused, items_join, numbered_list}
-use Rattle.rota_items.proofs.Taking.{taking}
+use Rattle.rota_items.proofs.Common.{rules, w64, to_z-of_z, arith, exits, loop_refused, items_join, numbered_list, taking}
 use Rattle.rota_items.proofs.rules.optimal_coverage.walk.Goals as goal
 
 pub returns-in_err-item_where : goal.returns-in_err-item_where

@@ -1,5 +1,4 @@
-use Rattle.rota_items.proofs.Common.{arith, exits, loop_refused, terms_join, cell_term_events, term_events}
-use Rattle.rota_items.proofs.Taking.{taking}
+use Rattle.rota_items.proofs.Common.{arith, exits, loop_refused, terms_join, cell_term_events, term_events, taking}
 use Rattle.rota_items.proofs.rules.shift_off_requests.give_terms.Goals as goal
 
 pub returns-in_err-give_terms_on : goal.returns-in_err-give_terms_on
