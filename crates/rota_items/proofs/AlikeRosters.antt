@@ -1,5 +1,6 @@
 -- Rosters with the same cells in a week keep the same hard rules, and what their costs depend on is the same.
-use Rattle.rota_items.proofs.Common.Words.{◌≡◌, ℕ, ◌<◌, Bool, if◌then◌else◌, refl, ap, subst, arith, ◌≤ℤ◌, InWeek, rule_rows, count_below, is_on, works, nurses_at, KeepsHardRules, Roster, cell, Week, Span, run_cost, run_over, run_under}
+use Rattle.rota_items.proofs.Common.Words.{◌≡◌, ℕ, ◌<◌, Bool, if◌then◌else◌, refl, ap, subst, arith, ◌≤ℤ◌, InWeek, rule_rows, count_below, is_on}
+use Rattle.rota_items.proofs.Common.Words.{works, nurses_at, KeepsHardRules, Roster, cell, Week, Span, run_cost, run_over, run_under}
 use Rattle.rota_items.specs.AlikeRosters.{AreAlike}
 use Rattle.rota_items.proofs.HardRules.EachRule.{each-row, rule_rows-hold, rule_rows-mean}
 use Rattle.rota_items.proofs.HardRules.Sound.{Holds}

@@ -4,4 +4,5 @@ unfoldable pub use Words.*
 pub use Rattle.rota_items.proofs.RisingCells.{nurse_cells-range, on_cells-range, requests-range, work_cells-range}
 pub use Rattle.rota_items.proofs.InstanceLimits.{instance-within_limits}
 pub use Rattle.rota_items.proofs.Lists.{SumOfEach}
-pub use Rattle.rota_items.proofs.Taking.{both, cell_refused, cell_taken, cells_join, events_join, exits, go_on, goes_on, held_join, items_join, list_refused, lone_row, loop_ended, loop_refused, nothing, numbers_join, row_closed, row_refused, row_unstarted, rows_join, stop, taking, taking_held, takes_one, terms_join, Refused-one, row-is}
+pub use Rattle.rota_items.proofs.Taking.{both, cell_refused, cell_taken, cells_join, events_join, exits, go_on, goes_on, held_join, items_join, list_refused, lone_row, loop_ended, loop_refused}
+pub use Rattle.rota_items.proofs.Taking.{nothing, numbers_join, row_closed, row_refused, row_unstarted, rows_join, stop, taking, taking_held, takes_one, terms_join, Refused-one, row-is}

@@ -1,5 +1,8 @@
 -- What a counter makes of a list of rows, and of the rows of a week's model.
-use Rattle.rota_items.proofs.Common.Words.{◌≡◌, ℕ, ◌+◌, ◌≤◌, min, max, Bool, true, cond, List, [], ◌∷◌, ◌++◌, map, length, refl, ap, ◌∙◌, arith, fold-append, sum_by-cons, AllByRecursion, fold, count_by, Term, LinearRow, counted, counts_of, greatest, is_constraint, no_counts, variables_in, greatest_count, start_row, close_row, term_events, row_events, events, Part, Objective, Hard, Soft, ◌<◌, sym, pos, list_any, true≢false, length-map, ◌||◌, inl, inr, ◌==◌, cases_Bool, eqb-true, Week, objective_rows, linear_constraint, rows_of, objective_terms, model_of, counts_of_model, stands_in, IsWithinLimits}
+use Rattle.rota_items.proofs.Common.Words.{◌≡◌, ℕ, ◌+◌, ◌≤◌, min, max, Bool, true, cond, List, [], ◌∷◌, ◌++◌, map, length, refl, ap, ◌∙◌, arith, fold-append, sum_by-cons, AllByRecursion}
+use Rattle.rota_items.proofs.Common.Words.{fold, count_by, Term, LinearRow, counted, counts_of, greatest, is_constraint, no_counts, variables_in, greatest_count, start_row, close_row}
+use Rattle.rota_items.proofs.Common.Words.{term_events, row_events, events, Part, Objective, Hard, Soft, ◌<◌, sym, pos, list_any, true≢false, length-map, ◌||◌, inl, inr, ◌==◌, cases_Bool}
+use Rattle.rota_items.proofs.Common.Words.{eqb-true, Week, objective_rows, linear_constraint, rows_of, objective_terms, model_of, counts_of_model, stands_in, IsWithinLimits}
 use Rattle.rota_items.specs.declared.counting.counter.Counts.{Counts}
 use Rattle.rota_items.proofs.ModelRows.{each-model_row}
 use Rattle.rota_core.specs.RisingLists.{RisesWithin}

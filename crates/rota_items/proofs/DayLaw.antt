@@ -1,5 +1,7 @@
 -- What a day's window and patterns charge is what the run costs on that day.
-use Rattle.rota_items.proofs.Common.Words.{◌≡◌, ℕ, zero, suc, ◌+◌, ◌-◌, ◌<◌, ◌≤◌, Bool, ◌&&◌, not, cond, true, ◌⊎◌, inr, List, ◌∷◌, [], ◌++◌, refl, map, ap, arith, ltb, leb, nat_lt, nat_le, list_all, range_with_len, sum_by, list_all-append, sum_by-append, nat_tests, each_below, Span, PatternDay, Pattern, with_property, without_property, days_with, windows_on, closed_patterns_at, patterns_on, run_length_before, is_over, missing_on}
+use Rattle.rota_items.proofs.Common.Words.{◌≡◌, ℕ, zero, suc, ◌+◌, ◌-◌, ◌<◌, ◌≤◌, Bool, ◌&&◌, not, cond, true, ◌⊎◌, inr, List, ◌∷◌, [], ◌++◌, refl, map, ap, arith, ltb, leb}
+use Rattle.rota_items.proofs.Common.Words.{nat_lt, nat_le, list_all, range_with_len, sum_by, list_all-append, sum_by-append, nat_tests, each_below, Span, PatternDay, Pattern}
+use Rattle.rota_items.proofs.Common.Words.{with_property, without_property, days_with, windows_on, closed_patterns_at, patterns_on, run_length_before, is_over, missing_on}
 use Rattle.rota_items.proofs.Lists.{sum_by-only_if}
 
 -- whether the day is as the pattern says

@@ -1,5 +1,6 @@
 -- What the patterns of days stand for, and how many of their sums are plain.
-use Rattle.rota_items.proofs.Common.Words.{◌≡◌, ℕ, zero, suc, ◌+◌, ◌-◌, Bool, true, false, cond, List, map, refl, arith, bool_byte, range_with_len, count_by, sum_by-cons, sum_by-append, only_if, Week, property_of, is_plain_of, days_of, is_plain, PatternDay, with_property, DayPattern, DayProperty, Shift}
+use Rattle.rota_items.proofs.Common.Words.{◌≡◌, ℕ, zero, suc, ◌+◌, ◌-◌, Bool, true, false, cond, List, map, refl, arith, bool_byte, range_with_len, count_by, sum_by-cons, sum_by-append}
+use Rattle.rota_items.proofs.Common.Words.{only_if, Week, property_of, is_plain_of, days_of, is_plain, PatternDay, with_property, DayPattern, DayProperty, Shift}
 
 -- ---- plain sums
 

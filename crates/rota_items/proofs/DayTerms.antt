@@ -1,5 +1,7 @@
 -- The terms of a pattern's days, part by part.
-use Rattle.rota_items.proofs.Common.Words.{◌≡◌, ℕ, ◌+◌, ◌-◌, ◌≤◌, ◌<◌, List, [], ◌∷◌, ◌++◌, Result, length, ap, ◌∙◌, arith, flat_map, append-nil, flat_map-append, get_or-map-range_with_len, length-map-range_with_len, map-range_with_len_more, take-map-range_with_len, only_if, Week, Cell, Term, days_of, PatternDay, with_property, without_property, days_with, DayPattern, cell_term_events, Event, Took, Refused, Takes, Ghosts}
+use Rattle.rota_items.proofs.Common.Words.{◌≡◌, ℕ, ◌+◌, ◌-◌, ◌≤◌, ◌<◌, List, [], ◌∷◌, ◌++◌, Result, length, ap, ◌∙◌, arith, flat_map, append-nil, flat_map-append, get_or-map-range_with_len}
+use Rattle.rota_items.proofs.Common.Words.{length-map-range_with_len, map-range_with_len_more, take-map-range_with_len, only_if, Week, Cell, Term, days_of, PatternDay, with_property}
+use Rattle.rota_items.proofs.Common.Words.{without_property, days_with, DayPattern, cell_term_events, Event, Took, Refused, Takes, Ghosts}
 use Rattle.rota_items.proofs.Taking.{Joins, list_refused, terms_join, taking, nothing, both, stop, go_on, goes_on}
 
 -- what a day that may be there needs

@@ -1,5 +1,8 @@
 -- What holds of each window and pattern that charges a property's runs. Their days follow one another.
-use Rattle.rota_items.proofs.Common.Words.{◌≡◌, ℕ, zero, suc, ◌+◌, ◌-◌, ◌<◌, ◌≤◌, List, [], ◌∷◌, ◌++◌, length, map, refl, sym, ap, subst, true, arith, length-append, nat_lt, nat_le, max, ◌&&◌, All, AllByRecursion, range_with_len, length-map, All-from_recursion, length-range_with_len, AllByRecursion-append, AllByRecursion-each_below, AllByRecursion-only_if, length-each_below, length-only_if, each_below, Item, Span, PatternDay, Pattern, with_property, without_property, window, windows_on, windows, closed_pattern, closed_patterns_at, closed_patterns_on, edge_pattern, edge_patterns_on, patterns_on, patterns, DaysFollow, Runs, pattern_item, run_items, most_run_items}
+use Rattle.rota_items.proofs.Common.Words.{◌≡◌, ℕ, zero, suc, ◌+◌, ◌-◌, ◌<◌, ◌≤◌, List, [], ◌∷◌, ◌++◌, length, map, refl, sym, ap, subst, true, arith, length-append, nat_lt, nat_le, max, ◌&&◌, All, AllByRecursion}
+use Rattle.rota_items.proofs.Common.Words.{range_with_len, length-map, All-from_recursion, length-range_with_len, AllByRecursion-append, AllByRecursion-each_below, AllByRecursion-only_if, length-each_below}
+use Rattle.rota_items.proofs.Common.Words.{length-only_if, each_below, Item, Span, PatternDay, Pattern, with_property, without_property, window, windows_on, windows, closed_pattern, closed_patterns_at}
+use Rattle.rota_items.proofs.Common.Words.{closed_patterns_on, edge_pattern, edge_patterns_on, patterns_on, patterns, DaysFollow, Runs, pattern_item, run_items, most_run_items}
 use Rattle.rota_items.proofs.Lists.{length-each_below_both, all-back, all-map, all-weaker}
 
 -- ---- the days

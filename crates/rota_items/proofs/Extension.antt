@@ -1,5 +1,8 @@
 -- Rosters extend to assignments at their penalty, and satisfying assignments stand for rosters of no greater one.
-use Rattle.rota_items.proofs.Common.Words.{◌≡◌, ℕ, ◌+◌, ◌*◌, ◌<◌, ◌≤◌, Bool, true, false, cond, List, [], ◌∷◌, ◌++◌, refl, sym, ap, ◌∙◌, arith, pos, ◌+ℤ◌, ◌-ℤ◌, ◌≤ℤ◌, nat_lt, All, AllByRecursion, ints, nat_tests, lt-ltb, All-from_recursion, KeepsCompetitionRules, KeepsHardRules, Roster, InWeek, Week, Cell, cell_number, unit_number, first_slack, constant_terms, cell_terms, constant, penalty, soft_items, Item, positive_part, shortage, weighted_shortages, numbered, Term, value_of, SatisfiesModel, StandBelow, Rule, slack_weights, numbered_terms, numbered_items, objective_terms, roster_of, assignment_of, extension_of, model_of, request_cost}
+use Rattle.rota_items.proofs.Common.Words.{◌≡◌, ℕ, ◌+◌, ◌*◌, ◌<◌, ◌≤◌, Bool, true, false, cond, List, [], ◌∷◌, ◌++◌, refl, sym, ap, ◌∙◌, arith, pos, ◌+ℤ◌, ◌-ℤ◌, ◌≤ℤ◌, nat_lt, All, AllByRecursion}
+use Rattle.rota_items.proofs.Common.Words.{ints, nat_tests, lt-ltb, All-from_recursion, KeepsCompetitionRules, KeepsHardRules, Roster, InWeek, Week, Cell, cell_number, unit_number, first_slack}
+use Rattle.rota_items.proofs.Common.Words.{constant_terms, cell_terms, constant, penalty, soft_items, Item, positive_part, shortage, weighted_shortages, numbered, Term, value_of, SatisfiesModel}
+use Rattle.rota_items.proofs.Common.Words.{StandBelow, Rule, slack_weights, numbered_terms, numbered_items, objective_terms, roster_of, assignment_of, extension_of, model_of, request_cost}
 use Rattle.rota_items.proofs.AlikeRosters.{keeps-alike}
 use Rattle.rota_items.proofs.ItemLaw.{value_of-numbered, extension_satisfies, value_of-extension, weighted_shortages-le}
 use Rattle.rota_items.proofs.Lists.{all-map, sum_by-map, sum_by-same}

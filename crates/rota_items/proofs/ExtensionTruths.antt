@@ -1,5 +1,7 @@
 -- The truth values of an extension: in their parts, and each by its variable.
-use Rattle.rota_items.proofs.Common.Words.{◌≡◌, ℕ, zero, suc, ◌+◌, ◌<◌, ◌≤◌, Bool, List, [], ◌∷◌, ◌++◌, map, length, refl, sym, ap, ◌∙◌, arith, append_assoc, append-nil, flat_map, range_with_len, map-range_with_len_more, get_or-map-range_with_len, length-map-range_with_len, each_below, Roster, Week, Cell, InWeek, Item, shortage, slack_count, soft_items, cell_number, unit_number, first_slack, numbered_items, model_of, roster_of, truth_of, assignment_of, extension_of, is_slack_needed}
+use Rattle.rota_items.proofs.Common.Words.{◌≡◌, ℕ, zero, suc, ◌+◌, ◌<◌, ◌≤◌, Bool, List, [], ◌∷◌, ◌++◌, map, length, refl, sym, ap, ◌∙◌, arith, append_assoc, append-nil, flat_map, range_with_len}
+use Rattle.rota_items.proofs.Common.Words.{map-range_with_len_more, get_or-map-range_with_len, length-map-range_with_len, each_below, Roster, Week, Cell, InWeek, Item, shortage, slack_count, soft_items}
+use Rattle.rota_items.proofs.Common.Words.{cell_number, unit_number, first_slack, numbered_items, model_of, roster_of, truth_of, assignment_of, extension_of, is_slack_needed}
 use Rattle.rota_core.proofs.LogicWords.{each_below-same}
 use Rattle.rota_items.proofs.Extension.{extension-below, extension-roster}
 use Rattle.rota_items.proofs.ItemLaw.{extension-extends, needed-first, needed-after}

@@ -1,5 +1,7 @@
 -- The first row that an assignment does not satisfy: whether there is one, and the first hard rule that is broken.
-use Rattle.rota_items.proofs.Common.Words.{◌≡◌, ℕ, Bool, true, false, ◌⊎◌, inl, inr, List, [], ◌∷◌, ◌++◌, map, refl, subst, arith, Option, Some, None, ℤ, ◌≤ℤ◌, int_le, ints, cases_Bool, append-nil, MatchOption, AllByRecursion, KeepsOneCell, KeepsCompetitionRules, KeepsHardRules, FirstBroken, InWeek, Roster, Week, Rule, Cell, cell_number, unit_number, rows_of_hard_rule, Satisfies, value_of, LinearRow, linear_constraint, extension_of, hard_rows, numbered_row, numbered_terms, roster_of, NamesFirstBroken, first_unmet, later, H1, H2, H3, H4, H5}
+use Rattle.rota_items.proofs.Common.Words.{◌≡◌, ℕ, Bool, true, false, ◌⊎◌, inl, inr, List, [], ◌∷◌, ◌++◌, map, refl, subst, arith, Option, Some, None, ℤ, ◌≤ℤ◌, int_le, ints, cases_Bool, append-nil, MatchOption}
+use Rattle.rota_items.proofs.Common.Words.{AllByRecursion, KeepsOneCell, KeepsCompetitionRules, KeepsHardRules, FirstBroken, InWeek, Roster, Week, Rule, Cell, cell_number, unit_number, rows_of_hard_rule, Satisfies}
+use Rattle.rota_items.proofs.Common.Words.{value_of, LinearRow, linear_constraint, extension_of, hard_rows, numbered_row, numbered_terms, roster_of, NamesFirstBroken, first_unmet, later, H1, H2, H3, H4, H5}
 use Rattle.rota_items.proofs.Extension.{extension-roster, extension-unit, value_of-of_terms}
 use Rattle.rota_items.proofs.HardRules.EachRule.{held, minimum, one_cell, skills}
 use Rattle.rota_items.proofs.HardRules.Sound.{AllHold, IsHardRuleSound, IsRowSound, Keeps}

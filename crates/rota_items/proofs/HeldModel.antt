@@ -1,5 +1,6 @@
 -- Holding cells adds to the model only that each of them is true.
-use Rattle.rota_items.proofs.Common.Words.{◌≡◌, ◌↔◌, ℕ, ◌+◌, Bool, false, [], map, length, ap, arith, rules, length-map, length-flat_map, KeepsCompetitionRules, KeepsHeld, Has, Roster, hard_rules, Week, Cell, rows_of_hard_rule, SatisfiesModel, linear_constraint, model_of, roster_of, rows_of, cells_of, h5_row, h5_rows, without_held, List, ◌∷◌, sym, refl, true≢false, AllByRecursion}
+use Rattle.rota_items.proofs.Common.Words.{◌≡◌, ◌↔◌, ℕ, ◌+◌, Bool, false, [], map, length, ap, arith, rules, length-map, length-flat_map, KeepsCompetitionRules, KeepsHeld, Has, Roster, hard_rules, Week, Cell}
+use Rattle.rota_items.proofs.Common.Words.{rows_of_hard_rule, SatisfiesModel, linear_constraint, model_of, roster_of, rows_of, cells_of, h5_row, h5_rows, without_held, List, ◌∷◌, sym, refl, true≢false, AllByRecursion}
 use Rattle.rota_items.proofs.SlackBound.{length-rows_of}
 use Rattle.rota_items.proofs.HardRules.EachRule.{cells-are}
 use Rattle.rota_items.proofs.Satisfied.{model-means}

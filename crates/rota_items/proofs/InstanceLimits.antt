@@ -1,5 +1,6 @@
 -- The numbers of an instance's week are within the limits that the model's numbers are bounded by.
-use Rattle.rota_items.proofs.Common.Words.{rules, ℕ, zero, suc, ◌≤◌, List, [], ◌∷◌, arith, slice_index_or, AllByRecursion, InstanceTables, IsInstance, week_of, AreLimits, IsContract, no_span, no_demand, no_past, IsDemand, IsPast, IsWithinLimits, most_number}
+use Rattle.rota_items.proofs.Common.Words.{rules, ℕ, zero, suc, ◌≤◌, List, [], ◌∷◌, arith, slice_index_or, AllByRecursion, InstanceTables, IsInstance}
+use Rattle.rota_items.proofs.Common.Words.{week_of, AreLimits, IsContract, no_span, no_demand, no_past, IsDemand, IsPast, IsWithinLimits, most_number}
 
 -- what holds of each element and of the default holds at any place
 pub AllByRecursion-or_default : {X : Type 0} (P : X → Type 0) (xs : List X) (i : ℕ) (default : X) →

@@ -1,5 +1,6 @@
 -- What a counter makes of a list of items.
-use Rattle.rota_items.proofs.Common.Words.{◌≡◌, ℕ, ◌+◌, ◌<◌, List, [], ◌∷◌, ◌++◌, map, length, refl, ◌∙◌, arith, length-append, fold, length-map, InstanceTables, IsInstance, week_of, Week, Cell, soft_items, Item, numbered, slack_count, cell_number, Runs, pattern_item, run_items, patterns, windows, word_limit, numbered_list, ItemNumbers, sum_within, with_one}
+use Rattle.rota_items.proofs.Common.Words.{◌≡◌, ℕ, ◌+◌, ◌<◌, List, [], ◌∷◌, ◌++◌, map, length, refl, ◌∙◌, arith, length-append, fold, length-map, InstanceTables, IsInstance, week_of, Week, Cell, soft_items}
+use Rattle.rota_items.proofs.Common.Words.{Item, numbered, slack_count, cell_number, Runs, pattern_item, run_items, patterns, windows, word_limit, numbered_list, ItemNumbers, sum_within, with_one}
 use Rattle.rota_items.proofs.InstanceLimits.{instance-within_limits}
 use Rattle.rota_items.proofs.ItemLists.{have_one-runs, one_slack-each}
 use Rattle.rota_items.proofs.SlackBound.{items-few, variables_fit}

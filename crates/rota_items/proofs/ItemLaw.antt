@@ -1,5 +1,8 @@
 -- Items and their slacks.
-use Rattle.rota_items.proofs.Common.Words.{map, ◌≡◌, ◌↔◌, ℕ, zero, suc, ◌+◌, ◌-◌, ◌*◌, ◌<◌, ◌≤◌, Bool, cond, List, [], ◌∷◌, refl, ap, ◌∙◌, arith, add-zero, ltb, pos, ◌+ℤ◌, ◌-ℤ◌, ◌≤ℤ◌, All, count_by, range_with_len, sum_by-cons, recursion_from_All, lt-ltb, le-ltb, ints, nat_tests, AllByRecursion, All-from_recursion, All-head, All-tail, mul-le-mul_left, numbered, Item, positive_part, shortage, weighted_shortages, Term, Constraint, Satisfies, value_of, times, StandBelow, slack_variables, item_constraint, item_constraints, slack_weights, is_slack_needed, extension}
+use Rattle.rota_items.proofs.Common.Words.{map, ◌≡◌, ◌↔◌, ℕ, zero, suc, ◌+◌, ◌-◌, ◌*◌, ◌<◌, ◌≤◌, Bool, cond, List, [], ◌∷◌, refl, ap, ◌∙◌, arith, add-zero, ltb, pos, ◌+ℤ◌, ◌-ℤ◌, ◌≤ℤ◌, All, count_by, range_with_len}
+use Rattle.rota_items.proofs.Common.Words.{sum_by-cons, recursion_from_All, lt-ltb, le-ltb, ints, nat_tests, AllByRecursion, All-from_recursion, All-head, All-tail, mul-le-mul_left, numbered, Item, positive_part}
+use Rattle.rota_items.proofs.Common.Words.{shortage, weighted_shortages, Term, Constraint, Satisfies, value_of, times, StandBelow, slack_variables, item_constraint, item_constraints, slack_weights, is_slack_needed}
+use Rattle.rota_items.proofs.Common.Words.{extension}
 use Rattle.rota_items.proofs.PatternItems.{value_of-append}
 use Rattle.rota_items.proofs.SmallSums.{positive_part-parts}
 use Rattle.rota_items.proofs.SoundTerms.{value_of-agree}

@@ -1,5 +1,7 @@
 -- The items of rules that charge each nurse, and of runs in the order of the loops that hand them over.
-use Rattle.rota_items.proofs.Common.Words.{◌≡◌, ℕ, ◌++◌, map, ap, ◌∙◌, map-append, each_below, Item, Runs, pattern_item, run_items, Pattern, closed_patterns_at, closed_patterns_on, edge_patterns_on, patterns, patterns_on, windows, windows_on, window_items_on, closed_items_at, edge_items_on, pattern_items_on, zero, suc, List, [], ◌∷◌, length, refl, arith, AllByRecursion, sum_by-cons, Week, Rule, Cell, nurse_items, items_of_rule, slack_count, S1}
+use Rattle.rota_items.proofs.Common.Words.{◌≡◌, ℕ, ◌++◌, map, ap, ◌∙◌, map-append, each_below, Item, Runs, pattern_item, run_items, Pattern, closed_patterns_at, closed_patterns_on}
+use Rattle.rota_items.proofs.Common.Words.{edge_patterns_on, patterns, patterns_on, windows, windows_on, window_items_on, closed_items_at, edge_items_on, pattern_items_on, zero, suc}
+use Rattle.rota_items.proofs.Common.Words.{List, [], ◌∷◌, length, refl, arith, AllByRecursion, sum_by-cons, Week, Rule, Cell, nurse_items, items_of_rule, slack_count, S1}
 use Rattle.rota_items.proofs.Lists.{map-each_below}
 use Rattle.rota_items.proofs.EachPattern.{each-run_item}
 

@@ -1,5 +1,7 @@
 -- What a taker of rows takes by the items that are handed on to it.
-use Rattle.rota_items.proofs.Common.Words.{◌≡◌, ℕ, ◌+◌, ◌<◌, List, [], ◌∷◌, ◌++◌, Result, Ok, Err, refl, sym, ap, subst, ◌∙◌, arith, append_assoc, fold, fold-append, InstanceTables, IsInstance, week_of, soft_items, Item, item_rows, slack_count, slack_weights, first_slack, numbered_items, cell_number, word_limit, Event, events, term_events, Handing, StopsAt, row_of_item, slacks_within, weights_of_item, with_item, within_numbers, Took, Refused, Takes, TookAll, RefusedOne, TakesAll, Ghosts, sum_by-append}
+use Rattle.rota_items.proofs.Common.Words.{◌≡◌, ℕ, ◌+◌, ◌<◌, List, [], ◌∷◌, ◌++◌, Result, Ok, Err, refl, sym, ap, subst, ◌∙◌, arith, append_assoc, fold, fold-append, InstanceTables, IsInstance, week_of}
+use Rattle.rota_items.proofs.Common.Words.{soft_items, Item, item_rows, slack_count, slack_weights, first_slack, numbered_items, cell_number, word_limit, Event, events, term_events, Handing, StopsAt}
+use Rattle.rota_items.proofs.Common.Words.{row_of_item, slacks_within, weights_of_item, with_item, within_numbers, Took, Refused, Takes, TookAll, RefusedOne, TakesAll, Ghosts, sum_by-append}
 use Rattle.rota_items.proofs.InstanceLimits.{instance-within_limits}
 use Rattle.rota_items.proofs.SlackBound.{variables_fit}
 use Rattle.rota_items.proofs.Taking.{numbers_join, Refused-before, Refused-after}

@@ -1,5 +1,8 @@
 -- What a judge makes of the rows of items.
-use Rattle.rota_items.proofs.Common.Words.{length-map, ◌≡◌, ℕ, zero, suc, ◌+◌, ◌*◌, ◌<◌, ◌≤◌, Bool, List, [], ◌∷◌, refl, sym, ap, ◌∙◌, arith, min, w64, pos, nat_abs, ◌-ℤ◌, int_le, nat_le, AllByRecursion, count_by, count_by-le-length, range_with_len, sum_by, fold, fold-append, lt-ltb, ints, sum_by-append, sum_by-cons, Roster, set_of, Week, Rule, unit_number, Item, positive_part, shortage, Term, value_of, times, LinearRow, item_row, item_rows, slack_count, slack_variables, slack_weights, assignment_of, extension_of, model_of, saturate_signed, nat_tests, RosterTables, Subject, assigned, extended, assignment_in, roster_in, tallied, true_slacks, truth_of, Tally, row_events, events, half_limit}
+use Rattle.rota_items.proofs.Common.Words.{length-map, ◌≡◌, ℕ, zero, suc, ◌+◌, ◌*◌, ◌<◌, ◌≤◌, Bool, List, [], ◌∷◌, refl, sym, ap, ◌∙◌, arith, min, w64, pos, nat_abs, ◌-ℤ◌, int_le, nat_le, AllByRecursion, count_by}
+use Rattle.rota_items.proofs.Common.Words.{count_by-le-length, range_with_len, sum_by, fold, fold-append, lt-ltb, ints, sum_by-append, sum_by-cons, Roster, set_of, Week, Rule, unit_number, Item, positive_part}
+use Rattle.rota_items.proofs.Common.Words.{shortage, Term, value_of, times, LinearRow, item_row, item_rows, slack_count, slack_variables, slack_weights, assignment_of, extension_of, model_of, saturate_signed}
+use Rattle.rota_items.proofs.Common.Words.{nat_tests, RosterTables, Subject, assigned, extended, assignment_in, roster_in, tallied, true_slacks, truth_of, Tally, row_events, events, half_limit}
 use Rattle.rota_items.proofs.Extension.{extension-below}
 use Rattle.rota_items.proofs.ItemLaw.{IsExtension, count-front, extends-after, needed-first, value_of-item_constraint, value_of-weight}
 use Rattle.rota_items.proofs.FirstUnmet.{Named}

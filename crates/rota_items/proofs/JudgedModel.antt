@@ -1,5 +1,9 @@
 -- What a judge makes of the model of a week.
-use Rattle.rota_items.proofs.Common.Words.{mul-le-mul_right, ◌≡◌, ℕ, ◌+◌, ◌*◌, ◌<◌, ◌≤◌, Bool, true, List, [], ◌∷◌, ◌++◌, refl, ap, ◌∙◌, cond, arith, pos, negsuc, nat_abs, if◌then◌else◌, AllByRecursion, fold, sum_by, ints, fold-append, sum_by-cons, Roster, InWeek, set_of, soft_rules, Week, Rule, Cell, cell_number, unit_number, first_slack, Item, numbered, shortage, weighted_shortages, Term, value_of, LinearRow, objective_rows, item_rows, cell_terms, constant, items_of_rule, soft_items, rule_rows, hard_rows, numbered_items, numbered_row, numbered_terms, objective_terms, rows_of, first_unmet, IsWithinLimits, most_objective, request_cost, signed_limit, Objective, events, row_events, RowSums, Tally, Subject, assigned, extended, assignment_in, roster_in, capped, no_sums, no_tally, tallied, flat_map-append, positive_part, unit_row}
+use Rattle.rota_items.proofs.Common.Words.{mul-le-mul_right, ◌≡◌, ℕ, ◌+◌, ◌*◌, ◌<◌, ◌≤◌, Bool, true, List, [], ◌∷◌, ◌++◌, refl, ap, ◌∙◌, cond, arith, pos, negsuc, nat_abs, if◌then◌else◌, AllByRecursion}
+use Rattle.rota_items.proofs.Common.Words.{fold, sum_by, ints, fold-append, sum_by-cons, Roster, InWeek, set_of, soft_rules, Week, Rule, Cell, cell_number, unit_number, first_slack, Item, numbered, shortage}
+use Rattle.rota_items.proofs.Common.Words.{weighted_shortages, Term, value_of, LinearRow, objective_rows, item_rows, cell_terms, constant, items_of_rule, soft_items, rule_rows, hard_rows, numbered_items}
+use Rattle.rota_items.proofs.Common.Words.{numbered_row, numbered_terms, objective_terms, rows_of, first_unmet, IsWithinLimits, most_objective, request_cost, signed_limit, Objective, events, row_events}
+use Rattle.rota_items.proofs.Common.Words.{RowSums, Tally, Subject, assigned, extended, assignment_in, roster_in, capped, no_sums, no_tally, tallied, flat_map-append, positive_part, unit_row}
 use Rattle.rota_core.specs.declared.rule.Rule.TheVariants.{Unit as UnitRule}
 use Rattle.rota_items.proofs.Extension.{extension-roster, shortage-of_item, terms-below, value_of-objective, value_of-of_terms}
 use Rattle.rota_items.proofs.HardRules.EachRule.{each-row}

@@ -1,5 +1,9 @@
 -- What a judge makes of the terms of a row, and of rows, one after the other.
-use Rattle.rota_items.proofs.Common.Words.{◌≡◌, ℕ, ◌+◌, ◌-◌, ◌*◌, ◌<◌, ◌≤◌, Bool, true, false, List, [], ◌∷◌, ◌++◌, map, length, refl, sym, ap, ◌∙◌, arith, min, w64, Option, Some, None, add-zero, inl, inr, ℤ, pos, negsuc, ◌+ℤ◌, ◌-ℤ◌, ◌==◌, int_le, nat_le, if◌then◌else◌, fold, AllByRecursion, ints, fold-append, saturate_signed, option_or, leb_tells, one-mul, zero-mul, soft_rules, Week, Rule, positive_part, LinearRow, is_satisfied, first_unmet, later, rule_of_part, greatest_count, half_limit, signed_limit, Hard, row_events, events, RowSums, Tally, Subject, assigned, extended, assignment_in, capped, closed, constraint_closed, lacking_in, tallied, true_slacks, with_cost, soft_place, ◌&&◌, not, nat_abs, nat_lt, le-ltb, sum_by-cons, unit_number, first_slack, Term, value_of, set_of, close_row, start_row, term_events, counts_for, no_sums}
+use Rattle.rota_items.proofs.Common.Words.{◌≡◌, ℕ, ◌+◌, ◌-◌, ◌*◌, ◌<◌, ◌≤◌, Bool, true, false, List, [], ◌∷◌, ◌++◌, map, length, refl, sym, ap, ◌∙◌, arith, min, w64, Option, Some, None, add-zero, inl, inr}
+use Rattle.rota_items.proofs.Common.Words.{ℤ, pos, negsuc, ◌+ℤ◌, ◌-ℤ◌, ◌==◌, int_le, nat_le, if◌then◌else◌, fold, AllByRecursion, ints, fold-append, saturate_signed, option_or, leb_tells, one-mul, zero-mul}
+use Rattle.rota_items.proofs.Common.Words.{soft_rules, Week, Rule, positive_part, LinearRow, is_satisfied, first_unmet, later, rule_of_part, greatest_count, half_limit, signed_limit, Hard, row_events, events}
+use Rattle.rota_items.proofs.Common.Words.{RowSums, Tally, Subject, assigned, extended, assignment_in, capped, closed, constraint_closed, lacking_in, tallied, true_slacks, with_cost, soft_place, ◌&&◌, not}
+use Rattle.rota_items.proofs.Common.Words.{nat_abs, nat_lt, le-ltb, sum_by-cons, unit_number, first_slack, Term, value_of, set_of, close_row, start_row, term_events, counts_for, no_sums}
 use Rattle.rota_core.specs.declared.rule.Rule.TheVariants.{Unit as UnitRule}
 use Rattle.rota_items.proofs.FirstUnmet.{Named}
 use Rattle.rota_items.proofs.SmallSums.{positive_part-parts, spread, chosen-small}

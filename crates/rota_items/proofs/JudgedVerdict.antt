@@ -1,5 +1,8 @@
 -- A judge that was driven has the verdict of its assignment.
-use Rattle.rota_items.proofs.Common.Words.{◌≡◌, ℕ, ◌+◌, ◌-◌, ◌*◌, ◌≤◌, Bool, List, [], ◌∷◌, ◌++◌, map, refl, sym, ap, subst, ◌∙◌, arith, pos, if◌then◌else◌, AllByRecursion, fold, ints, soft_rules, Week, Rule, unit_number, weighted_shortages, IsWithinLimits, value_of, objective_rows, cell_terms_of_rule, charged, constant, constant_of_rule, items_of_rule, objective_terms, rows_of, InstanceTables, IsInstance, week_of, S4, Tally, Event, events, Subject, Judging, assignment_in, roster_in, capped, counts_for, fresh, judged, no_tally, tallied, WasDriven, with_constants, with_cost, request_cost, Judges}
+use Rattle.rota_items.proofs.Common.Words.{◌≡◌, ℕ, ◌+◌, ◌-◌, ◌*◌, ◌≤◌, Bool, List, [], ◌∷◌, ◌++◌, map, refl, sym, ap, subst, ◌∙◌, arith, pos, if◌then◌else◌, AllByRecursion, fold, ints}
+use Rattle.rota_items.proofs.Common.Words.{soft_rules, Week, Rule, unit_number, weighted_shortages, IsWithinLimits, value_of, objective_rows, cell_terms_of_rule, charged, constant, constant_of_rule}
+use Rattle.rota_items.proofs.Common.Words.{items_of_rule, objective_terms, rows_of, InstanceTables, IsInstance, week_of, S4, Tally, Event, events, Subject, Judging, assignment_in, roster_in}
+use Rattle.rota_items.proofs.Common.Words.{capped, counts_for, fresh, judged, no_tally, tallied, WasDriven, with_constants, with_cost, request_cost, Judges}
 use Rattle.rota_items.proofs.InstanceLimits.{instance-within_limits}
 use Rattle.rota_items.proofs.JudgedModel.{charges, charges-are, few, given, model-comes, objective-judged, of_rule}
 use Rattle.rota_items.proofs.JudgedRows.{cost-raised, costs_of, or_else-none, same, counts-before}

@@ -1,5 +1,8 @@
 -- Lists: what holds of each element, their sums, their lengths, and what loops make and add up.
-use Rattle.rota_items.proofs.Common.Words.{List, [], ◌∷◌, map, AllByRecursion, flat_map, AllByRecursion-append, AllByRecursion-each_below, AllByRecursion-only_if, length-only_if, ◌≡◌, ℕ, ◌+◌, Bool, true, false, cond, refl, ap, arith, zero-add, sum_by, fold-map, sum_by-append, sum_by-cons, only_if, zero, suc, ◌*◌, ◌<◌, ◌≤◌, length, ◌∙◌, count_by, list_any, list_any-append, mul-le, sum_below, count_below, any_below, length-each_below, each_below, ◌++◌, length-append, add-one, append-nil, take_all, flat_map-append, take_at_read, map-append, Cell, Item, numbered, slack_count}
+use Rattle.rota_items.proofs.Common.Words.{List, [], ◌∷◌, map, AllByRecursion, flat_map, AllByRecursion-append, AllByRecursion-each_below, AllByRecursion-only_if, length-only_if}
+use Rattle.rota_items.proofs.Common.Words.{◌≡◌, ℕ, ◌+◌, Bool, true, false, cond, refl, ap, arith, zero-add, sum_by, fold-map, sum_by-append, sum_by-cons, only_if, zero, suc, ◌*◌}
+use Rattle.rota_items.proofs.Common.Words.{◌<◌, ◌≤◌, length, ◌∙◌, count_by, list_any, list_any-append, mul-le, sum_below, count_below, any_below, length-each_below, each_below}
+use Rattle.rota_items.proofs.Common.Words.{◌++◌, length-append, add-one, append-nil, take_all, flat_map-append, take_at_read, map-append, Cell, Item, numbered, slack_count}
 pub use Rattle.rota_core.proofs.LogicWords.{all-weaker}
 use Rattle.std.proofs.lemmas.List.Concat.{flat_map-cons}
 use Rattle.std.proofs.lemmas.List.Sums.{sum_by_push}

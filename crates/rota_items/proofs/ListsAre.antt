@@ -1,5 +1,6 @@
 -- What lists made by loops are: what holds of each of their elements, said turn by turn.
-use Rattle.rota_items.proofs.Common.Words.{◌≡◌, ℕ, ◌<◌, Bool, true, List, [], ◌∷◌, ◌++◌, map, AllByRecursion, AllByRecursion-append, AllByRecursion-at, AllByRecursion-back, AllByRecursion-each_below, AllByRecursion-only_if, holds-where, each_below, only_if}
+use Rattle.rota_items.proofs.Common.Words.{◌≡◌, ℕ, ◌<◌, Bool, true, List, [], ◌∷◌, ◌++◌, map, AllByRecursion, AllByRecursion-append, AllByRecursion-at}
+use Rattle.rota_items.proofs.Common.Words.{AllByRecursion-back, AllByRecursion-each_below, AllByRecursion-only_if, holds-where, each_below, only_if}
 use Rattle.rota_items.proofs.Lists.{all-map, all-back}
 
 -- what holds of each element of a family holds of the list, and back

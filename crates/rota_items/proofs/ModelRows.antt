@@ -1,5 +1,6 @@
 -- What holds of each row of the model.
-use Rattle.rota_items.proofs.Common.Words.{◌≡◌, ℕ, ◌+◌, ◌<◌, ◌≤◌, List, [], ◌∷◌, map, arith, AllByRecursion, sum_by-cons, AllByRecursion-append, Week, Rule, Cell, cell_number, first_slack, unit_number, rule_rows, Item, numbered, Constraint, LinearRow, linear_constraint, item_row, item_rows, slack_count, soft_items, hard_rows, model_of, numbered_items, numbered_row, rows_of, unit_row}
+use Rattle.rota_items.proofs.Common.Words.{◌≡◌, ℕ, ◌+◌, ◌<◌, ◌≤◌, List, [], ◌∷◌, map, arith, AllByRecursion, sum_by-cons, AllByRecursion-append, Week, Rule, Cell, cell_number, first_slack, unit_number, rule_rows, Item}
+use Rattle.rota_items.proofs.Common.Words.{numbered, Constraint, LinearRow, linear_constraint, item_row, item_rows, slack_count, soft_items, hard_rows, model_of, numbered_items, numbered_row, rows_of, unit_row}
 use Rattle.rota_items.proofs.HardRules.EachRule.{each-row}
 use Rattle.rota_items.proofs.HardRules.Sound.{IsRowSound}
 use Rattle.rota_items.proofs.Lists.{all-map}

@@ -1,5 +1,8 @@
 -- The terms of the model are by rising variable number, and the coefficients of its constraints are 1 and -1.
-use Rattle.rota_items.proofs.Common.Words.{ℕ, inl, refl, pos, All, All-from_recursion, AllByRecursion-append, Week, cell_number, unit_number, numbered, Term, times, LinearRow, linear_constraint, item_row, slack_variables, numbered_row, numbered_terms, model_of, unit_row, IsUnit, HasUnitCoefficients, ◌≡◌, zero, suc, ◌+◌, ◌≤◌, List, [], ◌∷◌, ◌++◌, arith, ℤ, nat_lt, AllByRecursion, range_with_len, sum_by-cons, first_slack, slack_count, constant_terms, cell_terms, constant, Item, Constraint, slack_weights, soft_items, objective_terms, numbered_items, RisesFrom, HasRisingTerms}
+use Rattle.rota_items.proofs.Common.Words.{ℕ, inl, refl, pos, All, All-from_recursion, AllByRecursion-append, Week, cell_number, unit_number, numbered, Term, times, LinearRow, linear_constraint}
+use Rattle.rota_items.proofs.Common.Words.{item_row, slack_variables, numbered_row, numbered_terms, model_of, unit_row, IsUnit, HasUnitCoefficients, ◌≡◌, zero, suc, ◌+◌, ◌≤◌, List}
+use Rattle.rota_items.proofs.Common.Words.{[], ◌∷◌, ◌++◌, arith, ℤ, nat_lt, AllByRecursion, range_with_len, sum_by-cons, first_slack, slack_count, constant_terms, cell_terms, constant}
+use Rattle.rota_items.proofs.Common.Words.{Item, Constraint, slack_weights, soft_items, objective_terms, numbered_items, RisesFrom, HasRisingTerms}
 use Rattle.rota_items.proofs.ModelRows.{each-constraint, each-model_row}
 use Rattle.rota_items.proofs.SoundTerms.{AreUnits, coefficients-numbered, units-times}
 use Rattle.rota_items.proofs.Lists.{all-weaker, slack_count-numbered}

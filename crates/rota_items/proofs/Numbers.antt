@@ -1,5 +1,6 @@
 -- Each number up to the number of cells is that of one cell, and the assignment that stands for a roster goes by it.
-use Rattle.rota_items.proofs.Common.Words.{◌≡◌, ℕ, ◌-◌, ◌<◌, ap, ◌∙◌, arith, InWeek, cell_place, cell_at, Week, Cell, cell_number, unit_number, cell_of_number, ◌+◌, true, false, refl, sym, slice_index_or, lt-ltb, ne_eqb, eq-eqb, Roster, RosterTables, HasShapeOf, set_of, assignment_of}
+use Rattle.rota_items.proofs.Common.Words.{◌≡◌, ℕ, ◌-◌, ◌<◌, ap, ◌∙◌, arith, InWeek, cell_place, cell_at, Week, Cell, cell_number, unit_number, cell_of_number, ◌+◌}
+use Rattle.rota_items.proofs.Common.Words.{true, false, refl, sym, slice_index_or, lt-ltb, ne_eqb, eq-eqb, Roster, RosterTables, HasShapeOf, set_of, assignment_of}
 use Rattle.rota_core.proofs.CellPlaces.{cell_at-in, cell_at-place, place-cell_at, cell_place-lt}
 
 pub cell_number-below : (week : Week) (one : Cell) → InWeek week one → cell_number week one < unit_number week

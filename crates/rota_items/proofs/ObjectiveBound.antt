@@ -1,5 +1,8 @@
 -- The coefficients of the objective are positive and small, and how large it is of any assignment.
-use Rattle.rota_items.proofs.Common.Words.{ltb-true, request_cost, ◌≡◌, ℕ, ◌+◌, ◌<◌, Bool, cond, List, [], ◌∷◌, arith, ℤ, pos, ◌+ℤ◌, ◌≤ℤ◌, ◌<ℤ◌, All, AllByRecursion, ints, All-from_recursion, AllByRecursion-append, AllByRecursion-only_if, Week, Cell, cell_number, first_slack, Item, numbered, Term, times, value_of, objective_value, constant_terms, slack_variables, slack_weights, cell_terms, constant, soft_items, numbered_terms, numbered_items, objective_terms, model_of, IsWithinLimits, most_coefficient, ◌*◌, ◌≤◌, ap, sum_by-cons, count_by-le-length, sum_by, count_by, mul-le-mul_left, unit_number, roster_of, most_objective, most_weight}
+use Rattle.rota_items.proofs.Common.Words.{ltb-true, request_cost, ◌≡◌, ℕ, ◌+◌, ◌<◌, Bool, cond, List, [], ◌∷◌, arith, ℤ, pos, ◌+ℤ◌, ◌≤ℤ◌, ◌<ℤ◌, All, AllByRecursion, ints, All-from_recursion, AllByRecursion-append}
+use Rattle.rota_items.proofs.Common.Words.{AllByRecursion-only_if, Week, Cell, cell_number, first_slack, Item, numbered, Term, times, value_of, objective_value, constant_terms, slack_variables}
+use Rattle.rota_items.proofs.Common.Words.{slack_weights, cell_terms, constant, soft_items, numbered_terms, numbered_items, objective_terms, model_of, IsWithinLimits, most_coefficient, ◌*◌, ◌≤◌}
+use Rattle.rota_items.proofs.Common.Words.{ap, sum_by-cons, count_by-le-length, sum_by, count_by, mul-le-mul_left, unit_number, roster_of, most_objective, most_weight}
 use Rattle.rota_items.proofs.Lists.{all-map, all-weaker, sum_by-map}
 use Rattle.rota_items.proofs.RuleSizes.{constant-few, soft_items-le}
 use Rattle.rota_items.proofs.PenaltyBound.{each-small, request_cost-le}

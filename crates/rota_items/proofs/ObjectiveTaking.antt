@@ -1,5 +1,7 @@
 -- How a taker takes the objective, term by term.
-use Rattle.rota_items.proofs.Common.Words.{◌≡◌, ℕ, zero, suc, ◌<◌, Bool, true, false, nat_lt, List, [], ◌∷◌, ◌++◌, length, length-append, Result, MatchResult, refl, sym, ap, ◌∙◌, arith, lt-ltb, true≢false, length-map, fold, pos, Ok, Err, is_err, only_if-fails, each_below, only_if, Week, Cell, Term, LinearRow, objective_rows, cell_term_events, Event, term, term_events, Took, Objective, Ghosts}
+use Rattle.rota_items.proofs.Common.Words.{◌≡◌, ℕ, zero, suc, ◌<◌, Bool, true, false, nat_lt, List, [], ◌∷◌, ◌++◌, length, length-append, Result, MatchResult, refl}
+use Rattle.rota_items.proofs.Common.Words.{sym, ap, ◌∙◌, arith, lt-ltb, true≢false, length-map, fold, pos, Ok, Err, is_err, only_if-fails, each_below, only_if, Week}
+use Rattle.rota_items.proofs.Common.Words.{Cell, Term, LinearRow, objective_rows, cell_term_events, Event, term, term_events, Took, Objective, Ghosts}
 use Rattle.rota_items.proofs.Taking.{nothing, terms_join}
 
 -- the objective's row with these terms

@@ -1,5 +1,7 @@
 -- The shortage of a pattern's item is 1 where the days are as the pattern says, and else 0.
-use Rattle.rota_items.proofs.Common.Words.{◌≡◌, ℕ, ◌-◌, ◌*◌, ◌≤◌, Bool, not, cond, true, false, ◌⊎◌, inr, List, [], ◌∷◌, ◌++◌, refl, arith, ℤ, pos, negsuc, ◌+ℤ◌, ◌-ℤ◌, list_any, sum_by, count_by, flat_map, AllByRecursion, sum_by-cons, ints, Item, Rule, shortage, times, Term, value_of, Property, Present, Absent, variables_on, is_plain, day_terms, pattern_item, PatternDay, Pattern, has_property}
+use Rattle.rota_items.proofs.Common.Words.{◌≡◌, ℕ, ◌-◌, ◌*◌, ◌≤◌, Bool, not, cond, true, false, ◌⊎◌, inr, List, [], ◌∷◌, ◌++◌, refl, arith, ℤ, pos, negsuc, ◌+ℤ◌}
+use Rattle.rota_items.proofs.Common.Words.{◌-ℤ◌, list_any, sum_by, count_by, flat_map, AllByRecursion, sum_by-cons, ints, Item, Rule, shortage, times, Term, value_of}
+use Rattle.rota_items.proofs.Common.Words.{Property, Present, Absent, variables_on, is_plain, day_terms, pattern_item, PatternDay, Pattern, has_property}
 use Rattle.rota_items.proofs.SmallSums.{positive_part-parts}
 use Rattle.rota_items.proofs.DayLaw.{matches_day, matches, units_of}
 

@@ -1,5 +1,8 @@
 -- How large the penalty and the shortages are.
-use Rattle.rota_items.proofs.Common.Words.{ℕ, ◌≤◌, ◌<◌, ◌*◌, ◌-◌, ◌+◌, Bool, cond, arith, count_by-le-length, sum_by-le-sum_by, mul-le, sum_below, Roster, cell, soft_rules, Week, Rule, Span, nurses_at, works, is_on, is_off, history_on, shift_run_cost, shortage, weighted_shortages, items_of_rule, penalty, rule_cost, is_over, missing_on, run_cost, run_over, run_under, week_days, request_cost, request_weight, IsWithinLimits, S1, S2, S3, S4, S5, S6, S7, half_limit, most_cells, most_cost, most_cost_of_nurse, most_items, most_number, most_nurses, most_shifts, most_skills, most_weight, penalty_limit, Item, Cell, AllByRecursion, soft_items, most_slacks, most_charge, most_terms, mul-le-mul_left}
+use Rattle.rota_items.proofs.Common.Words.{ℕ, ◌≤◌, ◌<◌, ◌*◌, ◌-◌, ◌+◌, Bool, cond, arith, count_by-le-length, sum_by-le-sum_by, mul-le, sum_below, Roster, cell, soft_rules, Week, Rule, Span, nurses_at, works}
+use Rattle.rota_items.proofs.Common.Words.{is_on, is_off, history_on, shift_run_cost, shortage, weighted_shortages, items_of_rule, penalty, rule_cost, is_over, missing_on, run_cost, run_over, run_under, week_days}
+use Rattle.rota_items.proofs.Common.Words.{request_cost, request_weight, IsWithinLimits, S1, S2, S3, S4, S5, S6, S7, half_limit, most_cells, most_cost, most_cost_of_nurse, most_items, most_number, most_nurses}
+use Rattle.rota_items.proofs.Common.Words.{most_shifts, most_skills, most_weight, penalty_limit, Item, Cell, AllByRecursion, soft_items, most_slacks, most_charge, most_terms, mul-le-mul_left}
 use Rattle.rota_items.proofs.RuleSizes.{IsItemSmall, items-le, small-rule}
 use Rattle.rota_items.proofs.Lists.{all-both, all-flat_map, sum_below-at_most}
 use Rattle.rota_items.proofs.SoftRules.EachRule.{sound-rule}

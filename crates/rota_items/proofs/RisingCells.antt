@@ -1,6 +1,8 @@
 -- The cells of sums: which they are, and that they, and the terms of patterns, are by rising number; and those whose variables follow
 -- one another.
-use Rattle.rota_items.proofs.Common.Words.{◌≡◌, ℕ, ◌+◌, ◌*◌, ◌<◌, ◌≤◌, List, [], ◌∷◌, map, length, subst, arith, ℤ, range_with_len, flat_map, mul-add-lt, mul-le-mul_right, each_below, AllByRecursion, InWeek, cell, Week, Cell, on_cells, work_cells, nurse_cells, demand_cells, skill_cells, cell_number, unit_number, Term, times, numbered_terms, Property, variables_on, day_terms, PatternDay, true, nat_lt, refl, sym, ap, ◌∙◌, pos, nat_tests, map-map, only_if, request_terms_on, request_weight, cell_term_events, term_events}
+use Rattle.rota_items.proofs.Common.Words.{◌≡◌, ℕ, ◌+◌, ◌*◌, ◌<◌, ◌≤◌, List, [], ◌∷◌, map, length, subst, arith, ℤ, range_with_len, flat_map, mul-add-lt, mul-le-mul_right, each_below, AllByRecursion, InWeek}
+use Rattle.rota_items.proofs.Common.Words.{cell, Week, Cell, on_cells, work_cells, nurse_cells, demand_cells, skill_cells, cell_number, unit_number, Term, times, numbered_terms, Property, variables_on, day_terms}
+use Rattle.rota_items.proofs.Common.Words.{PatternDay, true, nat_lt, refl, sym, ap, ◌∙◌, pos, nat_tests, map-map, only_if, request_terms_on, request_weight, cell_term_events, term_events}
 use Rattle.rota_core.specs.RisingLists.{RisesWithin}
 use Rattle.rota_core.proofs.LogicWords.{all-weaker, length-rising, numbers-rising, rises-append, rises-blocks, rises-each, rises-in, rises-map}
 use Rattle.rota_items.proofs.Lists.{length-each-is, map-each_below}

@@ -1,5 +1,7 @@
 -- How many rows the hard rules have in a week within the limits: none has more than there are cells.
-use Rattle.rota_items.proofs.Common.Words.{ℕ, ◌*◌, ◌≤◌, length, arith, le_trans, length-append, length-map, length-only_if, length-flat_map, sum_by-le-sum_by, each_below, Week, Rule, hard_rules, rows_of_hard_rule, rule_rows, cells_of, h5_row, h3_monday_rows, h3_rows_between, h3_rows_of, IsWithinLimits, H1, H2, H3, H4, H5, most_cells, most_cells_of_nurse, most_nurses, most_shifts, most_skills}
+use Rattle.rota_items.proofs.Common.Words.{ℕ, ◌*◌, ◌≤◌, length, arith, le_trans, length-append, length-map, length-only_if, length-flat_map, sum_by-le-sum_by, each_below}
+use Rattle.rota_items.proofs.Common.Words.{Week, Rule, hard_rules, rows_of_hard_rule, rule_rows, cells_of, h5_row, h3_monday_rows, h3_rows_between, h3_rows_of, IsWithinLimits}
+use Rattle.rota_items.proofs.Common.Words.{H1, H2, H3, H4, H5, most_cells, most_cells_of_nurse, most_nurses, most_shifts, most_skills}
 use Rattle.rota_items.proofs.Lists.{length-at_most}
 
 module _ (week : Week) (limits : IsWithinLimits week) where

@@ -1,5 +1,6 @@
 -- What a taker of events and a counter take by the rows of the hard rules.
-use Rattle.rota_items.proofs.Common.Words.{◌≡◌, ℕ, ◌+◌, ◌≤◌, min, List, [], ◌∷◌, length, refl, sym, ◌∙◌, arith, fold, fold-append, LinearRow, Event, events, row_events, greatest_count, RefusesRow, TookAll, RefusedOne, Took, Refused, one_row_more, with_row, Ghosts}
+use Rattle.rota_items.proofs.Common.Words.{◌≡◌, ℕ, ◌+◌, ◌≤◌, min, List, [], ◌∷◌, length, refl, sym, ◌∙◌, arith, fold, fold-append, LinearRow, Event, events}
+use Rattle.rota_items.proofs.Common.Words.{row_events, greatest_count, RefusesRow, TookAll, RefusedOne, Took, Refused, one_row_more, with_row, Ghosts}
 use Rattle.rota_items.proofs.Taking.{events_join, Refused-before, Refused-after}
 
 fold-rows : {V : Type 0} (step : V → Event → V) (rows : List (LinearRow ℕ)) (value : V) →

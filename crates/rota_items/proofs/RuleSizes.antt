@@ -1,5 +1,10 @@
 -- How large each soft rule is in a week within the limits: its items, their slacks, what all of these weigh, and its part of the constant.
-use Rattle.rota_items.proofs.Common.Words.{rules, ℕ, ◌*◌, ◌≤◌, Bool, true, false, List, [], length, arith, if◌then◌else◌, ints, sum_by, sum_by-le, sum_by-le-sum_by, All-from_recursion, AllByRecursion, mul-le, Week, Rule, Cell, Item, positive_part, Property, Present, Runs, Pattern, pattern_item, run_items, only_sunday, saturday, weekend_items, work_cells, optimum_item, optimum_items_at, least_total_item, greatest_total_item, complete_weekend_weight, worked_weekend_weight, shift_runs, work_runs, off_runs, items_of_rule, nurse_items, soft_items, soft_rules, IsWithinLimits, S1, S2, S3, S5, S6, S7, heaviest, most_items, most_items_of_nurse, most_run_items, most_slacks, most_weight, most_number, most_nurses, most_shifts, most_skills, nurse_constant, constant_of_rule, constant, most_constant, most_constant_of_nurse, most_constant_of_rule, InstanceTables, IsInstance, week_of, ℤ, pos, negsuc, ◌∷◌, flat_map, length-append, length-map, day_terms, is_plain, variables_on, PatternDay, Term, times, nurse_cells, on_cells, demand_cells, most_terms, most_cells_of_day}
+use Rattle.rota_items.proofs.Common.Words.{rules, ℕ, ◌*◌, ◌≤◌, Bool, true, false, List, [], length, arith, if◌then◌else◌, ints, sum_by, sum_by-le, sum_by-le-sum_by, All-from_recursion, AllByRecursion, mul-le, Week}
+use Rattle.rota_items.proofs.Common.Words.{Rule, Cell, Item, positive_part, Property, Present, Runs, Pattern, pattern_item, run_items, only_sunday, saturday, weekend_items, work_cells, optimum_item, optimum_items_at}
+use Rattle.rota_items.proofs.Common.Words.{least_total_item, greatest_total_item, complete_weekend_weight, worked_weekend_weight, shift_runs, work_runs, off_runs, items_of_rule, nurse_items, soft_items, soft_rules}
+use Rattle.rota_items.proofs.Common.Words.{IsWithinLimits, S1, S2, S3, S5, S6, S7, heaviest, most_items, most_items_of_nurse, most_run_items, most_slacks, most_weight, most_number, most_nurses, most_shifts, most_skills}
+use Rattle.rota_items.proofs.Common.Words.{nurse_constant, constant_of_rule, constant, most_constant, most_constant_of_nurse, most_constant_of_rule, InstanceTables, IsInstance, week_of, ℤ, pos, negsuc, ◌∷◌, flat_map}
+use Rattle.rota_items.proofs.Common.Words.{length-append, length-map, day_terms, is_plain, variables_on, PatternDay, Term, times, nurse_cells, on_cells, demand_cells, most_terms, most_cells_of_day}
 use Rattle.rota_items.proofs.InstanceLimits.{instance-within_limits}
 use Rattle.rota_items.proofs.EachPattern.{each-run_item, run_counting}
 use Rattle.rota_items.proofs.Lists.{AreFew, all-weaker, few-append, few-each_below, few-only_if, length-at_most, sum_below-at_most, sum_by-flat_map}

@@ -1,5 +1,7 @@
 -- How many slacks the items of a week have, and how many rows its model has.
-use Rattle.rota_items.proofs.Common.Words.{mul-le-mul_left, ◌≡◌, ℕ, ◌+◌, ◌<◌, ◌≤◌, List, [], ◌∷◌, length, refl, arith, sum_by, length-append, length-map, length-flat_map, sum_by-le-sum_by, mul-le-mul, Week, cell_number, first_slack, rule_rows, Item, numbered, linear_constraint, item_rows, slack_count, soft_rules, items_of_rule, soft_items, hard_rows, numbered_items, numbered_row, rows_of, model_of, cell_count, IsWithinLimits, count_limit, most_cells, most_items, most_slacks, InstanceTables, IsInstance, week_of, word_limit}
+use Rattle.rota_items.proofs.Common.Words.{mul-le-mul_left, ◌≡◌, ℕ, ◌+◌, ◌<◌, ◌≤◌, List, [], ◌∷◌, length, refl, arith, sum_by, length-append, length-map, length-flat_map, sum_by-le-sum_by, mul-le-mul, Week}
+use Rattle.rota_items.proofs.Common.Words.{cell_number, first_slack, rule_rows, Item, numbered, linear_constraint, item_rows, slack_count, soft_rules, items_of_rule, soft_items, hard_rows, numbered_items}
+use Rattle.rota_items.proofs.Common.Words.{numbered_row, rows_of, model_of, cell_count, IsWithinLimits, count_limit, most_cells, most_items, most_slacks, InstanceTables, IsInstance, week_of, word_limit}
 use Rattle.rota_items.proofs.InstanceLimits.{instance-within_limits}
 use Rattle.rota_items.proofs.RuleSizes.{small-rule, soft_items-le}
 use Rattle.rota_items.proofs.RowSizes.{rule_rows-few}

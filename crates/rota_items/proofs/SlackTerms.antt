@@ -1,5 +1,6 @@
 -- The terms of variables that follow one another.
-use Rattle.rota_items.proofs.Common.Words.{◌≡◌, ℕ, zero, suc, ◌+◌, ◌<◌, List, [], ◌∷◌, ◌++◌, refl, ap, ◌∙◌, arith, ℤ, range_with_len, to_z-of_z, map-append, fold-append, map-range_with_len_more, each_below, times, Term, term, term_events, Took, Refused, Ghosts}
+use Rattle.rota_items.proofs.Common.Words.{◌≡◌, ℕ, zero, suc, ◌+◌, ◌<◌, List, [], ◌∷◌, ◌++◌, refl, ap, ◌∙◌, arith, ℤ, range_with_len, to_z-of_z, map-append}
+use Rattle.rota_items.proofs.Common.Words.{fold-append, map-range_with_len_more, each_below, times, Term, term, term_events, Took, Refused, Ghosts}
 use Rattle.rota_items.proofs.Taking.{numbers_join, loop_refused, Refused-one}
 
 -- one variable, so far from the first

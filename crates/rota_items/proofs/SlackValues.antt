@@ -1,5 +1,7 @@
 -- What a taker of literals takes by the items whose slacks are handed on to it.
-use Rattle.rota_items.proofs.Common.Words.{◌≡◌, ℕ, Bool, List, [], ◌∷◌, Result, Ok, Err, refl, sym, ap, ◌∙◌, arith, fold, fold-append, flat_map, flat_map-append, ◌-ℤ◌, w64, saturate_signed, AllByRecursion, AllByRecursion-back, InstanceTables, IsInstance, week_of, Week, Item, LinearRow, positive_part, set_of, numbered_items, assignment_of, RosterTables, Judging, Subject, Tally, extended, lacking_in, no_tally, Soft, start_row, term_events, TakesAll}
+use Rattle.rota_items.proofs.Common.Words.{◌≡◌, ℕ, Bool, List, [], ◌∷◌, Result, Ok, Err, refl, sym, ap, ◌∙◌, arith, fold, fold-append, flat_map, flat_map-append, ◌-ℤ◌, w64, saturate_signed}
+use Rattle.rota_items.proofs.Common.Words.{AllByRecursion, AllByRecursion-back, InstanceTables, IsInstance, week_of, Week, Item, LinearRow, positive_part, set_of, numbered_items, assignment_of}
+use Rattle.rota_items.proofs.Common.Words.{RosterTables, Judging, Subject, Tally, extended, lacking_in, no_tally, Soft, start_row, term_events, TakesAll}
 use Rattle.rota_items.specs.Judging.{fresh}
 use Rattle.rota_items.proofs.ExtensionTruths.{item_truths, week-slacks}
 use Rattle.rota_items.proofs.InstanceLimits.{instance-within_limits}

@@ -1,5 +1,6 @@
 -- Sums that do not reach the greatest number.
-use Rattle.rota_items.proofs.Common.Words.{◌≡◌, ℕ, ◌+◌, ◌-◌, ◌≤◌, Bool, List, [], ◌∷◌, arith, ℤ, pos, negsuc, ◌+ℤ◌, nat_abs, if◌then◌else◌, sum_by, ints, sum_by-cons, up, down, Item, positive_part, shortage, Term, value_of}
+use Rattle.rota_items.proofs.Common.Words.{◌≡◌, ℕ, ◌+◌, ◌-◌, ◌≤◌, Bool, List, [], ◌∷◌, arith, ℤ, pos, negsuc, ◌+ℤ◌, nat_abs, if◌then◌else◌}
+use Rattle.rota_items.proofs.Common.Words.{sum_by, ints, sum_by-cons, up, down, Item, positive_part, shortage, Term, value_of}
 
 -- the sum of the coefficients without their signs
 abbrev pub spread : {X : Type 0} → List (Term X) → ℕ

@@ -1,5 +1,7 @@
 -- Terms: what holds of their variables and coefficients, and those within the week, rising, of coefficients of 1 and -1.
-use Rattle.rota_items.proofs.Common.Words.{◌≡◌, ℕ, ◌<◌, Bool, List, [], ◌∷◌, refl, ℤ, pos, All, AllByRecursion, flat_map, All-from_recursion, recursion_from_All, AllByRecursion-append, ◌≤◌, true, false, inl, inr, map, length, arith, negsuc, nat_abs, if◌then◌else◌, sum_by-cons, max, AllByRecursion-each_below, ◌+◌, Item, Term, times, value_of, StandBelow, IsUnit, InWeek, Week, on_cells, work_cells, demand_cells, Cell, cell_number, unit_number, Property, Runs, variables_on, day_terms, run_items, PatternDay, is_plain}
+use Rattle.rota_items.proofs.Common.Words.{◌≡◌, ℕ, ◌<◌, Bool, List, [], ◌∷◌, refl, ℤ, pos, All, AllByRecursion, flat_map, All-from_recursion, recursion_from_All, AllByRecursion-append, ◌≤◌, true, false}
+use Rattle.rota_items.proofs.Common.Words.{inl, inr, map, length, arith, negsuc, nat_abs, if◌then◌else◌, sum_by-cons, max, AllByRecursion-each_below, ◌+◌, Item, Term, times, value_of, StandBelow, IsUnit}
+use Rattle.rota_items.proofs.Common.Words.{InWeek, Week, on_cells, work_cells, demand_cells, Cell, cell_number, unit_number, Property, Runs, variables_on, day_terms, run_items, PatternDay, is_plain}
 use Rattle.rota_items.proofs.EachPattern.{OnDays, on-pattern, each-run_item}
 use Rattle.rota_items.proofs.Lists.{all-flat_map, all-map}
 use Rattle.rota_items.proofs.SmallSums.{spread}

@@ -1,5 +1,8 @@
 -- A variable is in some constraint exactly where it is one of the model's.
-use Rattle.rota_items.proofs.Common.Words.{◌≡◌, ◌↔◌, ℕ, zero, suc, ◌+◌, ◌<◌, ◌≤◌, Bool, true, false, inl, inr, nat_tests, List, [], ◌∷◌, map, arith, ℤ, pos, negsuc, ◌==◌, AllByRecursion, AllByRecursion-back, list_any, range_with_len, All-from_recursion, subst, cases_Bool, eqb-true, sum_by-cons, Any-from_list_any, Week, Cell, work_cells, cell_number, cell_of_number, unit_number, first_slack, rule_rows, Item, Term, times, LinearRow, linear_constraint, item_rows, slack_count, soft_items, hard_rows, numbered_row, numbered_items, rows_of, model_of, stands_in, StandsInSome}
+use Rattle.rota_items.proofs.Common.Words.{◌≡◌, ◌↔◌, ℕ, zero, suc, ◌+◌, ◌<◌, ◌≤◌, Bool, true, false, inl, inr, nat_tests, List, [], ◌∷◌, map, arith, ℤ, pos, negsuc, ◌==◌, AllByRecursion}
+use Rattle.rota_items.proofs.Common.Words.{AllByRecursion-back, list_any, range_with_len, All-from_recursion, subst, cases_Bool, eqb-true, sum_by-cons, Any-from_list_any, Week}
+use Rattle.rota_items.proofs.Common.Words.{Cell, work_cells, cell_number, cell_of_number, unit_number, first_slack, rule_rows, Item, Term, times, LinearRow, linear_constraint}
+use Rattle.rota_items.proofs.Common.Words.{item_rows, slack_count, soft_items, hard_rows, numbered_row, numbered_items, rows_of, model_of, stands_in, StandsInSome}
 use Rattle.rota_items.proofs.CellCounts.{none-pass}
 use Rattle.rota_items.proofs.HardRules.EachRule.{h1-are, rows-are}
 use Rattle.rota_items.proofs.PatternItems.{any_or_none}

@@ -1,5 +1,8 @@
 -- How what a taker took grows, call by call and loop by loop.
-use Rattle.rota_items.proofs.Common.Words.{◌≡◌, ℕ, ◌<◌, List, [], ◌∷◌, ◌++◌, Result, MatchResult, refl, sym, ap, ◌∙◌, append_assoc, append-nil, map-append, flat_map-append, fold-append, MatchResult-from_err, MatchResult-weaker, fold, ℤ, IsErr, each_below-zero, each_below-more, each_below, Week, Cell, cell_number, Term, times, LinearRow, numbered_row, numbered_terms, cell_term_events, numbered_rows, coefficient_of, sum_events, start_row, term, close_row, row_events, term_events, events, TookAll, RefusedOne, TakesAll, Took, Refused, Takes, Sign, Ghosts, in_turn, Event, Part, suc, map, get_or, take, drop, length, subst, take-append-drop, flat_map, h5_row, numbered, numbered_list}
+use Rattle.rota_items.proofs.Common.Words.{◌≡◌, ℕ, ◌<◌, List, [], ◌∷◌, ◌++◌, Result, MatchResult, refl, sym, ap, ◌∙◌, append_assoc, append-nil, map-append, flat_map-append, fold-append, MatchResult-from_err}
+use Rattle.rota_items.proofs.Common.Words.{MatchResult-weaker, fold, ℤ, IsErr, each_below-zero, each_below-more, each_below, Week, Cell, cell_number, Term, times, LinearRow, numbered_row, numbered_terms}
+use Rattle.rota_items.proofs.Common.Words.{cell_term_events, numbered_rows, coefficient_of, sum_events, start_row, term, close_row, row_events, term_events, events, TookAll, RefusedOne, TakesAll, Took, Refused}
+use Rattle.rota_items.proofs.Common.Words.{Takes, Sign, Ghosts, in_turn, Event, Part, suc, map, get_or, take, drop, length, subst, take-append-drop, flat_map, h5_row, numbered, numbered_list}
 use Rattle.std.proofs.Math.Seq.{drop-cons}
 
 -- ---- what makes events of a list, element by element

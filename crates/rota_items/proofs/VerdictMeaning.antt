@@ -1,5 +1,9 @@
 -- What a verdict says of the model and of the rules, of bits and of a roster's extension.
-use Rattle.rota_items.proofs.Common.Words.{◌≡◌, ◌↔◌, ℕ, ◌+◌, Bool, true, false, ◌⊎◌, inl, inr, List, [], ◌∷◌, map, map-id, map-map, sym, ap, ◌∙◌, arith, rules, Some, None, pos, if◌then◌else◌, IfSome, MatchOption, AllByRecursion, All-from_recursion, recursion_from_All, cases_Bool, ints, sum, slice_index_or, IsSomeAnd, KeepsCompetitionRules, KeepsHardRules, FirstBroken, InWeek, Roster, set_of, soft_rules, Week, Rule, Cell, cell_number, first_slack, unit_number, Item, numbered, positive_part, Satisfies, SatisfiesModel, LinearRow, item_rows, charged, rule_cost, soft_items, extension_of, model_of, numbered_items, rows_of, first_unmet, later, truth_of, H1, is_soft, Verdict, Subject, SettlesModel, assigned, assignment_in, extended, roster_in, CostsTheRules, Extends, IsMet, Judges, JudgesTheRules, refl, S2, S3}
+use Rattle.rota_items.proofs.Common.Words.{◌≡◌, ◌↔◌, ℕ, ◌+◌, Bool, true, false, ◌⊎◌, inl, inr, List, [], ◌∷◌, map, map-id, map-map, sym, ap, ◌∙◌, arith, rules, Some, None, pos, if◌then◌else◌, IfSome}
+use Rattle.rota_items.proofs.Common.Words.{MatchOption, AllByRecursion, All-from_recursion, recursion_from_All, cases_Bool, ints, sum, slice_index_or, IsSomeAnd, KeepsCompetitionRules, KeepsHardRules}
+use Rattle.rota_items.proofs.Common.Words.{FirstBroken, InWeek, Roster, set_of, soft_rules, Week, Rule, Cell, cell_number, first_slack, unit_number, Item, numbered, positive_part, Satisfies, SatisfiesModel}
+use Rattle.rota_items.proofs.Common.Words.{LinearRow, item_rows, charged, rule_cost, soft_items, extension_of, model_of, numbered_items, rows_of, first_unmet, later, truth_of, H1, is_soft, Verdict}
+use Rattle.rota_items.proofs.Common.Words.{Subject, SettlesModel, assigned, assignment_in, extended, roster_in, CostsTheRules, Extends, IsMet, Judges, JudgesTheRules, refl, S2, S3}
 use Rattle.rota_items.proofs.Extension.{extension-objective, extension-satisfies, extension-unit, satisfying-keeps, satisfying-objective, extension-roster}
 use Rattle.rota_items.proofs.FirstUnmet.{Decided, Named, first_unmet-decides, hard-first_broken}
 use Rattle.rota_items.proofs.SoftRules.EachRule.{charged-nurses, SoftItem, soft_items-soft, sound-rule}

@@ -1,6 +1,7 @@
 -- The words that the proofs use, by subject.
 -- of the logic that the lemmas use: numbers, truth values, lists, and what is known of them
-pub use Rattle.std.proofs.Common.{arith, ◌≡◌, ℕ, [], List, refl, ◌∙◌, ◌∷◌, ap, ◌+◌, ◌≤◌, ◌<◌, true, Bool, ◌*◌, ◌++◌, map, sym, false, length, cond, suc, rules, inl, zero, inr, ◌-◌, subst, w64, take, ◌↔◌, of_z, to_z, ◌&&◌, not, Result, None, Some, ◌⊎◌, MatchResult, min, Option, append_assoc, get_or, ltb, add-one, add-zero, max, drop, leb, zero-add, ◌||◌}
+pub use Rattle.std.proofs.Common.{arith, ◌≡◌, ℕ, [], List, refl, ◌∙◌, ◌∷◌, ap, ◌+◌, ◌≤◌, ◌<◌, true, Bool, ◌*◌, ◌++◌, map, sym, false, length, cond, suc, rules, inl, zero, inr, ◌-◌, subst, w64, take}
+pub use Rattle.std.proofs.Common.{◌↔◌, of_z, to_z, ◌&&◌, not, Result, None, Some, ◌⊎◌, MatchResult, min, Option, append_assoc, get_or, ltb, add-one, add-zero, max, drop, leb, zero-add, ◌||◌}
 pub use Rattle.std.proofs.Math.Bool.{or-false}
 pub use Rattle.std.proofs.Math.Nat.{le_trans, mul-le-mul_left, mul-le-mul, mul-le-mul_right, one-mul, zero-mul}
 pub use Rattle.std.proofs.Math.Seq.{take-suc}
@@ -24,7 +25,8 @@ pub use Rattle.std.specs.Prelude.{pos, nat_lt, ℤ, ◌+ℤ◌, negsuc, if◌the
 pub use Rattle.std.specs.Result.{IsErr, is_err}
 pub use borrow.Author.Differences.{down, up}
 pub use mir.Val.{bool_byte}
-pub use Rattle.rota_core.proofs.LogicWords.{AllByRecursion-append, AllByRecursion-each_below, AllByRecursion-only_if, only_if-holds, AllByRecursion-back, each_below-more, length-only_if, only_if-fails, AllByRecursion-at, each_below-zero, length-each_below, holds-where, in_turn}
+pub use Rattle.rota_core.proofs.LogicWords.{AllByRecursion-append, AllByRecursion-each_below, AllByRecursion-only_if, only_if-holds, AllByRecursion-back, each_below-more}
+pub use Rattle.rota_core.proofs.LogicWords.{length-only_if, only_if-fails, AllByRecursion-at, each_below-zero, length-each_below, holds-where, in_turn}
 pub use Rattle.rota_core.specs.Below.{count_below}
 unfoldable pub use Rattle.rota_core.specs.Below.{sum_below, any_below}
 unfoldable pub use Rattle.rota_core.specs.Lists.{each_below, only_if}
@@ -45,7 +47,8 @@ pub use Rattle.rota_items.specs.Charges.{soft_items, items_of_rule, constant, co
 pub use Rattle.rota_items.specs.Coefficients.{IsUnit, HasUnitCoefficients}
 pub use Rattle.rota_items.specs.Counting.{counted, counts_of, greatest, is_constraint, no_counts, variables_in, counts_of_model}
 pub use Rattle.rota_items.specs.FirstUnmet.{first_unmet, later, rule_of_part, FirstBroken, NamesFirstBroken}
-pub use Rattle.rota_items.specs.HardRows.{rows_of_hard_rule, rule_rows, h5_row, h1_row, h3_rows_between, h3_rows_of, h1_rows, h2_row, h2_rows_at, h3_monday_rows, h3_monday_rows_at, h3_rows_at, h4_rows_at, h5_rows, h3_monday_row, h3_row, h4_row, is_forbidden_after}
+pub use Rattle.rota_items.specs.HardRows.{rows_of_hard_rule, rule_rows, h5_row, h1_row, h3_rows_between, h3_rows_of, h1_rows, h2_row, h2_rows_at, h3_monday_rows}
+pub use Rattle.rota_items.specs.HardRows.{h3_monday_rows_at, h3_rows_at, h4_rows_at, h5_rows, h3_monday_row, h3_row, h4_row, is_forbidden_after}
 pub use Rattle.rota_items.specs.ItemCounting.{ItemNumbers, sum_within, with_one}
 pub use Rattle.rota_items.specs.ItemConstraints.{StandBelow, item_constraints, item_constraint}
 pub use Rattle.rota_items.specs.Limits.{IsWithinLimits}
@@ -58,10 +61,12 @@ pub use Rattle.rota_items.specs.RuleCharges.{weighted_shortages, charged}
 pub use Rattle.rota_items.specs.Standing.{stands_in, StandsInSome, without_held}
 pub use Rattle.rota_items.specs.Truths.{truth_of}
 pub use Rattle.rota_items.specs.Variables.{cell_number, unit_number, roster_of, cell_count}
-pub use Rattle.rota_items.specs.WeekModel.{model_of, first_slack, numbered_items, numbered_terms, rows_of, slack_count, item_rows, numbered_row, objective_terms, slack_weights, hard_rows, slack_variables, extension_of, item_row, assignment_of, cell_of_number, constant_terms, hard_constraints, unit_row, extension, is_slack_needed}
+pub use Rattle.rota_items.specs.WeekModel.{model_of, first_slack, numbered_items, numbered_terms, rows_of, slack_count, item_rows, numbered_row, objective_terms, slack_weights, hard_rows}
+pub use Rattle.rota_items.specs.WeekModel.{slack_variables, extension_of, item_row, assignment_of, cell_of_number, constant_terms, hard_constraints, unit_row, extension, is_slack_needed}
 -- of the rules: each by its name, what it costs, its items, and the bounds on them
 pub use Rattle.rota_core.specs.declared.rule.Rule.TheVariants.{H5, H1, H2, H3, H4, S1, S2, S3, S6, S7, S5, S4}
-pub use Rattle.rota_items.specs.Bounds.{most_cells, most_constant, most_weight, most_cells_of_nurse, most_items, most_cells_of_day, most_constant_of_rule, most_cost, most_objective, most_run_items, most_slacks, count_limit, heaviest, most_coefficient, most_constant_of_nurse, most_cost_of_nurse, most_items_of_nurse, most_charge, most_terms, penalty_limit}
+pub use Rattle.rota_items.specs.Bounds.{most_cells, most_constant, most_weight, most_cells_of_nurse, most_items, most_cells_of_day, most_constant_of_rule, most_cost, most_objective, most_run_items, most_slacks}
+pub use Rattle.rota_items.specs.Bounds.{count_limit, heaviest, most_coefficient, most_constant_of_nurse, most_cost_of_nurse, most_items_of_nurse, most_charge, most_terms, penalty_limit}
 pub use Rattle.rota_items.specs.CountedTotals.{greatest_totals_count, charged_excess, least_totals_count, excess_before_counts}
 pub use Rattle.rota_items.specs.EarlyWeeks.{added_excess, CountedTotal, FollowEarly, RosteredWeek, added_by_all, added_in, early_charges}
 pub use Rattle.rota_items.specs.Limits.{most_skills, most_nurses, most_shifts, signed_limit, most_number, word_limit, greatest_count, half_limit}
@@ -82,7 +87,9 @@ pub use Rattle.rota_core.specs.declared.values.Span.{Span}
 pub use Rattle.rota_items.specs.CellSums.{days_of, property_of, is_plain_of}
 pub use Rattle.rota_items.specs.ItemValues.{runs_of, item_of, charged_items}
 pub use Rattle.rota_items.specs.RunItemParts.{DaysFollow, has_property, pattern_items_on, window_items_on, AtMostOneADay, closed_items_at, day_cost, day_items, edge_items_on}
-pub use Rattle.rota_items.specs.RunItems.{run_items, Runs, Pattern, PatternDay, pattern_item, variables_on, Property, day_terms, Present, patterns, windows, with_property, without_property, days_with, is_plain, patterns_on, windows_on, closed_patterns_at, closed_patterns_on, edge_patterns_on, saturday, Absent, closed_pattern, edge_pattern, only_sunday, weekend_items, window, pattern_items}
+pub use Rattle.rota_items.specs.RunItems.{run_items, Runs, Pattern, PatternDay, pattern_item, variables_on, Property, day_terms, Present, patterns, windows, with_property, without_property, days_with, is_plain}
+pub use Rattle.rota_items.specs.RunItems.{patterns_on, windows_on, closed_patterns_at, closed_patterns_on, edge_patterns_on, saturday, Absent, closed_pattern, edge_pattern, only_sunday, weekend_items, window}
+pub use Rattle.rota_items.specs.RunItems.{pattern_items}
 pub use Rattle.rota_items.specs.Runs.{run_cost, is_over, missing_on, run_length_before, week_days}
 unfoldable pub use Rattle.rota_items.specs.Runs.{run_over, run_under}
 pub use Rattle.rota_items.specs.declared.cell_sum.DayPattern.{DayPattern}
@@ -106,7 +113,8 @@ pub use Rattle.rota_items.specs.declared.sums.Sign.{Sign}
 pub use Rattle.rota_items.specs.declared.sums.Sign.TheVariants.{Minus, Plus}
 pub use Rattle.rota_items.specs.declared.takers.Taker.{Ghosts}
 -- of the judge: what it is asked, its tallies and sums, and its verdicts
-pub use Rattle.rota_items.specs.Judging.{Subject, fresh, judged, assigned, assignment_in, extended, tallied, capped, closed, counts_for, no_sums, roster_in, with_constants, with_cost, Judging, SettlesModel, WasDriven, constraint_closed, lacking_in, no_tally, true_slacks}
+pub use Rattle.rota_items.specs.Judging.{Subject, fresh, judged, assigned, assignment_in, extended, tallied, capped, closed, counts_for, no_sums, roster_in}
+pub use Rattle.rota_items.specs.Judging.{with_constants, with_cost, Judging, SettlesModel, WasDriven, constraint_closed, lacking_in, no_tally, true_slacks}
 pub use Rattle.rota_items.specs.Verdicts.{is_soft, CostsTheRules, Extends, IsMet, Judges, JudgesTheRules, soft_place}
 pub use Rattle.rota_items.specs.declared.judge.tallies.RowSums.{RowSums}
 pub use Rattle.rota_items.specs.declared.judge.tallies.Tally.{Tally}

@@ -1,5 +1,7 @@
 -- The rows of each hard rule mean the rule: H1, H2, H4 and H5 one by one, and what is shown of each holds of all their rows.
-use Rattle.rota_items.proofs.Common.Words.{◌+◌, ◌≡◌, ◌∙◌, ℕ, ◌<◌, not, true, false, inl, inr, refl, sym, ap, arith, pos, negsuc, nat_lt, cases_Bool, true≢false, ltb-false, not-true, false_from_ne_true, List, [], ◌∷◌, AllByRecursion, flat_map, KeepsHardRules, InWeek, Roster, Has, cell, hard_rules, Week, Rule, Cell, cell_number, cells_of, demand_cells, skill_cells, work_cells, h1_row, h1_rows, h2_row, h4_row, h5_row, h5_rows, rows_of_hard_rule, rule_rows, LinearRow, H1, H2, H3, H4, H5}
+use Rattle.rota_items.proofs.Common.Words.{◌+◌, ◌≡◌, ◌∙◌, ℕ, ◌<◌, not, true, false, inl, inr, refl, sym, ap, arith, pos, negsuc, nat_lt, cases_Bool, true≢false, ltb-false, not-true, false_from_ne_true}
+use Rattle.rota_items.proofs.Common.Words.{List, [], ◌∷◌, AllByRecursion, flat_map, KeepsHardRules, InWeek, Roster, Has, cell, hard_rules, Week, Rule, Cell, cell_number, cells_of, demand_cells}
+use Rattle.rota_items.proofs.Common.Words.{skill_cells, work_cells, h1_row, h1_rows, h2_row, h4_row, h5_row, h5_rows, rows_of_hard_rule, rule_rows, LinearRow, H1, H2, H3, H4, H5}
 use Rattle.rota_items.proofs.CellCounts.{count-none, none-pass, one-work, the_one}
 use Rattle.rota_items.proofs.HardRules.Sound.{at_least, at_most, one-where_true, AllHold, Holds, IsHardRuleSound, IsRowSound, Keeps}
 use Rattle.rota_items.proofs.HardRules.Succession.{succession}

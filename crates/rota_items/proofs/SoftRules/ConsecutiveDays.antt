@@ -1,5 +1,7 @@
 -- The items of a nurse's runs charge the cost of those runs: on the shift types, of working days and of days off.
-use Rattle.rota_items.proofs.Common.Words.{◌≡◌, ℕ, ◌*◌, ◌<◌, Bool, not, List, arith, ap, ◌∙◌, refl, sum_by-append, AllByRecursion-append, AllByRecursion-each_below, each_below, KeepsOneCell, is_off, is_on, works, Roster, Week, Rule, Cell, Item, on_cells, work_cells, weighted_shortages, Span, Property, Present, Absent, Runs, run_items, run_cost, S2, S3, history_on, off_run_weight, off_runs, shift_run_cost, shift_run_weight, work_run_weight, shift_runs, work_runs}
+use Rattle.rota_items.proofs.Common.Words.{◌≡◌, ℕ, ◌*◌, ◌<◌, Bool, not, List, arith, ap, ◌∙◌, refl, sum_by-append, AllByRecursion-append, AllByRecursion-each_below, each_below, KeepsOneCell}
+use Rattle.rota_items.proofs.Common.Words.{is_off, is_on, works, Roster, Week, Rule, Cell, Item, on_cells, work_cells, weighted_shortages, Span, Property, Present, Absent, Runs, run_items}
+use Rattle.rota_items.proofs.Common.Words.{run_cost, S2, S3, history_on, off_run_weight, off_runs, shift_run_cost, shift_run_weight, work_run_weight, shift_runs, work_runs}
 use Rattle.rota_items.proofs.AlikeRosters.{on-alike, run_cost-alike, works-alike}
 use Rattle.rota_items.proofs.CellCounts.{any-on, any-works}
 use Rattle.rota_items.proofs.Lists.{sum_by-each-times, sum_below-same}

@@ -1,5 +1,8 @@
 -- What is shown of each soft rule holds of all items, of the terms on cells and of the penalty.
-use Rattle.rota_items.proofs.Common.Words.{◌≡◌, ◌+◌, ◌≤◌, true, List, [], ◌∷◌, refl, ap, sym, ◌∙◌, arith, pos, ◌+ℤ◌, AllByRecursion, flat_map, sum_by, ints, sum_by-append, sum_by-cons, AllByRecursion-append, AllByRecursion-each_below, list_all, and_parts, append-nil, sum_below, each_below, KeepsCompetitionRules, KeepsOneCell, Roster, InWeek, Week, Rule, Cell, Item, Term, charged, shortage, weighted_shortages, value_of, soft_rules, cell_terms, cell_terms_of_rule, constant, constant_of_rule, items_of_rule, penalty, rule_cost, soft_items, nurse_items, S1, S2, S3, S4, S5, S6, S7, request_terms, is_soft}
+use Rattle.rota_items.proofs.Common.Words.{◌≡◌, ◌+◌, ◌≤◌, true, List, [], ◌∷◌, refl, ap, sym, ◌∙◌, arith, pos, ◌+ℤ◌, AllByRecursion, flat_map, sum_by, ints, sum_by-append, sum_by-cons}
+use Rattle.rota_items.proofs.Common.Words.{AllByRecursion-append, AllByRecursion-each_below, list_all, and_parts, append-nil, sum_below, each_below, KeepsCompetitionRules, KeepsOneCell}
+use Rattle.rota_items.proofs.Common.Words.{Roster, InWeek, Week, Rule, Cell, Item, Term, charged, shortage, weighted_shortages, value_of, soft_rules, cell_terms, cell_terms_of_rule, constant}
+use Rattle.rota_items.proofs.Common.Words.{constant_of_rule, items_of_rule, penalty, rule_cost, soft_items, nurse_items, S1, S2, S3, S4, S5, S6, S7, request_terms, is_soft}
 use Rattle.rota_items.specs.AlikeRosters.{AreAlike}
 use Rattle.rota_items.proofs.Lists.{all-weaker, sum_by-each-same, sum_below-same, sum_below-zero}
 use Rattle.rota_items.proofs.PatternItems.{value_of-append}

@@ -1,5 +1,6 @@
 -- The items of the optimal numbers charge the nurses who are missing.
-use Rattle.rota_items.proofs.Common.Words.{◌≡◌, ℕ, ◌-◌, ◌*◌, Bool, false, refl, ap, arith, nat_lt, ints, AllByRecursion-each_below, AllByRecursion-only_if, nurses_at, KeepsMinimum, Roster, cell, Week, demand_cells, shortage, weighted_shortages, nurse_constant, S1, optimum_cost, optimum_weight, optimum_item, optimum_items, optimum_items_at}
+use Rattle.rota_items.proofs.Common.Words.{◌≡◌, ℕ, ◌-◌, ◌*◌, Bool, false, refl, ap, arith, nat_lt, ints, AllByRecursion-each_below, AllByRecursion-only_if, nurses_at, KeepsMinimum, Roster, cell}
+use Rattle.rota_items.proofs.Common.Words.{Week, demand_cells, shortage, weighted_shortages, nurse_constant, S1, optimum_cost, optimum_weight, optimum_item, optimum_items, optimum_items_at}
 use Rattle.rota_items.proofs.AlikeRosters.{nurses-alike}
 use Rattle.rota_items.proofs.Lists.{sum_by-only_if, sum_by-each-times, count_by-each, sum_below-same, sum_below-zero}
 use Rattle.rota_items.proofs.SmallSums.{positive_part-parts}

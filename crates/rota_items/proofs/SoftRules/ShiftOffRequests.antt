@@ -1,5 +1,7 @@
 -- The terms on cells charge the request rows that are not granted.
-use Rattle.rota_items.proofs.Common.Words.{◌≡◌, ℕ, ◌+◌, ◌*◌, ◌<◌, Bool, true, false, cond, List, refl, ap, ◌∙◌, arith, pos, ◌+ℤ◌, ◌<ℤ◌, ◌≤ℤ◌, nat_lt, AllByRecursion, ltb-true, ints, AllByRecursion-each_below, AllByRecursion-only_if, only_if, Roster, InWeek, cell, Week, Cell, Term, value_of, IsWithinLimits, S4, most_weight, request_cost, request_weight, request_terms, request_terms_on, [], ◌∷◌, negsuc, nat_tests, sum_by, sum_by-cons, positive_part, nurse_constant}
+use Rattle.rota_items.proofs.Common.Words.{◌≡◌, ℕ, ◌+◌, ◌*◌, ◌<◌, Bool, true, false, cond, List, refl, ap, ◌∙◌, arith, pos, ◌+ℤ◌, ◌<ℤ◌, ◌≤ℤ◌, nat_lt, AllByRecursion, ltb-true, ints, AllByRecursion-each_below}
+use Rattle.rota_items.proofs.Common.Words.{AllByRecursion-only_if, only_if, Roster, InWeek, cell, Week, Cell, Term, value_of, IsWithinLimits, S4, most_weight, request_cost, request_weight}
+use Rattle.rota_items.proofs.Common.Words.{request_terms, request_terms_on, [], ◌∷◌, negsuc, nat_tests, sum_by, sum_by-cons, positive_part, nurse_constant}
 use Rattle.rota_core.proofs.LogicWords.{rises-blocks, rises-only_if}
 use Rattle.rota_items.proofs.AlikeRosters.{same_cell}
 use Rattle.rota_items.proofs.ItemLists.{none-each_below}

@@ -1,5 +1,7 @@
 -- What is to be shown of a soft rule and its items.
-use Rattle.rota_items.proofs.Common.Words.{◌≡◌, ℕ, ◌+◌, ◌*◌, ◌<◌, ◌≤◌, pos, AllByRecursion, arith, sum_below, each_below, KeepsCompetitionRules, KeepsOneCell, Roster, Week, Rule, Cell, Item, shortage, weighted_shortages, charged, constant_of_rule, items_of_rule, rule_cost, nurse_constant, nurse_items, S2, S3, S5, S6, S7, assignment_cost_of, complete_weekend_cost_of, consecutive_assignment_cost_of, consecutive_day_off_cost_of, worked_weekend_cost_of}
+use Rattle.rota_items.proofs.Common.Words.{◌≡◌, ℕ, ◌+◌, ◌*◌, ◌<◌, ◌≤◌, pos, AllByRecursion, arith, sum_below, each_below, KeepsCompetitionRules, KeepsOneCell, Roster, Week, Rule, Cell}
+use Rattle.rota_items.proofs.Common.Words.{Item, shortage, weighted_shortages, charged, constant_of_rule, items_of_rule, rule_cost, nurse_constant, nurse_items, S2, S3, S5, S6, S7}
+use Rattle.rota_items.proofs.Common.Words.{assignment_cost_of, complete_weekend_cost_of, consecutive_assignment_cost_of, consecutive_day_off_cost_of, worked_weekend_cost_of}
 use Rattle.rota_items.specs.AlikeRosters.{AreAlike}
 use Rattle.rota_items.proofs.SoundTerms.{AreSound}
 use Rattle.rota_items.proofs.Lists.{sum_by-each, sum_below-plus, sum_below-same, sum_below-zero}

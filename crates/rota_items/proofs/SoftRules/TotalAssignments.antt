@@ -1,5 +1,8 @@
 -- The items of the totals and their part of the constant charge the assignments outside the limits.
-use Rattle.rota_items.proofs.Common.Words.{◌≡◌, ℕ, ◌+◌, ◌-◌, ◌*◌, ◌<◌, ◌≤◌, Bool, ◌&&◌, true, false, cond, refl, arith, ints, min, ℤ, pos, negsuc, nat_lt, count_by, sum_by-append, AllByRecursion-append, AllByRecursion-only_if, inl, inr, KeepsOneCell, Roster, Week, nurse_cells, work_cells, shortage, times, IsUnit, S6, charged_excess, excess_before_counts, greatest_totals_count, least_totals_count, assignment_weight, assignments_of, greatest_total_item, greatest_totals_of, least_total_item, least_totals_of, still_allowed, still_wanted, AllByRecursion-each_below, InWeek}
+use Rattle.rota_items.proofs.Common.Words.{◌≡◌, ℕ, ◌+◌, ◌-◌, ◌*◌, ◌<◌, ◌≤◌, Bool, ◌&&◌, true, false, cond, refl, arith, ints, min, ℤ, pos, negsuc, nat_lt, count_by, sum_by-append}
+use Rattle.rota_items.proofs.Common.Words.{AllByRecursion-append, AllByRecursion-only_if, inl, inr, KeepsOneCell, Roster, Week, nurse_cells, work_cells, shortage, times, IsUnit}
+use Rattle.rota_items.proofs.Common.Words.{S6, charged_excess, excess_before_counts, greatest_totals_count, least_totals_count, assignment_weight, assignments_of, greatest_total_item}
+use Rattle.rota_items.proofs.Common.Words.{greatest_totals_of, least_total_item, least_totals_of, still_allowed, still_wanted, AllByRecursion-each_below, InWeek}
 use Rattle.rota_items.proofs.AlikeRosters.{count_below-alike, same_cell}
 use Rattle.rota_items.proofs.CellCounts.{work_count, one-work, count-work_cells}
 use Rattle.rota_items.proofs.SoundTerms.{sound-cells, AreSound, in-work_cells}

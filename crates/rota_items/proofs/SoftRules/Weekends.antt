@@ -1,5 +1,7 @@
 -- The items of a nurse's weekend charge the nurses who work on only one of its days, and the weekends above the greatest number.
-use Rattle.rota_items.proofs.Common.Words.{◌≡◌, ℕ, ◌+◌, ◌*◌, ◌<◌, ◌≤◌, Bool, true, false, cond, List, [], ◌∷◌, refl, ap, ◌∙◌, arith, if◌then◌else◌, ◌&&◌, nat_le, AllByRecursion, sum_by-cons, KeepsOneCell, works, Roster, Week, Rule, Cell, work_cells, Item, weighted_shortages, Present, pattern_item, Pattern, saturday, only_sunday, weekend_items, DaysFollow, S5, S7, complete_weekend_weight, greatest_totals_count, worked_weekend_weight}
+use Rattle.rota_items.proofs.Common.Words.{◌≡◌, ℕ, ◌+◌, ◌*◌, ◌<◌, ◌≤◌, Bool, true, false, cond, List, [], ◌∷◌, refl, ap, ◌∙◌, arith, if◌then◌else◌, ◌&&◌, nat_le, AllByRecursion}
+use Rattle.rota_items.proofs.Common.Words.{sum_by-cons, KeepsOneCell, works, Roster, Week, Rule, Cell, work_cells, Item, weighted_shortages, Present, pattern_item, Pattern, saturday}
+use Rattle.rota_items.proofs.Common.Words.{only_sunday, weekend_items, DaysFollow, S5, S7, complete_weekend_weight, greatest_totals_count, worked_weekend_weight}
 use Rattle.rota_items.proofs.AlikeRosters.{works-alike}
 use Rattle.rota_items.proofs.CellCounts.{any-works}
 use Rattle.rota_items.proofs.DayLaw.{units_of}
