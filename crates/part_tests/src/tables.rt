@@ -13,6 +13,19 @@ fn names_have_places(rt: HostRuntime) -> Result<(), Fail> {
     Ok(())
 }
 
+// True are a word's last place, the next word's first, and one behind two words that are all false.
+#[test]
+fn words_without_a_true_value_are_passed_over(rt: HostRuntime) -> Result<(), Fail> {
+    let mut bits = Bits::new(rt.alloc(), 300)?;
+    bits.set(63);
+    bits.set(64);
+    bits.set(259);
+    let mut places = bits.true_places();
+    let found = (places.next(), places.next(), places.next(), places.next());
+    assert!(rt; found == (Some(63), Some(64), Some(259), None));
+    Ok(())
+}
+
 const SATURDAY: Cell = Cell {
     nurse: 0,
     day: 5,
