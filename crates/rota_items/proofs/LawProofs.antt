@@ -51,48 +51,10 @@ pub ruleset early = (charges-sum)
 
 pub ruleset items = (extension_satisfies, item_law, shortage-numbered, value_of-extension, weighted_shortages-le)
 
-pub ruleset models = (
-  cell_number-below,
-  cell_of-cell_number,
-  cell_of_number-in,
-  cell_number-of,
-  extension-first_broken,
-  first_broken,
-  extension-objective,
-  extension-roster,
-  length-with_held,
-  objective-below,
-  rises-objective,
-  stands-exactly,
-)
+pub ruleset models = (cell_number-below, cell_of-cell_number, cell_of_number-in, cell_number-of, extension-first_broken, first_broken, extension-objective, extension-roster, length-with_held, objective-below, rises-objective, stands-exactly)
 
-pub ruleset rules_charged = (
-  charges,
-  penalty-below,
-  weighted-optimum_items,
-  value_of-request_terms,
-  sum_below-zero,
-  count-on_cells,
-  one-on,
-  count-work_cells,
-  one-work,
-  charged-rule,
-  charged-s2,
-  charged-s3,
-  charged-s5,
-  charged-s6,
-  charged-s7,
-)
+pub ruleset rules_charged = (charges, penalty-below, weighted-optimum_items, value_of-request_terms, sum_below-zero, count-on_cells, one-on, count-work_cells, one-work, charged-rule, charged-s2, charged-s3, charged-s5, charged-s6, charged-s7)
 
-pub ruleset runs = (
-  weighted_shortages-run_items,
-  shortages-run_items,
-  weighted_shortages-day_items,
-  run_items-below,
-  days-follow,
-  weighted-off_runs,
-  weighted-on_runs,
-  weighted-work_runs,
-)
+pub ruleset runs = (weighted_shortages-run_items, shortages-run_items, weighted_shortages-day_items, run_items-below, days-follow, weighted-off_runs, weighted-on_runs, weighted-work_runs)
 
 pub ruleset sizes = (instance-within_limits, variables-below, constraints-below, objective_value-positive)
