@@ -28,6 +28,22 @@ tells_options() {
     done
 }
 
+# says SUBCOMMAND SENTENCE [OPTION HELP]..: its help begins with the sentence, and says this of these options, and what all
+# commands say of the files of a week.
+says() {
+    local subcommand=$1 sentence=$2
+    run "what $subcommand does" 0 text nothing "$subcommand" --help
+    head -n 1 "$room/out" | grep -qxF -- "$sentence" || complain 'another sentence'
+    grep -q "^Usage: inrc2pb $subcommand " "$room/out" || complain 'another usage'
+    set -- "${@:3}" sce 'The scenario' his 'The history before the week' week 'The requirements and requests of the week' \
+        fix 'Assignments that are held, in the form of a solution file'
+    while [ $# -gt 0 ]; do
+        tr -s ' ' < "$room/out" | grep -qxF -e " --$1 <FILE> $2" || complain "another line for --$1"
+        shift 2
+    done
+    tr -s ' ' < "$room/out" | grep -qx ' --early Charges what exceeds a total in the week in which it arises' || complain 'another line for --early'
+}
+
 asks_for_help() {
     local help subcommand
     run 'no words' 2 nothing text
@@ -42,11 +58,10 @@ asks_for_help() {
     tells_options encode --sce --his --week --fix --opb
     tells_options decode --sce --his --week --fix --sol --answer
     tells_options extend --sce --his --week --fix --from
-    run 'what encode does' 0 text nothing encode --help
-    head -n 1 "$room/out" | grep -qx 'Writes the week as a pseudo-Boolean model' || complain 'another sentence'
-    grep -q '^Usage: inrc2pb encode ' "$room/out" || complain 'another usage'
-    grep -q -e '--his <FILE>  *The history before the week$' "$room/out" || complain 'another line for --his'
-    grep -q -e '--week <FILE>  *The requirements and requests of the week$' "$room/out" || complain 'another line for --week'
+    says encode 'Writes the week as a pseudo-Boolean model' opb 'Where to write the model [default: standard output]'
+    says decode "Turns a solver's answer into a solution file, and reports what it costs" \
+        sol 'Where to write the solution file' answer "The solver's answer [default: standard input]"
+    says extend 'Turns a roster into an answer of a solver' from 'The roster, in the form of a solution file'
     run 'the version' 0 version nothing --version
     out=/dev/full refuses 'help that cannot be written' 3 'write failed' --help
     out=/dev/full refuses 'a version that cannot be written' 3 'write failed' --version
