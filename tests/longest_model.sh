@@ -1,6 +1,6 @@
 #!/usr/bin/env bash
 # Runs the program on the week with the longest model that we know of (`greatest` of bench/weeks.py), and on a week of the
-# same size that has a roster. Each run has 64 MB of memory, the model has 2.1 GB. The numbers of variables and constraints
+# same size that has a roster. Each run has 32 MB of memory, the model has 2.1 GB. The numbers of variables and constraints
 # are counted by hand from docs/model.md, and the roster's costs by tests/rules.py.
 #
 #   tests/longest_model.sh [llvm | rattle | PROGRAM]
@@ -15,9 +15,9 @@ sed 's/ shift0 1 1 1$/ None 0 0 1/' "$room/history.txt" > "$room/rested.txt"
 longest=(--sce scenario.txt --his history.txt --week week.txt)
 staffed=(--sce skilled.txt --his rested.txt --week week.txt)
 
-# in_little_memory WORDS..: the program in the room, with 64 MB.
+# in_little_memory WORDS..: the program in the room, with 32 MB.
 in_little_memory() {
-    (cd "$room" && ulimit -v 65536 && exec "$program" "$@")
+    (cd "$room" && ulimit -v 32768 && exec "$program" "$@")
 }
 
 # has_model WHAT FIRST LINES WORDS..: the model's first line, and how many lines follow it.
