@@ -7,22 +7,21 @@ SHARE = $(DESTDIR)$(PREFIX)/share
 
 all: build who_fits
 
-# Proves a library, with two jobs: the parts of a crate wait for one another, so that more of them take more than they give.
-PROVE = rt lib --jobs 2
-READERS = out/readers
-
 # What the program stands on, from below: each crate is proved when those that it uses are, so that `rt` need not read the
-# sources of all of them once before it proves the first. The readers are proved beside the model and its texts, in a copy,
-# since `rt` lets one command at a time into a crate that two stand on. `rt run` leaves the program in its crate.
+# sources of all of them once before it proves the first. The readers are proved beside the model, with two jobs each: in a
+# copy, since `rt` lets one command at a time into a crate that two stand on. The parts of the last two crates wait for one
+# another, so that more jobs take more than they give. `rt run` leaves the program in its crate.
+READERS = out/readers
 build:
-	cd crates/rota_core && $(PROVE)
+	cd crates/rota_core && rt lib
 	rm -rf $(READERS) && mkdir -p $(READERS)/crates
 	grep -E '^rota_(core|read):' crates.txt > $(READERS)/crates.txt
 	cp HANDLES $(READERS) && cp -Rl crates/rota_core crates/rota_read $(READERS)/crates
-	(cd $(READERS)/crates/rota_read && $(PROVE)) & \
-	for library in rota_items opb_text solver_text; do (cd crates/$$library && $(PROVE)) || exit; done; wait $$!
+	(cd $(READERS)/crates/rota_read && rt lib --jobs 2) & (cd crates/rota_items && rt lib --jobs 2) && \
+	    (cd crates/opb_text && rt lib) && (cd crates/solver_text && rt lib) && wait $$!
 	rm -rf crates/rota_read/out && mv $(READERS)/crates/rota_read/out crates/rota_read && rm -rf $(READERS)
-	for library in rota_pb inrc2pb_job; do (cd crates/$$library && $(PROVE)) || exit; done
+	cd crates/rota_pb && rt lib
+	cd crates/inrc2pb_job && rt lib --jobs 1
 	cd crates/inrc2pb && rt run --jobs 2 -- --version
 	mkdir -p out
 	cp crates/inrc2pb/out/inrc2pb out
