@@ -90,7 +90,7 @@ impl<'a, W: Target> Sink<'a, W> {
         ensures for_good { sink_failed self.old ≡ true → IsErr result }
     {
         if number >= 1 << 32 {
-            return self.number(number as i128);
+            return self.put(Buffer::new().format(number).as_bytes());
         }
         if self.failed || self.buffer.room() < MOST_DIGITS {
             self.empty_buffer()?;

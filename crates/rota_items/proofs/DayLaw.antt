@@ -21,15 +21,12 @@ units_of has pattern = cond (matches has pattern.days) pattern.units 0
 abbrev pub units : (ℕ → Bool) → List Pattern → ℕ
 units has all = sum_by (units_of has) all
 
--- a run is shorter than the week so far, or fills it after the history
-abbrev IsRun : ℕ → ℕ → ℕ → Type 0
-IsRun history d length = (length < d) ⊎ (length ≡ history + d)
-
 module _ (has : ℕ → Bool) (history : ℕ) where
   abbrev length_at : ℕ → ℕ
   length_at d = run_length_before has history d
 
-  is_run : (d : ℕ) → IsRun history d (length_at d)
+  -- a run is shorter than the week so far, or fills it after the history
+  is_run : (d : ℕ) → (length_at d < d) ⊎ (length_at d ≡ history + d)
   is_run zero = inr (omega arith)
   is_run (suc d) = grind (arith, is_run d)
 

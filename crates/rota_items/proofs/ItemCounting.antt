@@ -15,14 +15,11 @@ pub record AreWithin (counts : ItemNumbers) : Type 0 where
   pub items : counts.items < word_limit
   pub slacks : counts.slacks < word_limit
 
-within-one : (counts : ItemNumbers) (item : Item ℕ) → AreWithin (with_one counts item)
-within-one counts item = record { items = omega arith; slacks = omega arith }
-
 pub counted-all : (items : List (Item ℕ)) (counts : ItemNumbers) → AreWithin counts →
     fold with_one counts items ≡ record { items = sum_within counts.items (length items); slacks = sum_within counts.slacks (slack_count items) }
 counted-all [] counts within = same_numbers _ _ _ _ (omega arith) (omega arith)
 counted-all (item ∷ items) counts within =
-    counted-all items (with_one counts item) (within-one counts item) ∙
+    counted-all items (with_one counts item) (record { items = omega arith; slacks = omega arith }) ∙
     same_numbers _ _ _ _ (omega arith) (omega (arith, slack_count-cons item items))
 
 -- the items of a nurse's runs, each of one slack, are as many as these windows and patterns

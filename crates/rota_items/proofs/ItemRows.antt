@@ -16,17 +16,11 @@ pub record GivesEach (events_of : Item ℕ → ℕ → List Event) (all : ℕ �
   pub none : (first : ℕ) → all first [] ≡ []
   pub more : (first : ℕ) (item : Item ℕ) (items : List (Item ℕ)) → all first (item ∷ items) ≡ events_of item first ++ all (first + item.slacks) items
 
-abbrev pub all_rows : ℕ → List (Item ℕ) → List Event
-all_rows first items = events (item_rows first items)
-
-abbrev pub all_weights : ℕ → List (Item ℕ) → List Event
-all_weights first items = term_events (slack_weights first items)
-
-pub gives_rows : GivesEach row_of_item all_rows
+pub gives_rows : GivesEach row_of_item (λ first items. events (item_rows first items))
 unfolding events
 gives_rows = record { none = λ first. refl; more = λ first item items. refl }
 
-pub gives_weights : GivesEach weights_of_item all_weights
+pub gives_weights : GivesEach weights_of_item (λ first items. term_events (slack_weights first items))
 gives_weights = record { none = λ first. numbers_join.none; more = λ first item items. numbers_join.append _ _ }
 
 -- where its slacks fit, an item is handed on as it is

@@ -29,9 +29,6 @@ at_unit_in week subject = if counts_for week subject (unit_number week) then con
 abbrev StandsOnce : Rule → Type 0
 StandsOnce rule = (f : Rule → ℕ) → of_rule f rule ≡ f rule
 
-stand-once : AllByRecursion StandsOnce soft_rules
-stand-once = omega arith
-
 module _ (week : Week) (within : IsWithinLimits week) (subject : Subject) where
   -- requests are all that is in the objective at cells
   abbrev requests : ℕ
@@ -94,7 +91,7 @@ driven-judges judging limits driven objective costs objective_is costs_are =
           (costs_are ∙
           costs-last week limits_of judging.subject judging.tally comes.before comes.requests_are comes.shortages
           (λ rule. omega (arith, comes.totals rule))) ∙
-          charges-last week limits_of judging.subject soft_rules stand-once;
+          charges-last week limits_of judging.subject soft_rules (omega arith);
     }
 
 -- ---- a fresh judge that was driven

@@ -23,8 +23,7 @@ abbrev pub signed : Bool → ℕ → ℤ
 signed plain n = cond plain (pos 0 -ℤ pos n) (pos n)
 
 abbrev pub signed_terms : {X : Type 0} → Bool → List X → List (Term X)
-signed_terms plain variables =
-    times (cond plain (negsuc 0) (pos 1)) variables
+signed_terms plain variables = times (cond plain (negsuc 0) (pos 1)) variables
 
 pub value_of-sum : {X : Type 0} (assignment : X → Bool) (plain : Bool) (variables : List X) →
     value_of assignment (signed_terms plain variables) ≡ signed plain (count_by assignment variables)

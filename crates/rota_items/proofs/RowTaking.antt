@@ -1,5 +1,5 @@
 -- What a taker of events and a counter take by the rows of the hard rules.
-use Rattle.rota_items.proofs.Common.Words.{◌≡◌, ℕ, ◌+◌, ◌≤◌, min, List, [], ◌∷◌, length, refl, sym, ◌∙◌, arith, fold, fold-append, LinearRow, Event, events}
+use Rattle.rota_items.proofs.Common.Words.{◌≡◌, ℕ, ◌+◌, ◌≤◌, min, List, [], ◌∷◌, length, refl, sym, ◌∙◌, arith, fold, fold-append, LinearRow, Event, events, Result, MatchResult, MatchResult-weaker, Takes}
 use Rattle.rota_items.proofs.Common.Words.{row_events, greatest_count, RefusesRow, TookAll, RefusedOne, Took, Refused, one_row_more, with_row, Ghosts}
 use Rattle.rota_items.proofs.Taking.{events_join, Refused-before, Refused-after}
 
@@ -20,6 +20,11 @@ module _ {S F : Type 0} (T : Ghosts S F) (rows : List (LinearRow ℕ)) (s t : S)
       (Refused-after (events refused.taken) _ s refused.leaves.old t
       (record { value_is = refused.leaves.old_is ∙ fold-rows T.step refused.taken (T.value s) })
       (Refused-before (row_events refused.event) (events refused.untold) refused.leaves.old t refused.leaves.refused))
+
+-- a row's events, taken one by one
+pub takes_row : {S F R : Type 0} (T : Ghosts S F) (row : LinearRow ℕ) (s t : S) (r : Result R F) → Takes T (row_events row) s t r →
+    MatchResult r (λ _. T.value t ≡ with_row T.step (T.value s) row) (λ _. RefusesRow T (T.value s) row t)
+takes_row T row s t r takes = MatchResult-weaker r takes (λ _ took. took.value_is) (λ _ refused. record { old = s; old_is = refl; refused = refused })
 
 pub rows-counted : (rows : List (LinearRow ℕ)) (n : ℕ) → n ≤ greatest_count →
     fold one_row_more n rows ≡ min (n + length rows) greatest_count

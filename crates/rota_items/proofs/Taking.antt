@@ -68,9 +68,6 @@ lone_row row = record { are = append-nil (row_events row) }
 -- ---- a taker of anything: one list, then another
 
 module _ {S V E : Type 0} {value : S → V} {step : V → E → V} {left : V → E → S → Type 0} where
-  pub Took-none : (s : S) → TookAll value step left [] s s
-  Took-none s = record { value_is = refl }
-
   pub Took-one : (event : E) (s t : S) → value t ≡ step (value s) event → TookAll value step left (event ∷ []) s t
   Took-one event s t e = record { value_is = e }
 
@@ -139,7 +136,7 @@ module _ {S V E : Type 0} {value : S → V} {step : V → E → V} {left : V →
         (go_on _ (f (get_or xs i other) ++ rest) s t u before (stop _ rest t u here)))
 
     pub nothing : (s : S) → TookAll value step left (h []) s s
-    nothing s = rw joins.none (Took-none s)
+    nothing s = rw joins.none (record { value_is = refl })
 
     pub both : (xs ys : List A) (s t u : S) → TookAll value step left (h xs) s t → TookAll value step left (h ys) t u → TookAll value step left (h (xs ++ ys)) s u
     both xs ys s t u p q = rw joins.append (Took-then (h xs) (h ys) s t u p q)

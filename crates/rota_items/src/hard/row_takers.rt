@@ -8,7 +8,7 @@ ghost use Rattle.rota_items.specs.WeekModel.{numbered_row};
 
 use crate::cell_sum::CellSum;
 use crate::part::Part;
-use crate::rows::{Row, give_row};
+use crate::sum_terms::give_sum;
 use crate::takers::Taker;
 use rota_core::{Instance, Rule};
 
@@ -61,16 +61,8 @@ impl<T: Taker> RowTaker for T {
     ghost left = { RefusesRow T.Taker };
 
     fn row(&mut self, instance: &Instance, row: HardRow) -> Result<(), T::Fault> {
-        give_row(
-            instance,
-            self,
-            Row {
-                part: Part::Hard(row.rule),
-                sum: row.sum,
-                first: 0,
-                count: 0,
-                degree: row.degree,
-            },
-        )
+        self.start_row(Part::Hard(row.rule))?;
+        give_sum(instance, self, row.sum)?;
+        self.close_row(row.degree)
     }
 }
