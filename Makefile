@@ -8,20 +8,21 @@ SHARE = $(DESTDIR)$(PREFIX)/share
 all: build who_fits
 
 # What the program stands on, from below: each crate is proved when those that it uses are, so that `rt` need not read the
-# sources of all of them once before it proves the first. The readers are proved beside the model, with two jobs each: in a
-# copy, since `rt` lets one command at a time into a crate that two stand on. The parts of the last two crates wait for one
-# another, so that more jobs take more than they give. `rt run` leaves the program in its crate.
+# sources of all of them once before it proves the first. Beside the longest way from rota_core to the program two crates are
+# proved with one job: the readers, in a copy, since `rt` lets one command at a time into a crate that two stand on, and the
+# command line. A crate's parts wait for one another, so that more jobs take more than they give: each crate has as many as
+# still pay. `rt run` leaves the program in its crate.
 READERS = out/readers
 build:
-	cd crates/rota_core && rt lib
+	cd crates/rota_core && rt lib --jobs 3
 	rm -rf $(READERS) && mkdir -p $(READERS)/crates
 	grep -E '^rota_(core|read):' crates.txt > $(READERS)/crates.txt
 	cp HANDLES $(READERS) && cp -Rl crates/rota_core crates/rota_read $(READERS)/crates
-	(cd $(READERS)/crates/rota_read && rt lib --jobs 2) & (cd crates/rota_items && rt lib --jobs 2) && \
-	    (cd crates/opb_text && rt lib) && (cd crates/solver_text && rt lib) && wait $$!
+	(cd $(READERS)/crates/rota_read && rt lib --jobs 1) & (cd crates/rota_items && rt lib --jobs 3) && \
+	    (cd crates/opb_text && rt lib --jobs 2) && (cd crates/solver_text && rt lib --jobs 2) && wait $$!
 	rm -rf crates/rota_read/out && mv $(READERS)/crates/rota_read/out crates/rota_read && rm -rf $(READERS)
-	cd crates/rota_pb && rt lib
-	cd crates/inrc2pb_job && rt lib --jobs 1
+	(cd crates/inrc2pb_command && rt lib --jobs 1) & (cd crates/rota_pb && rt lib --jobs 3) && \
+	    (cd crates/inrc2pb_job && rt lib --jobs 1) && wait $$!
 	cd crates/inrc2pb && rt run --jobs 2 -- --version
 	mkdir -p out
 	cp crates/inrc2pb/out/inrc2pb out

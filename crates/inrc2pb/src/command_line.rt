@@ -1,12 +1,11 @@
 //! The job that the words of the command line spell.
 ghost use Rattle.std.specs.Prelude.{◌≡◌, [], IfErr, IfOk, IsSomeAnd, OnOk, Some, option_map, string_bytes};
 ghost use Rattle.clap.specs.Words.{fault_of, first_of, subcommand_of};
-ghost use Rattle.inrc2pb.specs.CommandLine.{inrc2pb_app};
+ghost use Rattle.inrc2pb_command.specs.CommandLine.{inrc2pb_app};
 ghost use Rattle.inrc2pb.specs.Jobs.{HasFlag, HasInputs, IsFaultOf, IsForMemoryOr, IsJobOf, IsSubcommand};
 ghost use Rattle.inrc2pb.specs.Jobs.{LacksInput, LacksOption, LacksPath, options_of, texts};
 ghost use Rattle.inrc2pb.specs.Stops.{IsStopFor};
 
-use crate::command;
 use crate::job_fault::JobFault;
 use crate::stop::Stop;
 use clap::ArgMatches;
@@ -30,7 +29,7 @@ pub fn job(alloc: Global, words: &[&str]) -> Result<Job, JobFault>
     ensures taken { OnOk result (fault_of inrc2pb_app (texts words.now) ≡ []) }
     ensures err { IfErr result (IsFaultOf (texts words.now)) }
 {
-    let command = command::inrc2pb(alloc)?;
+    let command = inrc2pb_command::inrc2pb(alloc)?;
     let matches = command.try_get_matches_from(words)?;
     let Some((name, options)) = matches.subcommand() else {
         unreachable!()

@@ -4,7 +4,6 @@
 //! roster. `make tour` goes once around with a solver, and shows each command before it runs.
 #![tactic(auto)]
 
-mod command;
 mod command_line;
 mod fault_line;
 mod files;

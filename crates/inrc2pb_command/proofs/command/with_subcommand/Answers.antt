@@ -1,7 +1,7 @@
 use Rattle.std.proofs.Common.{IfOk, subst}
-use Rattle.inrc2pb.specs.CommandLine.{IsCommandOf}
-use Rattle.inrc2pb.proofs.CommandSteps.{ends_with_subcommand}
-use Rattle.inrc2pb.proofs.command.with_subcommand.Goals as goal
+use Rattle.inrc2pb_command.specs.CommandLine.{IsCommandOf}
+use Rattle.inrc2pb_command.proofs.CommandSteps.{ends_with_subcommand}
+use Rattle.inrc2pb_command.proofs.command.with_subcommand.Goals as goal
 
 pub returns : goal.returns
 returns c a b is is_sub =

@@ -1,8 +1,8 @@
 use Rattle.std.proofs.Common.{rules, codes, fold}
 use Rattle.clap.specs.Words.{new_app, with_rule}
-use Rattle.inrc2pb.specs.CommandLine.{IsCommandOf, file_rule, flag_rule, week_rules}
-use Rattle.inrc2pb.proofs.CommandSteps.{adds_arg, ends_with_arg}
-use Rattle.inrc2pb.proofs.command.subcommand.Goals as goal
+use Rattle.inrc2pb_command.specs.CommandLine.{IsCommandOf, file_rule, flag_rule, week_rules}
+use Rattle.inrc2pb_command.proofs.CommandSteps.{adds_arg, ends_with_arg}
+use Rattle.inrc2pb_command.proofs.command.subcommand.Goals as goal
 
 pub returns : goal.returns
 returns c =

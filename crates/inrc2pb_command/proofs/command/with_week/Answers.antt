@@ -1,8 +1,8 @@
 use Rattle.std.proofs.Common.{codes}
 use Rattle.clap.specs.Words.{with_rule}
-use Rattle.inrc2pb.specs.CommandLine.{required_file_rule}
-use Rattle.inrc2pb.proofs.CommandSteps.{adds_arg, ends_with_arg}
-use Rattle.inrc2pb.proofs.command.with_week.Goals as goal
+use Rattle.inrc2pb_command.specs.CommandLine.{required_file_rule}
+use Rattle.inrc2pb_command.proofs.CommandSteps.{adds_arg, ends_with_arg}
+use Rattle.inrc2pb_command.proofs.command.with_week.Goals as goal
 
 pub returns : goal.returns
 returns c a is =

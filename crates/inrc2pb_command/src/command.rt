@@ -1,9 +1,9 @@
 //! The command line, as a command of clap.
 ghost use Rattle.std.specs.Prelude.{◌≡◌, [], IfOk, false, fold};
 ghost use Rattle.clap.specs.Words.{App, rule_of, with_rule, with_subcommand};
-ghost use Rattle.inrc2pb.specs.CommandLine.{IsCommandOf, bare_app, decode_app, encode_app};
-ghost use Rattle.inrc2pb.specs.CommandLine.{extend_app, file_rule, flag_rule, inrc2pb_app};
-ghost use Rattle.inrc2pb.specs.CommandLine.{required_file_rule, subcommand_app, week_rules};
+ghost use Rattle.inrc2pb_command.specs.CommandLine.{IsCommandOf, bare_app, decode_app, encode_app};
+ghost use Rattle.inrc2pb_command.specs.CommandLine.{extend_app, file_rule, flag_rule, inrc2pb_app};
+ghost use Rattle.inrc2pb_command.specs.CommandLine.{required_file_rule, subcommand_app, week_rules};
 
 use clap::{Arg, ArgAction, Command};
 use std::alloc::{AllocError, Global};
