@@ -11,7 +11,8 @@ use std::alloc::{AllocError, Global};
 // The version of the program, which is nowhere else.
 const VERSION: &str = "0.2.0";
 
-/// The whole command: one of its subcommands has to be named.
+/// The whole command line, with its options and help: one of its subcommands has to be named. It fails only where memory
+/// runs out.
 pub fn inrc2pb<'a>(alloc: Global) -> Result<Command<'a>, AllocError>
     ensures { IfOk result (IsCommandOf inrc2pb_app) }
 {
