@@ -1,4 +1,4 @@
--- Words that the command takes, and what it makes of them.
+-- Words that the command accepts, and their results.
 use Rattle.std.proofs.Common.{◌≡◌, List, [], ◌∷◌, Some, None, true, codes, refl, option_map, Option}
 use Rattle.clap.specs.Words.{Text, first_of, one_of, subcommand_of, takes}
 use Rattle.clap.proofs.OnLiterals.{clap_on_literals}

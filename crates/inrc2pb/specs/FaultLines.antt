@@ -1,4 +1,4 @@
--- The line on standard error that tells why a job failed.
+-- The line on standard error that reports why a job failed.
 use Rattle.std.specs.Prelude.{ℕ, List, ◌++◌, codes}
 use Rattle.rota_pb.specs.FaultTexts.{fault_text}
 use Rattle.rota_pb.specs.declared.fault.Fault.{Fault}

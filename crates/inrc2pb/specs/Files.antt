@@ -1,14 +1,14 @@
--- What the program's own ports pass on.
+-- The calls that the program's own ports pass on.
 use Rattle.std.specs.Prelude.{ℕ, ◌<◌, List, length, ⊤, Option, None, Some, Result, IsErr}
 use Rattle.std.specs.Io.KnownBytes.{Keeps, WriteAppends}
-use Rattle.rota_core.specs.Ports.{Told}
+use Rattle.rota_core.specs.Ports.{KnownBytes}
 use Rattle.rota_core.specs.StdPorts.{inner_writer}
 use Rattle.rota_core.specs.declared.ports.PortFault.{PortFault}
 use Rattle.rota_core.specs.declared.std_ports.ToWrite.{ToWrite}
 
--- a piece was written to the file, which was made first where there was none: the bytes that the answer counts, and no others;
--- where the file could not be made the write failed
-abbrev pub IsWritten : {W : Type 0} → (W → Told) → Option (ToWrite W) → Option (ToWrite W) → Result ℕ PortFault → List ℕ → Type 0
+-- a piece was written to the file, which was created first if it did not exist: exactly the bytes that the answer counts; if the file
+-- could not be created the write failed
+abbrev pub IsWritten : {W : Type 0} → (W → KnownBytes) → Option (ToWrite W) → Option (ToWrite W) → Result ℕ PortFault → List ℕ → Type 0
 IsWritten contents (Some before) (Some after) result piece =
     WriteAppends (contents (inner_writer before)) (contents (inner_writer after)) result piece
 IsWritten contents (Some before) None result piece = ⊥
@@ -16,15 +16,15 @@ IsWritten {W} contents None (Some after) result piece =
     (made : W) × WriteAppends (contents made) (contents (inner_writer after)) result piece
 IsWritten contents None None result piece = 0 < length piece → IsErr result
 
--- a flush writes nothing, and makes no file
-abbrev pub IsFlushed : {W : Type 0} → (W → Told) → Option (ToWrite W) → Option (ToWrite W) → Type 0
+-- a flush writes nothing, and creates no file
+abbrev pub IsFlushed : {W : Type 0} → (W → KnownBytes) → Option (ToWrite W) → Option (ToWrite W) → Type 0
 IsFlushed contents (Some before) (Some after) =
     Keeps (contents (inner_writer before)) (contents (inner_writer after))
 IsFlushed contents (Some before) None = ⊥
 IsFlushed contents None (Some after) = ⊥
 IsFlushed contents None None = ⊤
 
--- what standard input has left, where it is taken and tells that
-abbrev pub left_of : {R : Type 0} → (R → Told) → Option R → Told
+-- the rest of standard input, if it is in use and its bytes are known
+abbrev pub left_of : {R : Type 0} → (R → KnownBytes) → Option R → KnownBytes
 left_of remaining (Some reader) = remaining reader
 left_of remaining None = None

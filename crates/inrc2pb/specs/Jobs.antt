@@ -13,11 +13,11 @@ use Rattle.inrc2pb_job.specs.declared.job.Job.TheVariants.{Encode, Decode, Exten
 use Rattle.inrc2pb.specs.declared.job_fault.JobFault.{JobFault}
 use Rattle.inrc2pb.specs.declared.job_fault.JobFault.TheVariants.{Words, Missing, Memory}
 
--- the words behind references
+-- the words without references
 abbrev pub texts : List (Bor Text) → List Text
 texts = map (λ word. word.now)
 
--- the options that the matches of one command hold
+-- the options in the matches of one command
 abbrev pub options_of : ArgMatches → List Row
 options_of m = rows_of (found_of m)
 
@@ -29,13 +29,13 @@ abbrev pub IsSubcommand : Text → Type 0
 IsSubcommand name =
     (name ≡ codes "encode") ⊎ ((name ≡ codes "decode") ⊎ (name ≡ codes "extend"))
 
--- the flag is set where the text of its option is `true`, and not where it is `false` or there is none
+-- the flag is set if the text of its option is `true`, and not set if it is `false` or missing
 pub record HasFlag (id : Text) (options : List Row) (flag : Bool) : Type 0 where
   pub set : one_of id options ≡ Some (codes "true") → flag ≡ true
   pub unset : one_of id options ≡ Some (codes "false") → flag ≡ false
   pub absent : one_of id options ≡ None → flag ≡ false
 
--- the paths are those of the options, unchanged, and the flag is theirs
+-- the paths are the options' paths, unchanged, and so is the flag
 pub record HasInputs (options : List Row) (inputs : Inputs) : Type 0 where
   pub sce : first_of (codes "sce") options ≡ Some (string_bytes inputs.sce)
   pub his : first_of (codes "his") options ≡ Some (string_bytes inputs.his)
@@ -60,22 +60,22 @@ abbrev pub LacksInput : List Row → Type 0
 LacksInput options = LacksOption (codes "sce") options ⊎ (LacksOption (codes "his") options
     ⊎ LacksOption (codes "week") options)
 
--- a required path is not there
+-- a required path is missing
 abbrev pub LacksPath : Matched → Type 0
 LacksPath matched = LacksInput matched.1
     ⊎ (((matched.0 ≡ codes "decode") × LacksOption (codes "sol") matched.1)
     ⊎ ((matched.0 ≡ codes "extend") × LacksOption (codes "from") matched.1))
 
--- memory ran out, or a path is missing where `lacks` says so
+-- memory ran out, or a path is missing if `lacks` says so
 abbrev pub IsForMemoryOr : Type 0 → JobFault → Type 0
 IsForMemoryOr lacks (Words error) = ⊥
 IsForMemoryOr lacks Missing = lacks
 IsForMemoryOr lacks Memory = ⊤
 
--- why the words give no job: clap's error is of a kind that stands for what is wrong with them, or it is out of memory, as it is where the
--- command takes them; a path is missing only from words with which nothing is wrong
-abbrev pub IsFaultOf : List Text → JobFault → Type 0
-IsFaultOf words (Words error) =
+-- why the words give no job: clap's error is of a kind that matches their fault, or memory ran out, which is the only reason if the
+-- command accepts them; a path is missing only if nothing is wrong with the words
+abbrev pub IsJobFaultOf : List Text → JobFault → Type 0
+IsJobFaultOf words (Words error) =
     HasKind (fault_of inrc2pb_app words) error × (takes inrc2pb_app words ≡ true → kind_of error ≡ OutOfMemory)
-IsFaultOf words Missing = (fault_of inrc2pb_app words ≡ []) × IsSomeAnd (subcommand_of inrc2pb_app words) LacksPath
-IsFaultOf words Memory = ⊤
+IsJobFaultOf words Missing = (fault_of inrc2pb_app words ≡ []) × IsSomeAnd (subcommand_of inrc2pb_app words) LacksPath
+IsJobFaultOf words Memory = ⊤

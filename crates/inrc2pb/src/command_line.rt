@@ -2,7 +2,7 @@
 ghost use Rattle.std.specs.Prelude.{◌≡◌, [], IfErr, IfOk, IsSomeAnd, OnOk, Some, option_map, string_bytes};
 ghost use Rattle.clap.specs.Words.{fault_of, first_of, subcommand_of};
 ghost use Rattle.inrc2pb_command.specs.CommandLine.{inrc2pb_app};
-ghost use Rattle.inrc2pb.specs.Jobs.{HasFlag, HasInputs, IsFaultOf, IsForMemoryOr, IsJobOf, IsSubcommand};
+ghost use Rattle.inrc2pb.specs.Jobs.{HasFlag, HasInputs, IsJobFaultOf, IsForMemoryOr, IsJobOf, IsSubcommand};
 ghost use Rattle.inrc2pb.specs.Jobs.{LacksInput, LacksOption, LacksPath, options_of, texts};
 ghost use Rattle.inrc2pb.specs.Stops.{IsStopFor};
 
@@ -12,8 +12,8 @@ use clap::ArgMatches;
 use inrc2pb_job::{Inputs, Job};
 use std::alloc::{AllocError, Global};
 
-/// The job that the words spell, or why the program ends without one.
-pub fn asked_job(alloc: Global, words: &[&str]) -> Result<Job, Stop>
+/// The job that the words spell, or the reason why the program ends without one.
+pub fn job_of_words(alloc: Global, words: &[&str]) -> Result<Job, Stop>
     ensures ok { IfOk result (λ j. IsSomeAnd (subcommand_of inrc2pb_app (texts words.now))
         (λ matched. IsJobOf matched j)) }
     ensures taken { OnOk result (fault_of inrc2pb_app (texts words.now) ≡ []) }
@@ -22,12 +22,12 @@ pub fn asked_job(alloc: Global, words: &[&str]) -> Result<Job, Stop>
     Ok(job(alloc, words)?)
 }
 
-/// The job that the words spell, the first of which is the program's name.
+/// The job that the words spell. The first word is the program's name.
 pub fn job(alloc: Global, words: &[&str]) -> Result<Job, JobFault>
     ensures ok { IfOk result (λ j. IsSomeAnd (subcommand_of inrc2pb_app (texts words.now))
         (λ matched. IsJobOf matched j)) }
     ensures taken { OnOk result (fault_of inrc2pb_app (texts words.now) ≡ []) }
-    ensures err { IfErr result (IsFaultOf (texts words.now)) }
+    ensures err { IfErr result (IsJobFaultOf (texts words.now)) }
 {
     let command = inrc2pb_command::inrc2pb(alloc)?;
     let matches = command.try_get_matches_from(words)?;

@@ -1,4 +1,4 @@
-//! The line on standard error that tells why a job failed.
+//! The line on standard error that reports why a job failed.
 ghost use Rattle.std.specs.Prelude.{◌≡◌, Some};
 ghost use Rattle.inrc2pb.specs.FaultLines.{fault_line};
 

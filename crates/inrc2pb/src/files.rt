@@ -1,18 +1,22 @@
 //! The ports of the program: files that the runtime opens, standard input, and the file that a job writes.
-ghost use Rattle.std.specs.Prelude.{◌≡◌, ◌<◌, ◌≤◌, ◌||◌, None, true, false, length, is_err, IfErr, IfOk, IsErr, IsOk, OnOk, option_map};
+ghost use Rattle.std.specs.Prelude.{◌≡◌, ◌<◌, ◌≤◌, ◌||◌, None, true, false, length, is_err, IfErr, IfOk, IsErr, IsOk, OnOk, option_map, string_bytes};
+ghost use Rattle.std.specs.Fs.{new_options, with_create, with_truncate, with_write};
 ghost use Rattle.inrc2pb.specs.Files.{IsFlushed, IsWritten, left_of};
-ghost use Rattle.inrc2pb_job.specs.Places.{untold};
+ghost use Rattle.inrc2pb_job.specs.Paths.{unknown};
 ghost use Rattle.rota_core.specs.PortCalls.{SendsOnWrite};
-ghost use Rattle.rota_core.specs.Ports.{told_len};
+ghost use Rattle.rota_core.specs.Ports.{known_len};
 ghost use Rattle.rota_core.specs.StdPorts.{IsUnasked};
 
-use inrc2pb_job::{Opens, Placed};
+use crate::file_maker::FileMaker;
+use inrc2pb_job::{HasPath, Opens};
 use rota_core::{FromRead, PortFault, Target, ToWrite};
+use std::alloc::AllocError;
+use std::fs::OpenOptions;
 use std::io::{Printer, Read};
 use std::rt::Files;
 use std::{fs, io};
 
-/// The files that the runtime opens. What they hold is not told, and each may be refused.
+/// The files that the runtime opens. Their contents are not known, and each may be refused.
 #[derive(Drop)]
 pub struct HostFiles<'a, R> {
     rt: &'a R,
@@ -27,9 +31,9 @@ impl<'a, R: Files> HostFiles<'a, R> {
 impl<R: Files> Opens for HostFiles<'_, R> {
     type File = FromRead<R::File>;
 
-    ghost at = { λ _ _. untold };
+    ghost at = { λ _ _. unknown };
 
-    ghost asked = { λ _. None };
+    ghost log = { λ _. None };
 
     fn open(&mut self, path: &str) -> Result<FromRead<R::File>, PortFault> {
         match fs::open(self.rt, path) {
@@ -39,7 +43,7 @@ impl<R: Files> Opens for HostFiles<'_, R> {
     }
 }
 
-/// Standard input, which is taken at the first read.
+/// Standard input, which is opened at the first read.
 pub struct StandardInput<'a, R: Input> {
     rt: &'a R,
     reader: Option<R::Reader>,
@@ -66,11 +70,11 @@ impl<R: Input> Read for StandardInput<'_, R> {
     }
 }
 
-/// A file that is made at the first write to it. One that is at the path loses its text then, and
-/// keeps it where nothing is written. Without a path each write fails.
+/// A file that is created at the first write to it. A file that exists at the path loses its text then, and
+/// keeps it if nothing is written. Without a path each write fails.
 pub struct FileOnFirstWrite<'a, R: Files> {
     rt: &'a R,
-    path: Option<&'a str>,
+    path: Option<String>,
     file: Option<ToWrite<R::File>>,
     failed: bool,
 }
@@ -87,11 +91,11 @@ impl<R: Files> Drop for FileOnFirstWrite<'_, R> {
 }
 
 impl<'a, R: Files> FileOnFirstWrite<'a, R> {
-    /// The file at the path, which is not made yet.
-    pub fn new(rt: &'a R, path: Option<&'a str>) -> FileOnFirstWrite<'a, R>
+    /// The file at the path, which is not created yet.
+    pub fn new(rt: &'a R, path: Option<String>) -> FileOnFirstWrite<'a, R>
         ensures unmade { result.file ≡ None }
         ensures sound { result.failed ≡ false }
-        ensures path { result.path ≡ path.entry }
+        ensures path { result.path ≡ path }
     {
         FileOnFirstWrite {
             rt,
@@ -101,20 +105,29 @@ impl<'a, R: Files> FileOnFirstWrite<'a, R> {
         }
     }
 
-    // Makes the file.
+    // Creates the file.
     fn make(&self) -> Result<ToWrite<R::File>, PortFault> {
-        let Some(path) = self.path else {
+        let Some(path) = &self.path else {
             return Err(PortFault);
         };
-        match fs::create(self.rt, path) {
+        match made_anew().open(self.rt, path.as_str()) {
             Ok(file) => Ok(ToWrite::new(file)),
             Err(_) => Err(PortFault),
         }
     }
 }
 
+// The open mode of the file that a job writes: created if it does not exist, and truncated if it does.
+fn made_anew() -> OpenOptions
+    ensures { result ≡ with_truncate (with_create (with_write new_options true) true) true }
+{
+    let mut options = OpenOptions::new();
+    options.write(true).create(true).truncate(true);
+    options
+}
+
 impl<'a, R: Files> FileOnFirstWrite<'a, R> {
-    // Writes to the file, which is made where it is not.
+    // Writes to the file, and creates it first if necessary.
     fn write_made(&mut self, piece: &[u8]) -> Result<usize, PortFault>
         ensures bound { IfOk result (λ n. n ≤ length piece.now) }
         ensures progress { IfOk result (λ n. 0 < length piece.now → 0 < n) }
@@ -138,7 +151,7 @@ impl<R: Files> Target for FileOnFirstWrite<'_, R> {
 
     ghost has_failed = { λ file. file.failed };
 
-    /// As the file's own write does; a file that cannot be made is a failed write.
+    /// Writes with the file's own write. If the file cannot be created, the write fails.
     fn write(&mut self, piece: &[u8]) -> Result<usize, PortFault>
         ensures bound { IfOk result (λ n. n ≤ length piece.now) }
         ensures progress { IfOk result (λ n. 0 < length piece.now → 0 < n) }
@@ -162,10 +175,10 @@ impl<R: Files> Target for FileOnFirstWrite<'_, R> {
         written
     }
 
-    /// As the file's own flush does; one that is not made has nothing to flush.
+    /// Flushes with the file's own flush. A file that is not created has nothing to flush.
     fn flush(&mut self) -> Result<(), PortFault>
-        ensures silent { OnOk result (None ≡ told_len None) }
-        ensures unflushed { IfErr result (λ _. told_len None ≡ None) }
+        ensures silent { OnOk result (None ≡ known_len None) }
+        ensures unflushed { IfErr result (λ _. known_len None ≡ None) }
         ensures failure { self.new.failed ≡ (self.old.failed || is_err result) }
         ensures for_good { self.old.failed ≡ true → IsErr result }
         ensures passed_on { IsFlushed R.File.contents self.old.file self.new.file }
@@ -185,8 +198,32 @@ impl<R: Files> Target for FileOnFirstWrite<'_, R> {
     }
 }
 
-impl<R: Files> Placed for FileOnFirstWrite<'_, R> {
-    ghost place = { λ file. option_map (λ path. path.now) file.path };
+impl<R: Files> HasPath for FileOnFirstWrite<'_, R> {
+    ghost path = { λ file. option_map string_bytes file.path };
+}
+
+/// The files that jobs write, which are created at the first write to them.
+#[derive(Drop)]
+pub struct HostOutputFiles<'a, R> {
+    rt: &'a R,
+}
+
+impl<'a, R: Files + AllocGlobal> HostOutputFiles<'a, R> {
+    pub fn new(rt: &'a R) -> HostOutputFiles<'a, R> {
+        HostOutputFiles { rt }
+    }
+}
+
+impl<'a, R: Files + AllocGlobal> FileMaker for HostOutputFiles<'a, R> {
+    type File = FileOnFirstWrite<'a, R>;
+
+    fn file(&self, path: Option<&str>) -> Result<FileOnFirstWrite<'a, R>, AllocError> {
+        let path = match path {
+            Some(path) => Some(String::from_str(self.rt.alloc(), path)?),
+            None => None,
+        };
+        Ok(FileOnFirstWrite::new(self.rt, path))
+    }
 }
 
 /// Standard output.
@@ -221,6 +258,6 @@ impl<R: Print> Target for StandardOutput<'_, R> {
     }
 }
 
-impl<R: Print> Placed for StandardOutput<'_, R> {
-    ghost place = { λ _. None };
+impl<R: Print> HasPath for StandardOutput<'_, R> {
+    ghost path = { λ _. None };
 }

@@ -9,7 +9,7 @@ use std::alloc::AllocError;
 pub enum JobFault {
     /// The words are refused, or ask for help or the version.
     Words(clap::Error),
-    /// The matches lack a required path.
+    /// A required path is missing in the matches.
     Missing,
     /// Memory ran out, for the command or for the copy of a path.
     Memory,

@@ -1,23 +1,23 @@
-//! Why the program ends before its work is done, and what it then says.
-ghost use Rattle.std.specs.Prelude.{◌≡◌, false, true, IfErr, MatchResult};
+//! Why the program ends before its work is done, and its message then.
+ghost use Rattle.std.specs.Prelude.{◌≡◌, false};
 ghost use Rattle.std.specs.Process.{exit_status as code_of};
-ghost use Rattle.inrc2pb.specs.Stops.{IsStatusOf, IsStopOf, WasShown, status_after_text};
+ghost use Rattle.inrc2pb.specs.Exits.{IsExitOf, IsReported, IsShown, IsPrinted, stop_text, printer_state};
+ghost use Rattle.inrc2pb.specs.Stops.{IsStopOf};
 ghost use Rattle.inrc2pb.specs.declared.stop.Stop.TheVariants.{Job};
-ghost use Rattle.rota_pb.specs.Statuses.{exit_status};
 ghost use Rattle.rota_pb.specs.declared.fault.Fault.TheVariants.{Memory};
 
 use crate::fault_line::FaultLine;
 use crate::job_fault::JobFault;
-use crate::shows::Shows;
+use crate::printers::Printer;
 use clap::error::ErrorKind;
 use rota_pb::{Fault, status_of};
 use std::alloc::AllocError;
-use std::io;
+use std::fmt;
 use std::process::ExitCode;
 
 #[derive(Drop)]
 pub enum Stop {
-    /// The words ask for help or the version, which is this text.
+    /// The words ask for help or the version, and this is the text.
     Shown(clap::Error),
     /// The words are refused, for the reason that this text gives.
     Words(clap::Error),
@@ -28,33 +28,46 @@ pub enum Stop {
 }
 
 impl Stop {
-    /// Says why on the standard error, or shows the text that was asked for. The answer is what the
-    /// program exits with.
-    pub fn report<S: Shows, E: Eprint>(&self, output: &mut S, errors: &E) -> u8
-        requires { S.has_failed output.old ≡ false }
-        ensures status { IsStatusOf (S.has_failed output.new) self.now result }
-        ensures shown { WasShown (S.has_failed output.new) (S.has_shown output.new) self.now }
+    /// Prints the reason: a requested text on the output, anything else on the standard error. Returns the
+    /// exit status of the program.
+    pub fn report<H: Printer, E: Printer>(&self, output: &mut H, errors: &mut E) -> u8
+        requires output { H.has_failed output.old ≡ false }
+        requires errors { E.has_failed errors.old ≡ false }
+        ensures { IsReported self.now (printer_state H.Printer output.old output.new)
+            (printer_state E.Printer errors.old errors.new) result }
     {
         match self {
-            Stop::Shown(text) => show(text, output, errors),
-            Stop::Words(text) => told(errors.eprint(text), 2),
-            Stop::Usage(text) => told(eprintln!(errors; "error: {text}"), 2),
-            Stop::Job(fault) => report_fault(errors, fault),
+            Stop::Shown(_) => show(self, output, errors),
+            Stop::Words(_) | Stop::Usage(_) => refuse(self, 2, errors),
+            Stop::Job(fault) => refuse(self, status_of(fault), errors),
         }
     }
 }
 
-/// What the process ends with: 0 where the program did its work, else the status of why it stopped, which is
-/// told.
-pub fn exit_code<S: Shows, E: Eprint>(
+impl fmt::Display for Stop {
+    ghost output = { stop_text };
+
+    fn fmt<W: fmt::Write>(&self, f: &mut fmt::Formatter<W>) -> fmt::Result {
+        match self {
+            Stop::Shown(text) => write!(f, "{text}"),
+            Stop::Words(text) => write!(f, "{text}"),
+            Stop::Usage(text) => writeln!(f, "error: {text}"),
+            Stop::Job(fault) => writeln!(f, "{}", FaultLine::of(fault)),
+        }
+    }
+}
+
+/// The exit code of the process: 0 if the program did its work, otherwise the status of the reason why it
+/// stopped, which is printed.
+pub fn exit_code<H: Printer, E: Printer>(
     ended: &Result<(), Stop>,
-    output: &mut S,
-    errors: &E,
+    output: &mut H,
+    errors: &mut E,
 ) -> ExitCode
-    requires { S.has_failed output.old ≡ false }
-    ensures status { MatchResult ended.now (λ _. code_of result ≡ 0)
-        (λ stop. IsStatusOf (S.has_failed output.new) stop (code_of result)) }
-    ensures shown { IfErr ended.now (WasShown (S.has_failed output.new) (S.has_shown output.new)) }
+    requires output { H.has_failed output.old ≡ false }
+    requires errors { E.has_failed errors.old ≡ false }
+    ensures { IsExitOf ended.now (printer_state H.Printer output.old output.new)
+        (printer_state E.Printer errors.old errors.new) (code_of result) }
 {
     match ended {
         Ok(()) => ExitCode::SUCCESS,
@@ -62,29 +75,28 @@ pub fn exit_code<S: Shows, E: Eprint>(
     }
 }
 
-// Shows a text that was asked for. The answer is the status after it.
-fn show<S: Shows, E: Eprint>(text: &clap::Error, output: &mut S, errors: &E) -> u8
-    requires { S.has_failed output.old ≡ false }
-    ensures status { result ≡ status_after_text (S.has_failed output.new) }
-    ensures shown { S.has_failed output.new ≡ false → S.has_shown output.new ≡ true }
+// Prints a requested text. Returns the status after it.
+fn show<H: Printer, E: Printer>(stop: &Stop, output: &mut H, errors: &mut E) -> u8
+    requires output { H.has_failed output.old ≡ false }
+    requires errors { E.has_failed errors.old ≡ false }
+    ensures { IsShown stop.now (printer_state H.Printer output.old output.new)
+        (printer_state E.Printer errors.old errors.new) result }
 {
-    match output.show(text) {
+    match output.print_stop(stop) {
         Ok(()) => 0,
-        Err(_) => report_fault(errors, &Fault::Write),
+        Err(_) => refuse(&Stop::Job(Fault::Write), status_of(&Fault::Write), errors),
     }
 }
 
-fn report_fault(rt: &impl Eprint, fault: &Fault) -> u8
-    ensures { result ≡ exit_status fault.now }
+// Prints the reason on the standard error. Returns the status, even if its message could not be printed.
+fn refuse<E: Printer>(stop: &Stop, status: u8, errors: &mut E) -> u8
+    requires { E.has_failed errors.old ≡ false }
+    ensures printed { IsPrinted (printer_state E.Printer errors.old errors.new) stop.now }
+    ensures status { result ≡ status }
 {
-    told(eprintln!(rt; "{}", FaultLine::of(fault)), status_of(fault))
-}
-
-// The status, also where the line that goes with it could not be written.
-fn told(_printed: io::Result<()>, status: u8) -> u8
-    ensures { result ≡ status }
-{
-    status
+    match errors.print_stop(stop) {
+        Ok(()) | Err(_) => status,
+    }
 }
 
 impl From<JobFault> for Stop {

@@ -15,7 +15,7 @@ file_rule id =
 abbrev pub flag_rule : Text → Rule
 flag_rule id = record (new_rule id) { long = Some id; action = Some SetTrue }
 
--- the option `--id FILE`, which has to be given
+-- the option `--id FILE`, which is required
 abbrev pub required_file_rule : Text → Rule
 required_file_rule id = record (file_rule id) { required = true }
 
@@ -28,7 +28,7 @@ week_rules = required_file_rule (codes "sce") ∷ required_file_rule (codes "his
 abbrev pub input_rules : List Rule
 input_rules = week_rules ++ (file_rule (codes "fix") ∷ flag_rule (codes "early") ∷ [])
 
--- a subcommand, with the options of its own
+-- a subcommand, with its own options
 abbrev pub subcommand_app : Text → List Rule → App
 subcommand_app name own = fold with_rule (new_app name) (input_rules ++ own)
 
@@ -42,7 +42,7 @@ decode_app = subcommand_app (codes "decode")
 abbrev pub extend_app : App
 extend_app = subcommand_app (codes "extend") (required_file_rule (codes "from") ∷ [])
 
--- the command before its subcommands: one of them has to be named
+-- the command before its subcommands; one of them must be named
 abbrev pub bare_app : App
 bare_app = record (new_app (codes "inrc2pb")) {
   top = record (new_shape (codes "inrc2pb")) {
@@ -57,6 +57,6 @@ abbrev pub inrc2pb_app : App
 inrc2pb_app =
     fold with_subcommand bare_app (encode_app.top ∷ decode_app.top ∷ extend_app.top ∷ [])
 
--- the command is the app, and none of its arguments is global
+-- the command is the app, and no argument of it is global
 abbrev pub IsCommandOf : App → Command → Type 0
 IsCommandOf a c = (app_of c ≡ a) × ((fields_of c).has_globals ≡ false)

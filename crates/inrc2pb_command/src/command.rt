@@ -8,11 +8,11 @@ ghost use Rattle.inrc2pb_command.specs.CommandLine.{required_file_rule, subcomma
 use clap::{Arg, ArgAction, Command};
 use std::alloc::{AllocError, Global};
 
-// The version of the program, which is nowhere else.
+// The version of the program. It is written only here.
 const VERSION: &str = "0.2.0";
 
-/// The whole command line, with its options and help: one of its subcommands has to be named. It fails only where memory
-/// runs out.
+/// The whole command line, with its options and help. One of its subcommands must be named. It fails only if
+/// memory runs out.
 pub fn inrc2pb<'a>(alloc: Global) -> Result<Command<'a>, AllocError>
     ensures { IfOk result (IsCommandOf inrc2pb_app) }
 {
@@ -22,7 +22,7 @@ pub fn inrc2pb<'a>(alloc: Global) -> Result<Command<'a>, AllocError>
     with_subcommand(command, extend(alloc))
 }
 
-// The command with this subcommand, where memory sufficed for it.
+// The command with this subcommand, if there was memory for it.
 fn with_subcommand<'a>(
     command: Command<'a>,
     subcommand: Result<Command<'a>, AllocError>,
@@ -47,7 +47,7 @@ fn bare<'a>(alloc: Global) -> Result<Command<'a>, AllocError>
             "Example:
   inrc2pb encode --sce Sc-n005w4.txt --his H0-n005w4-0.txt --week WD-n005w4-0.txt --opb week.opb
 
-The files, the faults and the exit statuses: inrc2pb(1), docs/formats.md.",
+The files, the faults and the exit statuses: inrc2pb(1), docs/formats.md, docs/answers.md.",
         )
         .bin_name("inrc2pb")
 }
@@ -62,12 +62,12 @@ fn encode<'a>(alloc: Global) -> Result<Command<'a>, AllocError>
         "Example:
   inrc2pb encode --sce Sc-n005w4.txt --his H0-n005w4-0.txt --week WD-n005w4-0.txt --opb week.opb
 
-The files of the week and the model: inrc2pb(1), docs/formats.md.",
+The files of the week and the model: inrc2pb(1), docs/formats.md, docs/answers.md.",
     )?
     .arg(file_option(
         alloc,
         "opb",
-        "Where to write the model [default: standard output]",
+        "Where to write the model, replacing the file [default: standard output]",
     ))
 }
 
@@ -77,13 +77,17 @@ fn decode<'a>(alloc: Global) -> Result<Command<'a>, AllocError>
     subcommand(
         alloc,
         "decode",
-        "Turns a solver's answer into a solution file, and reports what it costs",
+        "Turns a solver's answer into a solution file, and reports its costs",
         "Example:
   inrc2pb decode --sce Sc-n005w4.txt --his H0-n005w4-0.txt --week WD-n005w4-0.txt --answer answer.txt --sol roster.txt
 
-The answer, the solution file and the report: inrc2pb(1), docs/formats.md.",
+The answer, the solution file and the report: inrc2pb(1), docs/answers.md.",
     )?
-    .arg(required_file(alloc, "sol", "Where to write the solution file"))?
+    .arg(required_file(
+        alloc,
+        "sol",
+        "Where to write the solution, replacing the file",
+    ))?
     .arg(file_option(
         alloc,
         "answer",
@@ -97,16 +101,16 @@ fn extend<'a>(alloc: Global) -> Result<Command<'a>, AllocError>
     subcommand(
         alloc,
         "extend",
-        "Turns a roster into an answer of a solver",
+        "Turns a roster into a solver's answer",
         "Example:
   inrc2pb extend --sce Sc-n005w4.txt --his H0-n005w4-0.txt --week WD-n005w4-0.txt --from roster.txt
 
-The roster and the answer: inrc2pb(1), docs/formats.md.",
+The roster and the answer: inrc2pb(1), docs/formats.md, docs/answers.md.",
     )?
-    .arg(required_file(alloc, "from", "The roster, in the form of a solution file"))
+    .arg(required_file(alloc, "from", "The roster, as a solution file"))
 }
 
-// A subcommand with the options that each of them has; its help ends with `example`.
+// A subcommand with the options that all subcommands have. Its help ends with `example`.
 fn subcommand<'a>(
     alloc: Global,
     name: &'a str,
@@ -117,15 +121,11 @@ fn subcommand<'a>(
 {
     let command = Command::new(alloc, name).about(about).after_help(example);
     with_week(alloc, command)?
-        .arg(file_option(
-            alloc,
-            "fix",
-            "Assignments that are held, in the form of a solution file",
-        ))?
+        .arg(file_option(alloc, "fix", "Assignments to keep, as a solution file"))?
         .arg(flag(
             alloc,
             "early",
-            "Charges what exceeds a total in the week in which it arises",
+            "Charge excess assignments and weekends as soon as they occur",
         ))
 }
 
@@ -163,7 +163,7 @@ fn file_option<'a>(alloc: Global, id: &'a str, help: &'a str) -> Arg<'a>
         .action(ArgAction::Set)
 }
 
-// The option `--id FILE`, which has to be given.
+// The option `--id FILE`, which is required.
 fn required_file<'a>(alloc: Global, id: &'a str, help: &'a str) -> Arg<'a>
     ensures rule { rule_of result ≡ required_file_rule id.entry.now }
     ensures local { result.global ≡ false }

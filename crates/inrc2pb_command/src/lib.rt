@@ -1,7 +1,6 @@
 //! The program's command line as a command of clap: its subcommands, their options and their help.
 #![tactic(auto)]
 
-// The command, built step by step.
 mod command;
 
 pub use command::inrc2pb;

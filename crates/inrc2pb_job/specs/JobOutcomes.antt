@@ -1,4 +1,4 @@
--- What a job did with the files that it opened, with its input and with its outputs.
+-- The effects of a job on the files that it opened, on its input and on its outputs.
 use Rattle.std.specs.Prelude.{◌≡◌, List, [], ◌∷◌, ◌++◌, Result, Err, Option, Some, None}
 use Rattle.std.specs.Prelude.{MatchOption, option_map, string_bytes}
 use Rattle.rota_core.specs.declared.ports.Source.{Ghosts}
@@ -9,41 +9,40 @@ use Rattle.rota_pb.specs.Encoding.{EncodeOutcome}
 use Rattle.rota_pb.specs.Extending.{ExtendOutcome}
 use Rattle.rota_pb.specs.RunPorts.{Reader, reader_of, Writer}
 use Rattle.inrc2pb_job.specs.Jobs.{paths_of, week_paths}
-use Rattle.inrc2pb_job.specs.Opened.{AreOpen, readers_of}
-use Rattle.inrc2pb_job.specs.Opening.{OpensAll, StopsOpening}
-use Rattle.inrc2pb_job.specs.Places.{Asked, IsNew, Path, Place}
+use Rattle.inrc2pb_job.specs.OpenInputs.{AreOpen, readers_of}
+use Rattle.inrc2pb_job.specs.OpenCalls.{OpensAll, StopsOpening}
+use Rattle.inrc2pb_job.specs.Paths.{PathLog, IsNew, Path, FileAt}
 use Rattle.inrc2pb_job.specs.declared.job.Inputs.{Inputs}
 use Rattle.inrc2pb_job.specs.declared.job.Job.{Job}
 use Rattle.inrc2pb_job.specs.declared.job.Job.TheVariants.{Encode, Decode, Extend}
-use Rattle.inrc2pb_job.specs.declared.opened.OpenInputs.{OpenInputs}
+use Rattle.inrc2pb_job.specs.declared.open_files.OpenInputs.{OpenInputs}
 
--- What opened files in a job: what an open one tells, what is at each path, and the paths that had been asked for and those that were in
--- the end.
+-- The file opener: the ports it returns, the file system it sees, and the paths opened before and after.
 pub record Opener (F : Type 0) : Type 1 where
   pub port : Ghosts F
-  pub at : Path → Place
-  pub asked_before : Asked
-  pub asked : Asked
+  pub at : Path → FileAt
+  pub log_before : PathLog
+  pub log : PathLog
 
-abbrev pub opener_of : {F : Type 0} → Ghosts F → (Path → Place) → Asked → Asked → Opener F
-opener_of port at before after = record { port = port; at = at; asked_before = before; asked = after }
+abbrev pub opener_of : {F : Type 0} → Ghosts F → (Path → FileAt) → PathLog → PathLog → Opener F
+opener_of port at before after = record { port = port; at = at; log_before = before; log = after }
 
 -- files were opened at all of these paths, or up to one of them
 abbrev pub OpensEach : {F : Type 0} → Opener F → List Path → Type 0
-OpensEach opener paths = OpensAll opener.at paths opener.asked_before opener.asked
+OpensEach opener paths = OpensAll opener.at paths opener.log_before opener.log
 
 abbrev pub FailsToOpen : {F : Type 0} → Opener F → List Path → Type 0
-FailsToOpen opener paths = StopsOpening opener.at paths opener.asked_before opener.asked
+FailsToOpen opener paths = StopsOpening opener.at paths opener.log_before opener.log
 
--- A file did not open, and nothing was written; or the inputs were open at their paths, and the run encoded what they gave: they were
--- `opened` before it, and are `left` after it.
+-- A file did not open, and nothing was written; or the inputs were open at their paths, and the run encoded their contents: they are
+-- `opened` before the run, and `left` after it.
 pub data Encodes {F : Type 0} (opener : Opener F) (inputs : Inputs) (out : Writer) (result : Result (Unit {0}) Fault) : Type 0 where
   refused : result ≡ Err Read → FailsToOpen opener (week_paths inputs) → out.untouched → Encodes opener inputs out result
   ran : OpensEach opener (week_paths inputs) → (opened left : OpenInputs F) → AreOpen opener.port opener.at inputs opened →
       EncodeOutcome opened.choice (readers_of opener.port opened left) out result → Encodes opener inputs out result
 
--- A file did not open, and nothing was touched; or the inputs were open at their paths, and the run decoded the answer: that in the file
--- at its path, where one is named for it, and else the input.
+-- A file did not open, and nothing was touched; or the inputs were open at their paths, and the run decoded the answer: from the file at
+-- its path if one is named, otherwise from the input.
 pub data Decodes {F : Type 0} (opener : Opener F) (inputs : Inputs) (answer : Option Path) (input : Reader) (sol report : Writer)
     (result : Result (Unit {0}) Fault) : Type 0 where
   refused : result ≡ Err Read → FailsToOpen opener (week_paths inputs ++ paths_of answer) →
@@ -69,14 +68,14 @@ pub data Extends {F : Type 0} (opener : Opener F) (inputs : Inputs) (from : Path
       ExtendOutcome opened.choice (readers_of opener.port opened left) (reader_of opener.port old new) out result →
       Extends opener inputs from out result
 
--- The model went to the file where one is named for it, else to the output; the other was not touched.
+-- The model went to the named file if there is one, otherwise to the output; the other was not touched.
 abbrev pub EncodesTo : {F : Type 0} → Opener F → Inputs → Option Path → Writer → Writer → Result (Unit {0}) Fault → Type 0
 EncodesTo opener inputs opb file output result = MatchOption opb (Encodes opener inputs output result × file.untouched)
     (λ _. Encodes opener inputs file result × output.untouched)
 
--- What a job did with what opens files, the input, the file that it writes and the output. The model goes to the file that is named for
--- it, or to the output; the solution to its file, and the report to the output; the answer of an extension to the output. What the job
--- does not use was not touched.
+-- The effects of a job on the file opener, the input, the file that it writes and the output. The model goes to the file that is named
+-- for it, or to the output; the solution to its file, and the report to the output; the answer of an extension to the output. Anything
+-- that the job does not use was not touched.
 abbrev pub JobOutcome : {F : Type 0} → Opener F → Job → Reader → Writer → Writer → Result (Unit {0}) Fault → Type 0
 JobOutcome opener (Encode inputs opb) input file output result =
     EncodesTo opener inputs (option_map string_bytes opb) file output result × input.untouched

@@ -1,17 +1,17 @@
--- What a job asks of a run, and the paths of its files.
+-- The choices of a job for its run, and the paths of its files.
 use Rattle.std.specs.Prelude.{◌≡◌, List, [], ◌∷◌, ◌++◌, Option, Some, None, is_some, option_map, string_bytes}
 use Rattle.rota_pb.specs.declared.week_files.Choice.{Choice}
-use Rattle.inrc2pb_job.specs.Places.{Path}
+use Rattle.inrc2pb_job.specs.Paths.{Path}
 use Rattle.inrc2pb_job.specs.declared.job.Inputs.{Inputs}
 use Rattle.inrc2pb_job.specs.declared.job.Job.{Job}
 use Rattle.inrc2pb_job.specs.declared.job.Job.TheVariants.{Encode, Decode, Extend}
 
--- what is asked of a run: early charges by the flag, and held cells where a file is named for them
+-- the choices for a run: early charges if the flag is set, and held cells if a file is named for them
 pub record IsChoiceOf (inputs : Inputs) (choice : Choice) : Type 0 where
   pub early : choice.early ≡ inputs.early
   pub fixed : choice.fixed ≡ is_some inputs.fix
 
--- the path, where there is one
+-- the path, if there is one
 abbrev pub paths_of : Option Path → List Path
 paths_of None = []
 paths_of (Some path) = path ∷ []
@@ -21,7 +21,7 @@ abbrev pub week_paths : Inputs → List Path
 week_paths inputs = (string_bytes inputs.sce ∷ string_bytes inputs.his ∷ string_bytes inputs.week ∷ [])
     ++ paths_of (option_map string_bytes inputs.fix)
 
--- the path of the file that a job writes, where it writes one
+-- the path of the file that a job writes, if it writes one
 abbrev pub output_path_of : Job → Option Path
 output_path_of (Encode inputs opb) = option_map string_bytes opb
 output_path_of (Decode inputs sol answer) = Some (string_bytes sol)

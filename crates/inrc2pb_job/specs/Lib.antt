@@ -1,5 +1,5 @@
 pub mod JobOutcomes
 pub mod Jobs
-pub mod Opened
-pub mod Opening
-pub mod Places
+pub mod OpenInputs
+pub mod OpenCalls
+pub mod Paths

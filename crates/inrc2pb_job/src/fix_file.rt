@@ -1,14 +1,14 @@
-//! The file of the cells that are held.
+//! The file of the held cells.
 ghost use Rattle.std.specs.Prelude.{Some, [], false};
 ghost use Rattle.inrc2pb_job.specs.declared.fix_file.FixFile.TheVariants.{Absent, Named};
 
 use rota_core::{PortFault, Source};
 
-/// The file of the cells that are held, where one is named; else a file of no bytes.
+/// The file of the held cells, if one is named, otherwise an empty file.
 #[derive(Drop)]
 pub enum FixFile<F> {
     Named(F),
-    /// No file, and whether a read said its end.
+    /// No file, and whether a read has reported its end.
     Absent(bool),
 }
 

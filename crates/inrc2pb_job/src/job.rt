@@ -1,11 +1,11 @@
-//! What the program is asked to do.
+//! The jobs of the program.
 ghost use Rattle.std.specs.Prelude.{◌≡◌, option_map};
 ghost use Rattle.inrc2pb_job.specs.Jobs.{IsChoiceOf, output_path_of};
 
 use rota_pb::Choice;
 
-/// What every job is given: a scenario, the history before the week, the week's data and, where one is
-/// named, the file of the cells that are held; and whether excess is charged early.
+/// The inputs of every job: a scenario, the history before the week, the week's data and, if one is named,
+/// the file of the held cells; and whether excess is charged early.
 pub struct Inputs {
     pub sce: String,
     pub his: String,
@@ -27,7 +27,7 @@ impl Drop for Inputs {
 }
 
 impl Inputs {
-    /// What is asked of a run beside its files.
+    /// The choices for a run, in addition to its files.
     pub fn choice(&self) -> Choice
         ensures { IsChoiceOf self.now result }
     {
@@ -38,15 +38,15 @@ impl Inputs {
     }
 }
 
-/// What the program is asked to do, with the paths as they were given.
+/// A job of the program, with the paths as they were given.
 pub enum Job {
-    /// Write the model of the week, to standard output where no file is named for it.
+    /// Write the model of the week, to standard output if no file is named for it.
     Encode {
         inputs: Inputs,
         opb: Option<String>,
     },
     /// Write the solution file `sol` of a solver's answer, and a report to standard output. The answer is
-    /// read from standard input where no file is named for it.
+    /// read from standard input if no file is named for it.
     Decode {
         inputs: Inputs,
         sol: String,
@@ -74,7 +74,7 @@ impl Drop for Job {
 }
 
 impl Job {
-    /// The path of the file that the job writes, where it writes one.
+    /// The path of the file that the job writes, if it writes one.
     pub fn output_path(&self) -> Option<&str>
         ensures { option_map (λ path. path.now) result ≡ output_path_of self.now }
     {

@@ -1,4 +1,4 @@
--- A text is that of one model.
+-- A text spells only one model.
 use Rattle.std.proofs.Common.{◌≡◌, ℕ, suc, ◌<◌, ◌≤◌, ℤ, pos, negsuc, refl, sym, ap, ◌∙◌, arith, append_assoc, length-append}
 use Rattle.std.proofs.Common.{List, [], ◌∷◌, ◌++◌, length}
 use Rattle.std.specs.Prelude.{codes}
@@ -8,58 +8,58 @@ use Rattle.rota_core.specs.Numeral.{decimal, numeral, signed_numeral}
 use Rattle.opb_text.specs.ModelText.{coefficient_text, term_text, terms_text, constraint_line, objective_line, first_line, opb_text}
 use Rattle.opb_text.specs.OneModel.{EachTextSpellsOneModel}
 use Rattle.rota_items.specs.Linear.{Term, Constraint, Model}
-use Rattle.rota_core.specs.NumeralLaws.{AreDigits, TellsNumber}
+use Rattle.rota_core.specs.NumeralLaws.{AreDigits, ReadsBack}
 
--- the byte is no digit
+-- the byte is not a digit
 abbrev IsOther : ℕ → Type 0
 IsOther b = 48 ≤ b → b < 58 → ⊥
 
 uncons : (a b : ℕ) (xs ys : List ℕ) → a ∷ xs ≡ b ∷ ys → (a ≡ b) × (xs ≡ ys)
 uncons a b xs ys e = (cc, cc)
 
--- digits up to a byte that is none are known from the text
+-- the digits before a byte that is not a digit are determined by the text
 split_digits : (xs ys r s : List ℕ) (c d : ℕ) → AreDigits xs → AreDigits ys → IsOther c → IsOther d →
     xs ++ (c ∷ r) ≡ ys ++ (d ∷ s) → (xs ≡ ys) × (c ∷ r ≡ d ∷ s)
 split_digits [] [] r s c d p q o u e = (refl, e)
 split_digits [] (y ∷ ys) r s c d p q o u e =
-    let head : c ≡ y = cc in
+    let prefix : c ≡ y = cc in
     absurd (o (omega arith) (omega arith))
 split_digits (x ∷ xs) [] r s c d p q o u e =
-    let head : d ≡ x = cc in
+    let prefix : d ≡ x = cc in
     absurd (u (omega arith) (omega arith))
 split_digits (x ∷ xs) (y ∷ ys) r s c d p q o u e =
     let tail : xs ++ (c ∷ r) ≡ ys ++ (d ∷ s) = cc in
-    let head : x ≡ y = cc in
+    let prefix : x ≡ y = cc in
     let rest : (xs ≡ ys) × (c ∷ r ≡ d ∷ s) = split_digits xs ys r s c d p.2 q.2 o u tail in
     (cc, rest.1)
 
--- digits and then another byte than this do not begin with this
+-- digits and then another byte do not begin with this byte
 no_digits : (xs r s : List ℕ) (c d : ℕ) → AreDigits xs → IsOther d → (c ≡ d → ⊥) → xs ++ (c ∷ r) ≡ d ∷ s → ⊥
-no_digits [] r s c d p u differ e = let head : c ≡ d = cc in differ head
-no_digits (x ∷ xs) r s c d p u differ e = let head : x ≡ d = cc in u (omega arith) (omega arith)
+no_digits [] r s c d p u differ e = let prefix : c ≡ d = cc in differ prefix
+no_digits (x ∷ xs) r s c d p u differ e = let prefix : x ≡ d = cc in u (omega arith) (omega arith)
 
--- what follows the blank behind the coefficient of a term
+-- the text after the blank that follows the coefficient of a term
 abbrev variable_text : Term ℕ → List ℕ → List ℕ
 variable_text t r = 120 ∷ (numeral t.1 ++ (32 ∷ r))
 
--- what follows the terms of a constraint and the first byte of its relation
+-- the text after the terms of a constraint and the first byte of its relation
 abbrev degree_text : Constraint → List ℕ → List ℕ
 degree_text k r = 61 ∷ 32 ∷ (signed_numeral k.degree ++ (32 ∷ 59 ∷ 10 ∷ r))
 
--- an objective that has terms, its word first
+-- the text of an objective that has terms, starting with its word
 abbrev minimum_text : List (Term ℕ) → List ℕ → List ℕ
 minimum_text terms r = codes "min: " ++ (terms_text terms ++ (59 ∷ 10 ∷ r))
 
--- as numerals tell their numbers
-module _ (tells : (n : ℕ) → TellsNumber n) where
+-- for numerals whose value is their number
+module _ (reads_back : (n : ℕ) → ReadsBack n) where
   numeral_injective : (m n : ℕ) → numeral m ≡ numeral n → m ≡ n
-  numeral_injective m n same = sym (tells m).number ∙ ap decimal same ∙ (tells n).number
+  numeral_injective m n same = sym (reads_back m).number ∙ ap decimal same ∙ (reads_back n).number
 
   split_numeral : (a b : ℕ) (r s : List ℕ) (c d : ℕ) → IsOther c → IsOther d → numeral a ++ (c ∷ r) ≡ numeral b ++ (d ∷ s) →
       (a ≡ b) × (c ∷ r ≡ d ∷ s)
   split_numeral a b r s c d o u e =
       let parts : (numeral a ≡ numeral b) × (c ∷ r ≡ d ∷ s) =
-      split_digits (numeral a) (numeral b) r s c d (tells a).digits (tells b).digits o u e in
+      split_digits (numeral a) (numeral b) r s c d (reads_back a).digits (reads_back b).digits o u e in
       (numeral_injective a b parts.0, parts.1)
 
   split_signed : (a b : ℤ) (r s : List ℕ) (c : ℕ) → IsOther c → (c ≡ 45 → ⊥) →
@@ -68,9 +68,9 @@ module _ (tells : (n : ℕ) → TellsNumber n) where
       let parts : (a ≡ b) × (c ∷ r ≡ c ∷ s) = split_numeral a b r s c c o o e in
       (ap pos parts.0, cc)
   split_signed (pos a) (negsuc b) r s c o differ e =
-      absurd (no_digits (numeral a) r _ c 45 (tells a).digits (λ low high. omega arith) differ e)
+      absurd (no_digits (numeral a) r _ c 45 (reads_back a).digits (λ low high. omega arith) differ e)
   split_signed (negsuc a) (pos b) r s c o differ e =
-      absurd (no_digits (numeral b) s _ c 45 (tells b).digits (λ low high. omega arith) differ (sym e))
+      absurd (no_digits (numeral b) s _ c 45 (reads_back b).digits (λ low high. omega arith) differ (sym e))
   split_signed (negsuc a) (negsuc b) r s c o differ e =
       let tail : numeral (suc a) ++ (c ∷ r) ≡ numeral (suc b) ++ (c ∷ s) = cc in
       let parts : (suc a ≡ suc b) × (c ∷ r ≡ c ∷ s) = split_numeral (suc a) (suc b) r s c c o o tail in
@@ -82,8 +82,8 @@ module _ (tells : (n : ℕ) → TellsNumber n) where
   split_coefficient (pos a) (pos b) r s e =
       let tail : numeral a ++ (32 ∷ r) ≡ numeral b ++ (32 ∷ s) = cc in
       split_signed (pos a) (pos b) r s 32 (λ low high. omega arith) (λ same. omega arith) tail
-  split_coefficient (pos a) (negsuc b) r s e = absurd (let head : 43 ≡ 45 = (uncons 43 45 _ _ e).0 in omega arith)
-  split_coefficient (negsuc a) (pos b) r s e = absurd (let head : 45 ≡ 43 = (uncons 45 43 _ _ e).0 in omega arith)
+  split_coefficient (pos a) (negsuc b) r s e = absurd (let prefix : 43 ≡ 45 = (uncons 43 45 _ _ e).0 in omega arith)
+  split_coefficient (negsuc a) (pos b) r s e = absurd (let prefix : 45 ≡ 43 = (uncons 45 43 _ _ e).0 in omega arith)
   split_coefficient (negsuc a) (negsuc b) r s e =
       split_signed (negsuc a) (negsuc b) r s 32 (λ low high. omega arith) (λ same. omega arith) e
 

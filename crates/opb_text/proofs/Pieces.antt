@@ -5,7 +5,7 @@ use Rattle.std.proofs.lemmas.List.{take-take, take-append-drop, take-append-le, 
 use Rattle.std.specs.List.{refill}
 use Rattle.std.proofs.Math.Seq.{take-append-add}
 
--- the first bytes of a piece that was written behind the front
+-- the first bytes of a piece that was written after the front
 pub piece_start : (new front piece : List ℕ) (at count : ℕ) → length front ≡ at → count ≤ length piece →
     take (at + length piece) new ≡ front ++ piece → take (at + count) new ≡ front ++ take count piece
 piece_start new front piece at count long fits written =
@@ -34,11 +34,11 @@ three old two new middle last start count first inside fits short second third =
     ∙ append_assoc (take start old ++ first ∷ []) (take count middle) (take 3 last)
     ∙ append_assoc (take start old) (first ∷ []) (take count middle ++ take 3 last)
 
--- digits that end where they should
-pub digits_behind : (old new digits : List ℕ) (at end : ℕ) →
+-- digits that end at the right index
+pub digits_after : (old new digits : List ℕ) (at end : ℕ) →
     at + length digits ≡ end → at ≤ length old → drop at new ≡ digits ++ drop end old → take at new ≡ take at old →
     take end new ≡ take at old ++ digits
-digits_behind old new digits at end long inside written before =
+digits_after old new digits at end long inside written before =
     ap (take end) (sym (take-append-drop at new)
     ∙ ap (λ (front : List ℕ). front ++ drop at new) before
     ∙ ap (λ (back : List ℕ). take at old ++ back) written
@@ -46,7 +46,7 @@ digits_behind old new digits at end long inside written before =
     ∙ take_at (take at old ++ digits) (drop end old) end
     (omega (arith, length-append (take at old) digits, length-take-le at old inside))
 
--- the front of what a loan wrote back
+-- the front of the bytes that a loan wrote back
 pub front_of_refill : (old new : List ℕ) (count : ℕ) → length new ≡ length old → count ≤ length old →
     take count (refill (length old) old new) ≡ take count new
 front_of_refill old new count same inside =

@@ -5,12 +5,12 @@ use Rattle.std.proofs.lemmas.List.{append-nil, length-map}
 use Rattle.rota_items.specs.declared.part.Part.TheVariants.{Objective}
 use Rattle.rota_items.specs.Events.{Event, close_row, term_events, row_events, events}
 use Rattle.rota_items.specs.Linear.{Term}
-use Rattle.rota_items.specs.ModelWords.{LinearRow, linear_constraint}
+use Rattle.rota_items.specs.Rows.{LinearRow, linear_constraint}
 use Rattle.rota_items.specs.Objective.{objective_rows}
 use Rattle.opb_text.specs.ModelText.{term_text, terms_text, constraint_line, objective_line, first_line}
 use Rattle.opb_text.specs.EventText.{is_objective, start_text, close_text, events_text, IsConstraint, EventsSpellTheirModel}
 
--- the terms' text, and then that of the events that follow
+-- the terms' text, and then the text of the events that follow
 terms-text : (b : Bool) (terms : List (Term ℕ)) (after : List Event) →
     events_text b (term_events terms ++ after) ≡ terms_text terms ++ events_text b after
 unfolding term_events
@@ -38,7 +38,7 @@ constraint-text : (row : LinearRow ℕ) → IsConstraint row → row_text row �
 constraint-text row constraint =
     ap (λ o. start_text o ++ (terms_text row.terms ++ close_text o row.degree)) constraint ∙ simp append_assoc
 
--- the events of rows of constraints put the lines of the constraints
+-- the events of rows of constraints write the lines of the constraints
 pub constraints_text : (b : Bool) (rows : List (LinearRow ℕ)) → AllByRecursion IsConstraint rows →
     events_text b (events rows) ≡ flat_map constraint_line (map linear_constraint rows)
 unfolding events
@@ -48,7 +48,7 @@ constraints_text b (row ∷ rows) constraints =
     ap (λ text. row_text row ++ text) (constraints_text (is_objective row.part) rows constraints.1) ∙
     ap (λ text. text ++ flat_map constraint_line (map linear_constraint rows)) (constraint-text row constraints.0)
 
--- the events of the objective's row put the line of the objective
+-- the events of the objective's row write the line of the objective
 pub objective_text : (b : Bool) (terms : List (Term ℕ)) →
     events_text b (events (objective_rows terms)) ≡ objective_line terms
 unfolding events

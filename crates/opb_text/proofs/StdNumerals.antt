@@ -1,4 +1,4 @@
--- Numerals are what the standard library writes.
+-- Numerals are the digits that the standard library writes.
 use Rattle.std.proofs.Common.{◌≡◌, ℕ, zero, suc, ◌∷◌, ◌^◌, ◌<◌, ℤ, pos, negsuc, sym, ap, arith, rules}
 use Rattle.std.specs.Fmt.{decimal, signed_decimal}
 use lib.Signed.{mag}

@@ -4,7 +4,7 @@ use Rattle.std.specs.List.{flat_map}
 use Rattle.rota_core.specs.Numeral.{numeral, signed_numeral}
 use Rattle.rota_items.specs.Linear.{Term, Constraint, Model}
 
--- a sign in any case, and the digits
+-- a sign, even for positive numbers, and the digits
 abbrev pub coefficient_text : ℤ → List ℕ
 coefficient_text (pos n) = codes "+" ++ numeral n
 coefficient_text (negsuc n) = signed_numeral (negsuc n)
@@ -13,6 +13,7 @@ coefficient_text (negsuc n) = signed_numeral (negsuc n)
 abbrev pub term_text : Term ℕ → List ℕ
 term_text term = coefficient_text term.0 ++ codes " x" ++ numeral term.1 ++ codes " "
 
+-- the terms, one after the other
 abbrev pub terms_text : List (Term ℕ) → List ℕ
 terms_text terms = flat_map term_text terms
 
@@ -20,7 +21,7 @@ terms_text terms = flat_map term_text terms
 abbrev pub constraint_line : Constraint → List ℕ
 constraint_line constraint = terms_text constraint.terms ++ codes ">= " ++ signed_numeral constraint.degree ++ codes " ;\n"
 
--- no line where the objective has no term
+-- no line if the objective has no term
 abbrev pub objective_line : List (Term ℕ) → List ℕ
 objective_line [] = []
 objective_line (term ∷ terms) = codes "min: " ++ terms_text (term ∷ terms) ++ codes ";\n"

@@ -1,4 +1,4 @@
--- What a taker of rows stands for that puts their text into a sink.
+-- The abstract value of the taker that writes rows as text.
 use Rattle.std.specs.Prelude.{◌≡◌, Bool, Result, MatchResult}
 use Rattle.rota_core.specs.declared.ports.PortFault.{PortFault}
 use Rattle.rota_core.specs.declared.ports.Target.{Ghosts}
@@ -11,16 +11,16 @@ use Rattle.opb_text.specs.declared.opb_taker.OpbTaker.{OpbTaker}
 
 module _ {W : Type 0} {target : Ghosts W} where
   -- the sink that the text goes to
-  abbrev pub sink_of : OpbTaker W target → Sink W target
-  sink_of taker = taker.sink
+  abbrev pub taker_sink : OpbTaker W target → Sink W target
+  taker_sink taker = taker.sink
 
-  -- the row that is open is the objective's
+  -- the open row is the objective's
   abbrev pub in_objective : OpbTaker W target → Bool
   in_objective taker = taker.in_objective
 
-  -- the taker's value, its step and what a failure leaves
+  -- the taker's value, its step and the state after a failure
   abbrev pub opb_taker : TakerGhosts (OpbTaker W target) PortFault
-  opb_taker = sink_taker sink_of in_objective opb_texts
+  opb_taker = sink_taker taker_sink in_objective opb_texts
 
   -- the taker took the event, or refused it
   abbrev pub TakesEvent : Event → OpbTaker W target → OpbTaker W target → Result (Unit {0}) PortFault → Type 0

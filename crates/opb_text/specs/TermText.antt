@@ -10,6 +10,6 @@ sign positive = if positive then 43 else 45
 abbrev pub unit_text : Bool → ℕ → List ℕ
 unit_text positive variable = sign positive ∷ codes "1 x" ++ numeral variable ++ codes " "
 
--- what is between the sign and the last two digits
-abbrev pub head_text : ℕ → List ℕ
-head_text hundreds = codes "1 x" ++ decimal hundreds
+-- the text between the sign and the last two digits
+abbrev pub prefix_text : ℕ → List ℕ
+prefix_text hundreds = codes "1 x" ++ decimal hundreds

@@ -1,7 +1,7 @@
-//! How many digits a number has, and the last two of them.
+//! The number of digits of a number, and its last two digits.
 ghost use Rattle.std.specs.Prelude.{◌≡◌, ◌+◌, ◌/◌, ◌%◌, ◌<◌, ◌∷◌, [], length, decimal};
 
-/// How many decimal digits the number has.
+/// The number of decimal digits of the number.
 #[inline]
 pub fn count_digits(number: u32) -> usize
     ensures { result ≡ length (decimal number) }

@@ -1,9 +1,9 @@
-//! The text of a pseudo-Boolean model, put event by event, and the buffered sink that it goes through.
+//! The text of a pseudo-Boolean model, written event by event, and the buffered sink that it goes through.
 //!
-//! Writes a model of one constraint, that of two variables at most one is true:
+//! Writes a model with one constraint: at most one of two variables is true:
 //!
 //! ```
-//! let mut target = MemoryTarget::new(alloc, 100, Pace::new(100, None))?;
+//! let mut target = MemoryTarget::new(alloc, 100, CallPlan::new(100, None))?;
 //! let mut taker = OpbTaker::new(Sink::new(&mut target));
 //! taker.first_line(Counts {
 //!     variables: 2,
@@ -19,19 +19,12 @@
 //! ```
 #![tactic(auto)]
 
-// How many digits a number has, and the last two of them.
 mod digits;
-// What the terms of a hundred variables have in common.
-mod head;
-// A taker of rows that puts their text into a sink.
 mod opb_taker;
-// A buffer of fixed size before a target.
 mod sink;
-// Text that waits to be sent.
+mod term_prefix;
 mod text_buffer;
-// What the text of a model says of the model and of its rows.
 mod text_laws;
-// The text of a week's whole model.
 mod whole_model;
 
 pub use opb_taker::OpbTaker;

@@ -1,4 +1,4 @@
-//! A taker of rows that puts their text into a sink.
+//! A taker that writes rows as text into a sink.
 ghost use Rattle.std.specs.Prelude.{◌≡◌, [], true, false, IsErr};
 ghost use Rattle.opb_text.specs.ModelText.{first_line, term_text};
 
@@ -6,11 +6,11 @@ use crate::sink::Sink;
 use rota_core::{PortFault, Target};
 use rota_items::{Counts, Part, Taker};
 
-/// Puts the text of each event of a row into a sink: that of a model, where the first line, its
-/// objective and its constraints are put in this order.
+/// Writes the text of each event of a row into a sink. If the first line, the objective and the constraints
+/// are written in this order, the text is the text of a model.
 ///
-/// It fails only where the target does. What went out then begins what was put, with the text of the
-/// event at which it failed.
+/// It fails only if the target does. The bytes that were sent are then a prefix of the written text followed
+/// by the text of the event at which it failed.
 #[derive(Drop)]
 pub struct OpbTaker<'a, W: Target> {
     sink: Sink<'a, W>,
@@ -18,14 +18,14 @@ pub struct OpbTaker<'a, W: Target> {
 }
 
 impl<'a, W: Target> OpbTaker<'a, W> {
-    ghost use Rattle.opb_text.specs.OpbTaker.{in_objective, sink_of};
+    ghost use Rattle.opb_text.specs.OpbTaker.{in_objective, taker_sink};
     ghost use Rattle.opb_text.specs.Sink.{sink_failed, FinishesSink, PutsText};
 
-    /// A taker whose text goes into the sink. No row of the objective is open.
+    /// A taker whose text goes into the sink. No objective row is open.
     ///
-    /// See the example at the head of the crate.
+    /// See the example at the top of the crate.
     pub fn new(sink: Sink<'a, W>) -> OpbTaker<'a, W>
-        ensures sink { sink_of result ≡ sink.entry }
+        ensures sink { taker_sink result ≡ sink.entry }
         ensures no_objective { in_objective result ≡ false }
     {
         OpbTaker {
@@ -34,12 +34,12 @@ impl<'a, W: Target> OpbTaker<'a, W> {
         }
     }
 
-    /// Puts the first line of a model with these numbers of variables and constraints. It fails only
-    /// where the target does.
+    /// Writes the first line of a model with these numbers of variables and constraints. It fails only if the
+    /// target does.
     pub fn first_line(&mut self, counts: Counts) -> Result<(), PortFault>
         ensures same_row { in_objective self.new ≡ in_objective self.old }
-        ensures takes { PutsText (sink_of self.old) result (first_line counts.variables counts.constraints) (sink_of self.new) }
-        ensures for_good { sink_failed (sink_of self.old) ≡ true → IsErr result }
+        ensures takes { PutsText (taker_sink self.old) result (first_line counts.variables counts.constraints) (taker_sink self.new) }
+        ensures for_good { sink_failed (taker_sink self.old) ≡ true → IsErr result }
     {
         self.sink.number_between(
             b"* #variable= ",
@@ -50,29 +50,29 @@ impl<'a, W: Target> OpbTaker<'a, W> {
             .number_between(b"", u64::from(counts.constraints), b"\n")
     }
 
-    /// Finishes the sink: Ok says that all that was put is out and flushed. It fails only where the
-    /// target does.
+    /// Finishes the sink: `Ok` means that everything that was written is sent and flushed. It fails only if
+    /// the target does.
     pub fn finish(&mut self) -> Result<(), PortFault>
         ensures same_row { in_objective self.new ≡ in_objective self.old }
-        ensures finishes { FinishesSink (sink_of self.old) result [] (sink_of self.new) }
+        ensures finishes { FinishesSink (taker_sink self.old) result [] (taker_sink self.new) }
     {
         self.sink.finish()
     }
 
-    /// The sink, with what was put into it.
+    /// The sink, with the text that was written into it.
     pub fn into_sink(self) -> Sink<'a, W>
-        ensures { result ≡ sink_of self.entry }
+        ensures { result ≡ taker_sink self.entry }
     {
         let OpbTaker { sink, .. } = self;
         sink
     }
 
-    // Puts a term whose coefficient is neither 1 nor -1, and a blank. Of these two it puts the right
-    // text too, but `unit_term` is faster.
+    // Writes a term whose coefficient is neither 1 nor -1, and a blank. For 1 and -1 its text is correct too,
+    // but `unit_term` is faster.
     fn weighted_term(&mut self, coefficient: i64, variable: u32) -> Result<(), PortFault>
         ensures same_row { in_objective self.new ≡ in_objective self.old }
-        ensures takes { PutsText (sink_of self.old) result (term_text (coefficient, variable)) (sink_of self.new) }
-        ensures for_good { sink_failed (sink_of self.old) ≡ true → IsErr result }
+        ensures takes { PutsText (taker_sink self.old) result (term_text (coefficient, variable)) (taker_sink self.new) }
+        ensures for_good { sink_failed (taker_sink self.old) ≡ true → IsErr result }
     {
         let sign: &[u8] = if coefficient < 0 { b"-" } else { b"+" };
         self.sink
@@ -87,21 +87,21 @@ impl<'a, W: Target> Taker for OpbTaker<'a, W> {
     ghost use Rattle.std.specs.Prelude.{Bool};
     ghost use Rattle.opb_text.specs.EventText.{opb_texts};
     ghost use Rattle.rota_items.specs.Events.{start_row, term, close_row};
-    ghost use Rattle.opb_text.specs.OpbTaker.{TakesEvent, in_objective, sink_of};
+    ghost use Rattle.opb_text.specs.OpbTaker.{TakesEvent, in_objective, taker_sink};
     ghost use Rattle.opb_text.specs.Sink.{sink_failed};
-    ghost use Rattle.opb_text.specs.SinkTaker.{FailedAt, Writing, with_event, writing_into};
+    ghost use Rattle.opb_text.specs.SinkTaker.{FailedAt, SinkState, with_event, sink_state};
 
-    ghost Value = { Writing W Bool };
+    ghost Value = { SinkState W Bool };
 
-    ghost value = { λ taker. writing_into (sink_of taker) (in_objective taker) };
+    ghost value = { λ taker. sink_state (taker_sink taker) (in_objective taker) };
 
     ghost step = { with_event opb_texts };
 
-    ghost left = { λ before event taker. FailedAt opb_texts before event (sink_of taker) };
+    ghost left = { λ before event taker. FailedAt opb_texts before event (taker_sink taker) };
 
     fn start_row(&mut self, part: Part) -> Result<(), PortFault>
         ensures takes { TakesEvent (start_row part) self.old self.new result }
-        ensures for_good { sink_failed (sink_of self.old) ≡ true → IsErr result }
+        ensures for_good { sink_failed (taker_sink self.old) ≡ true → IsErr result }
     {
         self.in_objective = matches!(part, Part::Objective);
         let text: &[u8] = if self.in_objective { b"min: " } else { b"" };
@@ -111,7 +111,7 @@ impl<'a, W: Target> Taker for OpbTaker<'a, W> {
     #[inline(always)]
     fn term(&mut self, coefficient: i64, variable: u32) -> Result<(), PortFault>
         ensures takes { TakesEvent (term coefficient variable) self.old self.new result }
-        ensures for_good { sink_failed (sink_of self.old) ≡ true → IsErr result }
+        ensures for_good { sink_failed (taker_sink self.old) ≡ true → IsErr result }
     {
         match coefficient {
             1 => self.sink.unit_term(true, variable),
@@ -122,7 +122,7 @@ impl<'a, W: Target> Taker for OpbTaker<'a, W> {
 
     fn close_row(&mut self, degree: i64) -> Result<(), PortFault>
         ensures takes { TakesEvent (close_row degree) self.old self.new result }
-        ensures for_good { sink_failed (sink_of self.old) ≡ true → IsErr result }
+        ensures for_good { sink_failed (taker_sink self.old) ≡ true → IsErr result }
     {
         if self.in_objective {
             return self.sink.put(b";\n");

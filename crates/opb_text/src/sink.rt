@@ -1,26 +1,26 @@
-//! A buffer of fixed size before a target.
+//! A buffer of fixed size in front of a target.
 ghost use Rattle.std.specs.Prelude.{◌≡◌, true, false, [], ◌++◌, OnOk, IsErr};
 ghost use Rattle.rota_core.specs.Numeral.{numeral, signed_numeral};
 ghost use Rattle.opb_text.specs.Pieces.{piece_text, pieces_text};
 ghost use Rattle.opb_text.specs.TermText.{unit_text};
 
-use crate::text_buffer::{CAPACITY, MOST_DIGITS, MOST_TERM, TextBuffer, send};
+use crate::text_buffer::{CAPACITY, MAX_DIGITS, MAX_TERM_LEN, TextBuffer, send};
 use itoa::Buffer;
 use rota_core::{PortFault, Target};
 
 /// A piece of a text.
 #[derive(Clone, Copy)]
 pub enum Piece<'a> {
-    /// These bytes.
+    /// The bytes themselves.
     Bytes(&'a [u8]),
     /// The number in decimal digits.
     Natural(u64),
-    /// The number in decimal digits, with a minus sign where it is negative.
+    /// The number in decimal digits, with a minus sign if it is negative.
     Integer(i64),
 }
 
-/// A buffer of 4096 bytes before a target. What went out is at every moment a beginning of what was
-/// put. After the first failure every call is a failure, and the target is not called again.
+/// A buffer of 4096 bytes in front of a target. The bytes that were sent are at every moment a prefix of the
+/// text that was written. After the first failure every call fails, and the target is not called again.
 #[derive(Drop)]
 pub struct Sink<'a, W: Target> {
     target: &'a mut W,
@@ -30,11 +30,11 @@ pub struct Sink<'a, W: Target> {
 }
 
 impl<'a, W: Target> Sink<'a, W> {
-    ghost use Rattle.opb_text.specs.Sink.{stands_for, sink_failed, target_name, target_of, FinishesSink, PutsText};
+    ghost use Rattle.opb_text.specs.Sink.{bytes_put, sink_failed, target_name, target_of, FinishesSink, PutsText};
 
-    /// A sink over the target, which stands for what the target was sent.
+    /// A sink over the target. Its text so far is the bytes that were sent to the target.
     ///
-    /// Here `put_solution` puts a text into a sink over the target `out`, and all of it is sent:
+    /// Here `put_solution` writes a text into a sink over the target `out`, and all of it is sent:
     ///
     /// ```
     /// let mut sink = Sink::new(out);
@@ -44,7 +44,7 @@ impl<'a, W: Target> Sink<'a, W> {
     pub fn new(target: &'a mut W) -> Sink<'a, W>
         ensures same_target { target_name result ≡ target.entry.ghost_name }
         ensures target { target_of result ≡ target.old }
-        ensures bytes { stands_for result ≡ W.sent target.old }
+        ensures bytes { bytes_put result ≡ W.sent target.old }
         ensures sound { sink_failed result ≡ false }
     {
         Sink {
@@ -54,7 +54,7 @@ impl<'a, W: Target> Sink<'a, W> {
         }
     }
 
-    /// Appends the piece. It fails only where the target does.
+    /// Appends the piece. It fails only if the target does.
     #[inline(always)]
     pub fn put(&mut self, piece: &[u8]) -> Result<(), PortFault>
         ensures takes { PutsText self.old result piece.now self.new }
@@ -72,8 +72,8 @@ impl<'a, W: Target> Sink<'a, W> {
         Ok(())
     }
 
-    /// Appends the number in decimal digits, with a minus sign where it is negative and no sign
-    /// otherwise. It fails only where the target does.
+    /// Appends the number in decimal digits, with a minus sign if it is negative and no sign otherwise. It
+    /// fails only if the target does.
     #[inline]
     pub fn number(&mut self, number: i128) -> Result<(), PortFault>
         ensures takes { PutsText self.old result (signed_numeral number) self.new }
@@ -83,7 +83,7 @@ impl<'a, W: Target> Sink<'a, W> {
         self.put(digits.format(number).as_bytes())
     }
 
-    /// Appends the number in decimal digits. It fails only where the target does.
+    /// Appends the number in decimal digits. It fails only if the target does.
     #[inline]
     pub fn natural(&mut self, number: u64) -> Result<(), PortFault>
         ensures takes { PutsText self.old result (numeral number) self.new }
@@ -92,14 +92,14 @@ impl<'a, W: Target> Sink<'a, W> {
         if number >= 1 << 32 {
             return self.put(Buffer::new().format(number).as_bytes());
         }
-        if self.failed || self.buffer.room() < MOST_DIGITS {
+        if self.failed || self.buffer.room() < MAX_DIGITS {
             self.empty_buffer()?;
         }
         self.buffer.append_number(number as u32);
         Ok(())
     }
 
-    /// Appends the pieces, one behind the other. It fails only where the target does.
+    /// Appends the pieces, one after the other. It fails only if the target does.
     pub fn put_all(&mut self, pieces: &[Piece]) -> Result<(), PortFault>
         ensures takes { PutsText self.old result (pieces_text pieces.now) self.new }
         ensures for_good { sink_failed self.old ≡ true → IsErr result }
@@ -107,8 +107,8 @@ impl<'a, W: Target> Sink<'a, W> {
         if self.failed {
             return Err(PortFault);
         }
-        for place in 0..pieces.len() {
-            self.put_piece(pieces[place])?;
+        for index in 0..pieces.len() {
+            self.put_piece(pieces[index])?;
         }
         Ok(())
     }
@@ -124,21 +124,21 @@ impl<'a, W: Target> Sink<'a, W> {
         }
     }
 
-    /// Appends a piece, the number in decimal digits, and another piece behind it. It fails only where
-    /// the target does.
+    /// Appends a piece, then the number in decimal digits, then another piece. It fails only if the target
+    /// does.
     #[inline(always)]
     pub fn number_between(
         &mut self,
         before: &[u8],
         number: u64,
-        behind: &[u8],
+        after: &[u8],
     ) -> Result<(), PortFault>
-        ensures takes { PutsText self.old result (before.now ++ numeral number ++ behind.now) self.new }
+        ensures takes { PutsText self.old result (before.now ++ numeral number ++ after.now) self.new }
         ensures for_good { sink_failed self.old ≡ true → IsErr result }
     {
         self.put(before)?;
         self.natural(number)?;
-        self.put(behind)
+        self.put(after)
     }
 
     // Appends a term with the coefficient 1 or -1, and a blank.
@@ -147,15 +147,15 @@ impl<'a, W: Target> Sink<'a, W> {
         ensures takes { PutsText self.old result (unit_text positive variable) self.new }
         ensures for_good { sink_failed self.old ≡ true → IsErr result }
     {
-        if self.failed || self.buffer.room() < MOST_TERM {
+        if self.failed || self.buffer.room() < MAX_TERM_LEN {
             self.empty_buffer()?;
         }
         self.buffer.append_term(positive, variable);
         Ok(())
     }
 
-    /// Sends what is still in the buffer, and makes all sent bytes flushed. Ok says that all that was
-    /// put is out. It fails only where the target does.
+    /// Sends the rest of the buffer, and flushes all sent bytes. `Ok` means that everything that was written
+    /// is sent. It fails only if the target does.
     pub fn finish(&mut self) -> Result<(), PortFault>
         ensures finishes { FinishesSink self.old result [] self.new }
     {
@@ -165,7 +165,7 @@ impl<'a, W: Target> Sink<'a, W> {
         flushed
     }
 
-    // Sends what is in the buffer. A sink that had failed answers that it failed.
+    // Sends the contents of the buffer. If the sink had failed, it returns the failure.
     #[cold]
     #[inline(never)]
     fn empty_buffer(&mut self) -> Result<(), PortFault>

@@ -1,9 +1,9 @@
 //! The text of a week's whole model.
 ghost use Rattle.std.specs.Prelude.{◌≡◌, true, IsErr};
-ghost use Rattle.rota_core.specs.InstanceTables.{week_of};
+ghost use Rattle.rota_core.specs.InstanceTables.{problem_of};
 ghost use Rattle.rota_items.specs.WeekModel.{model_of};
 ghost use Rattle.opb_text.specs.ModelText.{opb_text};
-ghost use Rattle.opb_text.specs.OpbTaker.{sink_of};
+ghost use Rattle.opb_text.specs.OpbTaker.{taker_sink};
 ghost use Rattle.opb_text.specs.Sink.{PutsText, sink_failed};
 
 use crate::opb_taker::OpbTaker;
@@ -11,8 +11,8 @@ use rota_core::{Instance, PortFault, Target};
 use rota_items::laws::constraints_are_no_objective;
 use rota_items::{counts, drive_constraints, drive_objective};
 
-/// Puts the text of the week's model: the first line, the objective where it has a term, and the
-/// constraints. It fails only where the target does.
+/// Writes the text of the week's model: the first line, the objective if it has a term, and the constraints.
+/// It fails only if the target does.
 ///
 /// Here `sink` goes to a target:
 ///
@@ -22,8 +22,8 @@ use rota_items::{counts, drive_constraints, drive_objective};
 /// taker.finish()
 /// ```
 pub fn put_model<W: Target>(instance: &Instance, taker: &mut OpbTaker<W>) -> Result<(), PortFault>
-    ensures takes { PutsText (sink_of taker.old) result (opb_text (model_of (week_of instance.now))) (sink_of taker.new) }
-    ensures for_good { sink_failed (sink_of taker.old) ≡ true → IsErr result }
+    ensures takes { PutsText (taker_sink taker.old) result (opb_text (model_of (problem_of instance.now))) (taker_sink taker.new) }
+    ensures for_good { sink_failed (taker_sink taker.old) ≡ true → IsErr result }
 {
     constraints_are_no_objective();
     taker.first_line(counts(instance))?;

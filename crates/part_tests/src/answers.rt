@@ -5,7 +5,7 @@ use std::alloc::Global;
 use std::process::Abort;
 use std::test::Fail;
 
-/// What an answer says of 8 variables: its status, its last value of the objective, and their values.
+/// The meaning of an answer for 8 variables: its status, its last value of the objective, and their values.
 #[derive(Clone, Copy, PartialEq, Eq, Debug)]
 pub struct Said {
     pub status: Status,
@@ -15,9 +15,9 @@ pub struct Said {
 
 fn values_of(bits: &Bits) -> [bool; 8] {
     let mut values = [false; 8];
-    for (place, value) in values.iter_mut().enumerate() {
-        let place = place as u32;
-        *value = place < bits.len() && bits.get(place);
+    for (index, value) in values.iter_mut().enumerate() {
+        let index = index as u32;
+        *value = index < bits.len() && bits.get(index);
     }
     values
 }
@@ -35,7 +35,7 @@ fn finished(answer: Answer) -> Result<Said, AnswerFault> {
     Ok(said_by(&solved))
 }
 
-/// What the pieces say after one another. None where no memory is left for an answer.
+/// The meaning of the pieces, one after the other. `None` if there is no memory for an answer.
 pub fn of_pieces(alloc: Global, pieces: &[&[u8]]) -> Option<Result<Said, AnswerFault>> {
     let Ok(mut answer) = Answer::new(alloc, 8) else {
         return None;
@@ -48,7 +48,7 @@ pub fn of_pieces(alloc: Global, pieces: &[&[u8]]) -> Option<Result<Said, AnswerF
     Some(finished(answer))
 }
 
-/// What the text says, in pieces of this length at most.
+/// The meaning of the text, in pieces of at most this length.
 pub fn in_pieces(alloc: Global, text: &[u8], length: usize) -> Option<Result<Said, AnswerFault>> {
     let Ok(mut answer) = Answer::new(alloc, 8) else {
         return None;
@@ -152,7 +152,7 @@ const SAID_BY_WHOLE: Said = Said {
     values: [true, false, false, false, false, false, false, true],
 };
 
-// A text, and what it says.
+// A text, and its meaning.
 fn sound_texts() -> [(&'static [u8], Said); 8] {
     [
         (WHOLE, SAID_BY_WHOLE),
@@ -215,7 +215,7 @@ fn sound_texts() -> [(&'static [u8], Said); 8] {
     ]
 }
 
-// Each text says these, in pieces of each length, and cut in two at each byte.
+// Each text has this meaning, in pieces of each length, and cut in two at each byte.
 fn check_sound(rt: &impl Abort, alloc: Global, text: &[u8], said: Said) {
     for length in 1..=text.len() {
         let found = in_pieces(alloc, text, length);
@@ -235,7 +235,7 @@ fn sound_answers(rt: HostRuntime) {
     }
 }
 
-// A fault is answered from then on.
+// After a fault every call returns it.
 #[test]
 fn fault_for_good(rt: HostRuntime) -> Result<(), Fail> {
     let mut answer = Answer::new(rt.alloc(), 8)?;

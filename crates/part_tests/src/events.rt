@@ -72,21 +72,21 @@ impl Drive {
     }
 }
 
-// The drive stops at the event that the taker refuses, and the taker is handed no other.
+// The drive stops at the event that the taker refuses, and the taker gets no other.
 fn stops(drive: Drive, instance: &Instance, room: u32) -> bool {
     let mut stopper = Stopper { room, refusals: 0 };
     let is_refused = drive.over(instance, &mut stopper).is_err();
     is_refused && stopper.room == 0 && stopper.refusals == 1
 }
 
-// The drive hands over this many events where the taker takes them all.
+// The drive sends this number of events if the taker takes them all.
 fn ends(drive: Drive, instance: &Instance, room: u32) -> bool {
     let mut stopper = Stopper { room, refusals: 0 };
     let is_whole = drive.over(instance, &mut stopper).is_ok();
     is_whole && stopper.room == 0 && stopper.refusals == 0
 }
 
-// The drive hands over this many events, and stops at each of them where the taker does.
+// The drive sends this number of events, and stops at each of them if the taker refuses it.
 fn check_stops(rt: &impl Abort, drive: Drive, instance: &Instance, events: u32) {
     for room in 0..events {
         assert!(rt; stops(drive, instance, room), "{room} of {events}");
@@ -99,11 +99,12 @@ fn check_week(rt: &impl Abort, instance: &Instance, in_objective: u32, in_constr
     check_stops(rt, Drive::Constraints, instance, in_constraints);
 }
 
-// The week's files, and how many events its objective and its constraints are.
+// The week's files, and the numbers of events of its objective and of its constraints.
 type Week = (WeekFiles, u32, u32);
 
-// A plain week: the unit row and those of seven days have a term each, 3 events a row. With the run in the
-// history there are seven windows more, of 2, 3, 4, 4, 4, 4 and 4 terms, and an objective of seven terms.
+// A plain week: the unit row and the rows of seven days have one term each, so 3 events per row. With the run
+// in the history there are seven more windows, with 2, 3, 4, 4, 4, 4 and 4 terms, and an objective with seven
+// terms.
 fn weeks() -> [Week; 2] {
     [
         (one_nurse_one_shift(), 0, 24),

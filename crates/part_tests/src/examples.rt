@@ -1,10 +1,10 @@
-//! The examples with which the libraries open, line for line: `tests/documents.sh` compares them.
-ghost use Rattle.rota_core.specs.InstanceTables.{week_of};
+//! The examples at the top of the libraries, line for line: `tests/repository.sh` compares them.
+ghost use Rattle.rota_core.specs.InstanceTables.{problem_of};
 ghost use Rattle.rota_core.specs.RosterTables.{HasShapeOf};
 
 use crate::week_files::{instance_of, one_nurse_one_shift, run_in_the_history};
 use opb_text::{OpbTaker, Sink};
-use rota_core::{Cell, FileFault, Instance, MemoryTarget, Pace, Roster, Rule};
+use rota_core::{CallPlan, Cell, FileFault, Instance, MemoryTarget, Roster, Rule};
 use rota_items::{Counts, Judge, Part, Taker, verdict_of};
 use rota_read::{read_history, read_scenario};
 use solver_text::{Answer, Status};
@@ -69,7 +69,7 @@ fn check_first_cell(rt: &impl Abort, alloc: Global, instance: &Instance) -> Resu
 }
 
 fn example_of_rota_items(rt: &impl Abort, instance: &Instance, roster: &Roster) -> Result<(), Fail>
-    requires { HasShapeOf (week_of instance.now) roster.now }
+    requires { HasShapeOf (problem_of instance.now) roster.now }
 {
     let verdict = verdict_of(&instance, Judge::of_roster(&instance, &roster));
     for (rule, cost) in Rule::SOFT.into_iter().zip(verdict.costs) {
@@ -83,7 +83,7 @@ fn example_of_rota_items(rt: &impl Abort, instance: &Instance, roster: &Roster) 
 #[test]
 fn example_of_opb_text(rt: HostRuntime) -> Result<(), Fail> {
     let alloc = rt.alloc();
-    let mut target = MemoryTarget::new(alloc, 100, Pace::new(100, None))?;
+    let mut target = MemoryTarget::new(alloc, 100, CallPlan::new(100, None))?;
     let mut taker = OpbTaker::new(Sink::new(&mut target));
     taker.first_line(Counts {
         variables: 2,
@@ -107,8 +107,8 @@ fn example_of_solver_text(rt: HostRuntime) -> Result<(), Fail> {
     answer.feed(b"2 x3\n")?;
     let solved = answer.finish()?;
     assert_eq!(rt; solved.status, Status::Optimum);
-    for place in solved.bits.true_places() {
-        assert!(rt; place == 0 || place == 2);
+    for index in solved.bits.true_indices() {
+        assert!(rt; index == 0 || index == 2);
     }
     Ok(())
 }

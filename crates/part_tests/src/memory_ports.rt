@@ -1,11 +1,11 @@
 //! Ports over memory.
-use rota_core::{MemorySource, MemoryTarget, Pace, PortFault, Source, Target};
+use rota_core::{CallPlan, MemorySource, MemoryTarget, PortFault, Source, Target};
 use std::test::Fail;
 
 #[test]
 fn source_moves_by_pieces(rt: HostRuntime) {
     let mut buffer = [0; 4];
-    let mut source = MemorySource::new(b"text", Pace::new(3, Some(2)));
+    let mut source = MemorySource::new(b"text", CallPlan::new(3, Some(2)));
     let empty: &mut [u8] = &mut [];
     assert!(rt; source.read(empty) == Ok(0));
     assert!(rt; (source.read(&mut buffer), buffer) == (Ok(3), *b"tex\0"));
@@ -15,7 +15,7 @@ fn source_moves_by_pieces(rt: HostRuntime) {
 
 #[test]
 fn target_takes_pieces(rt: HostRuntime) -> Result<(), Fail> {
-    let mut target = MemoryTarget::new(rt.alloc(), 5, Pace::new(3, None))?;
+    let mut target = MemoryTarget::new(rt.alloc(), 5, CallPlan::new(3, None))?;
     let taken = [
         target.write(b"text"),
         target.write(b""),

@@ -1,7 +1,10 @@
-//! Rows of tiny models, put event by event, and targets that fail.
+//! Rows of tiny models, put event by event, and targets and writers that fail.
+use crate::own_source::Tape;
+use crate::week_files::one_nurse_one_shift;
 use opb_text::{OpbTaker, Sink};
-use rota_core::{MemoryTarget, Pace, PortFault, Rule, Target, ToWrite};
+use rota_core::{CallPlan, MemoryTarget, PortFault, Rule, Target, ToWrite};
 use rota_items::{Counts, Part, Taker};
+use rota_pb::{Choice, Fault, run_encode, status_of};
 use std::alloc::{AllocError, Global};
 use std::io;
 use std::io::Write;
@@ -71,7 +74,7 @@ fn encode<W: Target>(out: &mut W) -> Result<(), PortFault> {
 
 #[test]
 fn puts_the_rows(rt: HostRuntime) -> Result<(), Fail> {
-    let mut target = MemoryTarget::new(rt.alloc(), 200, Pace::new(7, None))?;
+    let mut target = MemoryTarget::new(rt.alloc(), 200, CallPlan::new(7, None))?;
     assert!(rt; encode(&mut target).is_ok());
     assert_eq!(rt; target.bytes(), TEXT);
     assert_eq!(rt; target.flushed(), TEXT.len());
@@ -80,7 +83,7 @@ fn puts_the_rows(rt: HostRuntime) -> Result<(), Fail> {
 
 #[test]
 fn sink_is_handed_back(rt: HostRuntime) -> Result<(), Fail> {
-    let mut target = MemoryTarget::new(rt.alloc(), 200, Pace::new(7, None))?;
+    let mut target = MemoryTarget::new(rt.alloc(), 200, CallPlan::new(7, None))?;
     let mut taker = OpbTaker::new(Sink::new(&mut target));
     assert!(rt; taker.start_row(Part::Hard(Rule::Unit)).is_ok());
     assert!(rt; taker.term(1, 8).is_ok());
@@ -91,13 +94,13 @@ fn sink_is_handed_back(rt: HostRuntime) -> Result<(), Fail> {
     Ok(())
 }
 
-// At one byte a call, failing at the call after `good_calls`.
+// At one byte per call, failing at the call after `good_calls`.
 fn bytes_before_failure(
     rt: &impl std::process::Abort,
     alloc: Global,
     good_calls: u64,
 ) -> Result<usize, AllocError> {
-    let mut target = MemoryTarget::new(alloc, 200, Pace::new(1, Some(good_calls)))?;
+    let mut target = MemoryTarget::new(alloc, 200, CallPlan::new(1, Some(good_calls)))?;
     assert!(rt; encode(&mut target).is_err());
     assert_eq!(rt; target.flushed(), 0);
     assert!(rt; TEXT.starts_with(target.bytes()));
@@ -116,13 +119,13 @@ fn target_fails_at_each_call(rt: HostRuntime) -> Result<(), Fail> {
 
 #[test]
 fn a_full_target_fails(rt: HostRuntime) -> Result<(), Fail> {
-    let mut target = MemoryTarget::new(rt.alloc(), 40, Pace::new(4096, None))?;
+    let mut target = MemoryTarget::new(rt.alloc(), 40, CallPlan::new(4096, None))?;
     assert!(rt; encode(&mut target).is_err());
     assert_eq!(rt; target.bytes(), &TEXT[..40]);
     Ok(())
 }
 
-// A writer that takes nothing at its first call, and all of each later piece.
+// A writer that accepts nothing at its first call, and all of each later piece.
 #[derive(Drop)]
 struct TakesNothing {
     calls: u32,
@@ -145,4 +148,24 @@ fn a_writer_that_takes_nothing_fails(rt: HostRuntime) -> Result<(), Fail> {
     assert!(rt; encode(&mut target).is_err());
     assert!(rt; encode(&mut target).is_err());
     Ok(())
+}
+
+#[test]
+fn a_run_fails_where_a_writer_takes_nothing(rt: HostRuntime) {
+    let files = one_nurse_one_shift();
+    let plain = Choice {
+        early: false,
+        fixed: false,
+    };
+    let outcome = run_encode(
+        rt.alloc(),
+        plain,
+        &mut Tape::new(files.scenario),
+        &mut Tape::new(files.history),
+        &mut Tape::new(files.week),
+        &mut Tape::new(b""),
+        &mut ToWrite::new(TakesNothing { calls: 0 }),
+    );
+    assert_eq!(rt; outcome, Err(Fault::Write));
+    assert_eq!(rt; status_of(&Fault::Write), 3);
 }

@@ -1,9 +1,9 @@
-//! Bytes in memory, at most seven a call: the source of one's own of `docs/embedding.md`.
+//! Bytes in memory, at most seven per call: the example of your own source in `docs/embedding.md`.
 ghost use Rattle.std.specs.Prelude.{None, false};
 
 use rota_core::{PortFault, Source};
 
-/// Bytes that are handed out in small pieces.
+/// Bytes that are returned in small pieces.
 #[derive(Drop)]
 pub struct Tape<'a> {
     rest: &'a [u8],
@@ -11,7 +11,7 @@ pub struct Tape<'a> {
 }
 
 impl<'a> Tape<'a> {
-    /// The tape of these bytes, at its beginning.
+    /// The tape of these bytes, at its start.
     pub fn new(bytes: &'a [u8]) -> Tape<'a> {
         Tape {
             rest: bytes,

@@ -1,4 +1,4 @@
-//! A week whose rows come from elsewhere than a file: the format of one's own of `docs/embedding.md`.
+//! A week whose rows do not come from a file: the example of your own format in `docs/embedding.md`.
 ghost use Rattle.std.specs.Prelude.{IfOk};
 ghost use Rattle.std.specs.Option.{ForSome};
 ghost use Rattle.rota_core.specs.InstanceTables.{HasNumbersOf};
@@ -6,7 +6,7 @@ ghost use Rattle.rota_core.specs.InstanceTables.{HasNumbersOf};
 use rota_core::{Demand, Scenario, Week, WeekParts};
 use std::alloc::{AllocError, Global};
 
-/// How many nurses a day asks for, on a shift type and with a skill.
+/// The number of nurses that a day needs, on a shift type and with a skill.
 #[derive(Clone, Copy)]
 pub struct Row {
     pub day: u8,
@@ -15,7 +15,7 @@ pub struct Row {
     pub demand: Demand,
 }
 
-/// The week of these rows, without requests, or nothing where a number of a row is above its limit.
+/// The week of these rows, without requests, or `None` if a number of a row is above its limit.
 pub fn week_of_rows(
     alloc: Global,
     scenario: &Scenario,

@@ -1,8 +1,8 @@
-//! How often the ports of a run are called: a reader until it says its end, a target for its text and to flush it, and
-//! none again after a call that failed.
+//! The number of calls of the ports of a run: a reader is called until it reports its end, a target for its
+//! text and to flush it, and none is called again after a call that failed.
 ghost use Rattle.std.specs.Prelude.{None};
 
-use crate::target_calls::{Calls, Counted};
+use crate::target_calls::{Allowance, Calls, Counted};
 use crate::week_files::{instance_of, one_nurse_one_shift};
 use rota_core::{Instance, PortFault, Roster, Source};
 use rota_pb::{Choice, Fault, encode, extend, run_decode, write_solution};
@@ -11,36 +11,29 @@ use std::alloc::Global;
 use std::process::Abort;
 use std::test::Fail;
 
-// A source of a text that fails after this many calls. Its calls are counted, also those after the failure.
+// A source of a text that fails after this number of calls. Its calls are counted, including those after the
+// failure.
 #[derive(Drop)]
 struct CountedSource<'a> {
     rest: &'a [u8],
-    good_calls: u32,
+    allowance: Allowance,
     calls: u32,
-    failed: bool,
     ended: bool,
 }
 
 impl Source for CountedSource<'_> {
     ghost left = { λ _. None };
 
-    ghost has_failed = { λ s. s.failed };
+    ghost has_failed = { λ s. s.allowance.failed };
 
     ghost has_ended = { λ s. s.ended };
 
     fn read(&mut self, buffer: &mut [u8]) -> Result<usize, PortFault> {
         self.calls = self.calls.saturating_add(1);
-        if self.failed {
-            return Err(PortFault);
-        }
-        if buffer.is_empty() {
+        if !self.allowance.failed && buffer.is_empty() {
             return Ok(0);
         }
-        if self.good_calls == 0 {
-            self.failed = true;
-            return Err(PortFault);
-        }
-        self.good_calls -= 1;
+        self.allowance.call()?;
         let rest = self.rest;
         let count = rest.len().min(buffer.len());
         let (piece, after) = rest.split_at(count);
@@ -54,15 +47,14 @@ impl Source for CountedSource<'_> {
 fn source(text: &[u8], good_calls: u32) -> CountedSource<'_> {
     CountedSource {
         rest: text,
-        good_calls,
+        allowance: Allowance::new(good_calls),
         calls: 0,
-        failed: false,
         ended: false,
     }
 }
 
-// What a run answered, and how often its ports were called: the readers of the scenario, the history, the week, the held
-// cells and the answer, and the targets of the solution and of the report.
+// The result of a run, and the number of calls of its ports: the readers of the scenario, the history, the
+// week, the held cells and the answer, and the targets of the solution and of the report.
 #[derive(Clone, Copy, PartialEq, Eq, Debug)]
 struct Ended {
     outcome: Result<(), Fault>,
@@ -71,7 +63,7 @@ struct Ended {
     report: Calls,
 }
 
-// What `decode` does with this answer where its ports have so many good calls, in that order.
+// The result of `decode` for this answer, if its ports have these numbers of good calls, in that order.
 fn decoded(alloc: Global, answer: &[u8], good_calls: [u32; 7]) -> Ended {
     let choice = Choice {
         early: false,
@@ -104,12 +96,12 @@ fn decoded(alloc: Global, answer: &[u8], good_calls: [u32; 7]) -> Ended {
     }
 }
 
-// With this many good calls a port that needs two is called so often.
+// The number of calls of a port that needs two, with this number of good calls.
 fn calls_of_two(good_calls: u32) -> u32 {
     2.min(good_calls.saturating_add(1))
 }
 
-// With this many good calls a target of one buffer is called so often.
+// The number of calls of a target of one buffer, with this number of good calls.
 fn calls_of_target(good_calls: u32) -> Calls {
     Calls {
         writes: 1,
@@ -117,7 +109,7 @@ fn calls_of_target(good_calls: u32) -> Calls {
     }
 }
 
-// How often it is called where it is.
+// The number of its calls, if it is called.
 fn calls_where(is_called: bool, good_calls: u32) -> Calls {
     if is_called {
         calls_of_target(good_calls)
@@ -129,8 +121,8 @@ fn calls_where(is_called: bool, good_calls: u32) -> Calls {
     }
 }
 
-// One of the ports has so many good calls, and the others have the two that they need. Those before it are called twice,
-// and those behind it only where it has both.
+// One of the ports has this number of good calls, and the others have the two that they need. The ports
+// before it are called twice, and the ports after it only if it has both calls.
 fn check_port(rt: &impl Abort, alloc: Global, port: usize, good_calls: u32) {
     let mut all = [2; 7];
     if let Some(own) = all.get_mut(port) {
@@ -156,7 +148,7 @@ fn check_port(rt: &impl Abort, alloc: Global, port: usize, good_calls: u32) {
     assert_eq!(rt; ended.report, report, "port {port}");
 }
 
-// Each port in turn has none, one or both of its calls.
+// Each port in turn has zero, one or both of its calls.
 #[test]
 fn ports_of_a_run_are_called_twice(rt: HostRuntime) {
     for case in 0..21 {
@@ -164,8 +156,8 @@ fn ports_of_a_run_are_called_twice(rt: HostRuntime) {
     }
 }
 
-// What `decode` says of an answer with a number beyond the variables' that is judged at this byte, where the second read
-// fails.
+// The result of `decode` for an answer with a number beyond the variables' that is found at this byte, if the
+// second read fails.
 fn fault_at(alloc: Global, byte: usize) -> Result<(), Fault> {
     let mut answer = [b' '; 6000];
     answer[0] = b'v';
@@ -179,7 +171,7 @@ fn fault_at(alloc: Global, byte: usize) -> Result<(), Fault> {
     decoded(alloc, &answer, good_calls).outcome
 }
 
-// An answer is read 4096 bytes at a time, and a whole piece is judged before the next read.
+// An answer is read 4096 bytes at a time, and a whole piece is checked before the next read.
 #[test]
 fn whole_piece_is_judged_before_the_next_read(rt: HostRuntime) {
     assert_eq!(rt;
@@ -189,7 +181,7 @@ fn whole_piece_is_judged_before_the_next_read(rt: HostRuntime) {
     assert_eq!(rt; fault_at(rt.alloc(), 4097), Err(Fault::Read));
 }
 
-// The empty roster to a target: its extension, or its solution file.
+// Writes the empty roster to a target: its extension, or its solution file.
 fn write_nobody(
     alloc: Global,
     instance: &Instance,
@@ -204,7 +196,7 @@ fn write_nobody(
     }
 }
 
-// One of three texts of the week to a target.
+// Writes one of three texts of the week to a target.
 fn write_text(
     alloc: Global,
     instance: &Instance,
@@ -217,7 +209,8 @@ fn write_text(
     }
 }
 
-// A model, an answer and a solution go out in one write each, are flushed once, and nothing goes out after a failure.
+// A model, an answer and a solution are sent in one write each, and flushed one time. Nothing is sent after a
+// failure.
 #[test]
 fn texts_go_out_once(rt: HostRuntime) -> Result<(), Fail> {
     let instance = instance_of(rt.alloc(), &one_nurse_one_shift())?;

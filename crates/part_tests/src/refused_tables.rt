@@ -1,5 +1,5 @@
-//! Memory that runs out while tables, rosters and answers are made. Each test prints what it found, or that
-//! memory ran out; `tests/refused_memory.sh` refuses each allocation in turn and compares the lines.
+//! Memory that runs out while tables, rosters and answers are made. Each test prints its result, or that
+//! memory ran out. `tests/refused_memory.sh` refuses each allocation in turn and compares the lines.
 use crate::answers::of_pieces;
 use crate::week_files::{instance_of, one_nurse_one_shift};
 use rota_core::{Bits, FileFault, Instance, Roster, Scenario};
@@ -17,7 +17,7 @@ fn print<T: Debug>(rt: &impl Print, found: &Result<T, FileFault>) -> io::Result<
     }
 }
 
-// What is made of a scenario's text and, but for the scenario, of another one.
+// The results made from a scenario's text and, except for the scenario, from another one.
 #[derive(Clone, Copy)]
 enum Table {
     Scenario,
@@ -25,12 +25,12 @@ enum Table {
     Week,
 }
 
-// How many weeks and nurses there are.
+// The numbers of weeks and nurses.
 fn weeks_and_nurses(scenario: &Scenario) -> (u16, u16) {
     (scenario.weeks(), scenario.nurses())
 }
 
-// How many nurses have a row.
+// The number of nurses with a row.
 fn rows_of_history(alloc: Global, scenario: &Scenario) -> Result<usize, FileFault> {
     match read_history(alloc, scenario, one_nurse_one_shift().history) {
         Ok(history) => Ok(history.into_parts().past.len()),
@@ -38,7 +38,7 @@ fn rows_of_history(alloc: Global, scenario: &Scenario) -> Result<usize, FileFaul
     }
 }
 
-// How many demands there are.
+// The number of demands.
 fn demands_of_week(alloc: Global, scenario: &Scenario) -> Result<usize, FileFault> {
     match read_week(alloc, scenario, one_nurse_one_shift().week) {
         Ok(week) => Ok(week.into_parts().demands.len()),
@@ -46,7 +46,7 @@ fn demands_of_week(alloc: Global, scenario: &Scenario) -> Result<usize, FileFaul
     }
 }
 
-// Prints what the table has.
+// Prints the size of the table.
 fn print_table(
     rt: &impl Print,
     alloc: Global,
@@ -82,7 +82,7 @@ fn week_read(rt: HostRuntime) -> io::Result<()> {
     read_and_print(&rt, rt.alloc(), Table::Week)
 }
 
-// Where a roster comes from.
+// The origin of a roster.
 #[derive(Clone, Copy)]
 enum Origin {
     Solution,
@@ -91,7 +91,7 @@ enum Origin {
 
 const SOLUTION: &[u8] = b"SOLUTION 0 s1 ASSIGNMENTS = 1 Ann Mon Day Nurse";
 
-// How many cells the roster has.
+// The number of cells in the roster.
 fn count_of(alloc: Global, instance: &Instance, origin: Origin) -> Result<u32, FileFault> {
     match origin {
         Origin::Solution => Ok(read_solution(alloc, instance, SOLUTION)?.count()),
@@ -116,7 +116,7 @@ fn new_roster(rt: HostRuntime) -> io::Result<()> {
     print(&rt, &cells(rt.alloc(), Origin::New))
 }
 
-// How many truth values there are, and whether the last one is true.
+// The number of truth values, and whether the last one is true.
 fn bits(alloc: Global) -> Result<(u32, bool), FileFault> {
     let bits = Bits::new(alloc, 65)?;
     Ok((bits.len(), bits.get(64)))

@@ -1,10 +1,10 @@
-//! The numbers of windows and patterns, and what is charged early.
+//! The numbers of windows and patterns, and early charges.
 use rota_core::Span;
 use rota_items::{early_excess, patterns_of, windows_of};
 
 const MOST: u16 = u16::MAX;
 
-// The length of the run before Monday, the limits, and how many windows there are.
+// The length of the run before Monday, the limits, and the number of windows.
 const WINDOWS: [(u16, (u16, u16), u32); 5] = [
     (9, (1, 5), 7),
     (0, (1, 2), 5),
@@ -20,7 +20,7 @@ fn windows_by_history_and_maximum(rt: HostRuntime) {
     }
 }
 
-// The length of the run before Monday, the limits, and how many patterns there are.
+// The length of the run before Monday, the limits, and the number of patterns.
 const PATTERNS: [(u16, (u16, u16), u32); 5] = [
     (1, (3, 9), 11),
     (0, (9, 9), 21),
@@ -36,7 +36,8 @@ fn patterns_by_history_and_minimum(rt: HostRuntime) {
     }
 }
 
-// The limit, what was there before the first week, what each week adds, and what they pay for in all.
+// The limit, the total before the first week, the addition of each week, and the excess that they pay for
+// together.
 #[test]
 fn excess_of_successive_weeks(rt: HostRuntime) {
     assert!(rt; early_excess(15, 14, &[5, 0, 3]) == 7);

@@ -1,5 +1,5 @@
-//! The standard library's readers and writers as ports: nothing is tried again after an error, short reads and
-//! writes are passed on, and each flush is.
+//! The standard library's readers and writers as ports. Nothing is tried again after an error. Short reads
+//! and writes are passed on, and so is each flush.
 ghost use Rattle.std.specs.Prelude.{◌≡◌, ◌≤◌, IfOk};
 
 use rota_core::{FromRead, PortFault, Source, Target, ToWrite};
@@ -19,16 +19,16 @@ fn readers_and_writers_are_ports(rt: HostRuntime) -> Result<(), Fail> {
     Ok(())
 }
 
-// What a port does at a call.
+// The effect of a port at a call.
 #[derive(Clone, Copy)]
 enum Step {
-    /// It moves this many bytes, or as many as there are.
+    /// It moves this number of bytes, or all that are left if there are fewer.
     Moves(usize),
     /// It fails.
     Fails(ErrorKind),
 }
 
-// A reader and a writer that does these steps one after another, and counts its calls and its flushes.
+// A reader and a writer that performs these steps one after another, and counts its calls and its flushes.
 #[derive(Drop)]
 struct Scripted<'a> {
     steps: &'a [Step],
@@ -37,7 +37,7 @@ struct Scripted<'a> {
 }
 
 impl Scripted<'_> {
-    // Does the next step on this many bytes.
+    // Performs the next step on this number of bytes.
     fn step(&mut self, most: usize) -> io::Result<usize>
         ensures { IfOk result (λ n. n ≤ most) }
     {
@@ -71,7 +71,7 @@ impl Write for Scripted<'_> {
     }
 }
 
-// What std's readers and writers may fail with.
+// The errors of std's readers and writers.
 const KINDS: [ErrorKind; 21] = [
     ErrorKind::Interrupted,
     ErrorKind::WouldBlock,
@@ -138,8 +138,8 @@ fn reader_of_an_empty_buffer(rt: HostRuntime) {
     assert!(rt; source.read(&mut [0; 4]) == Ok(1));
 }
 
-// What a writer answers to pieces of four bytes, and to a flush after them; then how often it was called and
-// flushed.
+// The answers of a writer to pieces of four bytes, and to a flush after them; then the number of its calls
+// and flushes.
 #[derive(Clone, Copy, PartialEq, Eq, Debug)]
 struct Written {
     answers: [Result<usize, PortFault>; 3],
@@ -177,8 +177,8 @@ fn writer_takes_pieces(rt: HostRuntime) {
     assert!(rt; end.calls == 3 && end.flushes == 1);
 }
 
-// After an error, `Interrupted` too, the writer is neither called nor flushed again; taking nothing of a piece
-// is an error.
+// After an error, `Interrupted` too, the writer is neither called nor flushed again. If it accepts no byte of
+// a piece, that is an error.
 #[test]
 fn writer_is_not_called_after_an_error(rt: HostRuntime) {
     let failed = Err(PortFault);
@@ -209,7 +209,8 @@ fn failed_flush_is_for_good(rt: HostRuntime) {
     }
 }
 
-// What a reader with these steps answers to four calls with a buffer of four bytes, and how often it was called.
+// The answers of a reader with these steps to four calls with a buffer of four bytes, and the number of its
+// calls.
 fn read_four_times(steps: &[Step]) -> ([Result<usize, PortFault>; 4], u32) {
     let (mut calls, mut flushes) = (0, 0);
     let mut source = FromRead::new(Scripted {
@@ -227,7 +228,7 @@ fn read_four_times(steps: &[Step]) -> ([Result<usize, PortFault>; 4], u32) {
     (answers, calls)
 }
 
-// Behind its end a reader is asked again, and what it says is passed on.
+// After its end a reader is asked again, and its answer is passed on.
 #[test]
 fn reader_behind_its_end(rt: HostRuntime) {
     let steps = [
@@ -245,33 +246,33 @@ fn reader_behind_its_end(rt: HostRuntime) {
 // The port fails at the call at which the reader does, and not before.
 #[test]
 fn reader_fails_at_each_call(rt: HostRuntime) {
-    for place in 0..4 {
+    for index in 0..4 {
         let mut steps = [Step::Moves(3); 4];
-        steps[place] = Step::Fails(ErrorKind::Interrupted);
+        steps[index] = Step::Fails(ErrorKind::Interrupted);
         let (answers, calls) = read_four_times(&steps);
         for (call, answer) in answers.iter().enumerate() {
-            let wanted = if call < place { Ok(3) } else { Err(PortFault) };
-            assert!(rt; *answer == wanted, "call {call} of {place}");
+            let wanted = if call < index { Ok(3) } else { Err(PortFault) };
+            assert!(rt; *answer == wanted, "call {call} of {index}");
         }
-        assert!(rt; calls as usize == place + 1);
+        assert!(rt; calls as usize == index + 1);
     }
 }
 
 // The port fails at the call at which the writer does: the two pieces are written, and then it is flushed.
 #[test]
 fn writer_fails_at_each_call(rt: HostRuntime) {
-    for place in 0..3 {
+    for index in 0..3 {
         let mut steps = [Step::Moves(4); 3];
-        steps[place] = Step::Fails(ErrorKind::WouldBlock);
+        steps[index] = Step::Fails(ErrorKind::WouldBlock);
         let end = write_pieces(&steps);
         let [first, _, second] = end.answers;
-        assert!(rt; first.is_ok() == (place > 0) && second.is_ok() == (place > 1));
-        assert!(rt; end.flush == Err(PortFault) && end.calls as usize == place + 1);
-        assert!(rt; end.flushes == u32::from(place == 2));
+        assert!(rt; first.is_ok() == (index > 0) && second.is_ok() == (index > 1));
+        assert!(rt; end.flush == Err(PortFault) && end.calls as usize == index + 1);
+        assert!(rt; end.flushes == u32::from(index == 2));
     }
 }
 
-// Great buffers and pieces are passed on whole, and a flush ends nothing.
+// Large buffers and pieces are passed on whole, and a flush ends nothing.
 #[test]
 fn great_pieces_and_flushes(rt: HostRuntime) -> Result<(), Fail> {
     let (mut calls, mut flushes) = (0, 0);

@@ -1,28 +1,42 @@
 //! Rosters, truth values and names.
 use crate::week_files::{instance_of, one_nurse_one_shift};
 use indexmap::IndexSet;
-use rota_core::{Bits, Cell, Instance, Roster, add_name, is_name, place_of_name};
+use rota_core::{Bits, Cell, Instance, Roster, add_name, index_of_name, is_name};
 use std::alloc::Global;
 use std::test::Fail;
 
 #[test]
-fn names_have_places(rt: HostRuntime) -> Result<(), Fail> {
+fn names_have_indices(rt: HostRuntime) -> Result<(), Fail> {
     let mut names = IndexSet::new(rt.alloc());
     add_name(rt.alloc(), &mut names, b"Ann")?;
-    assert!(rt; place_of_name(&names, b"Ann") == Some(0) && !is_name(&names, b"Bob"));
+    assert!(rt; index_of_name(&names, b"Ann") == Some(0) && !is_name(&names, b"Bob"));
     Ok(())
 }
 
-// True are a word's last place, the next word's first, and one behind two words that are all false.
+// The true values are at a word's last index, at the next word's first, and after two words that are all
+// false.
 #[test]
 fn words_without_a_true_value_are_passed_over(rt: HostRuntime) -> Result<(), Fail> {
     let mut bits = Bits::new(rt.alloc(), 300)?;
     bits.set(63);
     bits.set(64);
     bits.set(259);
-    let mut places = bits.true_places();
-    let found = (places.next(), places.next(), places.next(), places.next());
+    let mut indices = bits.true_indices();
+    let found = (
+        indices.next(),
+        indices.next(),
+        indices.next(),
+        indices.next(),
+    );
     assert!(rt; found == (Some(63), Some(64), Some(259), None));
+    Ok(())
+}
+
+// No truth value at all: none is true, and each is out of its bounds.
+#[test]
+fn no_bits_are_bits(rt: HostRuntime) -> Result<(), Fail> {
+    let bits = Bits::new(rt.alloc(), 0)?;
+    assert!(rt; bits.len() == 0 && bits.true_indices().next() == None);
     Ok(())
 }
 
@@ -35,7 +49,7 @@ const SATURDAY: Cell = Cell {
 
 const SUNDAY: Cell = Cell { day: 6, ..SATURDAY };
 
-// A cell that is put twice is in the roster once.
+// A cell that is put twice is in the roster only one time.
 fn is_set(alloc: Global, instance: &Instance) -> bool {
     let Ok(mut roster) = Roster::new(alloc, instance) else {
         return false;

@@ -1,65 +1,41 @@
 //! How often a target is called: once for each full buffer and for each piece that is longer than one, once for the rest,
 //! and once to flush it. After a call that failed it is not called again.
-ghost use Rattle.std.specs.Prelude.{None};
+ghost use Rattle.std.specs.Prelude.{◌≡◌, ◌||◌, IsErr, None, false, is_err, true};
 
 use opb_text::Sink;
 use rota_core::{PortFault, Target};
 use std::process::Abort;
 
-/// How often a target was called, failed calls too.
+/// The number of calls of a target, including failed calls.
 #[derive(Clone, Copy, PartialEq, Eq, Debug)]
 pub struct Calls {
     pub writes: u32,
     pub flushes: u32,
 }
 
-/// A target that takes whole pieces, and fails after this many calls. Its calls are counted, also those after the failure.
-#[derive(Drop)]
-pub struct Counted {
-    pub calls: Calls,
+/// How many calls of a port succeed before it fails, permanently.
+#[derive(Clone, Copy)]
+pub struct Allowance {
     pub good_calls: u32,
     pub failed: bool,
 }
 
-impl Counted {
-    /// A target that was not called yet.
-    pub fn new(good_calls: u32) -> Counted {
-        Counted {
-            calls: Calls {
-                writes: 0,
-                flushes: 0,
-            },
+impl Allowance {
+    /// No call was made yet.
+    pub fn new(good_calls: u32) -> Allowance
+        ensures { result.failed ≡ false }
+    {
+        Allowance {
             good_calls,
             failed: false,
         }
     }
-}
 
-impl Target for Counted {
-    ghost sent = { λ _. None };
-
-    ghost flushed = { λ _. None };
-
-    ghost has_failed = { λ t. t.failed };
-
-    fn write(&mut self, piece: &[u8]) -> Result<usize, PortFault> {
-        self.calls.writes = self.calls.writes.saturating_add(1);
-        if self.failed {
-            return Err(PortFault);
-        }
-        if piece.is_empty() {
-            return Ok(0);
-        }
-        if self.good_calls == 0 {
-            self.failed = true;
-            return Err(PortFault);
-        }
-        self.good_calls -= 1;
-        Ok(piece.len())
-    }
-
-    fn flush(&mut self) -> Result<(), PortFault> {
-        self.calls.flushes = self.calls.flushes.saturating_add(1);
+    /// Makes one call.
+    pub fn call(&mut self) -> Result<(), PortFault>
+        ensures failure { self.new.failed ≡ (self.old.failed || is_err result) }
+        ensures for_good { self.old.failed ≡ true → IsErr result }
+    {
         if self.failed || self.good_calls == 0 {
             self.failed = true;
             return Err(PortFault);
@@ -69,10 +45,52 @@ impl Target for Counted {
     }
 }
 
-// 256 of them fill a buffer.
+/// A target that takes whole pieces, and fails after this many calls. Its calls are counted, also those after the failure.
+#[derive(Drop)]
+pub struct Counted {
+    pub calls: Calls,
+    allowance: Allowance,
+}
+
+impl Counted {
+    /// A target that has not been called.
+    pub fn new(good_calls: u32) -> Counted {
+        Counted {
+            calls: Calls {
+                writes: 0,
+                flushes: 0,
+            },
+            allowance: Allowance::new(good_calls),
+        }
+    }
+}
+
+impl Target for Counted {
+    ghost sent = { λ _. None };
+
+    ghost flushed = { λ _. None };
+
+    ghost has_failed = { λ t. t.allowance.failed };
+
+    fn write(&mut self, piece: &[u8]) -> Result<usize, PortFault> {
+        self.calls.writes = self.calls.writes.saturating_add(1);
+        if !self.allowance.failed && piece.is_empty() {
+            return Ok(0);
+        }
+        self.allowance.call()?;
+        Ok(piece.len())
+    }
+
+    fn flush(&mut self) -> Result<(), PortFault> {
+        self.calls.flushes = self.calls.flushes.saturating_add(1);
+        self.allowance.call()
+    }
+}
+
+// 256 of these lines fill a buffer.
 const LINE: &[u8] = b"fifteen letters\n";
 
-// Puts lines that fill four buffers to the last byte.
+// Writes lines that fill four buffers to the last byte.
 fn put_lines<W: Target>(sink: &mut Sink<W>) -> Result<(), PortFault> {
     for _ in 0..1024 {
         sink.put(LINE)?;
@@ -80,7 +98,7 @@ fn put_lines<W: Target>(sink: &mut Sink<W>) -> Result<(), PortFault> {
     sink.finish()
 }
 
-// Puts a line, pieces that are longer than a buffer, and a line.
+// Writes a line, pieces that are longer than a buffer, and a line.
 fn put_long_pieces<W: Target>(sink: &mut Sink<W>) -> Result<(), PortFault> {
     sink.put(LINE)?;
     sink.put(&[b' '; 5000])?;
@@ -89,7 +107,7 @@ fn put_long_pieces<W: Target>(sink: &mut Sink<W>) -> Result<(), PortFault> {
     sink.finish()
 }
 
-// Puts more, and finishes again, whatever comes of it.
+// Writes more, and finishes again, whatever the results.
 fn go_on<W: Target>(sink: &mut Sink<W>) -> [Result<(), PortFault>; 4] {
     [
         put_lines(sink),
@@ -99,8 +117,8 @@ fn go_on<W: Target>(sink: &mut Sink<W>) -> [Result<(), PortFault>; 4] {
     ]
 }
 
-// What comes of the lines at a target with this many good calls, or of the long pieces, and the target's calls. Where it
-// fails, the sink is called again.
+// The result of the lines at a target with this number of good calls, or of the long pieces, and the target's
+// calls. If it fails, the sink is called again.
 fn calls_with(good_calls: u32, long_pieces: bool) -> (Result<(), PortFault>, Calls) {
     let mut target = Counted::new(good_calls);
     let mut sink = Sink::new(&mut target);
@@ -115,7 +133,8 @@ fn calls_with(good_calls: u32, long_pieces: bool) -> (Result<(), PortFault>, Cal
     (outcome, target.calls)
 }
 
-// Four writes and a flush are wanted. With fewer good calls the target is called once more than it has of them.
+// Four writes and a flush are wanted. With fewer good calls the target is called one more time than it has
+// good calls.
 fn check_calls(rt: &impl Abort, long_pieces: bool) {
     for good_calls in 0..5 {
         let (outcome, calls) = calls_with(good_calls, long_pieces);

@@ -13,9 +13,11 @@ pub struct WeekFiles {
     pub week: &'static [u8],
 }
 
-pub fn one_nurse_one_shift() -> WeekFiles {
-    WeekFiles {
-        scenario: b"SCENARIO = s1
+// The scenario of one nurse, with these limits on her days of work in a row.
+macro_rules! one_nurse {
+    ($limits:literal) => {
+        concat!(
+            "SCENARIO = s1
 WEEKS = 2
 SKILLS = 1
 Nurse
@@ -24,10 +26,20 @@ Day (1,9)
 FORBIDDEN_SHIFT_TYPES_SUCCESSIONS
 Day 0
 CONTRACTS = 1
-Full (1,9) (1,9) (1,9) 9 0
+Full (1,9) ",
+            $limits,
+            " (1,9) 9 0
 NURSES = 1
 Ann Full 1 Nurse
-",
+"
+        )
+        .as_bytes()
+    };
+}
+
+pub fn one_nurse_one_shift() -> WeekFiles {
+    WeekFiles {
+        scenario: one_nurse!("(1,9)"),
         history: b"HISTORY
 0 s1
 NURSE_HISTORY
@@ -44,19 +56,7 @@ SHIFT_OFF_REQUESTS = 0
 /// Ann worked on two days before Monday, and should work on at most two days in a row.
 pub fn run_in_the_history() -> WeekFiles {
     WeekFiles {
-        scenario: b"SCENARIO = s1
-WEEKS = 2
-SKILLS = 1
-Nurse
-SHIFT_TYPES = 1
-Day (1,9)
-FORBIDDEN_SHIFT_TYPES_SUCCESSIONS
-Day 0
-CONTRACTS = 1
-Full (1,9) (1,2) (1,9) 9 0
-NURSES = 1
-Ann Full 1 Nurse
-",
+        scenario: one_nurse!("(1,2)"),
         history: b"HISTORY
 0 s1
 NURSE_HISTORY

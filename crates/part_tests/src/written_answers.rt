@@ -1,11 +1,11 @@
-//! Answers that are written.
+//! Answers written by `AnswerWriter`.
 ghost use Rattle.std.specs.Prelude.{◌≡◌};
 ghost use Rattle.solver_text.specs.AnswerWriter.{phase_of};
 ghost use Rattle.solver_text.specs.declared.answer_writer.Phase.TheVariants.{Started};
 
 use crate::answers::{Said, in_pieces};
 use opb_text::Sink;
-use rota_core::{MemoryTarget, Pace, PortFault, Target};
+use rota_core::{CallPlan, MemoryTarget, PortFault, Target};
 use solver_text::{AnswerWriter, Status};
 use std::alloc::{AllocError, Global};
 use std::test::Fail;
@@ -15,7 +15,7 @@ const TRUTHS: [bool; 20] = [
     false, true, true, true, true, true,
 ];
 
-// Puts a literal for each of the values.
+// Writes a literal for each of the values.
 fn put_literals<W: Target>(writer: &mut AnswerWriter<W>, truths: &[bool]) -> Result<(), PortFault>
     requires { phase_of writer.old ≡ Started }
     ensures { phase_of writer.new ≡ Started }
@@ -34,28 +34,28 @@ fn write_answer<W: Target>(out: &mut W, objective: u64, truths: &[bool]) -> Resu
     writer.finish()
 }
 
-// A target, and whether an answer was written to it whole.
+// A target, and whether the whole answer was written to it.
 #[derive(Drop)]
 struct Written {
     is_whole: bool,
     target: MemoryTarget,
 }
 
-// Writes the answer of these values to a target of this pace.
+// Writes the answer of these values to a target with this pace.
 fn write_to(
     alloc: Global,
-    pace: Pace,
+    plan: CallPlan,
     objective: u64,
     truths: &[bool],
 ) -> Result<Written, AllocError> {
-    let mut target = MemoryTarget::new(alloc, 200, pace)?;
+    let mut target = MemoryTarget::new(alloc, 200, plan)?;
     let is_whole = write_answer(&mut target, objective, truths).is_ok();
     Ok(Written { is_whole, target })
 }
 
-// Whether the answer with the objective 15 and this many literals is the text, and is flushed.
+// Whether the answer with the objective 15 and this number of literals is the text, and is flushed.
 fn is_written(alloc: Global, count: usize, text: &[u8]) -> bool {
-    match write_to(alloc, Pace::new(7, None), 15, &TRUTHS[..count.min(20)]) {
+    match write_to(alloc, CallPlan::new(7, None), 15, &TRUTHS[..count.min(20)]) {
         Ok(Written { is_whole, target }) => {
             is_whole && target.bytes() == text && target.flushed() == text.len()
         }
@@ -63,7 +63,7 @@ fn is_written(alloc: Global, count: usize, text: &[u8]) -> bool {
     }
 }
 
-// How many literals there are, and the answer.
+// The number of literals, and the answer.
 const ANSWERS: [(usize, &[u8]); 6] = [
     (0, b"o 15\ns SATISFIABLE\n"),
     (1, b"o 15\ns SATISFIABLE\nv x1\n"),
@@ -93,9 +93,9 @@ fn writes_rows_of_ten(rt: HostRuntime) {
     }
 }
 
-// What the written answer of the first eight values says.
+// The meaning of the written answer of the first eight values.
 fn read_again(alloc: Global, objective: u64) -> Option<Said> {
-    let Ok(answer) = write_to(alloc, Pace::new(200, None), objective, &TRUTHS[..8]) else {
+    let Ok(answer) = write_to(alloc, CallPlan::new(200, None), objective, &TRUTHS[..8]) else {
         return None;
     };
     match in_pieces(alloc, answer.target.bytes(), 5) {
@@ -104,7 +104,7 @@ fn read_again(alloc: Global, objective: u64) -> Option<Said> {
     }
 }
 
-// What was written is read.
+// The written answer is read.
 #[test]
 fn written_answer_says_its_values(rt: HostRuntime) {
     for objective in [0, 7, 999_999_999_999_999_999] {
@@ -120,11 +120,12 @@ fn written_answer_says_its_values(rt: HostRuntime) {
     }
 }
 
-// Whether a target that fails after this many bytes was sent just these of the answer, and flushed none.
+// Whether a target that fails after this number of bytes was sent exactly these bytes of the answer, and
+// flushed none.
 fn is_cut(alloc: Global, text: &[u8], good_calls: usize) -> bool {
     match write_to(
         alloc,
-        Pace::new(1, Some(good_calls as u64)),
+        CallPlan::new(1, Some(good_calls as u64)),
         15,
         &TRUTHS[..3],
     ) {
@@ -138,7 +139,7 @@ fn is_cut(alloc: Global, text: &[u8], good_calls: usize) -> bool {
     }
 }
 
-// What went out before the target failed begins the text. The last call is the flush.
+// The bytes that were sent before the target failed are a prefix of the text. The last call is the flush.
 #[test]
 fn target_fails_at_each_call(rt: HostRuntime) {
     let text = b"o 15\ns SATISFIABLE\nv x1 -x2 -x3\n";
@@ -155,10 +156,10 @@ fn write_by_sink<W: Target>(out: &mut W) -> Result<(), PortFault> {
     writer.into_sink().finish()
 }
 
-// The sink is handed back with what was put.
+// The sink is returned with the text that was written into it.
 #[test]
 fn sink_is_handed_back(rt: HostRuntime) -> Result<(), Fail> {
-    let mut target = MemoryTarget::new(rt.alloc(), 200, Pace::new(7, None))?;
+    let mut target = MemoryTarget::new(rt.alloc(), 200, CallPlan::new(7, None))?;
     assert!(rt; write_by_sink(&mut target).is_ok());
     assert!(rt; target.bytes() == b"o 3\ns SATISFIABLE\nv -x1".as_slice());
     Ok(())

@@ -83,7 +83,7 @@ one_digit : (word : ℕ) → word < 2 ^ 64 → trailing_zeros w64 word ≡ 0 →
 one_digit zero small none = absurd (omega (arith, trailing_of_zero 64, none))
 one_digit (suc word) small none = rw none at (bit_at-trailing_zeros w64 (suc word) (omega arith) small).1
 
--- the word of the truth value at place i, of which the first count digits from there on are 0
+-- the word with the truth value at index i, whose first count digits from there on are 0
 module _ (words : List ℕ) (n i word count : ℕ) (truths : List Bool) (seen : truths_of words n ≡ truths) (inside : i < length truths)
     (fits : n ≤ 64 * length words) (read : word ≡ get_or words (i / 64) word) (small : word < 2 ^ 64)
     (least : count ≡ min (trailing_zeros w64 (word / 2 ^ (i % 64))) (64 - i % 64)) where
@@ -102,7 +102,7 @@ module _ (words : List ℕ) (n i word count : ℕ) (truths : List Bool) (seen : 
       let same : get_or words (i / 64) 0 ≡ word = sym (read ∙ get_or_default words (i / 64) word 0 row_in) in
       ap (λ t. get_or t j false) (sym seen) ∙ get_or-truths_of words n j below ∙ rw (row, column, same, shr-shr word (i % 64) k)
 
-  -- so many are false from the place on
+  -- the count values from the index on are false
   pub get_or-falses : (k : ℕ) → i ≤ k → k < i + count → get_or truths k false ≡ false
   get_or-falses k after below =
       elim (cases_lt k n) [
@@ -112,7 +112,7 @@ module _ (words : List ℕ) (n i word count : ℕ) (truths : List Bool) (seen : 
         | inr past ↦ get_or_past truths k false (omega (arith, len))
       ]
 
-  -- and where there are none, the value there is true
+  -- and if there are none, the value at the index is true
   pub get_or-no_falses : count ≡ 0 → get_or truths i false ≡ true
   get_or-no_falses none =
       get_or-digit i 0 (omega arith) (omega arith) (omega (arith, len, inside)) ∙

@@ -5,24 +5,24 @@ use Rattle.std.proofs.lemmas.List.{nil_from_length}
 use Rattle.std.proofs.lemmas.List.Elements.{All-from_recursion}
 use Rattle.std.specs.Prelude.{Option}
 use Rattle.rota_core.specs.declared.values.Cell.{Cell}
-use Rattle.rota_core.specs.InstanceTables.{InstanceTables, IsInstance, set_of_held, week_of}
+use Rattle.rota_core.specs.InstanceTables.{InstanceTables, IsInstance, set_of_held, problem_of}
 use Rattle.rota_core.specs.Roster.{InWeek}
 use Rattle.rota_core.specs.RosterCells.{cells_of}
 use Rattle.rota_core.specs.RosterCalls.{cells_in, InShape, count_of}
 use Rattle.rota_core.specs.RosterTables.{RosterTables, HasShapeOf}
 use Rattle.rota_core.proofs.CellLists.{all-cells_of}
-use Rattle.rota_core.proofs.CellsByPlace.{cells_in-is}
+use Rattle.rota_core.proofs.CellsByIndex.{cells_in-is}
 use Rattle.rota_core.proofs.RosterCount.{count-cells_of, cells_of-none}
 
 module _ (t : InstanceTables) (valid : IsInstance t) where
   module _ (roster : RosterTables) (is : t.held ≡ Some roster) where
-    shape : HasShapeOf (week_of t) roster
+    shape : HasShapeOf (problem_of t) roster
     shape =
         let fits = (valid.held roster is).1 in
         record { same_nurses = fits.same_nurses; same_shifts = fits.same_shifts; same_skills = fits.same_skills }
 
-    -- a cell of the week has its place in the roster that is held
-    pub InShape-held : (one : Cell) → InWeek (week_of t) one → InShape roster one
+    -- a cell of the week has an index in the held roster
+    pub InShape-held : (one : Cell) → InWeek (problem_of t) one → InShape roster one
     InShape-held one inside = record {
       nurse_in = rw shape.same_nurses inside.nurse_in;
       day_in = inside.day_in;
@@ -30,29 +30,29 @@ module _ (t : InstanceTables) (valid : IsInstance t) where
       skill_in = rw shape.same_skills inside.skill_in;
     }
 
-    -- as many cells are held as the roster has
-    pub count-held : count_of roster ≡ length (cells_of (week_of t) (week_of t).is_held)
+    -- the number of held cells is the number of cells in the roster
+    pub count-held : count_of roster ≡ length (cells_of (problem_of t) (problem_of t).is_held)
     count-held =
-        count-cells_of (week_of t) roster shape (valid.held roster is).0 ∙
-        ap (λ (held : Option RosterTables). length (cells_of (week_of t) (set_of_held held))) (sym is)
+        count-cells_of (problem_of t) roster shape (valid.held roster is).0 ∙
+        ap (λ (held : Option RosterTables). length (cells_of (problem_of t) (set_of_held held))) (sym is)
 
     -- they are the cells of the roster
-    pub cells-held : cells_in roster ≡ cells_of (week_of t) (week_of t).is_held
+    pub cells-held : cells_in roster ≡ cells_of (problem_of t) (problem_of t).is_held
     cells-held =
-        cells_in-is (week_of t) roster shape ∙
-        ap (λ (held : Option RosterTables). cells_of (week_of t) (set_of_held held)) (sym is)
+        cells_in-is (problem_of t) roster shape ∙
+        ap (λ (held : Option RosterTables). cells_of (problem_of t) (set_of_held held)) (sym is)
 
   -- each of them is a cell of the week
-  pub held-inside : All (InWeek (week_of t)) (cells_of (week_of t) (week_of t).is_held)
+  pub held-inside : All (InWeek (problem_of t)) (cells_of (problem_of t) (problem_of t).is_held)
   held-inside =
-      let week = week_of t in
-      All-from_recursion _ _ (all-cells_of week week.is_held (InWeek week) (λ one has. has.in_week))
+      let problem = problem_of t in
+      All-from_recursion _ _ (all-cells_of problem problem.is_held (InWeek problem) (λ one has. has.in_week))
 
-  -- none, where there is no roster
-  pub count-none_held : t.held ≡ None → 0 ≡ length (cells_of (week_of t) (week_of t).is_held)
+  -- none, if there is no roster
+  pub count-none_held : t.held ≡ None → 0 ≡ length (cells_of (problem_of t) (problem_of t).is_held)
   count-none_held is =
-      sym (cells_of-none (week_of t)) ∙
-      ap (λ (held : Option RosterTables). length (cells_of (week_of t) (set_of_held held))) (sym is)
+      sym (cells_of-none (problem_of t)) ∙
+      ap (λ (held : Option RosterTables). length (cells_of (problem_of t) (set_of_held held))) (sym is)
 
-  pub cells-none_held : t.held ≡ None → [] ≡ cells_of (week_of t) (week_of t).is_held
+  pub cells-none_held : t.held ≡ None → [] ≡ cells_of (problem_of t) (problem_of t).is_held
   cells-none_held is = sym (nil_from_length _ (sym (count-none_held is)))

@@ -1,4 +1,4 @@
--- A numeral is digits only, which tell its number. It is a word.
+-- A numeral consists only of digits, whose value is its number. It is a word.
 use Rattle.std.proofs.Common.{◌≡◌, ℕ, zero, suc, ◌+◌, ◌/◌, ◌%◌, ◌^◌, ◌<◌, ◌≤◌, Bool, true, inl, inr, refl, arith, rules}
 use Rattle.std.proofs.Common.{List, [], ◌∷◌, ◌++◌, length, length-append}
 use Rattle.std.specs.Char.{is_ascii_digit}
@@ -8,7 +8,7 @@ use Rattle.std.proofs.lemmas.Bool.Decides.{nat_tests}
 use Rattle.std.proofs.lemmas.Fmt.{AppendsLastDigit}
 use Rattle.std.proofs.lemmas.List.Sums.{fold-append}
 use Rattle.rota_core.specs.Numeral.{numeral, numeral_within, is_decimal, with_digit, decimal}
-use Rattle.rota_core.specs.NumeralLaws.{AreDigits, TellsNumber}
+use Rattle.rota_core.specs.NumeralLaws.{AreDigits, ReadsBack}
 use Rattle.rota_core.specs.Words.{is_word_byte, IsWord}
 
 numeral_steps : AppendsLastDigit numeral_within
@@ -20,7 +20,7 @@ AreDigits-append : (xs ys : List ℕ) → AreDigits xs → AreDigits ys → AreD
 AreDigits-append [] ys p q = q
 AreDigits-append (x ∷ xs) ys p q = (p.0, p.1, AreDigits-append xs ys p.2 q)
 
--- digits, at least one, that stand for the number
+-- digits, at least one, whose value is the number
 abbrev StandFor : ℕ → List ℕ → Type 0
 StandFor n digits = AreDigits digits × (0 < length digits) × (decimal digits ≡ n)
 
@@ -48,7 +48,7 @@ numeral-has_digits : (n : ℕ) → 0 < length (numeral n)
 unfolding numeral
 numeral-has_digits n = (numeral-stands (suc n) n (omega arith)).1
 
--- the digits of a numeral spell its number
+-- the digits of a numeral have its number as their value
 decimal-numeral : (n : ℕ) → decimal (numeral n) ≡ n
 unfolding numeral
 decimal-numeral n = (numeral-stands (suc n) n (omega arith)).2
@@ -70,7 +70,7 @@ is_word_byte-digit b low high = grind (arith, nat_tests)
 IsWord-numeral : (n : ℕ) → IsWord (numeral n)
 IsWord-numeral n = (numeral-has_digits n, digits-all is_word_byte is_word_byte-digit (numeral n) (digits-numeral n))
 
--- ---- how long
+-- ---- lengths
 
 length-numeral_within : (k m n : ℕ) → n < 10 ^ suc m → length (numeral_within k n) ≤ suc m
 length-numeral_within zero m n below = omega arith
@@ -83,9 +83,9 @@ length-numeral_within (suc k) (suc m) n below =
           rw (numeral_steps.more k n large, length-append (numeral_within k (n / 10)) ((48 + n % 10) ∷ [])) (omega (arith, front))
     ]
 
-pub tells : (n : ℕ) → TellsNumber n
+pub reads_back : (n : ℕ) → ReadsBack n
 unfolding numeral
-tells n = record {
+reads_back n = record {
   digits = digits-numeral n;
   decimal_only = is_decimal-numeral n;
   word = IsWord-numeral n;

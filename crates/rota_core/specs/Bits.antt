@@ -3,14 +3,14 @@ use Rattle.std.specs.Prelude.{ℕ, ◌/◌, ◌%◌, Bool, false, ◌==◌, List
 use Rattle.std.specs.List.{filter, range_with_len}
 use Rattle.std.specs.Int.{bit_at}
 
--- the truth value at a place
+-- the truth value at an index
 abbrev pub is_set : List ℕ → ℕ → Bool
-is_set words place = bit_at (slice_index words (place / 64)) (place % 64) == 1
+is_set words index = bit_at (slice_index words (index / 64)) (index % 64) == 1
 
 -- the first len truth values
 unfoldable pub truths_of : List ℕ → ℕ → List Bool
 truths_of words len = map (is_set words) (range_with_len 0 len)
 
--- the places of the true values among these, from the first place on
+-- the indices of the true values in the list, if its first value has the given index
 abbrev pub true_from : List Bool → ℕ → ℕ → List ℕ
-true_from truths first len = filter (λ place. slice_index_or truths place false) (range_with_len first len)
+true_from truths first len = filter (λ index. slice_index_or truths index false) (range_with_len first len)

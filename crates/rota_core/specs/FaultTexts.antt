@@ -1,4 +1,4 @@
--- What the faults of a file say, in words.
+-- The messages for the faults of a file.
 use Rattle.std.specs.Prelude.{ℕ, nat_eq, if◌then◌else◌, List, ◌++◌, codes, decimal}
 use Rattle.rota_core.specs.declared.fault.FileFault.{FileFault}
 use Rattle.rota_core.specs.declared.fault.FileFault.TheVariants.{Bad, Memory}
@@ -24,7 +24,7 @@ kind_text Repeated = codes "repeated"
 kind_text Trailing = codes "text after the end"
 kind_text LateWeek = codes "week not below WEEKS"
 
--- what is wrong with a file, and where: line 0 is the whole of it
+-- the kind of the fault and its line; line 0 means the whole file
 abbrev pub file_fault_text : FileFault → List ℕ
 file_fault_text (Bad kind file line) =
     if nat_eq line 0 then file_text file ++ (codes ": " ++ kind_text kind)

@@ -1,62 +1,65 @@
 -- The days of a roster, and the rules that it must keep.
-use Rattle.std.specs.Prelude.{◌≡◌, ℕ, ◌+◌, ◌<◌, ◌≤◌, Bool, true, false, not, Some}
-use Rattle.rota_core.specs.Below.{count_below, any_below}
+use Rattle.std.specs.Prelude.{◌≡◌, ℕ, ◌+◌, ◌-◌, ◌<◌, ◌≤◌, Bool, true, false, not, Some}
+use Rattle.rota_core.specs.SumsBelow.{count_below, any_below}
+use Rattle.rota_core.specs.Limits.{DAYS}
 use Rattle.rota_core.specs.declared.values.Cell.{Cell}
-use Rattle.rota_core.specs.Week.{Week}
+use Rattle.rota_core.specs.Problem.{Problem}
 use Rattle.rota_core.specs.Roster.{Roster, Has, cell}
 
 -- whether the nurse is on the shift type that day
-abbrev pub is_on : Week → Roster → ℕ → ℕ → ℕ → Bool
-is_on week roster n s d = any_below week.skills (λ k. roster (cell n d s k))
+abbrev pub is_on : Problem → Roster → (nurse shift day : ℕ) → Bool
+is_on problem roster n s d = any_below problem.skills (λ k. roster (cell n d s k))
 
-abbrev pub works : Week → Roster → ℕ → ℕ → Bool
-works week roster n d = any_below week.shifts (λ s. is_on week roster n s d)
+-- whether the nurse works that day, on any shift type
+abbrev pub works : Problem → Roster → ℕ → ℕ → Bool
+works problem roster n d = any_below problem.shifts (λ s. is_on problem roster n s d)
 
-abbrev pub is_off : Week → Roster → ℕ → ℕ → Bool
-is_off week roster n d = not (works week roster n d)
+-- whether the nurse is off that day
+abbrev pub is_off : Problem → Roster → ℕ → ℕ → Bool
+is_off problem roster n d = not (works problem roster n d)
 
 -- the number of nurses on a day's shift type with a skill
-abbrev pub nurses_at : Week → Roster → ℕ → ℕ → ℕ → ℕ
-nurses_at week roster d s k = count_below week.nurses (λ n. roster (cell n d s k))
+abbrev pub nurses_at : Problem → Roster → (day shift skill : ℕ) → ℕ
+nurses_at problem roster d s k = count_below problem.nurses (λ n. roster (cell n d s k))
 
 -- H1: two cells of one nurse and day are the same cell
-abbrev pub KeepsOneCell : Week → Roster → Type 0
-KeepsOneCell week roster =
-    (one other : Cell) → Has week roster one → Has week roster other →
+abbrev pub KeepsOneCell : Problem → Roster → Type 0
+KeepsOneCell problem roster =
+    (one other : Cell) → Has problem roster one → Has problem roster other →
     one.nurse ≡ other.nurse → one.day ≡ other.day → one ≡ other
 
--- H2: each day has the least number of nurses, for each shift type and skill
-abbrev pub KeepsMinimum : Week → Roster → Type 0
-KeepsMinimum week roster =
-    (d s k : ℕ) → d < 7 → s < week.shifts → k < week.skills →
-    (week.demand d s k).minimum ≤ nurses_at week roster d s k
+-- H2: each day has the minimum number of nurses, for each shift type and skill
+abbrev pub KeepsMinimum : Problem → Roster → Type 0
+KeepsMinimum problem roster =
+    (d s k : ℕ) → d < DAYS → s < problem.shifts → k < problem.skills →
+    (problem.demand d s k).minimum ≤ nurses_at problem roster d s k
 
--- H3: no shift type follows one that it may not follow. The last one of the history stands before Monday
-pub record KeepsSuccession (week : Week) (roster : Roster) : Type 0 where
-  pub from_history : (n s t : ℕ) → n < week.nurses → t < week.shifts →
-      (week.past n).last ≡ Some s → is_on week roster n t 0 ≡ true →
-      week.is_forbidden s t ≡ false
-  pub in_week : (n d s t : ℕ) → n < week.nurses → d < 6 → s < week.shifts → t < week.shifts →
-      is_on week roster n s d ≡ true → is_on week roster n t (d + 1) ≡ true →
-      week.is_forbidden s t ≡ false
+-- H3: no shift type follows one that it may not follow; the last one of the history comes before Monday
+pub record KeepsSuccession (problem : Problem) (roster : Roster) : Type 0 where
+  pub from_history : (n s t : ℕ) → n < problem.nurses → t < problem.shifts →
+      (problem.past n).last ≡ Some s → is_on problem roster n t 0 ≡ true →
+      problem.is_forbidden s t ≡ false
+  pub in_week : (n d s t : ℕ) → n < problem.nurses → d < DAYS - 1 → s < problem.shifts → t < problem.shifts →
+      is_on problem roster n s d ≡ true → is_on problem roster n t (d + 1) ≡ true →
+      problem.is_forbidden s t ≡ false
 
 -- H4: the nurse of each cell has its skill
-abbrev pub KeepsSkills : Week → Roster → Type 0
-KeepsSkills week roster =
-    (one : Cell) → Has week roster one → week.has_skill one.nurse one.skill ≡ true
+abbrev pub KeepsSkills : Problem → Roster → Type 0
+KeepsSkills problem roster =
+    (one : Cell) → Has problem roster one → problem.has_skill one.nurse one.skill ≡ true
 
 -- H5: each held cell is in the roster
-abbrev pub KeepsHeld : Week → Roster → Type 0
-KeepsHeld week roster = (one : Cell) → Has week week.is_held one → roster one ≡ true
+abbrev pub KeepsHeld : Problem → Roster → Type 0
+KeepsHeld problem roster = (one : Cell) → Has problem problem.is_held one → roster one ≡ true
 
 -- The hard rules of the competition, H1 to H4.
-pub record KeepsCompetitionRules (week : Week) (roster : Roster) : Type 0 where
-  pub one_cell : KeepsOneCell week roster
-  pub minimum : KeepsMinimum week roster
-  pub succession : KeepsSuccession week roster
-  pub skills : KeepsSkills week roster
+pub record KeepsCompetitionRules (problem : Problem) (roster : Roster) : Type 0 where
+  pub one_cell : KeepsOneCell problem roster
+  pub minimum : KeepsMinimum problem roster
+  pub succession : KeepsSuccession problem roster
+  pub skills : KeepsSkills problem roster
 
--- The hard rules, H1 to H5: those of the competition, and that each held cell is in the roster.
-pub record KeepsHardRules (week : Week) (roster : Roster) : Type 0 where
-  pub of_competition : KeepsCompetitionRules week roster
-  pub held : KeepsHeld week roster
+-- The hard rules, H1 to H5: the rules of the competition, and that each held cell is in the roster.
+pub record KeepsHardRules (problem : Problem) (roster : Roster) : Type 0 where
+  pub of_competition : KeepsCompetitionRules problem roster
+  pub held : KeepsHeld problem roster

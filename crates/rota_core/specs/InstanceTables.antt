@@ -1,14 +1,14 @@
--- What an instance holds, and the week that it describes.
+-- The contents of an instance, and the week that it describes.
 use Rattle.std.specs.Prelude.{◌≡◌, ℕ, ◌+◌, ◌*◌, ◌<◌, Bool, false, ◌==◌, Option, Some, None, length, slice_index_or}
 use Rattle.std.specs.Option.{ForSome}
+use Rattle.rota_core.specs.Limits.{DAYS}
 use Rattle.rota_core.specs.Roster.{Roster}
 use Rattle.rota_core.specs.RosterTables.{RosterTables, IsRoster, set_of}
 use Rattle.rota_core.specs.ScenarioTables.{ScenarioTables, IsScenario}
-use Rattle.rota_core.specs.Week.{Week, bare_week, no_demand, no_past}
+use Rattle.rota_core.specs.Problem.{Problem, no_contract, no_demand, no_past, no_span}
 use Rattle.rota_core.specs.WeekTables.{HistoryTables, WeekTables, IsHistory, IsWeek}
 
--- The tables of a scenario, of the history before the week, and of the week; whether excess is charged early; and the cells that are
--- held, if any.
+-- The tables of a scenario, of the history before the week, and of the week; whether excess is charged early; and the held cells, if any.
 pub record InstanceTables : Type 0 where
   pub scenario : ScenarioTables
   pub history : HistoryTables
@@ -22,7 +22,7 @@ pub record HasNumbersOf (scenario : ScenarioTables) (nurses shifts skills : ℕ)
   pub same_shifts : shifts ≡ length scenario.shifts
   pub same_skills : skills ≡ length scenario.skills
 
--- All are within their limits and fit each other, and the scenario spans the week.
+-- All tables are within their limits and fit each other, and the week is one of the scenario's.
 pub record IsInstance (t : InstanceTables) : Type 0 where
   pub scenario : IsScenario t.scenario
   pub history : IsHistory t.history
@@ -32,22 +32,29 @@ pub record IsInstance (t : InstanceTables) : Type 0 where
   pub spanned : t.history.week < t.scenario.weeks
   pub held : ForSome t.held (λ roster. IsRoster roster × HasNumbersOf t.scenario roster.nurses roster.shifts roster.skills)
 
--- the tables with these cells held, and no others
+-- the tables with exactly these cells held
 abbrev pub holding : InstanceTables → RosterTables → InstanceTables
 holding t roster = record t { held = Some roster }
 
--- whether a cell is one of the roster, where there is one
+-- whether a cell is in the roster, if there is a roster
 abbrev pub set_of_held : Option RosterTables → Roster
 set_of_held None = λ one. false
 set_of_held (Some roster) = set_of roster
 
--- what the tables say of the week
-abbrev pub week_of : InstanceTables → Week
-week_of t = record (bare_week t.scenario) {
+-- the week that the tables describe
+abbrev pub problem_of : InstanceTables → Problem
+problem_of t = record {
+  nurses = length t.scenario.nurses;
+  shifts = length t.scenario.shifts;
+  skills = length t.scenario.skills;
   is_last = t.history.week + 1 == t.scenario.weeks;
   is_early = t.is_early;
+  has_skill = λ n k. slice_index_or t.scenario.has_skill (n * length t.scenario.skills + k) false;
   demand = λ d s k. slice_index_or t.week.demands ((d * length t.scenario.shifts + s) * length t.scenario.skills + k) no_demand;
+  is_forbidden = λ s u. slice_index_or t.scenario.forbidden (s * length t.scenario.shifts + u) false;
+  limits = λ s. slice_index_or t.scenario.limits s no_span;
+  contract = λ n. slice_index_or t.scenario.contracts (slice_index_or t.scenario.contract_of n 0) no_contract;
   past = λ n. slice_index_or t.history.past n no_past;
-  requests = λ n d s. slice_index_or t.week.requests ((n * 7 + d) * length t.scenario.shifts + s) 0;
+  requests = λ n d s. slice_index_or t.week.requests ((n * DAYS + d) * length t.scenario.shifts + s) 0;
   is_held = set_of_held t.held;
 }

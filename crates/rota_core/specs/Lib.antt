@@ -1,9 +1,10 @@
-pub mod Below
+pub mod SumsBelow
 pub mod Bits
 pub mod CellLists
 pub mod FaultTexts
 pub mod HardRules
 pub mod InstanceTables
+pub mod Limits
 pub mod Lists
 pub mod MemoryPorts
 pub mod Numeral
@@ -20,6 +21,6 @@ pub mod RuleNames
 pub mod Rules
 pub mod ScenarioTables
 pub mod StdPorts
-pub mod Week
+pub mod Problem
 pub mod WeekTables
 pub mod Words

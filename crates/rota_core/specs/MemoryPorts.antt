@@ -2,28 +2,28 @@
 use Rattle.std.specs.Prelude.{ℕ, ◌-◌, Bool, true, not, if◌then◌else◌, nat_lt, nat_eq, min, Option, Some, None, List, length}
 use Rattle.rota_core.specs.declared.memory_ports.MemorySource.{MemorySource}
 use Rattle.rota_core.specs.declared.memory_ports.MemoryTarget.{MemoryTarget}
-use Rattle.rota_core.specs.declared.memory_ports.Pace.{Pace}
+use Rattle.rota_core.specs.declared.memory_ports.CallPlan.{CallPlan}
 
--- whether a good call is left, of a number of them; `None` is any number
+-- whether a good call is left; `None` is an unlimited number of good calls
 abbrev pub has_call : Option ℕ → Bool
 has_call None = true
 has_call (Some n) = nat_lt 0 n
 
--- the good calls that a call leaves
+-- the number of good calls that are left after a call
 abbrev pub calls_after : Option ℕ → Option ℕ
 calls_after None = None
 calls_after (Some n) = Some (n - 1)
 
 -- the pace after one more call
-abbrev pub counted : Pace → Pace
-counted pace = record pace { good_calls = calls_after pace.good_calls }
+abbrev pub after_call : CallPlan → CallPlan
+after_call plan = record plan { good_calls = calls_after plan.good_calls }
 
 -- whether a call is the one that fails
-abbrev pub is_last_call : Pace → Bool
-is_last_call pace = not (has_call pace.good_calls)
+abbrev pub is_last_call : CallPlan → Bool
+is_last_call plan = not (has_call plan.good_calls)
 
-abbrev pub source_pace : MemorySource → Pace
-source_pace source = source.pace
+abbrev pub source_plan : MemorySource → CallPlan
+source_plan source = source.plan
 
 abbrev pub bytes_left : MemorySource → List ℕ
 bytes_left source = source.rest.now
@@ -43,21 +43,21 @@ bytes_flushed target = target.flushed
 abbrev pub is_failed_target : MemoryTarget → Bool
 is_failed_target target = target.failed
 
--- how many bytes a sound source moves into a buffer of this length
+-- the number of bytes that a sound source moves into a buffer of this length
 abbrev pub moves : MemorySource → ℕ → ℕ
-moves source wanted = min (length source.rest.now) (min wanted source.pace.greatest_piece)
+moves source wanted = min (length source.rest.now) (min wanted source.plan.max_piece)
 
-abbrev pub target_pace : MemoryTarget → Pace
-target_pace target = target.pace
+abbrev pub target_plan : MemoryTarget → CallPlan
+target_plan target = target.plan
 
--- how many more bytes a target takes
+-- the number of bytes for which a target still has room
 abbrev pub room_of : MemoryTarget → ℕ
 room_of target = target.room
 
--- how many bytes of a piece of this length a sound target takes
+-- the number of bytes that a sound target accepts of a piece of this length
 abbrev pub takes : MemoryTarget → ℕ → ℕ
-takes target wanted = min wanted (min (room_of target) target.pace.greatest_piece)
+takes target wanted = min wanted (min (room_of target) target.plan.max_piece)
 
--- a sound port's pace after a call on a piece of this length: one of no bytes is no call
-abbrev pub pace_after : Pace → ℕ → Pace
-pace_after pace length = if nat_eq length 0 then pace else counted pace
+-- a sound port's pace after a call on a piece of this length; an empty piece does not count as a call
+abbrev pub plan_after : CallPlan → ℕ → CallPlan
+plan_after plan length = if nat_eq length 0 then plan else after_call plan

@@ -1,4 +1,4 @@
--- What the digits of a number say.
+-- The properties of a number's numeral.
 use Rattle.std.specs.Prelude.{◌≡◌, ℕ, suc, ◌^◌, ◌<◌, ◌≤◌, true, List, [], ◌∷◌, length}
 use Rattle.rota_core.specs.Numeral.{numeral, is_decimal, decimal}
 use Rattle.rota_core.specs.Words.{IsWord}
@@ -8,8 +8,8 @@ abbrev pub AreDigits : List ℕ → Type 0
 AreDigits [] = Unit {0}
 AreDigits (b ∷ bs) = (48 ≤ b) × (b < 58) × AreDigits bs
 
--- a numeral is a word of digits, which stand for its number, and no longer than it has to be
-pub record TellsNumber (n : ℕ) : Type 0 where
+-- a numeral is a word of digits whose value is its number, and is no longer than it has to be
+pub record ReadsBack (n : ℕ) : Type 0 where
   pub digits : AreDigits (numeral n)
   pub decimal_only : is_decimal (numeral n) ≡ true
   pub word : IsWord (numeral n)

@@ -1,4 +1,4 @@
--- The tables that parts hold.
+-- The tables that parts contain.
 use Rattle.std.specs.Prelude.{Bool, Option, ℕ, List, map}
 use Rattle.rota_core.specs.RosterTables.{RosterTables}
 use Rattle.rota_core.specs.ScenarioTables.{ScenarioTables}

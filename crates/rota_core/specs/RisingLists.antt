@@ -1,4 +1,4 @@
--- Lists of which numbers rise from a first one on and below an end.
+-- Lists whose numbers rise from a first number, below an end.
 use Rattle.std.specs.Prelude.{ℕ, ◌+◌, ◌≤◌, List, [], ◌∷◌}
 
 -- the numbers of the elements rise, from the first number on and below the end

@@ -1,23 +1,25 @@
--- Rosters, and the cells that they have.
+-- Rosters, and the cells that they contain.
 use Rattle.std.specs.Prelude.{◌≡◌, ℕ, ◌<◌, Bool, true}
+use Rattle.rota_core.specs.Limits.{DAYS}
 use Rattle.rota_core.specs.declared.values.Cell.{Cell}
-use Rattle.rota_core.specs.Week.{Week}
+use Rattle.rota_core.specs.Problem.{Problem}
 
 -- whether a cell is in the roster
 abbrev pub Roster : Type 0
 Roster = Cell → Bool
 
-abbrev pub cell : ℕ → ℕ → ℕ → ℕ → Cell
+-- the cell of nurse n, day d, shift type s and skill k
+abbrev pub cell : (nurse day shift skill : ℕ) → Cell
 cell n d s k = record { nurse = n; day = d; shift = s; skill = k }
 
 -- the cell lies within the week's numbers
-pub record InWeek (week : Week) (cell : Cell) : Type 0 where
-  pub nurse_in : cell.nurse < week.nurses
-  pub day_in : cell.day < 7
-  pub shift_in : cell.shift < week.shifts
-  pub skill_in : cell.skill < week.skills
+pub record InWeek (problem : Problem) (cell : Cell) : Type 0 where
+  pub nurse_in : cell.nurse < problem.nurses
+  pub day_in : cell.day < DAYS
+  pub shift_in : cell.shift < problem.shifts
+  pub skill_in : cell.skill < problem.skills
 
--- the cell is one of the roster
-pub record Has (week : Week) (roster : Roster) (cell : Cell) : Type 0 where
-  pub in_week : InWeek week cell
+-- the cell is in the week and in the roster
+pub record Has (problem : Problem) (roster : Roster) (cell : Cell) : Type 0 where
+  pub in_week : InWeek problem cell
   pub in_roster : roster cell ≡ true

@@ -1,17 +1,18 @@
 -- The cells of a roster, by rising number of their variables.
 use Rattle.std.specs.Prelude.{ℕ, ◌/◌, ◌%◌, List}
+use Rattle.rota_core.specs.Limits.{DAYS}
 use Rattle.rota_core.specs.declared.values.Cell.{Cell}
-use Rattle.rota_core.specs.Lists.{each_below, only_if}
+use Rattle.rota_core.specs.Lists.{concat_below, singleton_if}
 use Rattle.rota_core.specs.Roster.{Roster, cell}
-use Rattle.rota_core.specs.Week.{Week}
+use Rattle.rota_core.specs.Problem.{Problem}
 
--- those of the week
-unfoldable pub cells_of : Week → Roster → List Cell
-cells_of week roster =
-    each_below week.nurses (λ n. each_below 7 (λ d. each_below week.shifts (λ s. each_below week.skills (λ k.
-    only_if (roster (cell n d s k)) (cell n d s k)))))
+-- the cells of a week's roster
+unfoldable pub cells_of : Problem → Roster → List Cell
+cells_of problem roster =
+    concat_below problem.nurses (λ n. concat_below DAYS (λ d. concat_below problem.shifts (λ s. concat_below problem.skills (λ k.
+    singleton_if (roster (cell n d s k)) (cell n d s k)))))
 
--- the cell at a place
-abbrev pub cell_at : ℕ → ℕ → ℕ → Cell
-cell_at shifts skills place =
-    cell (place / skills / shifts / 7) (place / skills / shifts % 7) (place / skills % shifts) (place % skills)
+-- the cell at an index
+abbrev pub cell_at : (shifts skills index : ℕ) → Cell
+cell_at shifts skills index =
+    cell (index / skills / shifts / DAYS) (index / skills / shifts % DAYS) (index / skills % shifts) (index % skills)

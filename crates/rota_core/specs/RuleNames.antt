@@ -19,6 +19,6 @@ rule_name S5 = codes "S5"
 rule_name S6 = codes "S6"
 rule_name S7 = codes "S7"
 
--- whether they are one rule: no two have the same name
+-- whether two rules are the same; no two have the same name
 abbrev pub is_rule : Rule → Rule → Bool
 is_rule one other = bytes_eq (rule_name one) (rule_name other)

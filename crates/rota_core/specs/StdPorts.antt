@@ -1,4 +1,4 @@
--- What a port over a reader or a writer of the standard library holds.
+-- The state of a port over a reader or a writer of the standard library.
 use Rattle.std.specs.Prelude.{◌≡◌, ◌⊎◌, ℕ, Bool, true, List, length}
 use Rattle.rota_core.specs.declared.std_ports.FromRead.{FromRead}
 use Rattle.rota_core.specs.declared.std_ports.ToWrite.{ToWrite}

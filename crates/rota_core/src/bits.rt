@@ -3,8 +3,8 @@
 use std::alloc::{AllocError, Global};
 use std::marker::Model;
 
-/// A list of truth values of fixed length, packed in words of 64. Place i stands for variable i + 1 of
-/// a model.
+/// A list of truth values of fixed length, packed in words of 64. The value at index i is the value of
+/// variable i + 1 of a model.
 pub struct Bits {
     words: Vec<u64>,
     len: u32,
@@ -45,32 +45,33 @@ impl Bits {
         self.len
     }
 
-    /// The truth value at the place.
-    pub fn get(&self, place: u32) -> bool
-        requires { place < length self.now }
-        ensures { result ≡ slice_index_or self.now place false }
+    /// The truth value at the index.
+    pub fn get(&self, index: u32) -> bool
+        requires { index < length self.now }
+        ensures { result ≡ slice_index_or self.now index false }
     {
-        let word = self.words[place as usize / 64];
-        (word >> (place % 64)) & 1 == 1
+        let word = self.words[index as usize / 64];
+        (word >> (index % 64)) & 1 == 1
     }
 
-    /// How many values are false from the place on, up to the next true one of its word or else to the word's end.
-    pub(crate) fn falses_from(&self, place: u32) -> u32
-        requires { place < length self.now }
-        ensures falses { (k : ℕ) → place ≤ k → k < place + result → slice_index_or self.now k false ≡ false }
-        ensures none { result ≡ 0 → slice_index_or self.now place false ≡ true }
+    /// The number of false values from the index on, up to the next true value in its word, or to the end of
+    /// the word.
+    pub(crate) fn falses_from(&self, index: u32) -> u32
+        requires { index < length self.now }
+        ensures falses { (k : ℕ) → index ≤ k → k < index + result → slice_index_or self.now k false ≡ false }
+        ensures none { result ≡ 0 → slice_index_or self.now index false ≡ true }
     {
-        let column = place % 64;
-        let rest = self.words[place as usize / 64] >> column;
+        let column = index % 64;
+        let rest = self.words[index as usize / 64] >> column;
         rest.trailing_zeros().min(64 - column)
     }
 
-    /// Makes the truth value at the place true.
-    pub fn set(&mut self, place: u32)
-        requires { place < length self.old }
-        ensures { self.new ≡ slice_set self.old place true }
+    /// Makes the truth value at the index true.
+    pub fn set(&mut self, index: u32)
+        requires { index < length self.old }
+        ensures { self.new ≡ slice_set self.old index true }
     {
-        let word = &mut self.words[place as usize / 64];
-        *word |= 1 << (place % 64);
+        let word = &mut self.words[index as usize / 64];
+        *word |= 1 << (index % 64);
     }
 }

@@ -1,23 +1,23 @@
-//! A history: what the weeks before left.
+//! A history: the record of the weeks before.
 
 use crate::values::Past;
 use std::marker::Model;
 
-/// The rows of a history, not checked, with the numbers of nurses, shift types and skills that they
-/// were read for.
+/// The rows of a history, not checked, and the numbers of nurses, shift types and skills for which they were
+/// read.
 #[derive(Drop)]
 pub struct HistoryParts {
     pub nurses: u16,
     pub shifts: u8,
     pub skills: u8,
-    /// The number of the week that follows, from 0.
+    /// The number of the next week, from 0.
     pub week: u16,
-    /// By nurse.
+    /// The past of each nurse.
     pub past: Vec<Past>,
 }
 
-/// A history within the limits: a row for each nurse, numbers up to 9999, and last shifts among the
-/// shift types.
+/// A history within the limits. It has one row for each nurse, its numbers are at most `MAX_NUMBER`, and each
+/// last shift is a shift type.
 pub struct History {
     parts: HistoryParts,
 }

@@ -1,10 +1,11 @@
-//! An instance: one week of a rostering problem, with what the weeks before left.
+//! An instance: one week of a rostering problem and the history of the weeks before.
 
 ghost use Rattle.std.specs.Prelude.{◌≡◌, ◌<◌, ◌≤◌, ◌↔◌, None, IfOk, IfErr, IfSome, IsErr, All, length};
-ghost use Rattle.rota_core.specs.ScenarioTables.{Within};
+ghost use Rattle.rota_core.specs.Limits.{Within};
 
 use crate::fault::{FileFault, FileName, Kind};
 use crate::history::{History, HistoryParts};
+use crate::limits::{DAYS, MAX_NURSES, MAX_SHIFTS, MAX_SKILLS};
 use crate::roster::Roster;
 use crate::roster_cells::Cells;
 use crate::scenario::Scenario;
@@ -12,10 +13,10 @@ use crate::values::{Cell, Contract, Demand, Past, Span};
 use crate::week::{Week, WeekParts};
 use std::marker::Model;
 
-/// The tables of one week: its scenario, which spans the week, the history before it, and its own demands and requests,
-/// all for the same nurses, shift types and skills. Beside them are whether excess is charged in each week, and the cells
-/// that are held. Nurses, shift types and skills are numbered from 0 in the order of the scenario's file, and days are 0
-/// (Monday) to 6 (Sunday).
+/// The tables of one week: its scenario, which spans the week, the history before it, and its own demands and
+/// requests. All have the same nurses, shift types and skills. The instance also records whether excess is
+/// charged in each week, and the cells that are held. Nurses, shift types and skills are numbered from 0 in
+/// the order of the scenario's file, and days are 0 (Monday) to 6 (Sunday).
 pub struct Instance {
     scenario: Scenario,
     history: HistoryParts,
@@ -48,14 +49,14 @@ impl Model for Instance {
 }
 
 impl Instance {
-    ghost use Rattle.rota_core.specs.InstanceTables.{HasNumbersOf, IsInstance, holding, week_of};
+    ghost use Rattle.rota_core.specs.InstanceTables.{HasNumbersOf, IsInstance, holding, problem_of};
     ghost use Rattle.rota_core.specs.Roster.{InWeek};
     ghost use Rattle.rota_core.specs.RosterCells.{cells_of};
     ghost use Rattle.rota_core.specs.RosterTables.{HasShapeOf};
 
-    /// The instance of these three, with no cell held, or `LateWeek` at line 0 of the history where
-    /// its week's number is not below the scenario's number of weeks. `early` says whether what
-    /// exceeds a total is charged in each week, not only in the last. See `rota_read::read_week`.
+    /// The instance of these three tables, with no cell held. Returns `LateWeek` at line 0 of the history if
+    /// the history's week number is not below the scenario's number of weeks. `early` says whether the excess
+    /// of a total is charged in each week, not only in the last. See `rota_read::read_week`.
     pub fn join(
         scenario: Scenario,
         history: History,
@@ -92,9 +93,9 @@ impl Instance {
         })
     }
 
-    /// The instance with the roster's cells held, and no others.
+    /// The instance in which exactly the cells of the roster are held.
     pub fn hold(self, roster: Roster) -> Instance
-        requires { HasShapeOf (week_of self) roster }
+        requires { HasShapeOf (problem_of self) roster }
         ensures holds { result ≡ holding self roster }
         ensures limits { IsInstance result }
     {
@@ -121,28 +122,28 @@ impl Instance {
         &self.scenario
     }
 
-    /// The number of nurses, 1 to 1000.
+    /// The number of nurses, 1 to `MAX_NURSES`.
     pub fn nurses(&self) -> u16
-        ensures count { result ≡ (week_of self.now).nurses }
-        ensures within { Within 1000 result }
+        ensures count { result ≡ (problem_of self.now).nurses }
+        ensures within { Within MAX_NURSES result }
         ensures limits { IsInstance self.now }
     {
         self.scenario.nurses()
     }
 
-    /// The number of shift types, 1 to 16.
+    /// The number of shift types, 1 to `MAX_SHIFTS`.
     pub fn shifts(&self) -> u8
-        ensures count { result ≡ (week_of self.now).shifts }
-        ensures within { Within 16 result }
+        ensures count { result ≡ (problem_of self.now).shifts }
+        ensures within { Within MAX_SHIFTS result }
         ensures limits { IsInstance self.now }
     {
         self.scenario.shifts()
     }
 
-    /// The number of skills, 1 to 16.
+    /// The number of skills, 1 to `MAX_SKILLS`.
     pub fn skills(&self) -> u8
-        ensures count { result ≡ (week_of self.now).skills }
-        ensures within { Within 16 result }
+        ensures count { result ≡ (problem_of self.now).skills }
+        ensures within { Within MAX_SKILLS result }
     {
         self.scenario.skills()
     }
@@ -156,24 +157,24 @@ impl Instance {
         self.history.week
     }
 
-    /// Whether the week is the last that the scenario spans.
+    /// Whether the week is the last week of the scenario.
     pub fn last_week(&self) -> bool
-        ensures { result ≡ (week_of self.now).is_last }
+        ensures { result ≡ (problem_of self.now).is_last }
     {
         self.scenario.weeks() == self.week() + 1
     }
 
-    /// Whether what exceeds a total is charged in each week, and not only in the last.
+    /// Whether the excess of a total is charged in each week, not only in the last.
     pub fn early(&self) -> bool
-        ensures { result ≡ (week_of self.now).is_early }
+        ensures { result ≡ (problem_of self.now).is_early }
     {
         self.early
     }
 
     /// Whether the cell is held.
     pub fn held(&self, cell: Cell) -> bool
-        requires { InWeek (week_of self.now) cell }
-        ensures { result ≡ (week_of self.now).is_held cell }
+        requires { InWeek (problem_of self.now) cell }
+        ensures { result ≡ (problem_of self.now).is_held cell }
     {
         match &self.held {
             Some(roster) => roster.has(cell),
@@ -181,10 +182,10 @@ impl Instance {
         }
     }
 
-    /// The cells that are held, by nurse, day, shift type and skill.
+    /// The held cells, in the order of nurse, day, shift type and skill.
     pub fn held_cells(&self) -> Cells<'_>
-        ensures cells { let week = week_of self.now in result ≡ cells_of week week.is_held }
-        ensures inside { All (InWeek (week_of self.now)) result }
+        ensures cells { let problem = problem_of self.now in result ≡ cells_of problem problem.is_held }
+        ensures inside { All (InWeek (problem_of self.now)) result }
     {
         match &self.held {
             Some(roster) => roster.cells(),
@@ -192,9 +193,9 @@ impl Instance {
         }
     }
 
-    /// How many cells are held.
+    /// The number of held cells.
     pub fn held_count(&self) -> u32
-        ensures { let week = week_of self.now in result ≡ length (cells_of week week.is_held) }
+        ensures { let problem = problem_of self.now in result ≡ length (cells_of problem problem.is_held) }
     {
         match &self.held {
             Some(roster) => roster.count(),
@@ -202,68 +203,68 @@ impl Instance {
         }
     }
 
-    /// What the nurse's contract asks of her.
+    /// The contract of the nurse.
     pub fn contract(&self, nurse: u16) -> Contract
-        requires { nurse < (week_of self.now).nurses }
-        ensures { result ≡ (week_of self.now).contract nurse }
+        requires { nurse < (problem_of self.now).nurses }
+        ensures { result ≡ (problem_of self.now).contract nurse }
     {
         self.scenario.contract(nurse)
     }
 
-    /// What the weeks before left of the nurse. Her last shift type is one of the week's.
+    /// The nurse's history from earlier weeks. Her last shift type is one of the week's.
     pub fn past(&self, nurse: u16) -> Past
-        requires { nurse < (week_of self.now).nurses }
-        ensures past { result ≡ (week_of self.now).past nurse }
-        ensures last_in { IfSome result.last (λ shift. shift < (week_of self.now).shifts) }
+        requires { nurse < (problem_of self.now).nurses }
+        ensures past { result ≡ (problem_of self.now).past nurse }
+        ensures last_in { IfSome result.last (λ shift. shift < (problem_of self.now).shifts) }
     {
         self.history.past[usize::from(nurse)]
     }
 
     /// The limits of consecutive assignments to the shift type.
     pub fn limits(&self, shift: u8) -> Span
-        requires { shift < (week_of self.now).shifts }
-        ensures { result ≡ (week_of self.now).limits shift }
+        requires { shift < (problem_of self.now).shifts }
+        ensures { result ≡ (problem_of self.now).limits shift }
     {
         self.scenario.limits(shift)
     }
 
     /// Whether the second shift type may not follow the first on the next day.
     pub fn forbidden(&self, first: u8, second: u8) -> bool
-        requires first_in { first < (week_of self.now).shifts }
-        requires second_in { second < (week_of self.now).shifts }
-        ensures { result ≡ (week_of self.now).is_forbidden first second }
+        requires first_in { first < (problem_of self.now).shifts }
+        requires second_in { second < (problem_of self.now).shifts }
+        ensures { result ≡ (problem_of self.now).is_forbidden first second }
     {
         self.scenario.forbidden(first, second)
     }
 
     /// Whether the nurse has the skill.
     pub fn has_skill(&self, nurse: u16, skill: u8) -> bool
-        requires nurse_in { nurse < (week_of self.now).nurses }
-        requires skill_in { skill < (week_of self.now).skills }
-        ensures { result ≡ (week_of self.now).has_skill nurse skill }
+        requires nurse_in { nurse < (problem_of self.now).nurses }
+        requires skill_in { skill < (problem_of self.now).skills }
+        ensures { result ≡ (problem_of self.now).has_skill nurse skill }
     {
         self.scenario.has_skill(nurse, skill)
     }
 
-    /// How many nurses the day asks for, on the shift type and with the skill.
+    /// The number of nurses that the day needs on the shift type and with the skill.
     pub fn demand(&self, day: u8, shift: u8, skill: u8) -> Demand
-        requires day_in { day < 7 }
-        requires shift_in { shift < (week_of self.now).shifts }
-        requires skill_in { skill < (week_of self.now).skills }
-        ensures { result ≡ (week_of self.now).demand day shift skill }
+        requires day_in { day < DAYS }
+        requires shift_in { shift < (problem_of self.now).shifts }
+        requires skill_in { skill < (problem_of self.now).skills }
+        ensures { result ≡ (problem_of self.now).demand day shift skill }
     {
         let row = usize::from(day) * usize::from(self.week.shifts) + usize::from(shift);
         self.week.demands[row * usize::from(self.week.skills) + usize::from(skill)]
     }
 
-    /// How many request rows ask for the nurse's day off, by the shift type or by any.
+    /// The number of request rows that ask for the nurse's day off, from the shift type or from any.
     pub fn requests(&self, nurse: u16, day: u8, shift: u8) -> u16
-        requires nurse_in { nurse < (week_of self.now).nurses }
-        requires day_in { day < 7 }
-        requires shift_in { shift < (week_of self.now).shifts }
-        ensures { result ≡ (week_of self.now).requests nurse day shift }
+        requires nurse_in { nurse < (problem_of self.now).nurses }
+        requires day_in { day < DAYS }
+        requires shift_in { shift < (problem_of self.now).shifts }
+        ensures { result ≡ (problem_of self.now).requests nurse day shift }
     {
-        let row = usize::from(nurse) * 7 + usize::from(day);
+        let row = usize::from(nurse) * DAYS as usize + usize::from(day);
         self.week.requests[row * usize::from(self.week.shifts) + usize::from(shift)]
     }
 }

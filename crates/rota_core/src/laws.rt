@@ -1,20 +1,21 @@
-//! The laws: what numerals tell, and what the list of a roster's cells is. Each says it of all numbers or
-//! rosters, and does nothing when it runs.
+//! The laws of numerals and of the list of a roster's cells. Each law holds for all numbers or rosters, and
+//! does nothing when it runs.
 ghost use Rattle.std.specs.Prelude.{ℕ};
 ghost use Rattle.rota_core.specs.CellLists.{ListsCells, TablesListCells};
-ghost use Rattle.rota_core.specs.NumeralLaws.{TellsNumber};
+ghost use Rattle.rota_core.specs.NumeralLaws.{ReadsBack};
 ghost use Rattle.rota_core.specs.Roster.{Roster};
 ghost use Rattle.rota_core.specs.RosterTables.{HasShapeOf, RosterTables};
-ghost use Rattle.rota_core.specs.Week.{Week};
+ghost use Rattle.rota_core.specs.Problem.{Problem};
 
-/// The numeral of a number is a word of digits, which stand for the number, and are no more than it needs.
-pub fn numerals_tell_their_numbers()
-    ensures { (n : ℕ) → TellsNumber n }
+/// The numeral of a number is a word of digits. Its value is the number, and it has no digit that it does not
+/// need.
+pub fn numerals_read_back()
+    ensures { (n : ℕ) → ReadsBack n }
 {}
 
-/// The list of a roster's cells in a week has all of them and no others, each once and in order. The
-/// tables of a roster of the week's shape have the same list, and say how many they are.
+/// The list of a roster's cells in a week contains all of them and no others, each once and in order. The
+/// tables of a roster of the week's shape have the same list, and give its length.
 pub fn rosters_list_their_cells()
-    ensures cells { (week : Week) (roster : Roster) → ListsCells week roster }
-    ensures tables { (week : Week) (t : RosterTables) → HasShapeOf week t → TablesListCells week t }
+    ensures cells { (problem : Problem) (roster : Roster) → ListsCells problem roster }
+    ensures tables { (problem : Problem) (t : RosterTables) → HasShapeOf problem t → TablesListCells problem t }
 {}

@@ -1,18 +1,18 @@
 //! A roster: a set of cells.
 
 ghost use Rattle.std.specs.Prelude.{◌≡◌, ◌<◌, ◌≤◌, Bool, not, IfOk, false, length, slice_index_or};
-ghost use Rattle.rota_core.specs.RosterTables.{cell_place, place_count};
+ghost use Rattle.rota_core.specs.RosterTables.{cell_index, cell_count};
 
 use crate::bits::Bits;
-use crate::cell_places::{count_of_places, place_of_cell};
+use crate::cell_indices::{count_of_cells, index_of_cell};
 use crate::instance::Instance;
 use crate::roster_cells::Cells;
 use crate::values::Cell;
 use std::alloc::{AllocError, Global};
 use std::marker::Model;
 
-/// A set of cells within the numbers of an instance: its nurses, the days 0 to 6, its shift types and
-/// its skills.
+/// A set of cells within the numbers of an instance: its nurses, the days 0 to 6, its shift types and its
+/// skills.
 pub struct Roster {
     nurses: u16,
     shifts: u8,
@@ -46,11 +46,11 @@ impl Roster {
     ghost use Rattle.rota_core.specs.RosterTables.{set_of, HasShapeOf, IsRoster};
     ghost use Rattle.rota_core.specs.RosterCalls.{count_of, InShape, AddsCell, cells_in};
     ghost use Rattle.rota_core.specs.Roster.{InWeek};
-    ghost use Rattle.rota_core.specs.InstanceTables.{week_of};
+    ghost use Rattle.rota_core.specs.InstanceTables.{problem_of};
 
-    /// The roster of the instance's shape with no cell.
+    /// The roster of the instance's shape without cells.
     pub fn new(alloc: Global, instance: &Instance) -> Result<Roster, AllocError>
-        ensures shape { IfOk result (λ roster. HasShapeOf (week_of instance.now) roster) }
+        ensures shape { IfOk result (λ roster. HasShapeOf (problem_of instance.now) roster) }
         ensures empty { IfOk result (λ roster. (cell : Cell) → set_of roster cell ≡ false) }
     {
         let (nurses, shifts, skills) = (instance.nurses(), instance.shifts(), instance.skills());
@@ -58,20 +58,20 @@ impl Roster {
             nurses,
             shifts,
             skills,
-            bits: Bits::new(alloc, count_of_places(nurses, shifts, skills))?,
+            bits: Bits::new(alloc, count_of_cells(nurses, shifts, skills))?,
         })
     }
 
-    /// The roster of the instance's shape with the cells whose variable is true: that of nurse n, day
-    /// d, shift type s and skill k, at place ((n * 7 + d) * S + s) * K + k where there are S shift
-    /// types and K skills.
+    /// The roster of the instance's shape that contains the cells whose variable is true. The cell of nurse
+    /// n, day d, shift type s and skill k has index ((n * DAYS + d) * S + s) * K + k for S shift types and K
+    /// skills.
     pub fn of_bits(bits: Bits, instance: &Instance) -> Roster
-        requires enough { let week = week_of instance.now in
-            place_count week.nurses week.shifts week.skills ≤ length bits }
-        ensures shape { HasShapeOf (week_of instance.now) result }
-        ensures cells { let week = week_of instance.now in
-            (cell : Cell) → InWeek week cell →
-            set_of result cell ≡ slice_index_or bits (cell_place week.shifts week.skills cell) false }
+        requires enough { let problem = problem_of instance.now in
+            cell_count problem.nurses problem.shifts problem.skills ≤ length bits }
+        ensures shape { HasShapeOf (problem_of instance.now) result }
+        ensures cells { let problem = problem_of instance.now in
+            (cell : Cell) → InWeek problem cell →
+            set_of result cell ≡ slice_index_or bits (cell_index problem.shifts problem.skills cell) false }
     {
         Roster {
             nurses: instance.nurses(),
@@ -81,9 +81,9 @@ impl Roster {
         }
     }
 
-    /// Puts the cell into the roster, and says whether it was not there.
+    /// Puts the cell into the roster, and returns whether it was new.
     ///
-    /// Here the same cell is put twice into an empty roster, which then has one cell:
+    /// Here the same cell is put twice into an empty roster, which then contains one cell:
     ///
     /// ```
     /// let is_new = (roster.put(SUNDAY), roster.put(SUNDAY));
@@ -95,9 +95,9 @@ impl Roster {
         ensures is_new { result ≡ not (set_of self.old cell) }
         ensures adds { AddsCell self.old self.new cell }
     {
-        let place = place_of_cell(self.shifts, self.skills, cell);
-        let is_new = !self.bits.get(place);
-        self.bits.set(place);
+        let index = index_of_cell(self.shifts, self.skills, cell);
+        let is_new = !self.bits.get(index);
+        self.bits.set(index);
         is_new
     }
 
@@ -106,36 +106,36 @@ impl Roster {
         requires { InShape self.now cell }
         ensures { result ≡ set_of self.now cell }
     {
-        self.bits.get(place_of_cell(self.shifts, self.skills, cell))
+        self.bits.get(index_of_cell(self.shifts, self.skills, cell))
     }
 
-    /// Whether the cell at the place is in the roster, where `Instance::place` numbers the cells.
-    pub fn has_place(&self, place: u32) -> bool
-        requires { place < place_count self.now.nurses self.now.shifts self.now.skills }
-        ensures { result ≡ slice_index_or self.now.cells place false }
+    /// Whether the cell at the index is in the roster. `Instance::index_of` numbers the cells.
+    pub fn has_index(&self, index: u32) -> bool
+        requires { index < cell_count self.now.nurses self.now.shifts self.now.skills }
+        ensures { result ≡ slice_index_or self.now.cells index false }
     {
-        self.bits.get(place)
+        self.bits.get(index)
     }
 
-    /// The roster's cells, by nurse, day, shift type and skill.
+    /// The roster's cells, in the order of nurse, day, shift type and skill.
     ///
-    /// See the example at the head of the crate.
+    /// See the example at the top of the crate.
     pub fn cells(&self) -> Cells<'_>
         ensures { result ≡ cells_in self.now }
     {
-        let count = count_of_places(self.nurses, self.shifts, self.skills);
-        let places = self.bits.true_places_below(count);
-        Cells::at(Some(places), self.shifts, self.skills)
+        let count = count_of_cells(self.nurses, self.shifts, self.skills);
+        let indices = self.bits.true_indices_below(count);
+        Cells::at(Some(indices), self.shifts, self.skills)
     }
 
-    /// How many cells are in the roster.
+    /// The number of cells in the roster.
     pub fn count(&self) -> u32
         ensures count { result ≡ count_of self.now }
         ensures within { IsRoster self.now }
     {
         let mut count = 0;
-        for place in 0..count_of_places(self.nurses, self.shifts, self.skills) {
-            if self.bits.get(place) {
+        for index in 0..count_of_cells(self.nurses, self.shifts, self.skills) {
+            if self.bits.get(index) {
                 count += 1;
             }
         }

@@ -2,18 +2,19 @@
 ghost use Rattle.std.specs.Prelude.{◌≡◌, map};
 ghost use Rattle.std.specs.Iterator.{YieldsFirst, item_count};
 ghost use Rattle.rota_core.specs.RosterCells.{cell_at};
-ghost use Rattle.rota_core.specs.RosterCalls.{ArePlaces, places_given};
+ghost use Rattle.rota_core.specs.RosterCalls.{AreIndices, given_indices};
 
-use crate::cell_places::cell_of_place;
-use crate::true_places::TruePlaces;
+use crate::cell_indices::cell_at_index;
+use crate::true_indices::TrueIndices;
 use crate::values::Cell;
 use std::marker::Model;
 
-/// The cells of a roster, by nurse, day, shift type and skill, seen as the list of those that are left.
+/// The cells of a roster, in the order of nurse, day, shift type and skill. Its view is the list of the cells
+/// that are left.
 #[derive(Drop)]
 pub struct Cells<'a> {
-    // None where there is no roster.
-    places: Option<TruePlaces<'a>>,
+    // `None` if there is no roster.
+    indices: Option<TrueIndices<'a>>,
     shifts: u8,
     skills: u8,
 }
@@ -21,24 +22,24 @@ pub struct Cells<'a> {
 impl<'a> Model for Cells<'a> {
     ghost use Rattle.std.specs.Prelude.{List, map};
     ghost use Rattle.rota_core.specs.RosterCells.{cell_at};
-    ghost use Rattle.rota_core.specs.RosterCalls.{ArePlaces, places_given};
+    ghost use Rattle.rota_core.specs.RosterCalls.{AreIndices, given_indices};
     ghost use Rattle.rota_core.specs.declared.values.Cell.{Cell};
 
     ghost Value = { List Cell };
 
-    ghost view = { λ it. map (cell_at it.shifts it.skills) (places_given it.places) };
+    ghost view = { λ it. map (cell_at it.shifts it.skills) (given_indices it.indices) };
 
-    ghost invariant = { λ it. ArePlaces it.shifts it.skills (places_given it.places) };
+    ghost invariant = { λ it. AreIndices it.shifts it.skills (given_indices it.indices) };
 }
 
 impl<'a> Cells<'a> {
-    /// Those at the places, if any, where there are these numbers of shift types and skills.
-    pub(crate) fn at(places: Option<TruePlaces<'a>>, shifts: u8, skills: u8) -> Cells<'a>
-        requires { ArePlaces shifts skills (places_given places) }
-        ensures { result ≡ map (cell_at shifts skills) (places_given places.entry) }
+    /// The cells at the indices, if any, for these numbers of shift types and skills.
+    pub(crate) fn at(indices: Option<TrueIndices<'a>>, shifts: u8, skills: u8) -> Cells<'a>
+        requires { AreIndices shifts skills (given_indices indices) }
+        ensures { result ≡ map (cell_at shifts skills) (given_indices indices.entry) }
     {
         Cells {
-            places,
+            indices,
             shifts,
             skills,
         }
@@ -53,7 +54,7 @@ impl<'a> Iterator for Cells<'a> {
     ghost remaining = { item_count (λ left. left) };
 
     fn next(&mut self) -> Option<Cell> {
-        let place = self.places.as_mut()?.next()?;
-        Some(cell_of_place(self.shifts, self.skills, place))
+        let index = self.indices.as_mut()?.next()?;
+        Some(cell_at_index(self.shifts, self.skills, index))
     }
 }

@@ -6,17 +6,17 @@ ghost use Rattle.rota_core.specs.RuleNames.{rule_name};
 
 use std::fmt;
 
-/// How many soft rules there are.
+/// The number of soft rules.
 pub const SOFT_RULES: usize = 7;
 
-/// A rule of the week. `Unit` is no rule of the competition: it stands for the variable of a model
-/// that is always true. Nor is `H5`: it holds the cells that were given as fixed.
+/// A rule of the week. `Unit` is no rule of the competition: it represents the variable that is always true
+/// in a model. Nor is `H5`: it holds the cells that were given as fixed.
 #[derive(Clone, Copy, Debug, PartialEq, Eq)]
 pub enum Rule {
     Unit,
     /// At most one assignment for each nurse and day.
     H1,
-    /// The least number of nurses for each day, shift type and skill.
+    /// The minimum number of nurses for each day, shift type and skill.
     H2,
     /// No forbidden succession of shift types.
     H3,
@@ -41,10 +41,10 @@ pub enum Rule {
 }
 
 impl Rule {
-    /// The hard rules, which each roster keeps, in order.
+    /// The hard rules, which every roster keeps, in order.
     pub const HARD: [Rule; 5] = [Rule::H1, Rule::H2, Rule::H3, Rule::H4, Rule::H5];
 
-    /// The soft rules, which cost where they are broken, in order.
+    /// The soft rules, which cost something when they are broken, in order.
     pub const SOFT: [Rule; SOFT_RULES] = [
         Rule::S1,
         Rule::S2,
@@ -55,7 +55,7 @@ impl Rule {
         Rule::S7,
     ];
 
-    /// The rule's name, as `H1`, and `unit` for `Unit`.
+    /// The rule's name: for example `H1`, and `unit` for `Unit`.
     pub fn name(self) -> &'static str
         ensures { result.now ≡ rule_name self }
     {
@@ -85,7 +85,7 @@ impl fmt::Display for Rule {
     }
 }
 
-/// The rules stand in the order of their numbers.
+/// The rules are in the order of their numbers.
 pub fn rules_in_order()
     ensures hard { Rule.HARD ≡ hard_rules }
     ensures soft { Rule.SOFT ≡ soft_rules }

@@ -1,9 +1,10 @@
-//! A scenario: what all weeks share.
+//! A scenario: the data that all weeks share.
 
-ghost use Rattle.std.specs.Prelude.{◌≡◌, ◌<◌, length, slice_get};
-ghost use Rattle.rota_core.specs.Words.{place_of};
+ghost use Rattle.std.specs.Prelude.{◌≡◌, ◌<◌, ◌+◌, ◌*◌, false, length, slice_get, slice_index_or};
+ghost use Rattle.rota_core.specs.Words.{index_of};
 
-use crate::names::{name_at, place_of_name};
+use crate::limits::{MAX_NURSES, MAX_SHIFTS, MAX_SKILLS};
+use crate::names::{index_of_name, name_at};
 use crate::values::{Contract, Span};
 use indexmap::IndexSet;
 use std::marker::Model;
@@ -16,19 +17,19 @@ pub struct ScenarioParts {
     pub skills: IndexSet<Vec<u8>>,
     pub shifts: IndexSet<Vec<u8>>,
     pub nurses: IndexSet<Vec<u8>>,
-    /// Of consecutive assignments, by shift type.
+    /// The limits of consecutive assignments, by shift type.
     pub limits: Vec<Span>,
-    /// At s * S + t whether shift type t may not follow s, where there are S shift types.
+    /// At index s * S + t, whether shift type t may not follow s, for S shift types.
     pub forbidden: Vec<bool>,
     pub contracts: Vec<Contract>,
-    /// By nurse, the place in `contracts`.
+    /// By nurse, the index in `contracts`.
     pub contract_of: Vec<u8>,
-    /// At n * K + k whether nurse n has skill k, where there are K skills.
+    /// At index n * K + k, whether nurse n has skill k, for K skills.
     pub has_skill: Vec<bool>,
 }
 
-/// A scenario within the limits: 1 to 16 skills and shift types, 1 to 64 contracts, 1 to 1000
-/// nurses, 1 to 52 weeks, other numbers up to 9999.
+/// A scenario within the limits: 1 to `MAX_SKILLS` skills, `MAX_SHIFTS` shift types, `MAX_CONTRACTS` contracts,
+/// `MAX_NURSES` nurses and `MAX_WEEKS` weeks, and other numbers up to `MAX_NUMBER`.
 pub struct Scenario {
     parts: ScenarioParts,
 }
@@ -52,9 +53,10 @@ impl Model for Scenario {
 }
 
 impl Scenario {
-    ghost use Rattle.rota_core.specs.ScenarioTables.{IsScenario, Within};
+    ghost use Rattle.rota_core.specs.Limits.{Within};
+    ghost use Rattle.rota_core.specs.ScenarioTables.{IsScenario};
     ghost use Rattle.rota_core.specs.Parts.{scenario_of};
-    ghost use Rattle.rota_core.specs.Week.{bare_week};
+    ghost use Rattle.rota_core.specs.Problem.{no_contract, no_span};
 
     /// The scenario of these rows.
     pub fn of_parts(parts: ScenarioParts) -> Scenario
@@ -73,7 +75,7 @@ impl Scenario {
         parts
     }
 
-    /// The number of weeks that the scenario spans, 1 to 52.
+    /// The number of weeks of the scenario, 1 to `MAX_WEEKS`.
     pub fn weeks(&self) -> u16
         ensures weeks { result ≡ self.now.weeks }
         ensures within { IsScenario self.now }
@@ -81,26 +83,26 @@ impl Scenario {
         self.parts.weeks
     }
 
-    /// The number of nurses, 1 to 1000.
+    /// The number of nurses, 1 to `MAX_NURSES`.
     pub fn nurses(&self) -> u16
         ensures count { result ≡ length self.now.nurses }
-        ensures within { Within 1000 result }
+        ensures within { Within MAX_NURSES result }
     {
         self.parts.nurses.len() as u16
     }
 
-    /// The number of shift types, 1 to 16.
+    /// The number of shift types, 1 to `MAX_SHIFTS`.
     pub fn shifts(&self) -> u8
         ensures count { result ≡ length self.now.shifts }
-        ensures within { Within 16 result }
+        ensures within { Within MAX_SHIFTS result }
     {
         self.parts.shifts.len() as u8
     }
 
-    /// The number of skills, 1 to 16.
+    /// The number of skills, 1 to `MAX_SKILLS`.
     pub fn skills(&self) -> u8
         ensures count { result ≡ length self.now.skills }
-        ensures within { Within 16 result }
+        ensures within { Within MAX_SKILLS result }
     {
         self.parts.skills.len() as u8
     }
@@ -109,24 +111,24 @@ impl Scenario {
     pub fn has_skill(&self, nurse: u16, skill: u8) -> bool
         requires nurse_in { nurse < length self.now.nurses }
         requires skill_in { skill < length self.now.skills }
-        ensures { result ≡ (bare_week self.now).has_skill nurse skill }
+        ensures { result ≡ slice_index_or self.now.has_skill (nurse * length self.now.skills + skill) false }
     {
         self.parts.has_skill[usize::from(nurse) * self.parts.skills.len() + usize::from(skill)]
     }
 
-    /// What the nurse's contract asks of her.
+    /// The contract of the nurse.
     pub fn contract(&self, nurse: u16) -> Contract
         requires { nurse < length self.now.nurses }
-        ensures { result ≡ (bare_week self.now).contract nurse }
+        ensures { result ≡ slice_index_or self.now.contracts (slice_index_or self.now.contract_of nurse 0) no_contract }
     {
-        let place = self.parts.contract_of[usize::from(nurse)];
-        self.parts.contracts[usize::from(place)]
+        let index = self.parts.contract_of[usize::from(nurse)];
+        self.parts.contracts[usize::from(index)]
     }
 
     /// The limits of consecutive assignments to the shift type.
     pub fn limits(&self, shift: u8) -> Span
         requires { shift < length self.now.shifts }
-        ensures { result ≡ (bare_week self.now).limits shift }
+        ensures { result ≡ slice_index_or self.now.limits shift no_span }
     {
         self.parts.limits[usize::from(shift)]
     }
@@ -135,7 +137,7 @@ impl Scenario {
     pub fn forbidden(&self, first: u8, second: u8) -> bool
         requires first_in { first < length self.now.shifts }
         requires second_in { second < length self.now.shifts }
-        ensures { result ≡ (bare_week self.now).is_forbidden first second }
+        ensures { result ≡ slice_index_or self.now.forbidden (first * length self.now.shifts + second) false }
     {
         self.parts.forbidden[usize::from(first) * self.parts.shifts.len() + usize::from(second)]
     }
@@ -173,25 +175,25 @@ impl Scenario {
 
     /// The number of the nurse with this name, or `None` for another word.
     pub fn find_nurse(&self, name: &[u8]) -> Option<u16>
-        ensures { result ≡ place_of self.now.nurses name.now }
+        ensures { result ≡ index_of self.now.nurses name.now }
     {
-        let place = place_of_name(&self.parts.nurses, name)?;
-        Some(place as u16)
+        let index = index_of_name(&self.parts.nurses, name)?;
+        Some(index as u16)
     }
 
     /// The number of the shift type with this name, or `None` for another word.
     pub fn find_shift(&self, name: &[u8]) -> Option<u8>
-        ensures { result ≡ place_of self.now.shifts name.now }
+        ensures { result ≡ index_of self.now.shifts name.now }
     {
-        let place = place_of_name(&self.parts.shifts, name)?;
-        Some(place as u8)
+        let index = index_of_name(&self.parts.shifts, name)?;
+        Some(index as u8)
     }
 
     /// The number of the skill with this name, or `None` for another word.
     pub fn find_skill(&self, name: &[u8]) -> Option<u8>
-        ensures { result ≡ place_of self.now.skills name.now }
+        ensures { result ≡ index_of self.now.skills name.now }
     {
-        let place = place_of_name(&self.parts.skills, name)?;
-        Some(place as u8)
+        let index = index_of_name(&self.parts.skills, name)?;
+        Some(index as u8)
     }
 }

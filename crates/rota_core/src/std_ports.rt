@@ -1,4 +1,4 @@
-//! The standard library's readers and writers as ports. They tell no bytes.
+//! The standard library's readers and writers as ports. Their bytes are not known.
 ghost use Rattle.std.specs.Prelude.{◌≡◌, ◌<◌, ◌≤◌, ◌||◌, None, true, false, length, is_err, IfOk, IsErr, IsOk, Ok, MatchResult};
 ghost use Rattle.std.specs.Io.KnownBytes.{Keeps, ReadConsumes, WriteAppends};
 ghost use Rattle.rota_core.specs.PortCalls.{LeavesAfterRead, SendsOnWrite, says_end};
@@ -8,12 +8,12 @@ use crate::ports::{PortFault, Source, Target};
 use std::io;
 use std::io::{Read, Write};
 
-// What a port answers where std's call answered this: its value, or its failure, which is for good.
-fn hand_on<T: Copy>(failed: &mut bool, told: io::Result<T>) -> Result<T, PortFault>
-    ensures exact { MatchResult told (λ value. result ≡ Ok value) (λ _. IsErr result) }
-    ensures failure { failed.new ≡ (failed.old || is_err told) }
+// The answer of a port for this answer of std's call: its value, or its failure, which is permanent.
+fn hand_on<T: Copy>(failed: &mut bool, known: io::Result<T>) -> Result<T, PortFault>
+    ensures exact { MatchResult known (λ value. result ≡ Ok value) (λ _. IsErr result) }
+    ensures failure { failed.new ≡ (failed.old || is_err known) }
 {
-    match told {
+    match known {
         Ok(value) => Ok(value),
         Err(_) => {
             *failed = true;
@@ -22,20 +22,20 @@ fn hand_on<T: Copy>(failed: &mut bool, told: io::Result<T>) -> Result<T, PortFau
     }
 }
 
-/// A reader as a source. After the first error every call is an error, and the reader is not
-/// called again; nor is it called for an empty buffer.
+/// A reader as a source. After the first error every call is an error, and the reader is not called again. It
+/// is not called for an empty buffer either.
 #[derive(Drop)]
 pub struct FromRead<R> {
     reader: R,
     failed: bool,
-    // the reader said the end
+    // Whether the reader has reported its end.
     ended: bool,
 }
 
 impl<R: Read> FromRead<R> {
     ghost use Rattle.rota_core.specs.StdPorts.{inner_reader};
 
-    /// The reader as a source. It has not failed yet, nor said its end.
+    /// The reader as a source. It has neither failed nor reported its end.
     pub fn new(reader: R) -> FromRead<R>
         ensures sound { ⟦<FromRead<R> as Source>⟧.has_failed result ≡ false }
         ensures unended { ⟦<FromRead<R> as Source>⟧.has_ended result ≡ false }
@@ -58,7 +58,7 @@ impl<R: Read> Source for FromRead<R> {
 
     ghost has_ended = { λ s. s.ended };
 
-    /// As the reader's own read does, where it is asked: it is not after a failure, nor for an empty buffer.
+    /// Reads with the reader's own read. The reader is not called after a failure, nor for an empty buffer.
     fn read(&mut self, buffer: &mut [u8]) -> Result<usize, PortFault>
         ensures bound { IfOk result (λ n. n ≤ length buffer.new) }
         ensures silent { LeavesAfterRead None result buffer.new None }
@@ -81,8 +81,9 @@ impl<R: Read> Source for FromRead<R> {
     }
 }
 
-/// A writer as a target. After the first error every call is an error, and the writer is not
-/// called again; nor is it called for an empty piece. A write that takes nothing of another is an error.
+/// A writer as a target. After the first error every call is an error, and the writer is not called again. It
+/// is not called for an empty piece either. If it accepts no byte of a piece that is not empty, that is an
+/// error.
 #[derive(Drop)]
 pub struct ToWrite<W> {
     writer: W,
@@ -92,7 +93,7 @@ pub struct ToWrite<W> {
 impl<W: Write> ToWrite<W> {
     ghost use Rattle.rota_core.specs.StdPorts.{inner_writer};
 
-    /// The writer as a target. It has not failed yet.
+    /// The writer as a target. It has not failed.
     pub fn new(writer: W) -> ToWrite<W>
         ensures sound { ⟦<ToWrite<W> as Target>⟧.has_failed result ≡ false }
         ensures writer { inner_writer result ≡ writer }
@@ -113,7 +114,7 @@ impl<W: Write> Target for ToWrite<W> {
 
     ghost has_failed = { λ t. t.failed };
 
-    /// As the writer's own write does, where it is asked: it is not after a failure, nor for an empty piece.
+    /// Writes with the writer's own write. The writer is not called after a failure, nor for an empty piece.
     fn write(&mut self, piece: &[u8]) -> Result<usize, PortFault>
         ensures bound { IfOk result (λ n. n ≤ length piece.now) }
         ensures progress { IfOk result (λ n. 0 < length piece.now → 0 < n) }
@@ -138,7 +139,7 @@ impl<W: Write> Target for ToWrite<W> {
         Ok(taken)
     }
 
-    /// As the writer's own flush does, where it is asked: it is not after a failure.
+    /// Flushes with the writer's own flush. The writer is not called after a failure.
     fn flush(&mut self) -> Result<(), PortFault>
         ensures failure { is_failed_writer self.new ≡ (is_failed_writer self.old || is_err result) }
         ensures for_good { is_failed_writer self.old ≡ true → IsErr result }

@@ -1,15 +1,15 @@
-//! The small values of a week's tables. Numbers of the files are 0 to 9999.
+//! The small values of a week's tables. Numbers of the files are 0 to `MAX_NUMBER`.
 
-/// A least and a greatest number. The least may be above the greatest: both are then charged.
+/// A minimum and a maximum. The minimum may be above the maximum: then both are charged.
 #[derive(Clone, Copy, Debug, PartialEq, Eq)]
 pub struct Span {
     pub min: u16,
     pub max: u16,
 }
 
-/// What a contract asks of a nurse: her assignments over all weeks, her consecutive working days,
-/// her consecutive days off, the most weekends that she works over all weeks, and whether she works on
-/// both days of a weekend or on none.
+/// The contract of a nurse: the limits of her assignments over all weeks, of her consecutive working days and
+/// of her consecutive days off, the maximum number of weekends that she works over all weeks, and whether she
+/// works on both days of a weekend or on none.
 #[derive(Clone, Copy, Debug, PartialEq, Eq)]
 pub struct Contract {
     pub total: Span,
@@ -19,9 +19,9 @@ pub struct Contract {
     pub complete: bool,
 }
 
-/// What the weeks before left of a nurse: how many assignments she has had so far and how many weekends
-/// she has worked, the shift type of the last Sunday, where she worked then, and how many days in a row
-/// she has had that shift type, worked, or been off.
+/// The history of a nurse: the number of assignments that she has had so far and of weekends that she has
+/// worked, the shift type of the last Sunday if she worked on it, and the number of days in a row that she
+/// has had that shift type, worked, or been off.
 #[derive(Clone, Copy, Debug, PartialEq, Eq)]
 pub struct Past {
     pub assignments: u16,
@@ -32,14 +32,15 @@ pub struct Past {
     pub off_run: u16,
 }
 
-/// How many nurses a day asks for, on a shift type and with a skill.
+/// The number of nurses that a day needs on a shift type and with a skill.
 #[derive(Clone, Copy, Debug, PartialEq, Eq)]
 pub struct Demand {
     pub minimum: u16,
     pub optimal: u16,
 }
 
-/// One assignment: the nurse works on the day (0 for Monday to 6), on the shift type, with the skill.
+/// One assignment: the nurse works on the day (0 for Monday to 6 for Sunday), on the shift type, with the
+/// skill.
 #[derive(Clone, Copy, Debug, PartialEq, Eq)]
 pub struct Cell {
     pub nurse: u16,

@@ -3,22 +3,22 @@
 use crate::values::Demand;
 use std::marker::Model;
 
-/// The rows of a week, not checked, with the numbers of nurses, shift types and skills that they were
-/// read for.
+/// The rows of a week, not checked, and the numbers of nurses, shift types and skills for which they were
+/// read.
 #[derive(Drop)]
 pub struct WeekParts {
     pub nurses: u16,
     pub shifts: u8,
     pub skills: u8,
-    /// At (d * S + s) * K + k what day d asks for on shift type s with skill k, where there are S
-    /// shift types and K skills.
+    /// At index (d * S + s) * K + k, the demand of day d on shift type s with skill k, for S shift types and
+    /// K skills.
     pub demands: Vec<Demand>,
-    /// At (n * 7 + d) * S + s how many request rows ask for nurse n's day d off, by shift type s or
-    /// by any.
+    /// At index (n * DAYS + d) * S + s, the number of request rows that ask for nurse n's day d off, from shift
+    /// type s or from any.
     pub requests: Vec<u16>,
 }
 
-/// A week within the limits: a row for each place, and numbers up to 9999.
+/// A week within the limits. It has one row for each index, and its numbers are at most `MAX_NUMBER`.
 pub struct Week {
     parts: WeekParts,
 }

@@ -1,10 +1,10 @@
--- What the patterns of days stand for, and how many of their sums are plain.
-use Rattle.rota_items.proofs.Common.Words.{◌≡◌, ℕ, zero, suc, ◌+◌, ◌-◌, Bool, true, false, cond, List, map, refl, arith, bool_byte, range_with_len, count_by, sum_by-cons, sum_by-append}
-use Rattle.rota_items.proofs.Common.Words.{only_if, Week, property_of, is_plain_of, days_of, is_plain, PatternDay, with_property, DayPattern, DayProperty, Shift}
+-- The meaning of the patterns of days, and the number of their plain sums.
+use Rattle.rota_items.proofs.Common.Imports.{◌≡◌, ℕ, zero, suc, ◌+◌, ◌-◌, Bool, true, false, cond, List, map, refl, arith, bool_byte, range_with_len, count_by, sum_by-cons, sum_by-append}
+use Rattle.rota_items.proofs.Common.Imports.{singleton_if, Problem, property_of, is_plain_of, days_of, is_plain, PatternDay, with_property, DayPattern, DayProperty, Shift}
 
 -- ---- plain sums
 
--- the days on which an answer by `has` is yes
+-- the days for which the answer of `has` is yes
 module _ (plain : Bool → Bool) where
   abbrev is : PatternDay → Bool
   is day = plain day.has
@@ -22,12 +22,12 @@ module _ (plain : Bool → Bool) where
       count_by is (days_of pattern) ≡
       cond (plain false) (bool_byte pattern.off_before + bool_byte pattern.off_after) 0 +
       cond (plain true) (pattern.end - pattern.first) 0
-  unfolding only_if
+  unfolding singleton_if
   count-plain pattern =
       grind (arith, sum_by-append {X = PatternDay}, count-with)
 
 -- the sums that are plain by a property
-pub plain-of_property : (week : Week) (n : ℕ) (property : DayProperty) (days : List PatternDay) →
-    count_by (λ (day : PatternDay). is_plain_of property day.has) days ≡ count_by (is_plain (property_of week n property)) days
-plain-of_property week n (Shift s) days = refl
-plain-of_property week n _ days = refl
+pub plain-of_property : (problem : Problem) (n : ℕ) (property : DayProperty) (days : List PatternDay) →
+    count_by (λ (day : PatternDay). is_plain_of property day.has) days ≡ count_by (is_plain (property_of problem n property)) days
+plain-of_property problem n (Shift s) days = refl
+plain-of_property problem n _ days = refl

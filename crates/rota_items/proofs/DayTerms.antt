@@ -1,33 +1,33 @@
 -- The terms of a pattern's days, part by part.
-use Rattle.rota_items.proofs.Common.Words.{◌≡◌, ℕ, ◌+◌, ◌-◌, ◌≤◌, ◌<◌, List, [], ◌∷◌, ◌++◌, Result, length, ap, ◌∙◌, arith, flat_map, append-nil, flat_map-append, get_or-map-range_with_len}
-use Rattle.rota_items.proofs.Common.Words.{length-map-range_with_len, map-range_with_len_more, take-map-range_with_len, only_if, Week, Cell, Term, days_of, PatternDay, with_property}
-use Rattle.rota_items.proofs.Common.Words.{without_property, days_with, DayPattern, cell_term_events, Event, Took, Refused, Takes, Ghosts}
+use Rattle.rota_items.proofs.Common.Imports.{◌≡◌, ℕ, ◌+◌, ◌-◌, ◌≤◌, ◌<◌, List, [], ◌∷◌, ◌++◌, Result, length, ap, ◌∙◌, arith, flat_map, append-nil, flat_map-append, get_or-map-range_with_len}
+use Rattle.rota_items.proofs.Common.Imports.{length-map-range_with_len, map-range_with_len_more, take-map-range_with_len, Problem, Cell, Term, days_of, PatternDay, with_property}
+use Rattle.rota_items.proofs.Common.Imports.{day_after, day_before, days_with, DayPattern, cell_term_events, Event, Took, Refused, Takes, Ghosts}
 use Rattle.rota_items.proofs.Taking.{Joins, list_refused, terms_join, taking, nothing, both, stop, go_on, goes_on}
 
--- what a day that may be there needs
+-- the rules that an optional day needs
 pub ruleset day_taking = (taking, append-nil)
 
 -- the events of days' terms
-module _ (week : Week) (f : PatternDay → List (Term Cell)) where
+module _ (problem : Problem) (f : PatternDay → List (Term Cell)) where
   abbrev pub day_events : List PatternDay → List Event
-  day_events days = cell_term_events week (flat_map f days)
+  day_events days = cell_term_events problem (flat_map f days)
 
   pub days_join : Joins day_events
   days_join = record {
-    none = (terms_join week).none;
-    append = λ xs ys. ap (cell_term_events week) (flat_map-append f xs ys) ∙ (terms_join week).append (flat_map f xs) (flat_map f ys);
+    none = (terms_join problem).none;
+    append = λ xs ys. ap (cell_term_events problem) (flat_map-append f xs ys) ∙ (terms_join problem).append (flat_map f xs) (flat_map f ys);
   }
 
   -- the days of a pattern
   module _ (pattern : DayPattern) {S F : Type 0} (T : Ghosts S F) where
     abbrev before : List PatternDay
-    before = only_if pattern.off_before (without_property (pattern.first - 1))
+    before = day_before pattern
 
     abbrev held : List PatternDay
     held = days_with pattern.first pattern.end
 
     abbrev after : List PatternDay
-    after = only_if pattern.off_after (without_property pattern.end)
+    after = day_after pattern
 
     pub refused_before : (s t : S) → Refused T (day_events before) s t → Refused T (day_events (days_of pattern)) s t
     refused_before s t p = stop days_join before (held ++ after) s t p
@@ -46,17 +46,17 @@ module _ (week : Week) (f : PatternDay → List (Term Cell)) where
     days_none s = let none : first - first ≡ 0 = omega arith in rw none (nothing days_join s)
 
     pub days_more : (s t u : S) → first ≤ day → Took T (day_events (days_with first day)) s t →
-        Took T (cell_term_events week (f (with_property day))) t u → Took T (day_events (days_with first (day + 1))) s u
+        Took T (cell_term_events problem (f (with_property day))) t u → Took T (day_events (days_with first (day + 1))) s u
     days_more s t u ordered p q =
         let longer : day + 1 - first ≡ day - first + 1 = omega arith in
         rw (longer, map-range_with_len_more with_property first (day - first) day (omega arith))
         (both days_join (days_with first day) (with_property day ∷ []) s t u p (rw append-nil q))
 
     pub days_refused : (end : ℕ) (s t u : S) → first ≤ day → day < end → Took T (day_events (days_with first day)) s t →
-        Refused T (cell_term_events week (f (with_property day))) t u → Refused T (day_events (days_with first end)) s u
+        Refused T (cell_term_events problem (f (with_property day))) t u → Refused T (day_events (days_with first end)) s u
     days_refused end s t u ordered below p q =
         let within : day - first < length (days_with first end) =
         omega (arith, length-map-range_with_len with_property first (end - first)) in
-        list_refused (terms_join week) f (days_with first end) (day - first) (with_property day) s t u within
+        list_refused (terms_join problem) f (days_with first end) (day - first) (with_property day) s t u within
         (rw (take-map-range_with_len with_property first (end - first) (day - first) (omega arith)) p)
         (rw (get_or-map-range_with_len with_property first (end - first) (day - first) day (with_property day) (omega arith) (omega arith)) q)

@@ -1,8 +1,8 @@
--- What holds of each window and pattern that charges a property's runs. Their days follow one another.
-use Rattle.rota_items.proofs.Common.Words.{◌≡◌, ℕ, zero, suc, ◌+◌, ◌-◌, ◌<◌, ◌≤◌, List, [], ◌∷◌, ◌++◌, length, map, refl, sym, ap, subst, true, arith, length-append, nat_lt, nat_le, max, ◌&&◌, All, AllByRecursion}
-use Rattle.rota_items.proofs.Common.Words.{range_with_len, length-map, All-from_recursion, length-range_with_len, AllByRecursion-append, AllByRecursion-each_below, AllByRecursion-only_if, length-each_below}
-use Rattle.rota_items.proofs.Common.Words.{length-only_if, each_below, Item, Span, PatternDay, Pattern, with_property, without_property, window, windows_on, windows, closed_pattern, closed_patterns_at}
-use Rattle.rota_items.proofs.Common.Words.{closed_patterns_on, edge_pattern, edge_patterns_on, patterns_on, patterns, DaysFollow, Runs, pattern_item, run_items, most_run_items}
+-- Properties of each window and pattern that charges a property's runs. Their days follow one another.
+use Rattle.rota_items.proofs.Common.Imports.{◌≡◌, ℕ, zero, suc, ◌+◌, ◌-◌, ◌<◌, ◌≤◌, List, [], ◌∷◌, ◌++◌, length, map, refl, sym, ap, subst, true, arith, length-append, nat_lt, nat_le, max, ◌&&◌, All, AllByRecursion}
+use Rattle.rota_items.proofs.Common.Imports.{range_with_len, length-map, All-from_recursion, length-range_with_len, AllByRecursion-append, AllByRecursion-concat_below, AllByRecursion-singleton_if, length-concat_below}
+use Rattle.rota_items.proofs.Common.Imports.{length-singleton_if, concat_below, Item, Span, PatternDay, Pattern, with_property, without_property, window, windows_on, windows, closed_pattern, closed_patterns_at}
+use Rattle.rota_items.proofs.Common.Imports.{closed_patterns_on, edge_pattern, edge_patterns_on, patterns_on, patterns, DaysFollow, Runs, pattern_item, run_items, max_run_items}
 use Rattle.rota_items.proofs.Lists.{length-each_below_both, all-back, all-map, all-weaker}
 
 -- ---- the days
@@ -22,7 +22,7 @@ numbers-ended first (suc n) end same = ap (λ xs. first ∷ xs) (numbers-ended (
 
 -- ---- the windows and patterns
 
--- the days follow one another, and cost at most what lacks of the minimum
+-- the days follow one another, and cost at most the shortage below the minimum
 pub record IsRunPattern (limits : Span) (pattern : Pattern) : Type 0 where
   pub follows : DaysFollow pattern
   pub some : 1 ≤ pattern.units
@@ -44,7 +44,7 @@ module _ (history : ℕ) (limits : Span) where
   module _ (d : ℕ) (d_in : d < 7) where
     each-windows_on : AllByRecursion Is (windows_on history limits d)
     each-windows_on =
-        AllByRecursion-only_if Is _ (window limits.max d) (λ _.
+        AllByRecursion-singleton_if Is _ (window limits.max d) (λ _.
         is_run (window limits.max d) (d - limits.max) _ (numbers-with _ _) (omega arith) (omega arith) (omega arith))
 
     is-closed : (k : ℕ) → k < d → (nat_le 1 k && nat_lt k limits.min) ≡ true → Is (closed_pattern limits.min d k)
@@ -62,9 +62,9 @@ module _ (history : ℕ) (limits : Span) where
     each-patterns_on : AllByRecursion Is (patterns_on history limits d)
     each-patterns_on =
         AllByRecursion-append Is (closed_patterns_on limits.min d) (edge_patterns_on history limits.min d)
-        (AllByRecursion-each_below Is d (closed_patterns_at limits.min d) (λ k room.
-        AllByRecursion-only_if Is _ (closed_pattern limits.min d k) (is-closed k room)))
-        (AllByRecursion-only_if Is _ (edge_pattern history limits.min d) is-edge)
+        (AllByRecursion-concat_below Is d (closed_patterns_at limits.min d) (λ k room.
+        AllByRecursion-singleton_if Is _ (closed_pattern limits.min d k) (is-closed k room)))
+        (AllByRecursion-singleton_if Is _ (edge_pattern history limits.min d) is-edge)
 
     pub each-on : AllByRecursion Is (windows_on history limits d ++ patterns_on history limits d)
     each-on =
@@ -73,29 +73,26 @@ module _ (history : ℕ) (limits : Span) where
   pub each-pattern : AllByRecursion Is (windows history limits ++ patterns history limits)
   each-pattern =
       AllByRecursion-append Is (windows history limits) (patterns history limits)
-      (AllByRecursion-each_below Is 7 (windows_on history limits) each-windows_on)
-      (AllByRecursion-each_below Is 7 (patterns_on history limits) each-patterns_on)
+      (AllByRecursion-concat_below Is 7 (windows_on history limits) each-windows_on)
+      (AllByRecursion-concat_below Is 7 (patterns_on history limits) each-patterns_on)
 
-  pub days-follow : All DaysFollow (windows history limits ++ patterns history limits)
-  days-follow = All-from_recursion DaysFollow _ (all-weaker Is DaysFollow (λ _ is. is.follows) _ each-pattern)
+  -- ---- the number of windows and patterns
 
-  -- ---- how many
-
-  pub few-run_patterns : length (windows history limits) + length (patterns history limits) ≤ most_run_items
+  pub few-run_patterns : length (windows history limits) + length (patterns history limits) ≤ max_run_items
   few-run_patterns =
       omega (
         arith,
-        length-each_below 7 1 (windows_on history limits) (λ d _. length-only_if _ _),
-        length-each_below 7 7 (patterns_on history limits) (λ d d_in.
+        length-concat_below 7 1 (windows_on history limits) (λ d _. length-singleton_if _ _),
+        length-concat_below 7 7 (patterns_on history limits) (λ d d_in.
             omega (
               arith,
               length-append (closed_patterns_on limits.min d) (edge_patterns_on history limits.min d),
-              length-each_below d 1 (closed_patterns_at limits.min d) (λ k _. length-only_if _ _),
-              length-only_if (nat_le 1 (history + d) && nat_lt (history + d) limits.min) (edge_pattern history limits.min d),
+              length-concat_below d 1 (closed_patterns_at limits.min d) (λ k _. length-singleton_if _ _),
+              length-singleton_if (nat_le 1 (history + d) && nat_lt (history + d) limits.min) (edge_pattern history limits.min d),
             )),
       )
 
--- what holds of the item of each window and pattern holds of the items of the runs
+-- a property of the item of each window and pattern is a property of the items of the runs
 pub each-run_item : {X : Type 0} (runs : Runs X) (P : Item X → Type 0) →
     ((pattern : Pattern) → IsRunPattern runs.limits pattern → P (pattern_item runs.rule runs.weight runs.property pattern)) →
     AllByRecursion P (run_items runs)
@@ -106,12 +103,12 @@ each-run_item runs P each =
 -- the closed patterns of the week and its edge patterns
 pub length-patterns : (history : ℕ) (limits : Span) →
     length (patterns history limits) ≡
-    length (each_below 7 (closed_patterns_on limits.min)) + length (each_below 7 (edge_patterns_on history limits.min))
+    length (concat_below 7 (closed_patterns_on limits.min)) + length (concat_below 7 (edge_patterns_on history limits.min))
 length-patterns history limits = length-each_below_both 7 (closed_patterns_on limits.min) (edge_patterns_on history limits.min)
 
 pub ruleset run_counting = (few-run_patterns, length-patterns, length-map, length-append)
 
--- ---- what holds of each day of the week holds of a pattern's days
+-- ---- a property of each day of the week is a property of a pattern's days
 
 abbrev pub OnDays : (ℕ → Type 0) → List PatternDay → Type 0
 OnDays P days = AllByRecursion (λ day. P day.day) days

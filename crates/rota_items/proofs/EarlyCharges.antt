@@ -1,18 +1,18 @@
--- What weeks that follow one another are charged sums up to what is above in the end, less what was at the start.
-use Rattle.rota_items.proofs.Common.Words.{◌≡◌, ℕ, ◌+◌, true, List, [], ◌∷◌, arith, sum, sum_by, sum_by-cons, charged_excess, CountedTotal, FollowEarly, RosteredWeek, added_by_all, added_excess, added_in, early_charges}
+-- The charges of consecutive weeks sum up to the excess at the end, less the excess at the start.
+use Rattle.rota_items.proofs.Common.Imports.{◌≡◌, ℕ, ◌+◌, true, List, [], ◌∷◌, arith, sum, sum_by, sum_by-cons, charged_excess, CountedTotal, FollowEarly, RosteredWeek, added_by_all, added_excess, added_in, early_charges}
 
-pub early_charges-are : (most before : ℕ) (steps : List ℕ) → early_charges most before steps ≡ added_excess most before (sum steps)
-early_charges-are most before [] = omega arith
-early_charges-are most before (now ∷ later) =
-    omega (arith, sum_by-cons (λ (n : ℕ). n) now later, early_charges-are most (before + now) later)
+pub early_charges-are : (maximum before : ℕ) (steps : List ℕ) → early_charges maximum before steps ≡ added_excess maximum before (sum steps)
+early_charges-are maximum before [] = omega arith
+early_charges-are maximum before (now ∷ later) =
+    omega (arith, sum_by-cons (λ (n : ℕ). n) now later, early_charges-are maximum (before + now) later)
 
 module _ (total : CountedTotal) where
-  -- what a week is charged of the total
+  -- the charge of a week for the total
   abbrev charged_in : RosteredWeek → ℕ
-  charged_in one = charged_excess one.week (total.most one.week) (total.before one.week) (added_in total one)
+  charged_in one = charged_excess one.week (total.maximum one.week) (total.before one.week) (added_in total one)
 
   pays_added : (one : RosteredWeek) → one.week.is_early ≡ true →
-      charged_in one ≡ added_excess (total.most one.week) (total.before one.week) (added_in total one)
+      charged_in one ≡ added_excess (total.maximum one.week) (total.before one.week) (added_in total one)
   pays_added one early = grind (arith, early)
 
   pub charges-sum : (one : RosteredWeek) (later : List RosteredWeek) → FollowEarly total one later →
@@ -26,6 +26,6 @@ module _ (total : CountedTotal) where
         sum_by-cons (added_in total) one (next ∷ later),
         pays_added one early,
         continues.before,
-        continues.most,
+        continues.maximum,
         charges-sum next later follow,
       )

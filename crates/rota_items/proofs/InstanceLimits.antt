@@ -1,8 +1,8 @@
--- The numbers of an instance's week are within the limits that the model's numbers are bounded by.
-use Rattle.rota_items.proofs.Common.Words.{rules, ℕ, zero, suc, ◌≤◌, List, [], ◌∷◌, arith, slice_index_or, AllByRecursion, InstanceTables, IsInstance}
-use Rattle.rota_items.proofs.Common.Words.{week_of, AreLimits, IsContract, no_span, no_demand, no_past, IsDemand, IsPast, IsWithinLimits, most_number}
+-- The numbers of an instance's week are within the limits that bound the model's numbers.
+use Rattle.rota_items.proofs.Common.Imports.{rules, ℕ, zero, suc, ◌≤◌, List, [], ◌∷◌, arith, slice_index_or, AllByRecursion, InstanceTables, IsInstance}
+use Rattle.rota_items.proofs.Common.Imports.{problem_of, AreLimits, IsContract, no_span, no_demand, no_past, IsDemand, IsPast, IsWithinLimits, max_number}
 
--- what holds of each element and of the default holds at any place
+-- a property of each element and of the default is a property of the value at any index
 pub AllByRecursion-or_default : {X : Type 0} (P : X → Type 0) (xs : List X) (i : ℕ) (default : X) →
     AllByRecursion P xs → P default → P (slice_index_or xs i default)
 AllByRecursion-or_default P [] i default all holds = holds
@@ -10,14 +10,14 @@ AllByRecursion-or_default P (x ∷ xs) zero default all holds = all.0
 AllByRecursion-or_default P (x ∷ xs) (suc i) default all holds = AllByRecursion-or_default P xs i default all.1 holds
 
 module _ (t : InstanceTables) (limits : IsInstance t) where
-  contract-small : (n : ℕ) → IsContract ((week_of t).contract n)
+  contract-small : (n : ℕ) → IsContract ((problem_of t).contract n)
   contract-small n = search (rules, AllByRecursion-or_default, limits.scenario.contracts.1)
 
-  past-small : (n : ℕ) → IsPast t.history.shifts ((week_of t).past n)
+  past-small : (n : ℕ) → IsPast t.history.shifts ((problem_of t).past n)
   past-small n =
       AllByRecursion-or_default (IsPast t.history.shifts) t.history.past n no_past limits.history.past.1 (search rules)
 
-  pub instance-within_limits : IsWithinLimits (week_of t)
+  pub instance-within_limits : IsWithinLimits (problem_of t)
   instance-within_limits = record {
     nurses = limits.scenario.nurses.0.1;
     shifts = limits.scenario.shifts.0.1;
@@ -32,5 +32,5 @@ module _ (t : InstanceTables) (limits : IsInstance t) where
     assignments = λ n. (past-small n).totals.0;
     weekends = λ n. (past-small n).totals.1;
     requests = λ n d s.
-        AllByRecursion-or_default (λ count. count ≤ most_number) t.week.requests _ 0 limits.week.requests.1 (omega arith);
+        AllByRecursion-or_default (λ count. count ≤ max_number) t.week.requests _ 0 limits.week.requests.1 (omega arith);
   }

@@ -1,6 +1,6 @@
--- What a counter makes of a list of items.
-use Rattle.rota_items.proofs.Common.Words.{◌≡◌, ℕ, ◌+◌, ◌<◌, List, [], ◌∷◌, ◌++◌, map, length, refl, ◌∙◌, arith, length-append, fold, length-map, InstanceTables, IsInstance, week_of, Week, Cell, soft_items}
-use Rattle.rota_items.proofs.Common.Words.{Item, numbered, slack_count, cell_number, Runs, pattern_item, run_items, patterns, windows, word_limit, numbered_list, ItemNumbers, sum_within, with_one}
+-- The counts of a counter for a list of items.
+use Rattle.rota_items.proofs.Common.Imports.{◌≡◌, ℕ, ◌+◌, ◌<◌, List, [], ◌∷◌, ◌++◌, map, length, refl, ◌∙◌, arith, length-append, fold, length-map, InstanceTables, IsInstance, problem_of, Problem, Cell, soft_items}
+use Rattle.rota_items.proofs.Common.Imports.{Item, numbered, slack_count, cell_number, Runs, pattern_item, run_items, patterns, windows, word_limit, numbered_list, ItemNumbers, sum_within, with_one}
 use Rattle.rota_items.proofs.InstanceLimits.{instance-within_limits}
 use Rattle.rota_items.proofs.ItemLists.{have_one-runs, one_slack-each}
 use Rattle.rota_items.proofs.SlackBound.{items-few, variables_fit}
@@ -22,13 +22,13 @@ counted-all (item ∷ items) counts within =
     counted-all items (with_one counts item) (record { items = omega arith; slacks = omega arith }) ∙
     same_numbers _ _ _ _ (omega arith) (omega (arith, slack_count-cons item items))
 
--- the items of a nurse's runs, each of one slack, are as many as these windows and patterns
-pub counted-runs : (week : Week) (runs : Runs Cell) (counts : ItemNumbers) (n : ℕ) → AreWithin counts →
+-- the items of a nurse's runs have one slack each, and their number is the number of these windows and patterns
+pub counted-runs : (problem : Problem) (runs : Runs Cell) (counts : ItemNumbers) (n : ℕ) → AreWithin counts →
     n ≡ length (windows runs.history runs.limits) + length (patterns runs.history runs.limits) →
-    fold with_one counts (numbered_list week (run_items runs)) ≡ record { items = sum_within counts.items n; slacks = sum_within counts.slacks n }
+    fold with_one counts (numbered_list problem (run_items runs)) ≡ record { items = sum_within counts.items n; slacks = sum_within counts.slacks n }
 unfolding numbered_list
-counted-runs week runs counts n within are =
-    let number = cell_number week in
+counted-runs problem runs counts n within are =
+    let number = cell_number problem in
     let listed : length (run_items runs) ≡ n =
     omega (
       arith,
@@ -42,19 +42,19 @@ counted-runs week runs counts n within are =
     counted-all (map (numbered number) (run_items runs)) counts within ∙
     (λ i. record { items = sum_within counts.items (items_are i); slacks = sum_within counts.slacks (slacks_are i) })
 
--- a counter that took the items of a week has their numbers, which fit
-pub counted-week : (tables : InstanceTables) → IsInstance tables → let items = soft_items (week_of tables) in
-    fold with_one (record { items = 0; slacks = 0 }) (numbered_list (week_of tables) items) ≡ record { items = length items; slacks = slack_count items }
+-- a counter that took the items of a week has their numbers, which do not overflow
+pub counted-week : (tables : InstanceTables) → IsInstance tables → let items = soft_items (problem_of tables) in
+    fold with_one (record { items = 0; slacks = 0 }) (numbered_list (problem_of tables) items) ≡ record { items = length items; slacks = slack_count items }
 unfolding numbered_list
 counted-week tables valid =
-    let week = week_of tables in
+    let problem = problem_of tables in
     let limits = instance-within_limits tables valid in
-    let items = soft_items week in
-    let number = cell_number week in
+    let items = soft_items problem in
+    let number = cell_number problem in
     let items_are : sum_within 0 (length (map (numbered number) items)) ≡ length items =
-    omega (arith, items-few week limits, length-map items (numbered number)) in
+    omega (arith, items-few problem limits, length-map items (numbered number)) in
     let slacks_are : sum_within 0 (slack_count (map (numbered number) items)) ≡ slack_count items =
-    omega (arith, variables_fit week limits, slack_count-numbered number items) in
+    omega (arith, variables_fit problem limits, slack_count-numbered number items) in
     counted-all (map (numbered number) items) (record { items = 0; slacks = 0 }) (record { items = omega arith; slacks = omega arith }) ∙
     (λ i. record { items = items_are i; slacks = slacks_are i })
 

@@ -1,13 +1,13 @@
 -- Items and their slacks.
-use Rattle.rota_items.proofs.Common.Words.{map, ◌≡◌, ◌↔◌, ℕ, zero, suc, ◌+◌, ◌-◌, ◌*◌, ◌<◌, ◌≤◌, Bool, cond, List, [], ◌∷◌, refl, ap, ◌∙◌, arith, add-zero, ltb, pos, ◌+ℤ◌, ◌-ℤ◌, ◌≤ℤ◌, All, count_by, range_with_len}
-use Rattle.rota_items.proofs.Common.Words.{sum_by-cons, recursion_from_All, lt-ltb, le-ltb, ints, nat_tests, AllByRecursion, All-from_recursion, All-head, All-tail, mul-le-mul_left, numbered, Item, positive_part}
-use Rattle.rota_items.proofs.Common.Words.{shortage, weighted_shortages, Term, Constraint, Satisfies, value_of, times, StandBelow, slack_variables, item_constraint, item_constraints, slack_weights, is_slack_needed}
-use Rattle.rota_items.proofs.Common.Words.{extension}
+use Rattle.rota_items.proofs.Common.Imports.{map, ◌≡◌, ◌↔◌, ℕ, zero, suc, ◌+◌, ◌-◌, ◌*◌, ◌<◌, ◌≤◌, Bool, cond, List, [], ◌∷◌, refl, ap, ◌∙◌, arith, add-zero, ltb, pos, ◌+ℤ◌, ◌-ℤ◌, ◌≤ℤ◌, All, count_by, range_with_len}
+use Rattle.rota_items.proofs.Common.Imports.{sum_by-cons, recursion_from_All, lt-ltb, le-ltb, ints, nat_tests, AllByRecursion, All-from_recursion, All-head, All-tail, mul-le-mul_left, numbered, Item, positive_part}
+use Rattle.rota_items.proofs.Common.Imports.{shortage, weighted_shortages, Term, Constraint, Satisfies, value_of, times, AreBelow, slack_variables, item_constraint, item_constraints, slack_weights, is_slack_needed}
+use Rattle.rota_items.proofs.Common.Imports.{extension}
 use Rattle.rota_items.proofs.PatternItems.{value_of-append}
 use Rattle.rota_items.proofs.SmallSums.{positive_part-parts}
 use Rattle.rota_items.proofs.SoundTerms.{value_of-agree}
 
--- variables with one coefficient give it once for each that is true
+-- variables with one coefficient add it once for each true variable
 pub value_of-weight : (assignment : ℕ → Bool) (w : ℕ) (variables : List ℕ) →
     value_of assignment (times (pos w) variables) ≡ pos (w * count_by assignment variables)
 value_of-weight assignment w [] = omega (arith, ints)
@@ -33,7 +33,7 @@ item_law assignment item first =
     let value = value_of-item_constraint assignment item first in
     (λ holds. omega (arith, ints, holds), λ enough. omega (arith, ints, enough))
 
--- the weighted shortages are at most what the slacks cost, where the items hold
+-- if the items hold, the weighted shortages are at most the cost of the slacks
 pub weighted_shortages-le : (assignment : ℕ → Bool) (first : ℕ) (items : List (Item ℕ)) →
     All (Satisfies assignment) (item_constraints first items) →
     pos (weighted_shortages assignment items) ≤ℤ value_of assignment (slack_weights first items)
@@ -55,7 +55,7 @@ weighted_shortages-le assignment first (item ∷ items) holds =
 
 -- ---- the slacks that are needed
 
--- where exactly the first k of n variables are true, k are
+-- if exactly the first k of n variables are true, their number is k
 pub count-front : (assignment : ℕ → Bool) (first n k : ℕ) → k ≤ n →
     ((o : ℕ) → o < n → assignment (first + o) ≡ ltb o k) →
     count_by assignment (range_with_len first n) ≡ k
@@ -74,7 +74,7 @@ count-front assignment first (suc n) k within each =
 abbrev pub IsExtension : (ℕ → Bool) → (ℕ → Bool) → ℕ → List (Item ℕ) → Type 0
 IsExtension other assignment first items = (o : ℕ) → other (first + o) ≡ is_slack_needed assignment items o
 
--- the first item's slacks come first, and after them those of the others
+-- the first item's slacks come first, and after them the slacks of the others
 pub needed-first : (assignment : ℕ → Bool) (item : Item ℕ) (items : List (Item ℕ)) (o : ℕ) → o < item.slacks →
     is_slack_needed assignment (item ∷ items) o ≡ ltb o (shortage assignment item)
 needed-first assignment item items o within = rw (lt-ltb o item.slacks within) refl
@@ -84,7 +84,7 @@ pub needed-after : (assignment : ℕ → Bool) (item : Item ℕ) (items : List (
 needed-after assignment item items o =
     let next : item.slacks + o - item.slacks ≡ o = omega arith in rw (le-ltb (item.slacks + o) item.slacks (omega arith), next) refl
 
--- an assignment that has the slacks of items has those of the others after the first one's
+-- an assignment that has the slacks of items also has the slacks of the items after the first
 pub extends-after : (other assignment : ℕ → Bool) (item : Item ℕ) (items : List (Item ℕ)) (first : ℕ) →
     IsExtension other assignment first (item ∷ items) → IsExtension other assignment (first + item.slacks) items
 extends-after other assignment item items first extends o =
@@ -95,9 +95,9 @@ extends-after other assignment item items first extends o =
 pub extension-extends : (assignment : ℕ → Bool) (first : ℕ) (items : List (Item ℕ)) →
     IsExtension (extension assignment first items) assignment first items
 extension-extends assignment first items o =
-    let place : first + o - first ≡ o = omega arith in rw (le-ltb (first + o) first (omega arith), place) refl
+    let index : first + o - first ≡ o = omega arith in rw (le-ltb (first + o) first (omega arith), index) refl
 
--- what holds of an assignment that agrees with one below a number, and has the slacks that the items need
+-- properties of an assignment that agrees with another below a number, and has the slacks that the items need
 module _ (other assignment : ℕ → Bool) (end : ℕ) (agree : (v : ℕ) → v < end → other v ≡ assignment v) where
   outcome : (first : ℕ) (items : List (Item ℕ)) → IsExtension other assignment first items →
       AllByRecursion (λ item. All (λ (term : Term ℕ). term.1 < end) item.terms) items →
@@ -127,7 +127,7 @@ module _ (other assignment : ℕ → Bool) (end : ℕ) (agree : (v : ℕ) → v 
         ),
       )
 
-module _ (assignment : ℕ → Bool) (first : ℕ) (items : List (Item ℕ)) (below : StandBelow first items)
+module _ (assignment : ℕ → Bool) (first : ℕ) (items : List (Item ℕ)) (below : AreBelow first items)
     (enough : All (λ item. shortage assignment item ≤ item.slacks) items) where
   extension-outcome : AllByRecursion (Satisfies (extension assignment first items)) (item_constraints first items) ×
       (value_of (extension assignment first items) (slack_weights first items) ≡ pos (weighted_shortages assignment items))
@@ -150,7 +150,3 @@ pub value_of-numbered : {X : Type 0} (number : X → ℕ) (assignment : ℕ → 
     value_of (λ x. assignment (number x)) terms
 value_of-numbered number assignment [] = refl
 value_of-numbered number assignment (t ∷ ts) = rw (value_of-numbered number assignment ts) refl
-
-pub shortage-numbered : {X : Type 0} (number : X → ℕ) (assignment : ℕ → Bool) (item : Item X) →
-    shortage assignment (numbered number item) ≡ shortage (λ x. assignment (number x)) item
-shortage-numbered number assignment item = rw (value_of-numbered number assignment item.terms) refl

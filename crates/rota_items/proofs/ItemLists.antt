@@ -1,8 +1,8 @@
--- The items of rules that charge each nurse, and of runs in the order of the loops that hand them over.
-use Rattle.rota_items.proofs.Common.Words.{◌≡◌, ℕ, ◌++◌, map, ap, ◌∙◌, map-append, each_below, Item, Runs, pattern_item, run_items, Pattern, closed_patterns_at, closed_patterns_on}
-use Rattle.rota_items.proofs.Common.Words.{edge_patterns_on, patterns, patterns_on, windows, windows_on, window_items_on, closed_items_at, edge_items_on, pattern_items_on, zero, suc}
-use Rattle.rota_items.proofs.Common.Words.{List, [], ◌∷◌, length, refl, arith, AllByRecursion, sum_by-cons, Week, Rule, Cell, nurse_items, items_of_rule, slack_count, S1}
-use Rattle.rota_items.proofs.Lists.{map-each_below}
+-- The items of rules that charge each nurse, and of runs, in the order of the loops that send them.
+use Rattle.rota_items.proofs.Common.Imports.{◌≡◌, ℕ, ◌++◌, map, ap, ◌∙◌, map-append, concat_below, Item, Runs, pattern_item, run_items, Pattern, closed_patterns_at, closed_patterns_on}
+use Rattle.rota_items.proofs.Common.Imports.{edge_patterns_on, patterns, patterns_on, windows, windows_on, window_items_on, closed_items_at, edge_items_on, pattern_items_on, zero, suc}
+use Rattle.rota_items.proofs.Common.Imports.{List, [], ◌∷◌, length, refl, arith, AllByRecursion, sum_by-cons, Problem, Rule, Cell, nurse_items, items_of_rule, slack_count, S1, optimum_items, append-nil}
+use Rattle.rota_items.proofs.Lists.{map-concat_below}
 use Rattle.rota_items.proofs.EachPattern.{each-run_item}
 
 -- ---- the items of runs
@@ -11,30 +11,36 @@ module _ {X : Type 0} (runs : Runs X) where
   abbrev item : Pattern → Item X
   item = pattern_item runs.rule runs.weight runs.property
 
-  pub pattern_items-on : (d : ℕ) → pattern_items_on runs d ≡ each_below d (closed_items_at runs d) ++ edge_items_on runs d
+  pub pattern_items-on : (d : ℕ) → pattern_items_on runs d ≡ concat_below d (closed_items_at runs d) ++ edge_items_on runs d
   pattern_items-on d =
       map-append item (closed_patterns_on runs.limits.min d) (edge_patterns_on runs.history runs.limits.min d) ∙
-      ap (λ xs. xs ++ edge_items_on runs d) (map-each_below item d (closed_patterns_at runs.limits.min d))
+      ap (λ xs. xs ++ edge_items_on runs d) (map-concat_below item d (closed_patterns_at runs.limits.min d))
 
-  pub run_items-are : run_items runs ≡ each_below 7 (window_items_on runs) ++ each_below 7 (pattern_items_on runs)
+  pub run_items-are : run_items runs ≡ concat_below 7 (window_items_on runs) ++ concat_below 7 (pattern_items_on runs)
   run_items-are =
       map-append item (windows runs.history runs.limits) (patterns runs.history runs.limits) ∙
       ap (λ xs. xs ++ map item (patterns runs.history runs.limits))
-      (map-each_below item 7 (windows_on runs.history runs.limits)) ∙
-      ap (λ xs. each_below 7 (window_items_on runs) ++ xs)
-      (map-each_below item 7 (patterns_on runs.history runs.limits))
+      (map-concat_below item 7 (windows_on runs.history runs.limits)) ∙
+      ap (λ xs. concat_below 7 (window_items_on runs) ++ xs)
+      (map-concat_below item 7 (patterns_on runs.history runs.limits))
 
 -- ---- the items of rules that charge each nurse
 
-pub none-each_below : {A : Type 0} (n : ℕ) → [] ≡ each_below n (λ _. let none : List A = [] in none)
-unfolding each_below
-none-each_below zero = refl
-none-each_below {A} (suc n) = rw (← none-each_below {A = A} n) refl
+pub none-concat_below : {A : Type 0} (n : ℕ) → [] ≡ concat_below n (λ _. let none : List A = [] in none)
+unfolding concat_below
+none-concat_below zero = refl
+none-concat_below {A} (suc n) = rw (← none-concat_below {A = A} n) refl
 
-pub rule_items-are : (week : Week) (rule : Rule) → (rule ≡ S1 → ⊥) →
-    items_of_rule week rule ≡ each_below week.nurses (nurse_items week rule)
-rule_items-are week S1 other = absurd (other refl)
-rule_items-are week _ other = refl
+pub none_of_nurses : {A : Type 0} (problem : Problem) (xs : List A) → xs ++ concat_below problem.nurses (λ _. []) ≡ xs
+none_of_nurses problem xs = rw (← none-concat_below problem.nurses) (append-nil xs)
+
+pub rule_items-are : (problem : Problem) (rule : Rule) → (rule ≡ S1 → ⊥) →
+    items_of_rule problem rule ≡ concat_below problem.nurses (nurse_items problem rule)
+rule_items-are problem S1 other = absurd (other refl)
+rule_items-are problem _ other = refl
+
+pub demand_items-are : (problem : Problem) (rule : Rule) → rule ≡ S1 → items_of_rule problem rule ≡ optimum_items problem
+demand_items-are problem rule is = rw is (none_of_nurses problem (optimum_items problem))
 
 -- ---- items of one slack
 

@@ -31,6 +31,7 @@ pub mod Numbers
 pub mod ObjectiveBound
 pub mod ObjectiveTaking
 pub mod PatternItems
+pub mod PatternTaking
 pub mod PenaltyBound
 pub mod RisingCells
 pub mod RowSizes
@@ -44,6 +45,6 @@ pub mod SlackValues
 pub mod SmallSums
 pub mod SoftRules
 pub mod SoundTerms
-pub mod Standing
+pub mod Occurrence
 pub mod Taking
 pub mod VerdictMeaning

@@ -1,13 +1,13 @@
--- Lists: what holds of each element, their sums, their lengths, and what loops make and add up.
-use Rattle.rota_items.proofs.Common.Words.{List, [], ◌∷◌, map, AllByRecursion, flat_map, AllByRecursion-append, AllByRecursion-each_below, AllByRecursion-only_if, length-only_if}
-use Rattle.rota_items.proofs.Common.Words.{◌≡◌, ℕ, ◌+◌, Bool, true, false, cond, refl, ap, arith, zero-add, sum_by, fold-map, sum_by-append, sum_by-cons, only_if, zero, suc, ◌*◌}
-use Rattle.rota_items.proofs.Common.Words.{◌<◌, ◌≤◌, length, ◌∙◌, count_by, list_any, list_any-append, mul-le, sum_below, count_below, any_below, length-each_below, each_below}
-use Rattle.rota_items.proofs.Common.Words.{◌++◌, length-append, add-one, append-nil, take_all, flat_map-append, take_at_read, map-append, Cell, Item, numbered, slack_count}
+-- Lists: properties of each element, their sums, their lengths, and the results of loops.
+use Rattle.rota_items.proofs.Common.Imports.{List, [], ◌∷◌, map, AllByRecursion, flat_map, AllByRecursion-append, AllByRecursion-concat_below, AllByRecursion-singleton_if, length-singleton_if}
+use Rattle.rota_items.proofs.Common.Imports.{◌≡◌, ℕ, ◌+◌, Bool, true, false, cond, refl, ap, arith, zero-add, sum_by, fold-map, sum_by-append, sum_by-cons, singleton_if, zero, suc, ◌*◌}
+use Rattle.rota_items.proofs.Common.Imports.{◌<◌, ◌≤◌, length, ◌∙◌, count_by, list_any, list_any-append, mul-le, sum_below, count_below, any_below, length-concat_below, concat_below}
+use Rattle.rota_items.proofs.Common.Imports.{◌++◌, length-append, add-one, append-nil, take_all, flat_map-append, take_at_read, map-append, Cell, Item, numbered, slack_count}
 pub use Rattle.rota_core.proofs.LogicWords.{all-weaker}
 use Rattle.std.proofs.lemmas.List.Concat.{flat_map-cons}
 use Rattle.std.proofs.lemmas.List.Sums.{sum_by_push}
 
--- ---- what holds of each element of a list
+-- ---- properties of each element of a list
 
 pub all-map : {X Y : Type 0} (P : Y → Type 0) (f : X → Y) (xs : List X) → AllByRecursion (λ x. P (f x)) xs →
     AllByRecursion P (map f xs)
@@ -28,27 +28,27 @@ pub all-flat_map : {X Y : Type 0} (P : Y → Type 0) (f : X → List Y) (xs : Li
 all-flat_map P f [] each = tt
 all-flat_map P f (x ∷ xs) each = AllByRecursion-append P (f x) (flat_map f xs) (each x) (all-flat_map P f xs each)
 
--- no more than the most, and P holds of each
-pub record AreFew {X : Type 0} (P : X → Type 0) (most : ℕ) (xs : List X) : Type 0 where
+-- the length is at most the maximum, and P holds for each element
+pub record AreFew {X : Type 0} (P : X → Type 0) (maximum : ℕ) (xs : List X) : Type 0 where
   pub each : AllByRecursion P xs
-  pub few : length xs ≤ most
+  pub few : length xs ≤ maximum
 
 module _ {X : Type 0} {P : X → Type 0} where
-  pub few-append : {a b most : ℕ} {xs ys : List X} → a + b ≤ most → AreFew P a xs → AreFew P b ys → AreFew P most (xs ++ ys)
+  pub few-append : {a b maximum : ℕ} {xs ys : List X} → a + b ≤ maximum → AreFew P a xs → AreFew P b ys → AreFew P maximum (xs ++ ys)
   few-append {xs} {ys} within one other = record {
     each = AllByRecursion-append P xs ys one.each other.each;
     few = omega (arith, length-append xs ys);
   }
 
-  pub few-each_below : {n m : ℕ} (most : ℕ) → n ≤ most → (f : ℕ → List X) → ((i : ℕ) → i < n → AreFew P m (f i)) →
-      AreFew P (most * m) (each_below n f)
-  few-each_below {n} {m} most within f all = record {
-    each = AllByRecursion-each_below P n f (λ i below. (all i below).each);
-    few = omega (arith, length-each_below n m f (λ i below. (all i below).few), mul-le n m most m within (omega arith));
+  pub few-concat_below : {n m : ℕ} (maximum : ℕ) → n ≤ maximum → (f : ℕ → List X) → ((i : ℕ) → i < n → AreFew P m (f i)) →
+      AreFew P (maximum * m) (concat_below n f)
+  few-concat_below {n} {m} maximum within f all = record {
+    each = AllByRecursion-concat_below P n f (λ i below. (all i below).each);
+    few = omega (arith, length-concat_below n m f (λ i below. (all i below).few), mul-le n m maximum m within (omega arith));
   }
 
-  pub few-only_if : (test : Bool) (x : X) → (test ≡ true → P x) → AreFew P 1 (only_if test x)
-  few-only_if test x holds = record { each = AllByRecursion-only_if P test x holds; few = length-only_if test x }
+  pub few-singleton_if : (test : Bool) (x : X) → (test ≡ true → P x) → AreFew P 1 (singleton_if test x)
+  few-singleton_if test x holds = record { each = AllByRecursion-singleton_if P test x holds; few = length-singleton_if test x }
 
 -- ---- sums and tests over lists
 
@@ -66,11 +66,11 @@ sum_by-same f g (x ∷ xs) same =
 pub sum_by-each-same : {X : Type 0} (f g : X → ℕ) → ((x : X) → f x ≡ g x) → (xs : List X) → sum_by f xs ≡ sum_by g xs
 sum_by-each-same f g each xs = ap (λ h. sum_by h xs) (λ i x. each x i)
 
-pub sum_by-only_if : {X : Type 0} (f : X → ℕ) (test : Bool) (x : X) →
-    sum_by f (only_if test x) ≡ cond test (f x) 0
-unfolding only_if
-sum_by-only_if f true x = zero-add (f x)
-sum_by-only_if f false x = refl
+pub sum_by-singleton_if : {X : Type 0} (f : X → ℕ) (test : Bool) (x : X) →
+    sum_by f (singleton_if test x) ≡ cond test (f x) 0
+unfolding singleton_if
+sum_by-singleton_if f true x = zero-add (f x)
+sum_by-singleton_if f false x = refl
 
 pub sum_by-flat_map : {X Y : Type 0} (f : Y → ℕ) (g : X → List Y) (xs : List X) →
     sum_by f (flat_map g xs) ≡ sum_by (λ x. sum_by f (g x)) xs
@@ -103,37 +103,37 @@ sum_below-within (suc n) m f small = grind (arith, small, sum_below-within n m f
 pub sum_below-zero : (n : ℕ) (f : ℕ → ℕ) → ((i : ℕ) → i < n → f i ≡ 0) → sum_below n f ≡ 0
 sum_below-zero n f none = omega (arith, sum_below-within n 0 f (λ i below. omega (arith, none i below)))
 
--- ---- how large
+-- ---- sizes
 
-pub sum_below-at_most : (n most m : ℕ) (f : ℕ → ℕ) → n ≤ most → ((i : ℕ) → f i ≤ m) → sum_below n f ≤ most * m
-sum_below-at_most n most m f few small =
-    omega (arith, sum_below-within n m f (λ i _. small i), mul-le n m most m few (omega arith))
+pub sum_below-at_most : (n maximum m : ℕ) (f : ℕ → ℕ) → n ≤ maximum → ((i : ℕ) → f i ≤ m) → sum_below n f ≤ maximum * m
+sum_below-at_most n maximum m f few small =
+    omega (arith, sum_below-within n m f (λ i _. small i), mul-le n m maximum m few (omega arith))
 
--- the length of what loops give
-pub length-at_most : {A : Type 0} {n m : ℕ} (most : ℕ) → n ≤ most → (f : ℕ → List A) → ((i : ℕ) → length (f i) ≤ m) →
-    length (each_below n f) ≤ most * m
-length-at_most {A} {n} {m} most few f small =
-    omega (arith, length-each_below n m f (λ i _. small i), mul-le n m most m few (omega arith))
+-- the length of the lists that loops make
+pub length-at_most : {A : Type 0} {n m : ℕ} (maximum : ℕ) → n ≤ maximum → (f : ℕ → List A) → ((i : ℕ) → length (f i) ≤ m) →
+    length (concat_below n f) ≤ maximum * m
+length-at_most {A} {n} {m} maximum few f small =
+    omega (arith, length-concat_below n m f (λ i _. small i), mul-le n m maximum m few (omega arith))
 
 -- ---- lists made by loops
 
 pub sum_by-each : {X : Type 0} (f : X → ℕ) (n : ℕ) (g : ℕ → List X) →
-    sum_by f (each_below n g) ≡ sum_below n (λ i. sum_by f (g i))
-unfolding each_below sum_below
+    sum_by f (concat_below n g) ≡ sum_below n (λ i. sum_by f (g i))
+unfolding concat_below sum_below
 sum_by-each f zero g = refl
-sum_by-each f (suc n) g = omega (arith, sum_by-append f (each_below n g) (g n), sum_by-each f n g)
+sum_by-each f (suc n) g = omega (arith, sum_by-append f (concat_below n g) (g n), sum_by-each f n g)
 
 pub sum_by-each-is : {X : Type 0} (f : X → ℕ) (n : ℕ) (g : ℕ → List X) (h : ℕ → ℕ) →
-    ((i : ℕ) → i < n → sum_by f (g i) ≡ h i) → sum_by f (each_below n g) ≡ sum_below n h
+    ((i : ℕ) → i < n → sum_by f (g i) ≡ h i) → sum_by f (concat_below n g) ≡ sum_below n h
 sum_by-each-is f n g h each = sum_by-each f n g ∙ sum_below-same n (λ i. sum_by f (g i)) h each
 
--- and so with a factor
+-- and the same with a factor
 pub sum_by-each-times : {X : Type 0} (f : X → ℕ) (n w : ℕ) (g : ℕ → List X) (h : ℕ → ℕ) →
-    ((i : ℕ) → i < n → sum_by f (g i) ≡ w * h i) → sum_by f (each_below n g) ≡ w * sum_below n h
+    ((i : ℕ) → i < n → sum_by f (g i) ≡ w * h i) → sum_by f (concat_below n g) ≡ w * sum_below n h
 sum_by-each-times f n w g h each = sum_by-each-is f n g (λ i. w * h i) each ∙ sum_below-times n w h
 
 pub count_by-each : {X : Type 0} (test : X → Bool) (n : ℕ) (x : ℕ → X) →
-    count_by test (each_below n (λ i. x i ∷ [])) ≡ count_below n (λ i. test (x i))
+    count_by test (concat_below n (λ i. x i ∷ [])) ≡ count_below n (λ i. test (x i))
 count_by-each test n x =
     sum_by-each-is (λ y. cond (test y) 1 0) n (λ i. x i ∷ []) (λ i. cond (test (x i)) 1 0)
     (λ i _. zero-add (cond (test (x i)) 1 0))
@@ -143,17 +143,24 @@ unfolding any_below
 any_below-same zero p q same = refl
 any_below-same (suc n) p q same = rw (any_below-same n p q (λ i below. same i (omega arith)), same n (omega arith)) refl
 
+-- a test that holds of more
+pub any_below-more : (n : ℕ) (p q : ℕ → Bool) → ((i : ℕ) → i < n → p i ≡ true → q i ≡ true) → any_below n p ≡ true → any_below n q ≡ true
+unfolding any_below
+any_below-more zero p q more some = some
+any_below-more (suc n) p q more some =
+    grind (arith, any_below-more n p q (λ i below. more i (omega arith)), more n (omega arith))
+
 pub list_any-each : {X : Type 0} (p : X → Bool) (n : ℕ) (g : ℕ → List X) →
-    list_any p (each_below n g) ≡ any_below n (λ i. list_any p (g i))
-unfolding each_below any_below
+    list_any p (concat_below n g) ≡ any_below n (λ i. list_any p (g i))
+unfolding concat_below any_below
 list_any-each p zero g = refl
 list_any-each p (suc n) g = rw (list_any-append, list_any-each p n g) refl
 
--- ---- what a loop counts or adds up
+-- ---- the count or sum of a loop
 
 -- the sum of numbers, one for each turn
 abbrev pub SumOfEach : ℕ → ℕ → (ℕ → ℕ) → ℕ → Type 0
-SumOfEach turns most number sum = (sum ≡ sum_below turns number) × (sum ≤ turns * most)
+SumOfEach turns maximum number sum = (sum ≡ sum_below turns number) × (sum ≤ turns * maximum)
 
 pub sum_below-none : (number : ℕ → ℕ) → sum_below 0 number ≡ 0
 unfolding sum_below
@@ -173,26 +180,26 @@ slack_count-cons item items = sum_by-cons (λ i. i.slacks) item items
 pub slack_count-numbered : (number : Cell → ℕ) (items : List (Item Cell)) → slack_count (map (numbered number) items) ≡ slack_count items
 slack_count-numbered number items = sum_by-map (λ (item : Item ℕ). item.slacks) (numbered number) items
 
--- as long for each turn
+-- the same length for each turn
 pub length-each-is : {A : Type 0} (n long : ℕ) (f : ℕ → List A) → ((i : ℕ) → i < n → length (f i) ≡ long) →
-    length (each_below n f) ≡ n * long
-unfolding each_below
+    length (concat_below n f) ≡ n * long
+unfolding concat_below
 length-each-is zero long f each = omega arith
 length-each-is (suc n) long f each = grind (arith, length-append, each, length-each-is n long f)
 
--- what each turn of a loop adds in two parts
+-- the two parts that each turn of a loop adds
 pub length-each_below_both : {A : Type 0} (n : ℕ) (f g : ℕ → List A) →
-    length (each_below n (λ i. f i ++ g i)) ≡ length (each_below n f) + length (each_below n g)
-unfolding each_below
+    length (concat_below n (λ i. f i ++ g i)) ≡ length (concat_below n f) + length (concat_below n g)
+unfolding concat_below
 length-each_below_both zero f g = refl
 length-each_below_both (suc n) f g = simp length-append (omega (arith, length-each_below_both n f g))
 
--- ---- what a loop over a list adds up
+-- ---- the sum of a loop over a list
 
--- what a loop over a list needs
+-- the rules that a loop over a list needs
 pub ruleset listing = (take_at_read, take_all, flat_map-append, flat_map-cons, append-nil, sum_by_push)
 
-pub map-each_below : {A B : Type 0} (f : A → B) (n : ℕ) (g : ℕ → List A) → map f (each_below n g) ≡ each_below n (λ i. map f (g i))
-unfolding each_below
-map-each_below f zero g = refl
-map-each_below f (suc n) g = map-append f (each_below n g) (g n) ∙ ap (λ xs. xs ++ map f (g n)) (map-each_below f n g)
+pub map-concat_below : {A B : Type 0} (f : A → B) (n : ℕ) (g : ℕ → List A) → map f (concat_below n g) ≡ concat_below n (λ i. map f (g i))
+unfolding concat_below
+map-concat_below f zero g = refl
+map-concat_below f (suc n) g = map-append f (concat_below n g) (g n) ∙ ap (λ xs. xs ++ map f (g n)) (map-concat_below f n g)

@@ -1,25 +1,25 @@
--- What lists made by loops are: what holds of each of their elements, said turn by turn.
-use Rattle.rota_items.proofs.Common.Words.{◌≡◌, ℕ, ◌<◌, Bool, true, List, [], ◌∷◌, ◌++◌, map, AllByRecursion, AllByRecursion-append, AllByRecursion-at}
-use Rattle.rota_items.proofs.Common.Words.{AllByRecursion-back, AllByRecursion-each_below, AllByRecursion-only_if, holds-where, each_below, only_if}
+-- The elements of lists made by loops, with properties of each element, turn by turn.
+use Rattle.rota_items.proofs.Common.Imports.{◌≡◌, ℕ, ◌<◌, Bool, true, List, [], ◌∷◌, ◌++◌, map, AllByRecursion, AllByRecursion-append, AllByRecursion-at}
+use Rattle.rota_items.proofs.Common.Imports.{AllByRecursion-back, AllByRecursion-concat_below, AllByRecursion-singleton_if, holds-where, concat_below, singleton_if}
 use Rattle.rota_items.proofs.Lists.{all-map, all-back}
 
--- what holds of each element of a family holds of the list, and back
+-- a property of each element of a family is a property of each element of the list, and the other way round
 pub record Are {A : Type 0} (xs : List A) (Each : (A → Type 0) → Type 0) : Type 1 where
   pub all : (P : A → Type 0) → Each P → AllByRecursion P xs
   pub each : (P : A → Type 0) → AllByRecursion P xs → Each P
 
 module _ {A : Type 0} where
-  -- those of the turns of a loop
+  -- the elements of the turns of a loop
   pub in-turns : {n : ℕ} {f : ℕ → List A} {Each : ℕ → (A → Type 0) → Type 0} → ((i : ℕ) → Are (f i) (Each i)) →
-      Are (each_below n f) (λ P. (i : ℕ) → i < n → Each i P)
+      Are (concat_below n f) (λ P. (i : ℕ) → i < n → Each i P)
   in-turns {n} {f} {Each} turns = record {
-    all = λ P each. AllByRecursion-each_below P n f (λ i i_in. (turns i).all P (each i i_in));
+    all = λ P each. AllByRecursion-concat_below P n f (λ i i_in. (turns i).all P (each i i_in));
     each = λ P all i i_in. (turns i).each P (AllByRecursion-at P n f all i i_in);
   }
 
-  pub where-holds : {test : Bool} {x : A} → Are (only_if test x) (λ P. test ≡ true → P x)
+  pub where-holds : {test : Bool} {x : A} → Are (singleton_if test x) (λ P. test ≡ true → P x)
   where-holds {test} {x} = record {
-    all = λ P each. AllByRecursion-only_if P test x each;
+    all = λ P each. AllByRecursion-singleton_if P test x each;
     each = λ P all. holds-where P test x all;
   }
 

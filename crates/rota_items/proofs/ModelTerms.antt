@@ -1,30 +1,30 @@
--- The terms of the model are by rising variable number, and the coefficients of its constraints are 1 and -1.
-use Rattle.rota_items.proofs.Common.Words.{ℕ, inl, refl, pos, All, All-from_recursion, AllByRecursion-append, Week, cell_number, unit_number, numbered, Term, times, LinearRow, linear_constraint}
-use Rattle.rota_items.proofs.Common.Words.{item_row, slack_variables, numbered_row, numbered_terms, model_of, unit_row, IsUnit, HasUnitCoefficients, ◌≡◌, zero, suc, ◌+◌, ◌≤◌, List}
-use Rattle.rota_items.proofs.Common.Words.{[], ◌∷◌, ◌++◌, arith, ℤ, nat_lt, AllByRecursion, range_with_len, sum_by-cons, first_slack, slack_count, constant_terms, cell_terms, constant}
-use Rattle.rota_items.proofs.Common.Words.{Item, Constraint, slack_weights, soft_items, objective_terms, numbered_items, RisesFrom, HasRisingTerms}
+-- The terms of the model are in ascending order of their variables, and the coefficients of its constraints are 1 and -1.
+use Rattle.rota_items.proofs.Common.Imports.{ℕ, inl, refl, pos, All, All-from_recursion, AllByRecursion-append, Problem, cell_number, unit_number, numbered, Term, times, LinearRow, linear_constraint}
+use Rattle.rota_items.proofs.Common.Imports.{item_row, slack_variables, numbered_row, numbered_terms, model_of, unit_row, IsUnit, HasUnitCoefficients, ◌≡◌, zero, suc, ◌+◌, ◌≤◌, List}
+use Rattle.rota_items.proofs.Common.Imports.{[], ◌∷◌, ◌++◌, arith, ℤ, nat_lt, AllByRecursion, range_with_len, sum_by-cons, first_slack, slack_count, constant_terms, cell_terms, constant}
+use Rattle.rota_items.proofs.Common.Imports.{Item, Constraint, slack_weights, soft_items, objective_terms, numbered_items, RisesFrom, HasRisingTerms}
 use Rattle.rota_items.proofs.ModelRows.{each-constraint, each-model_row}
 use Rattle.rota_items.proofs.SoundTerms.{AreUnits, coefficients-numbered, units-times}
 use Rattle.rota_items.proofs.Lists.{all-weaker, slack_count-numbered}
 use Rattle.rota_core.specs.RisingLists.{RisesWithin}
-use Rattle.rota_core.proofs.LogicWords.{widen, rises-append, rises-only_if}
+use Rattle.rota_core.proofs.LogicWords.{widen, rises-append, rises-singleton_if}
 use Rattle.rota_items.proofs.RisingCells.{rises-numbered}
 use Rattle.rota_items.proofs.SoftRules.EachRule.{rise-cell_terms}
 
 -- ---- coefficients
 
-pub units-constraints : (week : Week) → All HasUnitCoefficients (model_of week).constraints
-units-constraints week =
-    All-from_recursion HasUnitCoefficients (model_of week).constraints
-    (each-constraint week HasUnitCoefficients
-    (each-model_row week (λ row. HasUnitCoefficients (linear_constraint row)) (held (unit_row (unit_number week)) (inl refl, tt))
-    (λ rule row sound. held (numbered_row week row) (coefficients-numbered IsUnit (cell_number week) row.terms sound.terms.units))
+pub units-constraints : (problem : Problem) → All HasUnitCoefficients (model_of problem).constraints
+units-constraints problem =
+    All-from_recursion HasUnitCoefficients (model_of problem).constraints
+    (each-constraint problem HasUnitCoefficients
+    (each-model_row problem (λ row. HasUnitCoefficients (linear_constraint row)) (held (unit_row (unit_number problem)) (inl refl, tt))
+    (λ rule row sound. held (numbered_row problem row) (coefficients-numbered IsUnit (cell_number problem) row.terms sound.terms.units))
     (λ rule item first sound after up_to.
-    held (item_row (numbered (cell_number week) item) first)
-    (AllByRecursion-append (λ (term : Term ℕ). IsUnit term.0) (numbered_terms week item.terms)
-    (times (pos 1) (slack_variables (numbered (cell_number week) item) first))
-    (coefficients-numbered IsUnit (cell_number week) item.terms sound.terms.units)
-    (units-times (slack_variables (numbered (cell_number week) item) first))))))
+    held (item_row (numbered (cell_number problem) item) first)
+    (AllByRecursion-append (λ (term : Term ℕ). IsUnit term.0) (numbered_terms problem item.terms)
+    (times (pos 1) (slack_variables (numbered (cell_number problem) item) first))
+    (coefficients-numbered IsUnit (cell_number problem) item.terms sound.terms.units)
+    (units-times (slack_variables (numbered (cell_number problem) item) first))))))
   where
     held : (row : LinearRow ℕ) → AreUnits row.terms → HasUnitCoefficients (linear_constraint row)
     held row units = All-from_recursion (λ (term : Term ℕ). IsUnit term.0) row.terms units
@@ -40,7 +40,7 @@ from_within : (first end : ℕ) (terms : List (Term ℕ)) → RisesWithin variab
 from_within first end [] rises = tt
 from_within first end (t ∷ ts) rises = (rises.0, from_within (t.1 + 1) end ts rises.1)
 
-module _ (week : Week) where
+module _ (problem : Problem) where
   -- ---- constraints
 
   rises-range : (first end count : ℕ) (coefficient : ℤ) → first + count ≤ end →
@@ -48,24 +48,24 @@ module _ (week : Week) where
   rises-range first end zero coefficient up_to = omega arith
   rises-range first end (suc n) coefficient up_to = (omega arith, rises-range (first + 1) end n coefficient (omega arith))
 
-  pub rises-to_last : AllByRecursion (RisesTo ((model_of week).variables + 1)) (model_of week).constraints
+  pub rises-to_last : AllByRecursion (RisesTo ((model_of problem).variables + 1)) (model_of problem).constraints
   rises-to_last =
-      let end : ℕ = (model_of week).variables + 1 in
-      each-constraint week (RisesTo end)
-      (each-model_row week (λ row. RisesTo end (linear_constraint row)) (omega arith, omega arith)
+      let end : ℕ = (model_of problem).variables + 1 in
+      each-constraint problem (RisesTo end)
+      (each-model_row problem (λ row. RisesTo end (linear_constraint row)) (omega arith, omega arith)
       (λ rule row sound.
-      widen variable_of 1 (unit_number week) end _ (omega arith) (rises-numbered week 1 _ row.terms sound.terms.rise))
+      widen variable_of 1 (unit_number problem) end _ (omega arith) (rises-numbered problem 1 _ row.terms sound.terms.rise))
       (λ rule item first sound after up_to.
       widen variable_of 1 (first + item.slacks) end _ up_to
-      (rises-append variable_of 1 first _ (numbered_terms week item.terms) _
-      (widen variable_of 1 (unit_number week) first _ (omega (arith, after)) (rises-numbered week 1 _ item.terms sound.terms.rise))
+      (rises-append variable_of 1 first _ (numbered_terms problem item.terms) _
+      (widen variable_of 1 (unit_number problem) first _ (omega (arith, after)) (rises-numbered problem 1 _ item.terms sound.terms.rise))
       (rises-range first (first + item.slacks) item.slacks (pos 1) (omega arith)))))
 
-  pub rises-constraints : All HasRisingTerms (model_of week).constraints
+  pub rises-constraints : All HasRisingTerms (model_of problem).constraints
   rises-constraints =
-      All-from_recursion HasRisingTerms (model_of week).constraints
-      (all-weaker (RisesTo ((model_of week).variables + 1)) HasRisingTerms
-      (λ constraint rise. from_within 1 ((model_of week).variables + 1) constraint.terms rise) (model_of week).constraints rises-to_last)
+      All-from_recursion HasRisingTerms (model_of problem).constraints
+      (all-weaker (RisesTo ((model_of problem).variables + 1)) HasRisingTerms
+      (λ constraint rise. from_within 1 ((model_of problem).variables + 1) constraint.terms rise) (model_of problem).constraints rises-to_last)
 
   -- ---- the objective
 
@@ -78,17 +78,17 @@ module _ (week : Week) where
       (slack_weights (first + item.slacks) rest) (rises-range first _ item.slacks (pos item.weight) (omega arith))
       (rises-slack_weights (first + item.slacks) end rest (omega arith))
 
-  pub objective-to_last : RisesWithin variable_of 1 ((model_of week).variables + 1) (objective_terms week)
+  pub objective-to_last : RisesWithin variable_of 1 ((model_of problem).variables + 1) (objective_terms problem)
   objective-to_last =
-      let end : ℕ = (model_of week).variables + 1 in
-      let slacks = slack_weights (first_slack week) (numbered_items week) in
-      rises-append variable_of 1 (unit_number week) end (numbered_terms week (cell_terms week)) (constant_terms week ++ slacks)
-      (rises-numbered week 1 (unit_number week) (cell_terms week) (rise-cell_terms week))
-      (rises-append variable_of (unit_number week) (first_slack week) end (constant_terms week) slacks
-      (rises-only_if variable_of (unit_number week) (first_slack week) (nat_lt 0 (constant week))
-      (pos (constant week), unit_number week) (omega arith) (omega arith))
-      (rises-slack_weights (first_slack week) end (numbered_items week)
-      (omega (arith, slack_count-numbered (cell_number week) (soft_items week)))))
+      let end : ℕ = (model_of problem).variables + 1 in
+      let slacks = slack_weights (first_slack problem) (numbered_items problem) in
+      rises-append variable_of 1 (unit_number problem) end (numbered_terms problem (cell_terms problem)) (constant_terms problem ++ slacks)
+      (rises-numbered problem 1 (unit_number problem) (cell_terms problem) (rise-cell_terms problem))
+      (rises-append variable_of (unit_number problem) (first_slack problem) end (constant_terms problem) slacks
+      (rises-singleton_if variable_of (unit_number problem) (first_slack problem) (nat_lt 0 (constant problem))
+      (pos (constant problem), unit_number problem) (omega arith) (omega arith))
+      (rises-slack_weights (first_slack problem) end (numbered_items problem)
+      (omega (arith, slack_count-numbered (cell_number problem) (soft_items problem)))))
 
-  pub rises-objective : RisesFrom 1 (objective_terms week)
-  rises-objective = from_within 1 ((model_of week).variables + 1) (objective_terms week) objective-to_last
+  pub rises-objective : RisesFrom 1 (objective_terms problem)
+  rises-objective = from_within 1 ((model_of problem).variables + 1) (objective_terms problem) objective-to_last

@@ -1,11 +1,12 @@
--- The coefficients of the objective are positive and small, and how large it is of any assignment.
-use Rattle.rota_items.proofs.Common.Words.{ltb-true, request_cost, ◌≡◌, ℕ, ◌+◌, ◌<◌, Bool, cond, List, [], ◌∷◌, arith, ℤ, pos, ◌+ℤ◌, ◌≤ℤ◌, ◌<ℤ◌, All, AllByRecursion, ints, All-from_recursion, AllByRecursion-append}
-use Rattle.rota_items.proofs.Common.Words.{AllByRecursion-only_if, Week, Cell, cell_number, first_slack, Item, numbered, Term, times, value_of, objective_value, constant_terms, slack_variables}
-use Rattle.rota_items.proofs.Common.Words.{slack_weights, cell_terms, constant, soft_items, numbered_terms, numbered_items, objective_terms, model_of, IsWithinLimits, most_coefficient, ◌*◌, ◌≤◌}
-use Rattle.rota_items.proofs.Common.Words.{ap, sum_by-cons, count_by-le-length, sum_by, count_by, mul-le-mul_left, unit_number, roster_of, most_objective, most_weight}
+-- The coefficients of the objective are positive and small. Bounds on the objective of any assignment.
+use Rattle.rota_items.proofs.Common.Imports.{ltb-true, request_cost, ◌≡◌, ℕ, ◌+◌, ◌<◌, Bool, cond, List, [], ◌∷◌, arith, ℤ, pos, ◌+ℤ◌, ◌≤ℤ◌, ◌<ℤ◌, All, AllByRecursion, ints, All-from_recursion, AllByRecursion-append}
+use Rattle.rota_items.proofs.Common.Imports.{AllByRecursion-singleton_if, Problem, Cell, cell_number, first_slack, Item, numbered, Term, times, value_of, objective_value, constant_terms, slack_variables}
+use Rattle.rota_items.proofs.Common.Imports.{slack_weights, cell_terms, constant, soft_items, numbered_terms, numbered_items, objective_terms, model_of, IsWithinLimits, max_coefficient, ◌*◌, ◌≤◌}
+use Rattle.rota_items.proofs.Common.Imports.{ap, sum_by-cons, count_by-le-length, sum_by, count_by, mul-le-mul_left, unit_number, roster_of, max_objective, max_weight}
 use Rattle.rota_items.proofs.Lists.{all-map, all-weaker, sum_by-map}
 use Rattle.rota_items.proofs.RuleSizes.{constant-few, soft_items-le}
-use Rattle.rota_items.proofs.PenaltyBound.{each-small, request_cost-le}
+use Rattle.rota_items.proofs.PenaltyBound.{each-small}
+use Rattle.rota_items.proofs.SoftRules.ShiftOffRequests.{request_cost-le}
 use Rattle.rota_items.proofs.SoftRules.EachRule.{each-item, cell_terms-are, sound-cell_terms}
 use Rattle.rota_items.proofs.SoftRules.ShiftOffRequests.{IsTermSound, value_of-request_terms}
 use Rattle.rota_items.proofs.SoundTerms.{OnCoefficients, coefficients-times, coefficients-numbered}
@@ -14,7 +15,7 @@ use Rattle.rota_items.proofs.Extension.{value_of-objective}
 use Rattle.rota_items.proofs.ItemLaw.{value_of-weight, value_of-numbered}
 use Rattle.rota_items.proofs.PatternItems.{value_of-append}
 
-module _ (week : Week) (P : ℤ → Type 0) where
+module _ (problem : Problem) (P : ℤ → Type 0) where
   abbrev OnWeight : {X : Type 0} → Item X → Type 0
   OnWeight item = P (pos item.weight)
 
@@ -25,46 +26,46 @@ module _ (week : Week) (P : ℤ → Type 0) where
       (coefficients-times P (pos item.weight) (slack_variables item first) all.0) (on-slack_weights (first + item.slacks) items all.1)
 
   -- P holds of each coefficient of the objective
-  on-objective : ((term : Term Cell) → IsTermSound week term → P term.0) → (0 < constant week → P (pos (constant week))) →
-      AllByRecursion OnWeight (soft_items week) → OnCoefficients P (objective_terms week)
+  on-objective : ((term : Term Cell) → IsTermSound problem term → P term.0) → (0 < constant problem → P (pos (constant problem))) →
+      AllByRecursion OnWeight (soft_items problem) → OnCoefficients P (objective_terms problem)
   on-objective of_term of_constant of_items =
-      AllByRecursion-append (λ (term : Term ℕ). P term.0) (numbered_terms week (cell_terms week)) _
-      (coefficients-numbered P (cell_number week) (cell_terms week)
-      (all-weaker (IsTermSound week) (λ (term : Term Cell). P term.0) of_term (cell_terms week) (sound-cell_terms week)))
-      (AllByRecursion-append (λ (term : Term ℕ). P term.0) (constant_terms week) _
-      (AllByRecursion-only_if (λ (term : Term ℕ). P term.0) _ _ (λ test. of_constant (ltb-true 0 (constant week) test)))
-      (on-slack_weights (first_slack week) (numbered_items week)
-      (all-map OnWeight (numbered (cell_number week)) (soft_items week) of_items)))
+      AllByRecursion-append (λ (term : Term ℕ). P term.0) (numbered_terms problem (cell_terms problem)) _
+      (coefficients-numbered P (cell_number problem) (cell_terms problem)
+      (all-weaker (IsTermSound problem) (λ (term : Term Cell). P term.0) of_term (cell_terms problem) (sound-cell_terms problem)))
+      (AllByRecursion-append (λ (term : Term ℕ). P term.0) (constant_terms problem) _
+      (AllByRecursion-singleton_if (λ (term : Term ℕ). P term.0) _ _ (λ test. of_constant (ltb-true 0 (constant problem) test)))
+      (on-slack_weights (first_slack problem) (numbered_items problem)
+      (all-map OnWeight (numbered (cell_number problem)) (soft_items problem) of_items)))
 
 -- ---- positive
 
 abbrev pub IsPositive : ℤ → Type 0
 IsPositive coefficient = pos 0 <ℤ coefficient
 
-pub coefficients-positive : (week : Week) → OnCoefficients IsPositive (objective_terms week)
-coefficients-positive week =
-    on-objective week IsPositive (λ term sound. sound.positive) (λ some. omega (arith, ints, some))
-    (each-item week (OnWeight week IsPositive) (λ rule item _ sound. omega (arith, ints, sound.weighs)))
+pub coefficients-positive : (problem : Problem) → OnCoefficients IsPositive (objective_terms problem)
+coefficients-positive problem =
+    on-objective problem IsPositive (λ term sound. sound.positive) (λ some. omega (arith, ints, some))
+    (each-item problem (OnWeight problem IsPositive) (λ rule item _ sound. omega (arith, ints, sound.weighs)))
 
 -- ---- small
 
 abbrev IsSmall : ℤ → Type 0
-IsSmall coefficient = coefficient ≤ℤ pos most_coefficient
+IsSmall coefficient = coefficient ≤ℤ pos max_coefficient
 
-pub objective-small : (week : Week) → IsWithinLimits week → All (λ (term : Term ℕ). IsSmall term.0) (model_of week).objective
-objective-small week limits =
-    All-from_recursion (λ (term : Term ℕ). IsSmall term.0) (objective_terms week)
-    (on-objective week IsSmall (λ term sound. omega (arith, ints, sound.small limits)) (λ _. omega (arith, ints, constant-few week limits))
-    (each-small week limits (OnWeight week IsSmall) (λ rule item small sound.
+pub objective-small : (problem : Problem) → IsWithinLimits problem → All (λ (term : Term ℕ). IsSmall term.0) (model_of problem).objective
+objective-small problem limits =
+    All-from_recursion (λ (term : Term ℕ). IsSmall term.0) (objective_terms problem)
+    (on-objective problem IsSmall (λ term sound. omega (arith, ints, sound.small limits)) (λ _. omega (arith, ints, constant-few problem limits))
+    (each-small problem limits (OnWeight problem IsSmall) (λ rule item small sound.
     omega (arith, ints, small.all_slacks, mul-le-mul_left item.weight sound.has_slack))))
 
 -- ---- of any assignment
 
--- what all slacks of an item weigh
+-- the weight of all slacks of an item
 abbrev all_slacks : {X : Type 0} → Item X → ℕ
 all_slacks item = item.weight * item.slacks
 
--- the slacks cost at least 0, and at most what all of them weigh
+-- the slacks cost at least 0, and at most the weight of all of them
 value_of-slack_weights : (assignment : ℕ → Bool) (first : ℕ) (some : List (Item ℕ)) →
     (pos 0 ≤ℤ value_of assignment (slack_weights first some)) ×
     (value_of assignment (slack_weights first some) ≤ℤ pos (sum_by all_slacks some))
@@ -79,34 +80,34 @@ value_of-slack_weights assignment first (x ∷ xs) =
       omega (arith, ints, parts, here, rest.1, mul-le-mul_left x.weight few, sum_by-cons {X = Item ℕ} all_slacks x xs),
     )
 
-module _ (week : Week) (assignment : ℕ → Bool) where
-  objective-is : value_of assignment (objective_terms week) ≡
-      pos (request_cost week (roster_of week assignment) + cond (assignment (unit_number week)) (constant week) 0) +ℤ
-      value_of assignment (slack_weights (first_slack week) (numbered_items week))
+module _ (problem : Problem) (assignment : ℕ → Bool) where
+  objective-is : value_of assignment (objective_terms problem) ≡
+      pos (request_cost problem (roster_of problem assignment) + cond (assignment (unit_number problem)) (constant problem) 0) +ℤ
+      value_of assignment (slack_weights (first_slack problem) (numbered_items problem))
   objective-is =
       omega (
         arith,
         ints,
-        value_of-objective week assignment,
-        value_of-numbered (cell_number week) assignment (cell_terms week),
-        ap (value_of (roster_of week assignment)) (cell_terms-are week),
-        value_of-request_terms week (roster_of week assignment),
+        value_of-objective problem assignment,
+        value_of-numbered (cell_number problem) assignment (cell_terms problem),
+        ap (value_of (roster_of problem assignment)) (cell_terms-are problem),
+        value_of-request_terms problem (roster_of problem assignment),
       )
 
-  pub objective_value-positive : pos 0 ≤ℤ objective_value assignment (model_of week)
+  pub objective_value-positive : pos 0 ≤ℤ objective_value assignment (model_of problem)
   objective_value-positive =
-      omega (arith, ints, objective-is, (value_of-slack_weights assignment (first_slack week) (numbered_items week)).0)
+      omega (arith, ints, objective-is, (value_of-slack_weights assignment (first_slack problem) (numbered_items problem)).0)
 
-  pub objective-below : IsWithinLimits week → value_of assignment (objective_terms week) ≤ℤ pos most_objective
+  pub objective-below : IsWithinLimits problem → value_of assignment (objective_terms problem) ≤ℤ pos max_objective
   objective-below limits =
-      let at_unit : cond (assignment (unit_number week)) (constant week) 0 ≤ constant week = grind arith in
+      let at_unit : cond (assignment (unit_number problem)) (constant problem) 0 ≤ constant problem = grind arith in
       omega (
         arith,
         ints,
         objective-is,
-        request_cost-le week limits (roster_of week assignment),
-        constant-few week limits,
-        (value_of-slack_weights assignment (first_slack week) (numbered_items week)).1,
-        sum_by-map all_slacks (numbered (cell_number week)) (soft_items week),
-        soft_items-le week limits all_slacks (λ _. most_weight) (λ rule item small. small.all_slacks),
+        request_cost-le problem limits (roster_of problem assignment),
+        constant-few problem limits,
+        (value_of-slack_weights assignment (first_slack problem) (numbered_items problem)).1,
+        sum_by-map all_slacks (numbered (cell_number problem)) (soft_items problem),
+        soft_items-le problem limits all_slacks (λ _. max_weight) (λ rule item small. small.all_slacks),
       )

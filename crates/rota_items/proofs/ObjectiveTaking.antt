@@ -1,21 +1,21 @@
 -- How a taker takes the objective, term by term.
-use Rattle.rota_items.proofs.Common.Words.{◌≡◌, ℕ, zero, suc, ◌<◌, Bool, true, false, nat_lt, List, [], ◌∷◌, ◌++◌, length, length-append, Result, MatchResult, refl}
-use Rattle.rota_items.proofs.Common.Words.{sym, ap, ◌∙◌, arith, lt-ltb, true≢false, length-map, fold, pos, Ok, Err, is_err, only_if-fails, each_below, only_if, Week}
-use Rattle.rota_items.proofs.Common.Words.{Cell, Term, LinearRow, objective_rows, cell_term_events, Event, term, term_events, Took, Objective, Ghosts}
+use Rattle.rota_items.proofs.Common.Imports.{◌≡◌, ℕ, zero, suc, ◌<◌, Bool, true, false, nat_lt, List, [], ◌∷◌, ◌++◌, length, length-append, Result, MatchResult, refl}
+use Rattle.rota_items.proofs.Common.Imports.{sym, ap, ◌∙◌, arith, lt-ltb, true≢false, length-map, fold, pos, Ok, Err, is_err, singleton_if-fails, concat_below, singleton_if, Problem}
+use Rattle.rota_items.proofs.Common.Imports.{Cell, Term, LinearRow, objective_rows, cell_term_events, Event, term, term_events, Took, Objective, Ghosts}
 use Rattle.rota_items.proofs.Taking.{nothing, terms_join}
 
 -- the objective's row with these terms
 abbrev pub row_of : List (Term ℕ) → LinearRow ℕ
 row_of terms = record { part = Objective; terms = terms; degree = pos 0 }
 
-each_below-nowhere : {A : Type 0} (test : Bool) (n : ℕ) (f : ℕ → A) → test ≡ false → each_below n (λ k. only_if test (f k)) ≡ []
-unfolding each_below
-each_below-nowhere test zero f fails = refl
-each_below-nowhere test (suc n) f fails = rw (each_below-nowhere test n f fails, only_if-fails test (f n) fails) refl
+concat_below-nowhere : {A : Type 0} (test : Bool) (n : ℕ) (f : ℕ → A) → test ≡ false → concat_below n (λ k. singleton_if test (f k)) ≡ []
+unfolding concat_below
+concat_below-nowhere test zero f fails = refl
+concat_below-nowhere test (suc n) f fails = rw (concat_below-nowhere test n f fails, singleton_if-fails test (f n) fails) refl
 
--- ---- whether there is a term
+-- ---- whether the objective has a term
 
--- what a taker that took an event stands for, where it refuses each
+-- the abstract value of a taker that took an event, if it refuses each
 abbrev touched : Bool → Event → Bool
 touched before event = true
 
@@ -23,15 +23,15 @@ stays_touched : (some : List Event) → fold touched true some ≡ true
 stays_touched [] = refl
 stays_touched (event ∷ some) = stays_touched some
 
-pub some_refused : (terms : List (Term ℕ)) (taken : List Event) (event : Event) (untold : List Event) →
-    term_events terms ≡ taken ++ event ∷ untold → 0 < length terms
+pub some_refused : (terms : List (Term ℕ)) (taken : List Event) (event : Event) (rest : List Event) →
+    term_events terms ≡ taken ++ event ∷ rest → 0 < length terms
 unfolding term_events
-some_refused terms taken event untold are =
+some_refused terms taken event rest are =
     omega (
       arith,
       length-map terms (λ (t : Term ℕ). term t.0 t.1),
       ap (λ (xs : List Event). length xs) are,
-      length-append taken (event ∷ untold),
+      length-append taken (event ∷ rest),
     )
 
 pub told_by_refusal : {F : Type 0} (r : Result (Unit {0}) F) (terms : List (Term ℕ)) →
@@ -42,7 +42,7 @@ told_by_refusal (Ok done) (first ∷ others) untouched = absurd (true≢false (s
 told_by_refusal (Err refusal) [] some = absurd (omega arith)
 told_by_refusal (Err refusal) (first ∷ others) some = sym (lt-ltb 0 (length (first ∷ others)) some)
 
--- ---- the row, where there is a term
+-- ---- the row, if the objective has a term
 
 pub one_row : (terms : List (Term ℕ)) → nat_lt 0 (length terms) ≡ true → objective_rows terms ≡ row_of terms ∷ []
 one_row [] some = absurd (true≢false (sym some))
@@ -52,7 +52,7 @@ pub no_row : (terms : List (Term ℕ)) → nat_lt 0 (length terms) ≡ false →
 no_row [] none = refl
 no_row (first ∷ others) none = absurd (true≢false (sym (lt-ltb 0 (length (first ∷ others)) (omega arith)) ∙ none))
 
-module _ {S F : Type 0} (T : Ghosts S F) (week : Week) where
+module _ {S F : Type 0} (T : Ghosts S F) (problem : Problem) where
   pub cell_terms_nowhere : (test : Bool) (n : ℕ) (f : ℕ → Term Cell) (s : S) → test ≡ false →
-      Took T (cell_term_events week (each_below n (λ k. only_if test (f k)))) s s
-  cell_terms_nowhere test n f s fails = rw (each_below-nowhere test n f fails) (nothing (terms_join week) s)
+      Took T (cell_term_events problem (concat_below n (λ k. singleton_if test (f k)))) s s
+  cell_terms_nowhere test n f s fails = rw (concat_below-nowhere test n f fails) (nothing (terms_join problem) s)

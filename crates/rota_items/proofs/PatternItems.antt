@@ -1,7 +1,7 @@
--- The shortage of a pattern's item is 1 where the days are as the pattern says, and else 0.
-use Rattle.rota_items.proofs.Common.Words.{◌≡◌, ℕ, ◌-◌, ◌*◌, ◌≤◌, Bool, not, cond, true, false, ◌⊎◌, inr, List, [], ◌∷◌, ◌++◌, refl, arith, ℤ, pos, negsuc, ◌+ℤ◌}
-use Rattle.rota_items.proofs.Common.Words.{◌-ℤ◌, list_any, sum_by, count_by, flat_map, AllByRecursion, sum_by-cons, ints, Item, Rule, shortage, times, Term, value_of}
-use Rattle.rota_items.proofs.Common.Words.{Property, Present, Absent, variables_on, is_plain, day_terms, pattern_item, PatternDay, Pattern, has_property}
+-- The shortage of a pattern's item is 1 if the days match the pattern, and otherwise 0.
+use Rattle.rota_items.proofs.Common.Imports.{◌≡◌, ℕ, ◌-◌, ◌*◌, ◌≤◌, Bool, not, cond, true, false, ◌⊎◌, inr, List, [], ◌∷◌, ◌++◌, refl, arith, ℤ, pos, negsuc, ◌+ℤ◌}
+use Rattle.rota_items.proofs.Common.Imports.{◌-ℤ◌, list_any, sum_by, count_by, flat_map, AllByRecursion, sum_by-cons, ints, Item, Rule, shortage, times, Term, value_of}
+use Rattle.rota_items.proofs.Common.Imports.{Property, Present, Absent, variables_on, is_plain, day_terms, pattern_item, PatternDay, Pattern, has_property}
 use Rattle.rota_items.proofs.SmallSums.{positive_part-parts}
 use Rattle.rota_items.proofs.DayLaw.{matches_day, matches, units_of}
 
@@ -10,7 +10,7 @@ pub value_of-append : {X : Type 0} (assignment : X → Bool) (xs ys : List (Term
 value_of-append assignment [] ys = omega (arith, ints)
 value_of-append assignment (x ∷ xs) ys = omega (arith, ints, value_of-append assignment xs ys)
 
--- whether one of the variables is true, by how many are
+-- whether one of the variables is true, by the number of true variables
 pub any_or_none : {X : Type 0} (assignment : X → Bool) (variables : List X) →
     ((list_any assignment variables ≡ true) × (1 ≤ count_by assignment variables)) ⊎
     ((list_any assignment variables ≡ false) × (count_by assignment variables ≡ 0))
@@ -31,11 +31,11 @@ value_of-sum assignment plain [] = grind (arith, ints)
 value_of-sum assignment plain (v ∷ vs) =
     grind (arith, ints, sum_by-cons (λ x. cond (assignment x) 1 0) v vs, value_of-sum assignment plain vs)
 
--- 1 on a day that is not as the pattern says
+-- 1 on a day that does not match the pattern
 abbrev pub miss : (ℕ → Bool) → PatternDay → ℕ
 miss has day = cond (matches_day has day) 0 1
 
--- a sum of 0 or 1 gives 1 less where it is plain, and so 0 where it is as wanted and else 1
+-- a sum of 0 or 1, less 1 if it is plain, is 0 if it is as wanted, and otherwise 1
 value_of-day : {X : Type 0} (property : Property X) (assignment : X → Bool) (day : PatternDay) →
     count_by assignment (variables_on property day.day) ≤ 1 →
     value_of assignment (day_terms property day) +ℤ pos (cond (is_plain property day) 1 0) ≡
@@ -65,7 +65,7 @@ value_of-days property assignment (day ∷ days) one =
       value_of-days property assignment days one.1,
     )
 
--- 1 where there is no miss
+-- 1 if there is no miss
 misses : (has : ℕ → Bool) (days : List PatternDay) →
     1 - sum_by (miss has) days ≡ cond (matches has days) 1 0
 misses has [] = refl

@@ -1,7 +1,7 @@
 -- The items of a property's runs charge the cost of the runs.
-use Rattle.rota_items.proofs.Common.Words.{◌≡◌, ℕ, ◌*◌, ◌<◌, ◌≤◌, Bool, cond, List, [], ◌∷◌, ◌++◌, refl, ap, arith, All, count_by, sum_below, AllByRecursion, sum_by-cons, sum_by-append, All-from_recursion}
-use Rattle.rota_items.proofs.Common.Words.{Item, shortage, weighted_shortages, Span, Runs, variables_on, pattern_item, run_items, pattern_items, Pattern, windows_on, patterns_on, windows}
-use Rattle.rota_items.proofs.Common.Words.{patterns, has_property, day_items, AtMostOneADay, DaysFollow, day_cost, is_over, missing_on, run_over, run_under, run_cost}
+use Rattle.rota_items.proofs.Common.Imports.{◌≡◌, ℕ, ◌*◌, ◌<◌, ◌≤◌, Bool, cond, List, [], ◌∷◌, ◌++◌, refl, ap, arith, All, count_by, sum_below, AllByRecursion, sum_by-cons, sum_by-append, All-from_recursion}
+use Rattle.rota_items.proofs.Common.Imports.{Item, shortage, weighted_shortages, Span, Runs, variables_on, pattern_item, run_items, pattern_items, Pattern, windows_on, patterns_on, windows}
+use Rattle.rota_items.proofs.Common.Imports.{patterns, has_property, day_items, AtMostOneADay, DaysFollow, day_cost, is_over, missing_on, run_over, run_under, run_cost}
 use Rattle.rota_items.proofs.DayLaw.{units_of, units, units-windows_on, units-patterns_on}
 use Rattle.rota_items.proofs.EachPattern.{IsRunPattern, each-on, each-pattern, on-pattern, each-run_item}
 use Rattle.rota_items.proofs.Lists.{sum_by-each-is}
@@ -56,9 +56,3 @@ module _ {X : Type 0} (runs : Runs X) (assignment : X → Bool) (one : AtMostOne
         units-patterns_on has history d limits,
       )
       refl
-
-  pub shortages-run_items : All (λ item. shortage assignment item ≤ item.slacks) (run_items runs)
-  shortages-run_items =
-      let HasEnough : Item X → Type 0 = λ item. shortage assignment item ≤ item.slacks in
-      All-from_recursion HasEnough (run_items runs) (each-run_item runs HasEnough (λ p is.
-      grind (arith, shortage-pattern_item runs.rule runs.weight runs.property assignment p (at_most_one p is.follows))))

@@ -1,15 +1,15 @@
 -- The terms of variables that follow one another.
-use Rattle.rota_items.proofs.Common.Words.{◌≡◌, ℕ, zero, suc, ◌+◌, ◌<◌, List, [], ◌∷◌, ◌++◌, refl, ap, ◌∙◌, arith, ℤ, range_with_len, to_z-of_z, map-append}
-use Rattle.rota_items.proofs.Common.Words.{fold-append, map-range_with_len_more, each_below, times, Term, term, term_events, Took, Refused, Ghosts}
+use Rattle.rota_items.proofs.Common.Imports.{◌≡◌, ℕ, zero, suc, ◌+◌, ◌<◌, List, [], ◌∷◌, ◌++◌, refl, ap, ◌∙◌, arith, ℤ, range_with_len, to_z-of_z, map-append}
+use Rattle.rota_items.proofs.Common.Imports.{fold-append, map-range_with_len_more, concat_below, times, Term, term, term_events, Took, Refused, Ghosts}
 use Rattle.rota_items.proofs.Taking.{numbers_join, loop_refused, Refused-one}
 
--- one variable, so far from the first
+-- one variable, at this distance from the first
 abbrev slack_term : ℤ → ℕ → ℕ → List (Term ℕ)
 slack_term coefficient first i = (coefficient, first + i) ∷ []
 
 slack_terms-are : (coefficient : ℤ) (first n : ℕ) →
-    times coefficient (range_with_len first n) ≡ each_below n (slack_term coefficient first)
-unfolding each_below
+    times coefficient (range_with_len first n) ≡ concat_below n (slack_term coefficient first)
+unfolding concat_below
 slack_terms-are coefficient first zero = refl
 slack_terms-are coefficient first (suc n) =
     (let more : suc n ≡ n + 1 = omega arith in ap (λ m. times coefficient (range_with_len first m)) more) ∙
@@ -20,7 +20,7 @@ pub range_terms-more : (coefficient : ℤ) (first n : ℕ) →
     times coefficient (range_with_len first (n + 1)) ≡ times coefficient (range_with_len first n) ++ (coefficient, first + n) ∷ []
 range_terms-more coefficient first n = map-range_with_len_more {X = Term ℕ} (λ v. (coefficient, v)) first n (first + n) refl
 
--- what a loop over variables that follow one another needs
+-- the rules that a loop over variables that follow one another needs
 pub ruleset ranges = (range_terms-more, map-append, fold-append, to_z-of_z)
 
 module _ {S F : Type 0} (T : Ghosts S F) where

@@ -1,6 +1,6 @@
--- Sums that do not reach the greatest number.
-use Rattle.rota_items.proofs.Common.Words.{◌≡◌, ℕ, ◌+◌, ◌-◌, ◌≤◌, Bool, List, [], ◌∷◌, arith, ℤ, pos, negsuc, ◌+ℤ◌, nat_abs, if◌then◌else◌}
-use Rattle.rota_items.proofs.Common.Words.{sum_by, ints, sum_by-cons, up, down, Item, positive_part, shortage, Term, value_of}
+-- Sums that do not reach the maximum.
+use Rattle.rota_items.proofs.Common.Imports.{◌≡◌, ℕ, ◌+◌, ◌-◌, ◌≤◌, Bool, List, [], ◌∷◌, arith, ℤ, pos, negsuc, ◌+ℤ◌, nat_abs, if◌then◌else◌}
+use Rattle.rota_items.proofs.Common.Imports.{sum_by, ints, sum_by-cons, up, down, Item, positive_part, shortage, Term, value_of}
 
 -- the sum of the coefficients without their signs
 abbrev pub spread : {X : Type 0} → List (Term X) → ℕ
@@ -19,7 +19,7 @@ pub positive_part-parts : (z : ℤ) → positive_part z ≡ up z - down z
 positive_part-parts (pos n) = omega arith
 positive_part-parts (negsuc n) = omega arith
 
--- what is lacking is no more than the degree and the coefficients
-pub shortage-least : {X : Type 0} (assignment : X → Bool) (item : Item X) →
+-- the shortage is at most the degree and the coefficients together
+pub shortage-minimum : {X : Type 0} (assignment : X → Bool) (item : Item X) →
     shortage assignment item ≤ positive_part item.degree + spread item.terms
-shortage-least assignment item = omega (arith, ints, positive_part-parts, value_of-small assignment item.terms)
+shortage-minimum assignment item = omega (arith, ints, positive_part-parts, value_of-small assignment item.terms)

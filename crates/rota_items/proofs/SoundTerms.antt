@@ -1,7 +1,7 @@
--- Terms: what holds of their variables and coefficients, and those within the week, rising, of coefficients of 1 and -1.
-use Rattle.rota_items.proofs.Common.Words.{◌≡◌, ℕ, ◌<◌, Bool, List, [], ◌∷◌, refl, ℤ, pos, All, AllByRecursion, flat_map, All-from_recursion, recursion_from_All, AllByRecursion-append, ◌≤◌, true, false}
-use Rattle.rota_items.proofs.Common.Words.{inl, inr, map, length, arith, negsuc, nat_abs, if◌then◌else◌, sum_by-cons, max, AllByRecursion-each_below, ◌+◌, Item, Term, times, value_of, StandBelow, IsUnit}
-use Rattle.rota_items.proofs.Common.Words.{InWeek, Week, on_cells, work_cells, demand_cells, Cell, cell_number, unit_number, Property, Runs, variables_on, day_terms, run_items, PatternDay, is_plain}
+-- Terms: properties of their variables and coefficients, and rising terms within the week with coefficients of 1 and -1.
+use Rattle.rota_items.proofs.Common.Imports.{◌≡◌, ℕ, ◌<◌, Bool, List, [], ◌∷◌, refl, ℤ, pos, All, AllByRecursion, flat_map, All-from_recursion, recursion_from_All, AllByRecursion-append, ◌≤◌, true, false}
+use Rattle.rota_items.proofs.Common.Imports.{inl, inr, map, length, arith, negsuc, nat_abs, if◌then◌else◌, sum_by-cons, max, AllByRecursion-concat_below, ◌+◌, Item, Term, times, value_of, AreBelow, IsUnit}
+use Rattle.rota_items.proofs.Common.Imports.{InWeek, Problem, on_cells, work_cells, demand_cells, Cell, cell_number, unit_number, Property, Runs, variables_on, day_terms, run_items, PatternDay, is_plain}
 use Rattle.rota_items.proofs.EachPattern.{OnDays, on-pattern, each-run_item}
 use Rattle.rota_items.proofs.Lists.{all-flat_map, all-map}
 use Rattle.rota_items.proofs.SmallSums.{spread}
@@ -10,7 +10,7 @@ use Rattle.rota_core.proofs.LogicWords.{length-rising}
 use Rattle.rota_items.proofs.Numbers.{cell_number-below}
 use Rattle.rota_items.proofs.RisingCells.{at, in-cell, on-are, rises-demand_cells, rises-times, within, work-are}
 
--- ---- what holds of the variables of a property's days holds of its items' variables
+-- ---- properties of the variables of a property's days are properties of its items' variables
 
 abbrev pub OnTerms : {X : Type 0} → (X → Type 0) → List (Term X) → Type 0
 OnTerms {X} P terms = AllByRecursion (λ (term : Term X). P term.1) terms
@@ -22,7 +22,7 @@ pub on-times : {X : Type 0} (P : X → Type 0) (coefficient : ℤ) (variables : 
     OnTerms P (times coefficient variables)
 on-times {X} P coefficient variables all = all-map (λ (term : Term X). P term.1) (λ v. (coefficient, v)) variables all
 
--- two assignments that agree where the terms are
+-- two assignments that agree on the terms
 pub value_of-agree : {X : Type 0} (one other : X → Bool) (P : X → Type 0) (terms : List (Term X)) →
     ((x : X) → P x → one x ≡ other x) → OnTerms P terms → value_of one terms ≡ value_of other terms
 value_of-agree one other P [] agree all = refl
@@ -35,18 +35,7 @@ on-days {X} P property (day ∷ days) all =
     AllByRecursion-append (λ (term : Term X). P term.1) (day_terms property day) (flat_map (day_terms property) days)
     (on-times P _ (variables_on property day.day) all.0) (on-days P property days all.1)
 
--- the variables of a property's items are those of its days
-pub run_items-below : (runs : Runs ℕ) (first : ℕ) →
-    ((d : ℕ) → d < 7 → All (λ v. v < first) (variables_on runs.property d)) → StandBelow first (run_items runs)
-run_items-below runs first below =
-    let Below : Item ℕ → Type 0 = λ item. All (λ (term : Term ℕ). term.1 < first) item.terms in
-    All-from_recursion Below (run_items runs) (each-run_item runs Below (λ p is.
-    All-from_recursion (λ (term : Term ℕ). term.1 < first) (flat_map (day_terms runs.property) p.days)
-    (on-days (λ v. v < first) runs.property p.days
-    (on-pattern (OnVariables (λ v. v < first) runs.property)
-    (λ d d_in. recursion_from_All (λ v. v < first) (variables_on runs.property d) (below d d_in)) p is.follows))))
-
--- ---- what holds of the coefficients of terms, and terms whose coefficients are 1 and -1
+-- ---- properties of the coefficients of terms, and terms whose coefficients are 1 and -1
 
 abbrev pub OnCoefficients : {X : Type 0} → (ℤ → Type 0) → List (Term X) → Type 0
 OnCoefficients {X} P terms = AllByRecursion (λ (term : Term X). P term.0) terms
@@ -77,7 +66,7 @@ units-days {X} property days =
     sign true = inr refl
     sign false = inl refl
 
--- they spread no further than there are terms
+-- they spread no further than the number of terms
 pub spread-units : {X : Type 0} (terms : List (Term X)) → AreUnits terms → spread terms ≤ length terms
 spread-units [] all = omega arith
 spread-units {X} (t ∷ ts) all =
@@ -89,51 +78,51 @@ spread-units {X} (t ∷ ts) all =
 
 -- ---- the cells of the model's sums lie within the week's numbers
 
-module _ (week : Week) where
-  pub in-on_cells : (n s d : ℕ) → n < week.nurses → s < week.shifts → d < 7 → AllByRecursion (InWeek week) (on_cells week n s d)
-  in-on_cells n s d n_in s_in d_in = (on-are week n s d).all (InWeek week) (λ k k_in. in-cell week n d s k n_in d_in s_in k_in)
+module _ (problem : Problem) where
+  pub in-on_cells : (n s d : ℕ) → n < problem.nurses → s < problem.shifts → d < 7 → AllByRecursion (InWeek problem) (on_cells problem n s d)
+  in-on_cells n s d n_in s_in d_in = (on-are problem n s d).all (InWeek problem) (λ k k_in. in-cell problem n d s k n_in d_in s_in k_in)
 
-  pub in-work_cells : (n d : ℕ) → n < week.nurses → d < 7 → AllByRecursion (InWeek week) (work_cells week n d)
-  in-work_cells n d n_in d_in = (work-are week n d).all (InWeek week) (λ s s_in k k_in. in-cell week n d s k n_in d_in s_in k_in)
+  pub in-work_cells : (n d : ℕ) → n < problem.nurses → d < 7 → AllByRecursion (InWeek problem) (work_cells problem n d)
+  in-work_cells n d n_in d_in = (work-are problem n d).all (InWeek problem) (λ s s_in k k_in. in-cell problem n d s k n_in d_in s_in k_in)
 
 -- ---- sums of cells whose terms are within the week, rise, and have coefficients of 1 and -1
 
-pub record AreSound (week : Week) (terms : List (Term Cell)) : Type 0 where
-  pub in_week : OnTerms (InWeek week) terms
-  pub rise : within week terms
+pub record AreSound (problem : Problem) (terms : List (Term Cell)) : Type 0 where
+  pub in_week : OnTerms (InWeek problem) terms
+  pub rise : within problem terms
   pub units : AreUnits terms
 
-module _ (week : Week) where
-  -- terms of a coefficient of 1 or -1 at rising cells are no more than the cells
-  pub spread-sound : (terms : List (Term Cell)) → AreSound week terms → spread terms ≤ unit_number week
+module _ (problem : Problem) where
+  -- the number of terms with a coefficient of 1 or -1 at rising cells is at most the number of cells
+  pub spread-sound : (terms : List (Term Cell)) → AreSound problem terms → spread terms ≤ unit_number problem
   spread-sound terms sound =
       omega (
         arith,
         spread-units terms sound.units,
-        length-rising (at week) 1 (unit_number week) terms sound.rise,
+        length-rising (at problem) 1 (unit_number problem) terms sound.rise,
       )
 
-  -- terms that rise do so within the week's numbers where their cells are the week's
-  pub rises-inside : (from first end : ℕ) (terms : List (Term Cell)) → from ≤ unit_number week → from ≤ max first 1 →
-      RisesWithin (at week) first end terms → OnTerms (InWeek week) terms → RisesWithin (at week) from (unit_number week) terms
+  -- rising terms are within the week's numbers if their cells are the week's
+  pub rises-inside : (from first end : ℕ) (terms : List (Term Cell)) → from ≤ unit_number problem → from ≤ max first 1 →
+      RisesWithin (at problem) first end terms → OnTerms (InWeek problem) terms → RisesWithin (at problem) from (unit_number problem) terms
   rises-inside from first end [] up_to before rises inside = up_to
   rises-inside from first end (t ∷ ts) up_to before rises inside = (
     omega (arith, rises.0),
-    rises-inside (at week t + 1) (at week t + 1) end ts (omega (arith, cell_number-below week t.1 inside.0)) (omega arith) rises.1 inside.1,
+    rises-inside (at problem t + 1) (at problem t + 1) end ts (omega (arith, cell_number-below problem t.1 inside.0)) (omega arith) rises.1 inside.1,
   )
 
   -- rising cells of the week, each with the coefficient
   pub sound-cells : (coefficient : ℤ) → IsUnit coefficient → (first end : ℕ) (cells : List Cell) →
-      AllByRecursion (InWeek week) cells → RisesWithin (cell_number week) first end cells → AreSound week (times coefficient cells)
+      AllByRecursion (InWeek problem) cells → RisesWithin (cell_number problem) first end cells → AreSound problem (times coefficient cells)
   sound-cells coefficient unit first end cells inside rises =
-      let in_week = on-times (InWeek week) coefficient cells inside in record {
+      let in_week = on-times (InWeek problem) coefficient cells inside in record {
         in_week = in_week;
-        rise = rises-inside 1 first end _ (omega arith) (omega arith) (rises-times week first end coefficient cells rises) in_week;
+        rise = rises-inside 1 first end _ (omega arith) (omega arith) (rises-times problem first end coefficient cells rises) in_week;
         units = coefficients-times IsUnit coefficient cells unit;
       }
 
-  pub sound-demand : (d s k : ℕ) → d < 7 → s < week.shifts → k < week.skills → AreSound week (times (pos 1) (demand_cells week d s k))
+  pub sound-demand : (d s k : ℕ) → d < 7 → s < problem.shifts → k < problem.skills → AreSound problem (times (pos 1) (demand_cells problem d s k))
   sound-demand d s k d_in s_in k_in =
-      sound-cells (pos 1) (inl refl) _ _ (demand_cells week d s k)
-      (AllByRecursion-each_below (InWeek week) week.nurses _ (λ n n_in. (in-cell week n d s k n_in d_in s_in k_in, tt)))
-      (rises-demand_cells week d s k d_in s_in k_in)
+      sound-cells (pos 1) (inl refl) _ _ (demand_cells problem d s k)
+      (AllByRecursion-concat_below (InWeek problem) problem.nurses _ (λ n n_in. (in-cell problem n d s k n_in d_in s_in k_in, tt)))
+      (rises-demand_cells problem d s k d_in s_in k_in)

@@ -1,11 +1,11 @@
--- How what a taker took grows, call by call and loop by loop.
-use Rattle.rota_items.proofs.Common.Words.{◌≡◌, ℕ, ◌<◌, List, [], ◌∷◌, ◌++◌, Result, MatchResult, refl, sym, ap, ◌∙◌, append_assoc, append-nil, map-append, flat_map-append, fold-append, MatchResult-from_err}
-use Rattle.rota_items.proofs.Common.Words.{MatchResult-weaker, fold, ℤ, IsErr, each_below-zero, each_below-more, each_below, Week, Cell, cell_number, Term, times, LinearRow, numbered_row, numbered_terms}
-use Rattle.rota_items.proofs.Common.Words.{cell_term_events, numbered_rows, coefficient_of, sum_events, start_row, term, close_row, row_events, term_events, events, TookAll, RefusedOne, TakesAll, Took, Refused}
-use Rattle.rota_items.proofs.Common.Words.{Takes, Sign, Ghosts, in_turn, Event, Part, suc, map, get_or, take, drop, length, subst, take-append-drop, flat_map, h5_row, numbered, numbered_list}
+-- How the list taken by a taker grows, call by call and loop by loop.
+use Rattle.rota_items.proofs.Common.Imports.{◌≡◌, ℕ, ◌<◌, List, [], ◌∷◌, ◌++◌, Result, MatchResult, refl, sym, ap, ◌∙◌, append_assoc, append-nil, map-append, flat_map-append, fold-append, MatchResult-from_err}
+use Rattle.rota_items.proofs.Common.Imports.{MatchResult-weaker, fold, ℤ, IsErr, concat_below-zero, concat_below-more, concat_below, Problem, Cell, cell_number, Term, times, LinearRow, numbered_row, numbered_terms}
+use Rattle.rota_items.proofs.Common.Imports.{cell_term_events, numbered_rows, coefficient_of, sum_events, start_row, term, close_row, row_events, term_events, events, TookAll, RefusedOne, TakesAll, Took, Refused}
+use Rattle.rota_items.proofs.Common.Imports.{Takes, Sign, Ghosts, in_turn, Event, Part, suc, map, get_or, take, drop, length, subst, take-append-drop, flat_map, h5_row, numbered, numbered_list}
 use Rattle.std.proofs.Math.Seq.{drop-cons}
 
--- ---- what makes events of a list, element by element
+-- ---- functions that make the events of a list, element by element
 
 pub record Joins {A E : Type 0} (h : List A → List E) : Type 0 where
   pub none : h [] ≡ []
@@ -15,46 +15,46 @@ pub numbers_join : Joins term_events
 unfolding term_events
 numbers_join = record { none = refl; append = map-append (λ (t : Term ℕ). term t.0 t.1) }
 
-pub terms_join : (week : Week) → Joins (cell_term_events week)
+pub terms_join : (problem : Problem) → Joins (cell_term_events problem)
 unfolding cell_term_events
-terms_join week = record {
+terms_join problem = record {
   none = numbers_join.none;
   append = λ xs ys.
-      ap term_events (map-append (λ (t : Term Cell). (t.0, cell_number week t.1)) xs ys) ∙
-      numbers_join.append (numbered_terms week xs) (numbered_terms week ys);
+      ap term_events (map-append (λ (t : Term Cell). (t.0, cell_number problem t.1)) xs ys) ∙
+      numbers_join.append (numbered_terms problem xs) (numbered_terms problem ys);
 }
 
-pub cells_join : (week : Week) (sign : Sign) → Joins (sum_events week sign)
-cells_join week sign = record {
-  none = (terms_join week).none;
+pub cells_join : (problem : Problem) (sign : Sign) → Joins (sum_events problem sign)
+cells_join problem sign = record {
+  none = (terms_join problem).none;
   append = λ xs ys.
-      ap (cell_term_events week) (map-append (λ cell. (coefficient_of sign, cell)) xs ys) ∙
-      (terms_join week).append (times (coefficient_of sign) xs) (times (coefficient_of sign) ys);
+      ap (cell_term_events problem) (map-append (λ cell. (coefficient_of sign, cell)) xs ys) ∙
+      (terms_join problem).append (times (coefficient_of sign) xs) (times (coefficient_of sign) ys);
 }
 
 pub events_join : Joins events
 unfolding events
 events_join = record { none = refl; append = flat_map-append row_events }
 
-pub rows_join : (week : Week) → Joins (numbered_rows week)
+pub rows_join : (problem : Problem) → Joins (numbered_rows problem)
 unfolding numbered_rows
-rows_join week = record { none = refl; append = map-append (numbered_row week) }
+rows_join problem = record { none = refl; append = map-append (numbered_row problem) }
 
 -- the rows of held cells, cell by cell
-pub held_join : (week : Week) → Joins (λ cells. numbered_rows week (map h5_row cells))
+pub held_join : (problem : Problem) → Joins (λ cells. numbered_rows problem (map h5_row cells))
 unfolding numbered_rows
-held_join week = record { none = refl; append = λ xs ys. simp map-append }
+held_join problem = record { none = refl; append = λ xs ys. simp map-append }
 
-pub items_join : (week : Week) → Joins (numbered_list week)
+pub items_join : (problem : Problem) → Joins (numbered_list problem)
 unfolding numbered_list
-items_join week = record { none = refl; append = map-append (numbered (cell_number week)) }
+items_join problem = record { none = refl; append = map-append (numbered (cell_number problem)) }
 
--- what a loop needs that hands over rows, items, terms or cells, where the list of what they stand for is open
-pub ruleset taking = (each_below-zero, each_below-more, map-append, fold-append)
+-- the rules for a loop that sends rows, items, terms or cells, when the list of their meanings is open
+pub ruleset taking = (concat_below-zero, concat_below-more, map-append, fold-append)
 
 pub ruleset taking_held = (taking, append_assoc)
 
--- the list is the events of one row: it begins, these terms follow, and the degree ends it
+-- the list contains the events of one row: it starts, these terms follow, and the degree ends it
 pub record IsRow (all : List Event) (part : Part) (terms : List Event) (degree : ℤ) : Type 0 where
   pub are : all ≡ start_row part ∷ (terms ++ close_row degree ∷ [])
 
@@ -77,15 +77,15 @@ module _ {S V E : Type 0} {value : S → V} {step : V → E → V} {left : V →
   }
 
   pub Refused-one : (event : E) (s t : S) → left (value s) event t → RefusedOne value step left (event ∷ []) s t
-  Refused-one event s t h = record { taken = []; event = event; untold = []; are = refl; leaves = h }
+  Refused-one event s t h = record { taken = []; event = event; rest = []; are = refl; leaves = h }
 
   -- refused among the first events
   pub Refused-before : (a b : List E) (s t : S) → RefusedOne value step left a s t → RefusedOne value step left (a ++ b) s t
   Refused-before a b s t p = record {
     taken = p.taken;
     event = p.event;
-    untold = p.untold ++ b;
-    are = ap (λ xs. xs ++ b) p.are ∙ append_assoc p.taken (p.event ∷ p.untold) b;
+    rest = p.rest ++ b;
+    are = ap (λ xs. xs ++ b) p.are ∙ append_assoc p.taken (p.event ∷ p.rest) b;
     leaves = p.leaves;
   }
 
@@ -94,8 +94,8 @@ module _ {S V E : Type 0} {value : S → V} {step : V → E → V} {left : V →
   Refused-after a b s t u p q = record {
     taken = a ++ q.taken;
     event = q.event;
-    untold = q.untold;
-    are = ap (λ xs. a ++ xs) q.are ∙ sym (append_assoc a q.taken (q.event ∷ q.untold));
+    rest = q.rest;
+    are = ap (λ xs. a ++ xs) q.are ∙ sym (append_assoc a q.taken (q.event ∷ q.rest));
     leaves = rw (fold-append step (value s) a q.taken, ← p.value_is) q.leaves;
   }
 
@@ -116,13 +116,13 @@ module _ {S V E : Type 0} {value : S → V} {step : V → E → V} {left : V →
     pub go_on : (xs ys : List A) (s t u : S) → TookAll value step left (h xs) s t → RefusedOne value step left (h ys) t u → RefusedOne value step left (h (xs ++ ys)) s u
     go_on xs ys s t u p q = rw joins.append (Refused-after (h xs) (h ys) s t u p q)
 
-    pub loop_refused : (i n : ℕ) (f : ℕ → List A) (s t u : S) → i < n → TookAll value step left (h (each_below i f)) s t → RefusedOne value step left (h (f i)) t u →
-        RefusedOne value step left (h (each_below n f)) s u
+    pub loop_refused : (i n : ℕ) (f : ℕ → List A) (s t u : S) → i < n → TookAll value step left (h (concat_below i f)) s t → RefusedOne value step left (h (f i)) t u →
+        RefusedOne value step left (h (concat_below n f)) s u
     loop_refused i n f s t u below p q =
-        in_turn (λ xs. RefusedOne value step left (h xs) s u) (λ xs ys. stop xs ys s u) i n f below (go_on (each_below i f) (f i) s t u p q)
+        in_turn (λ xs. RefusedOne value step left (h xs) s u) (λ xs ys. stop xs ys s u) i n f below (go_on (concat_below i f) (f i) s t u p q)
 
-    pub loop_ended : (i n : ℕ) (f : ℕ → List A) (s t : S) → i ≡ n → TookAll value step left (h (each_below i f)) s t →
-        TookAll value step left (h (each_below n f)) s t
+    pub loop_ended : (i n : ℕ) (f : ℕ → List A) (s t : S) → i ≡ n → TookAll value step left (h (concat_below i f)) s t →
+        TookAll value step left (h (concat_below n f)) s t
     loop_ended i n f s t e p = rw (← e) p
 
     -- refused at an element of a list: the elements before it were taken
@@ -154,35 +154,42 @@ takes_one value step left event s t r takes = MatchResult-weaker r takes (λ _. 
 module _ {S F : Type 0} (T : Ghosts S F) where
   -- ---- the term of one cell
 
-  pub cell_taken : (week : Week) (sign : Sign) (cell : Cell) (variable : ℕ) (s t : S) (r : Result (Unit {0}) F) →
-      variable ≡ cell_number week cell →
+  pub cell_taken : (problem : Problem) (sign : Sign) (cell : Cell) (variable : ℕ) (s t : S) (r : Result (Unit {0}) F) →
+      variable ≡ cell_number problem cell →
       MatchResult r (λ _. T.value t ≡ T.step (T.value s) (term (coefficient_of sign) variable))
       (λ _. T.left (T.value s) (term (coefficient_of sign) variable) t) →
-      Takes T (sum_events week sign (cell ∷ [])) s t r
+      Takes T (sum_events problem sign (cell ∷ [])) s t r
   unfolding cell_term_events term_events
-  cell_taken week sign cell variable s t r same taken = takes_one _ _ _ _ s t r (rw same at taken)
+  cell_taken problem sign cell variable s t r same taken = takes_one _ _ _ _ s t r (rw same at taken)
 
-  pub cell_refused : (week : Week) (sign : Sign) (cell : Cell) (variable : ℕ) (s t : S) → variable ≡ cell_number week cell →
-      T.left (T.value s) (term (coefficient_of sign) variable) t → Refused T (sum_events week sign (cell ∷ [])) s t
+  pub cell_refused : (problem : Problem) (sign : Sign) (cell : Cell) (variable : ℕ) (s t : S) → variable ≡ cell_number problem cell →
+      T.left (T.value s) (term (coefficient_of sign) variable) t → Refused T (sum_events problem sign (cell ∷ [])) s t
   unfolding cell_term_events term_events
-  cell_refused week sign cell variable s t same refused = Refused-one _ s t (rw same at refused)
+  cell_refused problem sign cell variable s t same refused = Refused-one _ s t (rw same at refused)
 
   -- ---- a list of one row
 
   module _ {all : List Event} {part : Part} {terms : List Event} {degree : ℤ} (is : IsRow all part terms degree) where
-    pub row_unstarted : {R : Type 0} (s t : S) (r : Result R F) → IsErr r → T.left (T.value s) (start_row part) t → Takes T all s t r
-    row_unstarted s t r err h = rw is.are (exits _ s t r err (Refused-before (start_row part ∷ []) _ s t (Refused-one _ s t h)))
+    pub row_unstarted : (s t : S) → T.left (T.value s) (start_row part) t → Refused T all s t
+    row_unstarted s t h = rw is.are (Refused-before (start_row part ∷ []) _ s t (Refused-one _ s t h))
 
-    pub row_refused : {R : Type 0} (s t u : S) (r : Result R F) → IsErr r → T.value t ≡ T.step (T.value s) (start_row part) →
-        Refused T terms t u → Takes T all s u r
-    row_refused s t u r err started refused =
-        rw is.are
-        (exits _ s u r err (Refused-after (start_row part ∷ []) _ s t u (Took-one _ s t started) (Refused-before terms _ t u refused)))
+    module _ (s t : S) (started : T.value t ≡ T.step (T.value s) (start_row part)) where
+      pub row_refused : (u : S) → Refused T terms t u → Refused T all s u
+      row_refused u refused =
+          rw is.are (Refused-after (start_row part ∷ []) _ s t u (Took-one _ s t started) (Refused-before terms _ t u refused))
 
-    pub row_closed : (s t u v : S) (r : Result (Unit {0}) F) → T.value t ≡ T.step (T.value s) (start_row part) → Took T terms t u →
-        MatchResult r (λ _. T.value v ≡ T.step (T.value u) (close_row degree)) (λ _. T.left (T.value u) (close_row degree) v) →
-        Takes T all s v r
-    row_closed s t u v r started taken closes =
-        rw is.are
-        (Takes-then (start_row part ∷ []) _ s t v r (Took-one (start_row part) s t started)
-        (Takes-then terms (close_row degree ∷ []) t u v r taken (takes_one _ _ _ _ u v r closes)))
+      module _ (u v : S) (taken : Took T terms t u) where
+        pub row_unclosed : T.left (T.value u) (close_row degree) v → Refused T all s v
+        row_unclosed refused =
+            rw is.are
+            (Refused-after (start_row part ∷ []) _ s t v (Took-one _ s t started) (Refused-after terms _ t u v taken (Refused-one _ u v refused)))
+
+        pub row_taken : T.value v ≡ T.step (T.value u) (close_row degree) → Took T all s v
+        row_taken closed =
+            rw is.are
+            (Took-then (start_row part ∷ []) _ s t v (Took-one _ s t started) (Took-then terms _ t u v taken (Took-one _ u v closed)))
+
+        pub row_closed : (r : Result (Unit {0}) F) →
+            MatchResult r (λ _. T.value v ≡ T.step (T.value u) (close_row degree)) (λ _. T.left (T.value u) (close_row degree) v) →
+            Takes T all s v r
+        row_closed r closes = MatchResult-weaker r closes (λ _. row_taken) (λ _. row_unclosed)

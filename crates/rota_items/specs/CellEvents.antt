@@ -1,11 +1,11 @@
--- The events that hand sums and rows over cells to a taker.
+-- The events that send sums and rows over cells to a taker.
 use Rattle.std.specs.Prelude.{ℤ, pos, negsuc, List}
 use Rattle.rota_core.specs.declared.values.Cell.{Cell}
-use Rattle.rota_core.specs.Week.{Week}
+use Rattle.rota_core.specs.Problem.{Problem}
 use Rattle.rota_items.specs.declared.sums.Sign.{Sign}
 use Rattle.rota_items.specs.declared.sums.Sign.TheVariants.{Plus, Minus}
 use Rattle.rota_items.specs.Linear.{Term}
-use Rattle.rota_items.specs.ModelWords.{times}
+use Rattle.rota_items.specs.Rows.{times}
 use Rattle.rota_items.specs.Events.{Event, term_events}
 use Rattle.rota_items.specs.WeekModel.{numbered_terms}
 
@@ -13,10 +13,10 @@ abbrev pub coefficient_of : Sign → ℤ
 coefficient_of Plus = pos 1
 coefficient_of Minus = negsuc 0
 
--- those of a sum of terms at cells, each by its cell's variable
-unfoldable pub cell_term_events : Week → List (Term Cell) → List Event
-cell_term_events week terms = term_events (numbered_terms week terms)
+-- the events of a sum of terms at cells, each with its cell's variable
+unfoldable pub cell_term_events : Problem → List (Term Cell) → List Event
+cell_term_events problem terms = term_events (numbered_terms problem terms)
 
--- those of these cells, each with this sign
-abbrev pub sum_events : Week → Sign → List Cell → List Event
-sum_events week sign cells = cell_term_events week (times (coefficient_of sign) cells)
+-- the events of these cells, each with this sign
+abbrev pub sum_events : Problem → Sign → List Cell → List Event
+sum_events problem sign cells = cell_term_events problem (times (coefficient_of sign) cells)

@@ -1,4 +1,4 @@
--- What the coefficients of constraints are.
+-- The coefficients of constraints.
 use Rattle.std.specs.Prelude.{◌≡◌, ◌⊎◌, ℕ, ℤ, pos, negsuc, All}
 use Rattle.rota_items.specs.Linear.{Term, Constraint}
 

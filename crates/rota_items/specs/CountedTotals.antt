@@ -1,23 +1,16 @@
--- Which totals count in a week, and what a week is charged for a greatest total.
-use Rattle.std.specs.Prelude.{◌+◌, ◌-◌, ◌&&◌, ◌||◌, if◌then◌else◌}
-use Rattle.rota_items.specs.Words.{ℕ, Bool, not, Week}
+-- The totals that count in a week, and the charge of a week for a maximum total.
+use Rattle.std.specs.Prelude.{◌+◌, ◌-◌, if◌then◌else◌}
+use Rattle.rota_items.specs.Imports.{ℕ, Bool, Problem}
 
--- the least totals of assignments count in the last week only
-abbrev pub least_totals_count : Week → Bool
-least_totals_count week = week.is_last
+-- the minimum totals of assignments count in the last week only
+abbrev pub min_totals_count : Problem → Bool
+min_totals_count problem = problem.is_last
 
--- the greatest totals: in the last week, or early in every week
-abbrev pub greatest_totals_count : Week → Bool
-greatest_totals_count week = week.is_last || week.is_early
+-- the excess of `before + now` over the maximum, less the excess already in `before`
+abbrev pub added_excess : (maximum before now : ℕ) → ℕ
+added_excess maximum before now = (before + now - maximum) - (before - maximum)
 
--- what was above them before the week: in the last week, unless the weeks before have paid for it
-abbrev pub excess_before_counts : Week → Bool
-excess_before_counts week = week.is_last && not week.is_early
-
--- Where the greatest totals count: what is above the greatest number when `now` has come to what was `before`, without what was above
--- it before, unless that counts too.
-abbrev pub charged_excess : Week → ℕ → ℕ → ℕ → ℕ
-charged_excess week most before now =
-    (if greatest_totals_count week
-    then before + now - most - (if excess_before_counts week then 0 else before - most)
-    else 0)
+-- an early week pays for the excess that it adds; otherwise the last week pays for the whole excess above the maximum
+abbrev pub charged_excess : Problem → (maximum before now : ℕ) → ℕ
+charged_excess problem maximum before now =
+    (if problem.is_early then added_excess maximum before now else (if problem.is_last then before + now - maximum else 0))

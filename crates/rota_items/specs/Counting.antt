@@ -1,19 +1,19 @@
--- What a counter makes of the events of rows, and what it is to find in them.
+-- The counts of a counter from the events of rows, and the counts that it must find.
 use Rattle.std.specs.Prelude.{ℕ, ◌+◌, min, max, Bool, true, false, List, [], ◌∷◌, map, length}
 use Rattle.std.specs.List.{count_by, flat_map}
 use Rattle.rota_items.specs.declared.counting.counter.Counts.{Counts}
 use Rattle.rota_items.specs.declared.part.Part.{Part}
 use Rattle.rota_items.specs.declared.part.Part.TheVariants.{Objective, Hard, Soft}
 use Rattle.rota_items.specs.Events.{Event, start_row, term, close_row}
-use Rattle.rota_items.specs.Limits.{greatest_count}
+use Rattle.rota_items.specs.MachineBounds.{max_count}
 use Rattle.rota_items.specs.Linear.{Term, Model}
-use Rattle.rota_items.specs.ModelWords.{LinearRow}
+use Rattle.rota_items.specs.Rows.{LinearRow}
 
 abbrev pub no_counts : Counts
 no_counts = record { variables = 0; constraints = 0 }
 
 abbrev pub one_constraint_more : Counts → Counts
-one_constraint_more counts = record counts { constraints = min (counts.constraints + 1) greatest_count }
+one_constraint_more counts = record counts { constraints = min (counts.constraints + 1) max_count }
 
 -- the counts after one more event
 abbrev pub counted : Counts → Event → Counts
@@ -23,7 +23,7 @@ counted counts (start_row (Soft rule weight)) = one_constraint_more counts
 counted counts (term coefficient variable) = record counts { variables = max counts.variables variable }
 counted counts (close_row degree) = counts
 
--- what stands for a constraint, and not for the objective
+-- whether the part is a constraint, and not the objective
 abbrev pub is_constraint : Part → Bool
 is_constraint Objective = false
 is_constraint (Hard rule) = true
@@ -33,16 +33,16 @@ is_constraint (Soft rule weight) = true
 abbrev pub variables_in : List (LinearRow ℕ) → List ℕ
 variables_in rows = flat_map (λ (row : LinearRow ℕ). map (λ (term : Term ℕ). term.1) row.terms) rows
 
--- the greatest of them, 0 where there is none
-abbrev pub greatest : List ℕ → ℕ
-greatest [] = 0
-greatest (n ∷ ns) = max n (greatest ns)
+-- the maximum of the variables, 0 if there are none
+abbrev pub maximum : List ℕ → ℕ
+maximum [] = 0
+maximum (n ∷ ns) = max n (maximum ns)
 
--- the greatest variable of the rows, and how many of them are constraints
+-- the maximum variable of the rows, and the number of constraints among them
 abbrev pub counts_of : List (LinearRow ℕ) → Counts
 counts_of rows = record {
-  variables = greatest (variables_in rows);
-  constraints = min (count_by (λ (row : LinearRow ℕ). is_constraint row.part) rows) greatest_count;
+  variables = maximum (variables_in rows);
+  constraints = min (count_by (λ (row : LinearRow ℕ). is_constraint row.part) rows) max_count;
 }
 
 -- the numbers of a model's variables and constraints

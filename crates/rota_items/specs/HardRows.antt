@@ -1,101 +1,96 @@
 -- The rows that mean the hard rules, over cells.
-use Rattle.rota_items.specs.Words.{ℕ, pos, negsuc, nat_lt, Bool, false, not, List, [], map, flat_map, Option, Some, None, Cell, Week, Rule}
-use Rattle.rota_items.specs.Words.{hard_rules, Unit, H1, H2, H3, H4, H5, S1, S2, S3, S4, S5, S6, S7}
-use Rattle.rota_items.specs.ModelWords.{LinearRow, Hard, times, each_below, only_if}
-use Rattle.rota_items.specs.ModelWords.{on_cells, work_cells, demand_cells, skill_cells, cells_of}
-use Rattle.std.specs.Prelude.{◌∷◌, ◌+◌, ◌++◌}
+use Rattle.rota_core.specs.Limits.{DAYS}
+use Rattle.rota_items.specs.Imports.{ℕ, pos, negsuc, nat_lt, Bool, false, not, List, [], map, flat_map, Option, Some, None, Cell, Problem}
+use Rattle.rota_items.specs.Imports.{Rule}
+use Rattle.rota_items.specs.Imports.{hard_rules, H1, H2, H3, H4, H5}
+use Rattle.rota_items.specs.Rows.{LinearRow, Hard, times, concat_below, singleton_if}
+use Rattle.rota_items.specs.Rows.{on_cells, work_cells, demand_cells, skill_cells, cells_of}
+use Rattle.std.specs.Prelude.{◌∷◌, ◌+◌, ◌-◌, ◌++◌}
 
 -- H1: at most one cell of a nurse's day
-abbrev pub h1_row : Week → ℕ → ℕ → LinearRow Cell
-h1_row week n d = record { part = Hard H1; terms = times (negsuc 0) (work_cells week n d); degree = negsuc 0 }
+abbrev pub h1_row : Problem → ℕ → ℕ → LinearRow Cell
+h1_row problem n d = record { part = Hard H1; terms = times (negsuc 0) (work_cells problem n d); degree = negsuc 0 }
 
-abbrev pub h1_rows : Week → List (LinearRow Cell)
-h1_rows week = each_below week.nurses (λ n. each_below 7 (λ d. h1_row week n d ∷ []))
+abbrev pub h1_rows : Problem → List (LinearRow Cell)
+h1_rows problem = concat_below problem.nurses (λ n. concat_below DAYS (λ d. h1_row problem n d ∷ []))
 
--- H2: the least number of nurses
-abbrev pub h2_row : Week → ℕ → ℕ → ℕ → LinearRow Cell
-h2_row week d s k = record {
+-- H2: the minimum number of nurses
+abbrev pub h2_row : Problem → (day shift skill : ℕ) → LinearRow Cell
+h2_row problem d s k = record {
   part = Hard H2;
-  terms = times (pos 1) (demand_cells week d s k);
-  degree = pos (week.demand d s k).minimum;
+  terms = times (pos 1) (demand_cells problem d s k);
+  degree = pos (problem.demand d s k).minimum;
 }
 
--- where one is asked for
-abbrev pub h2_rows_at : Week → ℕ → ℕ → ℕ → List (LinearRow Cell)
-h2_rows_at week d s k = only_if (nat_lt 0 (week.demand d s k).minimum) (h2_row week d s k)
+-- the row of H2, if the minimum is above 0
+abbrev pub h2_rows_at : Problem → (day shift skill : ℕ) → List (LinearRow Cell)
+h2_rows_at problem d s k = singleton_if (nat_lt 0 (problem.demand d s k).minimum) (h2_row problem d s k)
 
-abbrev pub h2_rows : Week → List (LinearRow Cell)
-h2_rows week = each_below 7 (λ d. each_below week.shifts (λ s. each_below week.skills (h2_rows_at week d s)))
+abbrev pub h2_rows : Problem → List (LinearRow Cell)
+h2_rows problem = concat_below DAYS (λ d. concat_below problem.shifts (λ s. concat_below problem.skills (h2_rows_at problem d s)))
 
--- H3, no shift type after one that it may not follow: not t on Monday
-abbrev pub h3_monday_row : Week → ℕ → ℕ → LinearRow Cell
-h3_monday_row week n t = record { part = Hard H3; terms = times (negsuc 0) (on_cells week n t 0); degree = pos 0 }
+-- H3, no shift type after one that it may not follow: no t on Monday
+abbrev pub h3_monday_row : Problem → ℕ → ℕ → LinearRow Cell
+h3_monday_row problem n t = record { part = Hard H3; terms = times (negsuc 0) (on_cells problem n t 0); degree = pos 0 }
 
--- whether it may not follow the last shift of the history
-abbrev pub is_forbidden_after : Week → Option ℕ → ℕ → Bool
-is_forbidden_after week None t = false
-is_forbidden_after week (Some last) t = week.is_forbidden last t
+-- whether the shift type may not follow the last shift of the history
+abbrev pub is_forbidden_after : Problem → Option ℕ → ℕ → Bool
+is_forbidden_after problem None t = false
+is_forbidden_after problem (Some last) t = problem.is_forbidden last t
 
-abbrev pub h3_monday_rows_at : Week → ℕ → ℕ → List (LinearRow Cell)
-h3_monday_rows_at week n t = only_if (is_forbidden_after week (week.past n).last t) (h3_monday_row week n t)
+abbrev pub h3_monday_rows_at : Problem → ℕ → ℕ → List (LinearRow Cell)
+h3_monday_rows_at problem n t = singleton_if (is_forbidden_after problem (problem.past n).last t) (h3_monday_row problem n t)
 
-abbrev pub h3_monday_rows : Week → ℕ → List (LinearRow Cell)
-h3_monday_rows week n = each_below week.shifts (h3_monday_rows_at week n)
+abbrev pub h3_monday_rows : Problem → ℕ → List (LinearRow Cell)
+h3_monday_rows problem n = concat_below problem.shifts (h3_monday_rows_at problem n)
 
--- not s on day d and t on the next day
-abbrev pub h3_row : Week → ℕ → ℕ → ℕ → ℕ → LinearRow Cell
-h3_row week n d s t = record {
+-- H3: not both s on day d and t on the next day
+abbrev pub h3_row : Problem → (nurse day shift next : ℕ) → LinearRow Cell
+h3_row problem n d s t = record {
   part = Hard H3;
-  terms = times (negsuc 0) (on_cells week n s d ++ on_cells week n t (d + 1));
+  terms = times (negsuc 0) (on_cells problem n s d ++ on_cells problem n t (d + 1));
   degree = negsuc 0;
 }
 
-abbrev pub h3_rows_at : Week → ℕ → ℕ → ℕ → ℕ → List (LinearRow Cell)
-h3_rows_at week n d s t = only_if (week.is_forbidden s t) (h3_row week n d s t)
+abbrev pub h3_rows_at : Problem → (nurse day shift next : ℕ) → List (LinearRow Cell)
+h3_rows_at problem n d s t = singleton_if (problem.is_forbidden s t) (h3_row problem n d s t)
 
-abbrev pub h3_rows_between : Week → ℕ → ℕ → List (LinearRow Cell)
-h3_rows_between week n d = each_below week.shifts (λ s. each_below week.shifts (h3_rows_at week n d s))
+abbrev pub h3_rows_between : Problem → ℕ → ℕ → List (LinearRow Cell)
+h3_rows_between problem n d = concat_below problem.shifts (λ s. concat_below problem.shifts (h3_rows_at problem n d s))
 
-abbrev pub h3_rows_of : Week → ℕ → List (LinearRow Cell)
-h3_rows_of week n = h3_monday_rows week n ++ each_below 6 (h3_rows_between week n)
+abbrev pub h3_rows_of : Problem → ℕ → List (LinearRow Cell)
+h3_rows_of problem n = h3_monday_rows problem n ++ concat_below (DAYS - 1) (h3_rows_between problem n)
 
-abbrev pub h3_rows : Week → List (LinearRow Cell)
-h3_rows week = each_below week.nurses (h3_rows_of week)
+abbrev pub h3_rows : Problem → List (LinearRow Cell)
+h3_rows problem = concat_below problem.nurses (h3_rows_of problem)
 
--- H4: no cell that needs a skill
-abbrev pub h4_row : Week → ℕ → ℕ → LinearRow Cell
-h4_row week n k = record { part = Hard H4; terms = times (negsuc 0) (skill_cells week n k); degree = pos 0 }
+-- H4: no cell of the nurse that needs the skill
+abbrev pub h4_row : Problem → ℕ → ℕ → LinearRow Cell
+h4_row problem n k = record { part = Hard H4; terms = times (negsuc 0) (skill_cells problem n k); degree = pos 0 }
 
--- where the nurse lacks the skill
-abbrev pub h4_rows_at : Week → ℕ → ℕ → List (LinearRow Cell)
-h4_rows_at week n k = only_if (not (week.has_skill n k)) (h4_row week n k)
+-- the row of H4, if the nurse does not have the skill
+abbrev pub h4_rows_at : Problem → ℕ → ℕ → List (LinearRow Cell)
+h4_rows_at problem n k = singleton_if (not (problem.has_skill n k)) (h4_row problem n k)
 
-abbrev pub h4_rows : Week → List (LinearRow Cell)
-h4_rows week = each_below week.nurses (λ n. each_below week.skills (h4_rows_at week n))
+abbrev pub h4_rows : Problem → List (LinearRow Cell)
+h4_rows problem = concat_below problem.nurses (λ n. concat_below problem.skills (h4_rows_at problem n))
 
 -- H5: the held cell is in the roster
 abbrev pub h5_row : Cell → LinearRow Cell
 h5_row one = record { part = Hard H5; terms = times (pos 1) (one ∷ []); degree = pos 1 }
 
--- by rising variable
-abbrev pub h5_rows : Week → List (LinearRow Cell)
-h5_rows week = map h5_row (cells_of week week.is_held)
+-- the rows of H5, in ascending order of their variables
+abbrev pub h5_rows : Problem → List (LinearRow Cell)
+h5_rows problem = map h5_row (cells_of problem problem.is_held)
 
-abbrev pub rows_of_hard_rule : Week → Rule → List (LinearRow Cell)
-rows_of_hard_rule week H1 = h1_rows week
-rows_of_hard_rule week H2 = h2_rows week
-rows_of_hard_rule week H3 = h3_rows week
-rows_of_hard_rule week H4 = h4_rows week
-rows_of_hard_rule week H5 = h5_rows week
-rows_of_hard_rule week S1 = []
-rows_of_hard_rule week S2 = []
-rows_of_hard_rule week S3 = []
-rows_of_hard_rule week S4 = []
-rows_of_hard_rule week S5 = []
-rows_of_hard_rule week S6 = []
-rows_of_hard_rule week S7 = []
-rows_of_hard_rule week Unit = []
+abbrev pub rows_of_hard_rule : Problem → Rule → List (LinearRow Cell)
+rows_of_hard_rule problem H1 = h1_rows problem
+rows_of_hard_rule problem H2 = h2_rows problem
+rows_of_hard_rule problem H3 = h3_rows problem
+rows_of_hard_rule problem H4 = h4_rows problem
+rows_of_hard_rule problem H5 = h5_rows problem
+rows_of_hard_rule problem _ = []
 
--- the rows of the rules, in the order of the rules
-abbrev pub rule_rows : Week → List (LinearRow Cell)
-rule_rows week = flat_map (rows_of_hard_rule week) hard_rules
+-- the rows of the hard rules, in the order of the rules
+abbrev pub rule_rows : Problem → List (LinearRow Cell)
+rule_rows problem = flat_map (rows_of_hard_rule problem) hard_rules

@@ -1,4 +1,4 @@
--- Terms by rising variable number.
+-- Terms in ascending order of their variables.
 use Rattle.std.specs.Prelude.{ℕ, ◌+◌, ◌≤◌, List, [], ◌∷◌}
 use Rattle.rota_items.specs.Linear.{Term, Constraint}
 
@@ -7,6 +7,6 @@ abbrev pub RisesFrom : ℕ → List (Term ℕ) → Type 0
 RisesFrom first [] = Unit {0}
 RisesFrom first (term ∷ terms) = (first ≤ term.1) × RisesFrom (term.1 + 1) terms
 
--- the variables rise, from 1 on, so that each is there once
+-- the variables rise, from 1 on, so that each occurs once
 abbrev pub HasRisingTerms : Constraint → Type 0
 HasRisingTerms constraint = RisesFrom 1 constraint.terms

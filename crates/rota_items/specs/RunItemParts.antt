@@ -1,25 +1,20 @@
--- The run items of a day, and what the laws on run items ask.
+-- The run items of a day, and the conditions of the laws on run items.
 use Rattle.std.specs.Prelude.{◌≤◌, ◌<◌, ◌++◌, ◌≡◌, ◌+◌, if◌then◌else◌}
-use Rattle.rota_items.specs.Words.{ℕ, Bool, List, map, count_by, length, range_with_len, Span, not, list_any}
-use Rattle.rota_items.specs.ModelWords.{Item}
-use Rattle.rota_items.specs.RunItems.{Pattern, closed_patterns_at, edge_patterns_on, windows_on, patterns_on}
+use Rattle.rota_core.specs.Limits.{DAYS}
+use Rattle.rota_items.specs.Imports.{ℕ, Bool, List, map, count_by, length, range_with_len, Span, not, list_any}
+use Rattle.rota_items.specs.Rows.{Item}
+use Rattle.rota_items.specs.RunItems.{Pattern, windows_on, patterns_on}
 use Rattle.rota_items.specs.RunItems.{Property, variables_on, Runs, pattern_items, Present, Absent}
 use Rattle.rota_items.specs.Runs.{is_over, missing_on}
 
--- the items of one day's window, of a closed pattern, of the edge pattern and of all patterns that end before the day
+-- the items of one day's window, and of the patterns that end before the day
 abbrev pub window_items_on : {X : Type 0} → Runs X → ℕ → List (Item X)
 window_items_on runs d = pattern_items runs (windows_on runs.history runs.limits d)
-
-abbrev pub closed_items_at : {X : Type 0} → Runs X → ℕ → ℕ → List (Item X)
-closed_items_at runs d count = pattern_items runs (closed_patterns_at runs.limits.min d count)
-
-abbrev pub edge_items_on : {X : Type 0} → Runs X → ℕ → List (Item X)
-edge_items_on runs d = pattern_items runs (edge_patterns_on runs.history runs.limits.min d)
 
 abbrev pub pattern_items_on : {X : Type 0} → Runs X → ℕ → List (Item X)
 pattern_items_on runs d = pattern_items runs (patterns_on runs.history runs.limits d)
 
--- those of one day's window and of its patterns
+-- the items of one day's window and of its patterns
 abbrev pub day_items : {X : Type 0} → Runs X → ℕ → List (Item X)
 day_items runs d =
     pattern_items runs (windows_on runs.history runs.limits d ++ patterns_on runs.history runs.limits d)
@@ -27,15 +22,15 @@ day_items runs d =
 -- on each day of the week at most one of the property's variables is true
 abbrev pub AtMostOneADay : {X : Type 0} → Property X → (X → Bool) → Type 0
 AtMostOneADay property assignment =
-    (d : ℕ) → d < 7 → count_by assignment (variables_on property d) ≤ 1
+    (d : ℕ) → d < DAYS → count_by assignment (variables_on property d) ≤ 1
 
 -- the pattern's days follow one another within the week
 pub record DaysFollow (pattern : Pattern) : Type 0 where
   pub first : ℕ
   pub days_are : map (λ day. day.day) pattern.days ≡ range_with_len first (length pattern.days)
-  pub in_week : first + length pattern.days ≤ 7
+  pub in_week : first + length pattern.days ≤ DAYS
 
--- what the runs cost on a day
+-- the cost of the runs on a day
 abbrev pub day_cost : (ℕ → Bool) → ℕ → Span → ℕ → ℕ
 day_cost has history limits d =
     (if is_over has history limits.max d then 1 else 0) + missing_on has history limits.min d

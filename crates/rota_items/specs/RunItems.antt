@@ -1,15 +1,16 @@
 -- The windows and patterns that charge runs, as days that must have a property or must not, and their items.
 use Rattle.std.specs.Prelude.{◌+◌, ◌-◌, ◌*◌, ◌&&◌, ◌-ℤ◌, if◌then◌else◌, ◌∷◌, ◌++◌}
-use Rattle.rota_items.specs.Words.{ℕ, pos, negsuc, Bool, true, false, not, nat_le, nat_lt, List, [], map, flat_map, range_with_len}
-use Rattle.rota_items.specs.Words.{count_by, Cell, Rule, Span, Week}
-use Rattle.rota_items.specs.ModelWords.{Term, times, Item, each_below, only_if, work_cells}
+use Rattle.rota_core.specs.Limits.{DAYS}
+use Rattle.rota_items.specs.Imports.{ℕ, pos, negsuc, Bool, true, false, not, nat_le, nat_lt, List, [], map, flat_map, range_with_len}
+use Rattle.rota_items.specs.Imports.{count_by, Cell, Rule, Span, Problem}
+use Rattle.rota_items.specs.Rows.{Term, times, Item, concat_below, singleton_if, work_cells}
 
 -- a day, and whether it must have the property
 pub record PatternDay : Type 0 where
   pub day : ℕ
   pub has : Bool
 
--- the days that must all be as they say, and the units that they then cost
+-- the days that must all match, and the units that they then cost
 pub record Pattern : Type 0 where
   pub days : List PatternDay
   pub units : ℕ
@@ -20,53 +21,53 @@ with_property d = record { day = d; has = true }
 abbrev pub without_property : ℕ → PatternDay
 without_property d = record { day = d; has = false }
 
--- the days from the first up to the end, which is left out, all with the property
+-- the days from the first up to the end, which is excluded, all with the property
 abbrev pub days_with : ℕ → ℕ → List PatternDay
 days_with first end = map with_property (range_with_len first (end - first))
 
--- days with the property up to d, one more than the maximum allows: the run on d is above it
+-- days with the property up to d, one more than the maximum allows: the run on d is longer than the maximum
 abbrev pub window : ℕ → ℕ → Pattern
 window maximum d = record { days = days_with (d - maximum) (d + 1); units = 1 }
 
 abbrev pub windows_on : ℕ → Span → ℕ → List Pattern
-windows_on history limits d = only_if (nat_lt limits.max (history + d + 1)) (window limits.max d)
+windows_on history limits d = singleton_if (nat_lt limits.max (history + d + 1)) (window limits.max d)
 
--- a run of count days that begins after Monday and ends before d
-abbrev pub closed_pattern : ℕ → ℕ → ℕ → Pattern
+-- the pattern of a run of count days that begins after Monday and ends before d
+abbrev pub closed_pattern : (minimum day count : ℕ) → Pattern
 closed_pattern minimum d count = record {
   days = without_property (d - count - 1) ∷ days_with (d - count) d ++ without_property d ∷ [];
   units = minimum - count;
 }
 
--- for a number of days from 1 that is below the minimum
-abbrev pub closed_patterns_at : ℕ → ℕ → ℕ → List Pattern
-closed_patterns_at minimum d count = only_if (nat_le 1 count && nat_lt count minimum) (closed_pattern minimum d count)
+-- the closed pattern of count days, if count is at least 1 and below the minimum
+abbrev pub closed_patterns_at : (minimum day count : ℕ) → List Pattern
+closed_patterns_at minimum d count = singleton_if (nat_le 1 count && nat_lt count minimum) (closed_pattern minimum d count)
 
--- for each that leaves room for a day before them
+-- the closed patterns for each number of days that leaves room for a day before them
 abbrev pub closed_patterns_on : ℕ → ℕ → List Pattern
-closed_patterns_on minimum d = each_below d (closed_patterns_at minimum d)
+closed_patterns_on minimum d = concat_below d (closed_patterns_at minimum d)
 
--- a run that begins on Monday or in the history and ends before d
-abbrev pub edge_pattern : ℕ → ℕ → ℕ → Pattern
+-- the pattern of a run that begins on Monday or in the history and ends before d
+abbrev pub edge_pattern : (history minimum day : ℕ) → Pattern
 edge_pattern history minimum d = record {
   days = days_with 0 d ++ without_property d ∷ [];
   units = minimum - history - d;
 }
 
-abbrev pub edge_patterns_on : ℕ → ℕ → ℕ → List Pattern
+abbrev pub edge_patterns_on : (history minimum day : ℕ) → List Pattern
 edge_patterns_on history minimum d =
-    only_if (nat_le 1 (history + d) && nat_lt (history + d) minimum) (edge_pattern history minimum d)
+    singleton_if (nat_le 1 (history + d) && nat_lt (history + d) minimum) (edge_pattern history minimum d)
 
 abbrev pub patterns_on : ℕ → Span → ℕ → List Pattern
 patterns_on history limits d = closed_patterns_on limits.min d ++ edge_patterns_on history limits.min d
 
 abbrev pub windows : ℕ → Span → List Pattern
-windows history limits = each_below 7 (windows_on history limits)
+windows history limits = concat_below DAYS (windows_on history limits)
 
 abbrev pub patterns : ℕ → Span → List Pattern
-patterns history limits = each_below 7 (patterns_on history limits)
+patterns history limits = concat_below DAYS (patterns_on history limits)
 
--- What a day must have: one of its variables is true, or none is. The variables are given by the day.
+-- The condition on a day: one of its variables is true, or none is. The variables are given by the day.
 pub data Property (X : Type 0) : Type 0 where
   Present : (ℕ → List X) → Property X
   Absent : (ℕ → List X) → Property X
@@ -83,7 +84,7 @@ is_plain (Absent variables) day = not day.has
 abbrev pub day_terms : {X : Type 0} → Property X → PatternDay → List (Term X)
 day_terms property day = times (if is_plain property day then negsuc 0 else pos 1) (variables_on property day.day)
 
--- the constraint that the days are not all as the pattern says, at so much a unit
+-- the item that is charged if all days match the pattern, with this weight for each of the pattern's units
 abbrev pub pattern_item : {X : Type 0} → Rule → ℕ → Property X → Pattern → Item X
 pattern_item rule weight property pattern = record {
   rule = rule;
@@ -93,7 +94,7 @@ pattern_item rule weight property pattern = record {
   degree = pos 1 -ℤ pos (count_by (is_plain property) pattern.days);
 }
 
--- the runs of a property, and what a unit of their cost weighs
+-- the runs of a property, and the weight of a unit of their cost
 pub record Runs (X : Type 0) : Type 0 where
   pub rule : Rule
   pub weight : ℕ
@@ -108,15 +109,15 @@ pattern_items runs all = map (pattern_item runs.rule runs.weight runs.property) 
 abbrev pub run_items : {X : Type 0} → Runs X → List (Item X)
 run_items runs = pattern_items runs (windows runs.history runs.limits ++ patterns runs.history runs.limits)
 
--- work on Saturday, and none on Sunday where Saturday is to be alone
+-- work on Saturday, and no work on Sunday if Saturday must be alone
 abbrev pub saturday : Bool → Pattern
 saturday alone = record { days = with_property 5 ∷ (if alone then without_property 6 ∷ [] else []); units = 1 }
 
--- work on Sunday, and none on Saturday
+-- work on Sunday, and no work on Saturday
 abbrev pub only_sunday : Pattern
 only_sunday = record { days = without_property 5 ∷ with_property 6 ∷ []; units = 1 }
 
--- the items of these two, of a nurse's weekend
-abbrev pub weekend_items : Rule → ℕ → Week → ℕ → Bool → List (Item Cell)
-weekend_items rule weight week n alone =
-    map (pattern_item rule weight (Present (work_cells week n))) (saturday alone ∷ only_sunday ∷ [])
+-- the items of these two patterns, for a nurse's weekend
+abbrev pub weekend_items : Rule → ℕ → Problem → ℕ → Bool → List (Item Cell)
+weekend_items rule weight problem n alone =
+    map (pattern_item rule weight (Present (work_cells problem n))) (saturday alone ∷ only_sunday ∷ [])

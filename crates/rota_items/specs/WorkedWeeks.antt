@@ -6,7 +6,7 @@ use Rattle.rota_core.specs.declared.values.Span.{Span}
 use Rattle.rota_core.specs.declared.values.Contract.{Contract}
 use Rattle.rota_core.specs.declared.values.Demand.{Demand}
 use Rattle.rota_core.specs.declared.values.Past.{Past}
-use Rattle.rota_core.specs.Week.{Week, no_demand, no_past}
+use Rattle.rota_core.specs.Problem.{Problem, no_demand, no_past}
 use Rattle.rota_core.specs.Roster.{Roster}
 use Rattle.rota_items.specs.Linear.{Term, Constraint}
 use Rattle.rota_items.specs.WeekModel.{model_of}
@@ -20,7 +20,7 @@ abbrev wide : Contract
 wide = record { total = limits_of 1 9; work = limits_of 1 9; off = limits_of 1 9; weekends = 9; complete = false }
 
 -- one shift type, no demand, and limits so wide that they cost nothing
-abbrev pub plain_week : Week
+abbrev pub plain_week : Problem
 plain_week = record {
   nurses = 1;
   shifts = 1;
@@ -37,7 +37,7 @@ plain_week = record {
   is_held = λ one. false;
 }
 
-abbrev pub with_contract : Contract → Week
+abbrev pub with_contract : Contract → Problem
 with_contract contract = record plain_week { contract = λ n. contract }
 
 -- n working days before Monday, on the first shift type
@@ -45,25 +45,25 @@ abbrev pub worked_days : ℕ → Past
 worked_days n = record no_past { assignments = n; last = Some 0; shift_run = n; work_run = n }
 
 -- working days within these limits
-abbrev pub working_week : Span → Past → Week
+abbrev pub working_week : Span → Past → Problem
 working_week limits past = record (with_contract (record wide { work = limits })) {
   limits = λ s. limits_of 1 99;
   past = λ n. past;
 }
 
-abbrev on_monday : ℕ → ℕ → ℕ → ℕ → ℕ → Demand
+abbrev on_monday : (minimum optimal day shift skill : ℕ) → Demand
 on_monday minimum optimal d s k =
     (if d == 0 then record { minimum = minimum; optimal = optimal } else no_demand)
 
-abbrev pub demanding_week : ℕ → ℕ → Week
+abbrev pub demanding_week : ℕ → ℕ → Problem
 demanding_week minimum optimal = record plain_week { demand = on_monday minimum optimal }
 
--- the nurse lacks the skill
-abbrev pub unskilled_week : Week
+-- the nurse does not have the skill
+abbrev pub unskilled_week : Problem
 unskilled_week = record (demanding_week 1 1) { has_skill = λ n k. false }
 
 -- early after night is forbidden, and the last shift was a night
-abbrev pub nights_week : Week
+abbrev pub nights_week : Problem
 nights_week = record plain_week {
   shifts = 2;
   is_forbidden = λ s t. s == 1 && t == 0;
@@ -71,7 +71,7 @@ nights_week = record plain_week {
 }
 
 -- two rows ask for a Monday without early, and one for a Monday off
-abbrev pub requests_week : Week
+abbrev pub requests_week : Problem
 requests_week = record plain_week {
   shifts = 2;
   requests = λ n d s. if d == 0 then (if s == 0 then 3 else 1) else 0;
@@ -81,23 +81,23 @@ abbrev totals : Contract
 totals = record wide { total = limits_of 10 15; weekends = 2 }
 
 -- a last week after these numbers of assignments, and of weekends with work
-abbrev pub last_week : ℕ → ℕ → Week
+abbrev pub last_week : ℕ → ℕ → Problem
 last_week assignments weekends = record (with_contract totals) {
   is_last = true;
   past = λ n. record no_past { assignments = assignments; weekends = weekends };
 }
 
--- Wednesday is held, and in the other week both shift types on Monday
-abbrev pub held_wednesday_week : Week
+-- Wednesday is held; in the other week, both shift types on Monday are held
+abbrev pub held_wednesday_week : Problem
 held_wednesday_week = record plain_week { is_held = λ one. one.day == 2 }
 
-abbrev pub held_monday_week : Week
+abbrev pub held_monday_week : Problem
 held_monday_week = record requests_week { is_held = λ one. one.day == 0 }
 
-abbrev pub weekends_week : Week
+abbrev pub weekends_week : Problem
 weekends_week = with_contract (record wide { complete = true })
 
-abbrev pub days_off_week : Week
+abbrev pub days_off_week : Problem
 days_off_week = with_contract (record wide { off = limits_of 2 9 })
 
 -- the nurse has all cells of these days
@@ -118,9 +118,9 @@ each coefficient variables = map (λ v. (coefficient, v)) variables
 abbrev row : List (Term ℕ) → ℤ → Constraint
 row terms degree = record { terms = terms; degree = degree }
 
--- the constraints after those of the unit variable and of the days of one nurse on one shift type
-abbrev after_days : Week → List Constraint
-after_days week = drop 8 (model_of week).constraints
+-- the constraints after the rows of the unit variable and of the days of one nurse on one shift type
+abbrev after_days : Problem → List Constraint
+after_days problem = drop 8 (model_of problem).constraints
 
 -- ---- constraints
 
@@ -157,7 +157,7 @@ CompleteWeekends =
     after_days weekends_week ≡
     row (minus 6 ∷ plus 7 ∷ plus 9 ∷ []) (pos 0) ∷ row (plus 6 ∷ minus 7 ∷ plus 10 ∷ []) (pos 0) ∷ []
 
--- the held cells come last, by rising variable, and may break H1
+-- the held cells come last, in ascending order of the variables, and may break H1
 abbrev pub HeldCells : Type 0
 HeldCells =
     (after_days held_wednesday_week ≡ row (plus 3 ∷ []) (pos 1) ∷ []) ×
@@ -173,17 +173,17 @@ TotalsAboveInTheLastWeek =
     (model_of (last_week 20 3)).objective ≡
     (pos 130, 8) ∷ each (pos 20) (range_with_len 9 7) ++ each (pos 30) (range_with_len 16 2)
 
--- ---- the same where each week pays for what it adds
+-- ---- the same, if each week pays for the excess that it adds
 
-abbrev pub charged_early : Week → Week
-charged_early week = record week { is_early = true }
+abbrev pub charged_early : Problem → Problem
+charged_early problem = record problem { is_early = true }
 
-abbrev pub before_the_last : Week → Week
-before_the_last week = record week { is_last = false }
+abbrev pub before_the_last : Problem → Problem
+before_the_last problem = record problem { is_last = false }
 
 -- three assignments are left before the last week
 abbrev pub TotalReachedEarly : Type 0
 TotalReachedEarly =
-    let week = before_the_last (charged_early (last_week 12 0)) in
-    (after_days week ≡ row (each (negsuc 0) (range_with_len 1 7) ++ each (pos 1) (range_with_len 9 4)) (negsuc 2) ∷ []) ×
-    ((model_of week).objective ≡ each (pos 20) (range_with_len 9 4))
+    let problem = before_the_last (charged_early (last_week 12 0)) in
+    (after_days problem ≡ row (each (negsuc 0) (range_with_len 1 7) ++ each (pos 1) (range_with_len 9 4)) (negsuc 2) ∷ []) ×
+    ((model_of problem).objective ≡ each (pos 20) (range_with_len 9 4))

@@ -1,4 +1,4 @@
--- The soft rules, a room for each: its weight and cost; and how the model charges it, by items, a part of the constant or terms on cells.
+-- The soft rules. Each has its weight and cost, and its charge in the model: items, a constant or terms on cells.
 pub mod CompleteWeekends
 pub mod ConsecutiveAssignments
 pub mod ConsecutiveDaysOff

@@ -3,7 +3,7 @@
 use crate::sums::Sign;
 use rota_core::Cell;
 
-/// What a nurse's run is made of: days on a shift type, days of work, or days off.
+/// The kind of days in a nurse's run: days on a shift type, days of work, or days off.
 #[derive(Clone, Copy)]
 pub enum DayProperty {
     Shift(u8),
@@ -11,9 +11,9 @@ pub enum DayProperty {
     Off,
 }
 
-/// Days of the week, 0 to 6, that all have a property: from the first up to the end, which is left out.
-/// Whether the day before them and the day after them must be without it, and the units that such days
-/// cost.
+/// Days of the week, 0 to 6, that all have a property: from the first up to the end, which is excluded. Also
+/// records whether the day before them and the day after them must not have the property, and the units that
+/// such a run costs.
 #[derive(Clone, Copy)]
 pub struct DayPattern {
     pub first: u8,
@@ -26,42 +26,40 @@ pub struct DayPattern {
 /// The terms at cells of an item, or of a row of a hard rule.
 #[derive(Clone, Copy)]
 pub enum CellSum {
-    /// No cells.
-    NoCells,
-    /// A nurse's day: its cells, each with -1.
-    Day {
+    /// A nurse's day: its cells, each with coefficient -1.
+    NurseDay {
         nurse: u16,
         day: u8,
     },
-    /// A nurse's day on a shift type: its cells, each with -1.
-    OnDay {
+    /// A nurse's day on a shift type: its cells, each with coefficient -1.
+    NurseDayShift {
         nurse: u16,
         shift: u8,
         day: u8,
     },
-    /// A nurse's day on a shift type and the next day on another: their cells, each with -1.
-    InTurn {
+    /// A nurse's day on a shift type and the next day on another: their cells, each with coefficient -1.
+    ShiftPair {
         nurse: u16,
         day: u8,
         first: u8,
         second: u8,
     },
-    /// The cells of a nurse that need the skill, each with -1.
+    /// The cells of a nurse that need the skill, each with coefficient -1.
     Skill {
         nurse: u16,
         skill: u8,
     },
-    /// One cell, with 1.
-    One(Cell),
-    /// The cells of a day's shift type and skill, each with 1.
+    /// One cell, with coefficient 1.
+    Single(Cell),
+    /// The cells of a day's shift type and skill, each with coefficient 1.
     Demand {
         day: u8,
         shift: u8,
         skill: u8,
     },
-    /// The days of a nurse's pattern: the cells of a day that is to have the property with -1, and
-    /// those of another with 1; for days off the other way round.
-    Days {
+    /// The days of a nurse's pattern. The cells of a day that must have the property get coefficient -1, and
+    /// the cells of a day that must not have it get 1. For days off the signs are exchanged.
+    PatternDays {
         nurse: u16,
         property: DayProperty,
         pattern: DayPattern,

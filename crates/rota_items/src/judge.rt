@@ -1,16 +1,11 @@
-//! The judge: a taker that evaluates a model, and what it answers.
+//! The judge, which is a taker that evaluates a model, and its verdict.
 
-// The verdict of a judge that is driven over the whole model.
-mod driven;
-// The taker that evaluates.
-mod judging;
-// What a judge evaluates.
+mod drives;
+mod judge;
 mod subjects;
-// What a judge adds up, row by row.
 mod tallies;
-// What a judge answers.
 mod verdicts;
 
-pub use driven::verdict_of;
-pub use judging::Judge;
+pub use drives::verdict_of;
+pub use judge::Judge;
 pub use verdicts::Verdict;

@@ -1,4 +1,4 @@
-//! The model of a week as rows, and what it means.
+//! The model of a week as rows, and its meaning.
 //!
 //! Judges a roster of the week that `instance` describes. Here it breaks one soft rule:
 //!
@@ -12,42 +12,40 @@
 //! ```
 #![tactic(auto)]
 
-// The rows: what each stands for, what takes them event by event, the numbers of their variables, their
-// sums of cells, and the rows of the hard rules.
+// The rows: their kinds, their takers, the numbers of their variables, their sums of cells, and the rows of
+// the hard rules.
 mod cell_sum;
-mod days;
 mod hard;
 mod part;
-mod rows;
 mod sum_terms;
 mod sums;
 mod takers;
 mod variables;
 
-// The items: constraints with slacks that are charged, by which the soft rules cost what they cost; what
-// charges a nurse's runs; and the soft rules, a room each.
+// The items, which are constraints with charged slacks that cost the penalty of the soft rules; the items of
+// a nurse's runs; and the soft rules.
 mod items;
 mod rules;
 mod runs;
 
-// The model: its constraints and its objective, handed to a taker.
-mod driving;
+// The model: its constraints and its objective, sent to a taker.
+mod drive;
 mod objective;
 
-// The counts: how many variables and constraints the model has.
+// The counts: the numbers of variables and of constraints of the model.
 mod counting;
 
-// The judge: a taker that evaluates.
+// The judge: a taker that evaluates a model.
 mod judge;
 
-// The extension of a roster, variable by variable, handed to a taker of literals.
+// The extension of a roster, variable by variable, sent to a taker of literals.
 mod extended;
 
-// The laws: what all this means.
+// The laws: the meaning of the model.
 pub mod laws;
 
 pub use counting::{Counter, Counts, counts, patterns_of, windows_of};
-pub use driving::drive_constraints;
+pub use drive::drive_constraints;
 pub use extended::{LiteralTaker, drive_extension};
 pub use judge::{Judge, Verdict, verdict_of};
 pub use laws::early_excess;

@@ -1,24 +1,24 @@
-//! The objective: request rows that cells match, what no roster can avoid, and the slacks with their
-//! weights.
+//! The objective: the request rows that cells match, the cost that no roster can avoid, and the slacks with
+//! their weights.
 ghost use Rattle.std.specs.Prelude.{◌≡◌, nat_lt, true, false, Bool, length};
-ghost use Rattle.rota_core.specs.InstanceTables.{week_of};
+ghost use Rattle.rota_core.specs.InstanceTables.{problem_of};
 ghost use Rattle.rota_items.specs.Events.{events, term_events};
 ghost use Rattle.rota_items.specs.WeekModel.{constant_terms, objective_terms};
 ghost use Rattle.rota_items.specs.Objective.{objective_rows};
 ghost use Rattle.rota_items.specs.Takes.{Takes};
 
-use crate::items::slack_weights::give_slack_weights;
+use crate::items::slack_weights::emit_slack_weights;
 use crate::part::Part;
-use crate::rules::{constant, give_cell_terms};
+use crate::rules::{constant, emit_cell_terms};
 use crate::takers::Taker;
 use crate::variables::unit_var;
 use rota_core::Instance;
 
-// The refusal of a closed taker.
+// The refusal of a taker that refuses everything.
 #[derive(Drop)]
 struct Closed;
 
-// A taker that refuses each event: what drives it fails exactly where there is an event to hand over.
+// A taker that refuses each event: its drive fails if and only if there is an event to send.
 #[derive(Drop)]
 struct ClosedTaker;
 
@@ -46,10 +46,10 @@ impl Taker for ClosedTaker {
     }
 }
 
-// The constant, at the unit variable, where it is not 0.
+// The constant, at the unit variable, if it is not 0.
 #[tactic(auto, using(crate::proofs::RuleSizes::few_constants))]
-fn give_constant<T: Taker>(instance: &Instance, taker: &mut T) -> Result<(), T::Fault>
-    ensures { Takes T.Taker (term_events (constant_terms (week_of instance.now)))
+fn emit_constant<T: Taker>(instance: &Instance, taker: &mut T) -> Result<(), T::Fault>
+    ensures { Takes T.Taker (term_events (constant_terms (problem_of instance.now)))
         taker.old taker.new result }
 {
     let constant = constant(instance);
@@ -60,36 +60,37 @@ fn give_constant<T: Taker>(instance: &Instance, taker: &mut T) -> Result<(), T::
     taker.term(constant as i64, unit)
 }
 
-// The terms of the objective, by rising variable.
-fn give_terms<T: Taker>(instance: &Instance, taker: &mut T) -> Result<(), T::Fault>
-    ensures { Takes T.Taker (term_events (objective_terms (week_of instance.now)))
+// The terms of the objective, in ascending order of the variables.
+fn emit_terms<T: Taker>(instance: &Instance, taker: &mut T) -> Result<(), T::Fault>
+    ensures { Takes T.Taker (term_events (objective_terms (problem_of instance.now)))
         taker.old taker.new result }
 {
-    give_cell_terms(instance, taker)?;
-    give_constant(instance, taker)?;
-    give_slack_weights(instance, taker)
+    emit_cell_terms(instance, taker)?;
+    emit_constant(instance, taker)?;
+    emit_slack_weights(instance, taker)
 }
 
-// Whether the objective has a term. It stops at the first one.
+// Whether the objective has a term. Stops at the first one.
 fn has_term(instance: &Instance) -> bool
-    ensures { result ≡ nat_lt 0 (length (objective_terms (week_of instance.now))) }
+    ensures { result ≡ nat_lt 0 (length (objective_terms (problem_of instance.now))) }
 {
-    give_terms(instance, &mut ClosedTaker).is_err()
+    emit_terms(instance, &mut ClosedTaker).is_err()
 }
 
-/// Hands the taker the objective, as one row, or nothing where it has no term.
+/// Sends the taker the objective as one row, or nothing if it has no term.
 ///
-/// Its terms are by rising variable: for each request row that a cell matches 10 at the cell; what
-/// no roster can avoid, at the unit variable; and each slack with the weight of its item. The weights
-/// are those of INRC-II. A taker's fault is answered at once, and nothing more is handed to it.
+/// Its terms are in ascending order of the variables: 10 at a cell for each request row that the cell
+/// matches; the cost that no roster can avoid, at the unit variable; and each slack with the weight of its
+/// item. The weights are the weights of INRC-II. If the taker fails, the fault is returned at once, and
+/// nothing more is sent to it.
 pub fn drive_objective<T: Taker>(instance: &Instance, taker: &mut T) -> Result<(), T::Fault>
-    ensures { Takes T.Taker (events (objective_rows (objective_terms (week_of instance.now))))
+    ensures { Takes T.Taker (events (objective_rows (objective_terms (problem_of instance.now))))
         taker.old taker.new result }
 {
     if !has_term(instance) {
         return Ok(());
     }
     taker.start_row(Part::Objective)?;
-    give_terms(instance, taker)?;
+    emit_terms(instance, taker)?;
     taker.close_row(0)
 }

@@ -1,14 +1,14 @@
-//! What a row of a model stands for.
+//! The kinds of rows of a model.
 
 use rota_core::Rule;
 
-/// What a row of a model stands for.
+/// The part of the model to which a row belongs.
 #[derive(Clone, Copy, PartialEq, Eq, Debug)]
 pub enum Part {
-    /// The objective, whose value is to be as low as can be.
+    /// The objective, whose value must be as low as possible.
     Objective,
-    /// A constraint that a hard rule asks for.
+    /// A constraint of a hard rule.
     Hard(Rule),
-    /// A constraint that a soft rule asks for, and the weight of each of its slacks.
+    /// A constraint of a soft rule, and the weight of each of its slacks.
     Soft(Rule, u64),
 }

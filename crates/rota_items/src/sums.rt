@@ -1,18 +1,17 @@
 //! Sums of cells, term by term.
 ghost use Rattle.std.specs.Prelude.{◌≡◌, ◌+◌, ◌<◌};
 ghost use Rattle.std.specs.List.{range_with_len};
-ghost use Rattle.rota_core.specs.InstanceTables.{week_of};
+ghost use Rattle.rota_core.specs.InstanceTables.{problem_of};
 ghost use Rattle.rota_core.specs.Roster.{cell};
 ghost use Rattle.rota_items.specs.CellEvents.{coefficient_of, sum_events};
-ghost use Rattle.rota_items.specs.ModelWords.{demand_cells, nurse_cells, on_cells, skill_cells, times, work_cells};
+ghost use Rattle.rota_items.specs.Rows.{demand_cells, nurse_cells, on_cells, skill_cells, times, work_cells};
 ghost use Rattle.rota_items.specs.Events.{term_events};
 ghost use Rattle.rota_items.specs.Takes.{Takes};
-ghost use Rattle.rota_items.specs.Limits.{word_limit};
+ghost use Rattle.rota_items.specs.MachineBounds.{word_limit};
 
-use crate::days::DAYS;
 use crate::takers::Taker;
 use crate::variables::{cell_var, first_var_on};
-use rota_core::{Cell, Instance};
+use rota_core::{Cell, DAYS, Instance};
 
 /// The sign of a sum's terms.
 #[derive(Clone, Copy, PartialEq, Eq, Debug)]
@@ -31,10 +30,10 @@ fn coefficient(sign: Sign) -> i64
     }
 }
 
-/// Variables that follow one another from the first on, `count` of them, each with the coefficient.
+/// The `count` variables that follow one another from the first on, each with the coefficient.
 #[tactic(auto, using(crate::proofs::SlackTerms::ranges), unfolding(crate::specs::Events::term_events))]
 #[inline(always)]
-pub fn give_range<T: Taker>(
+pub fn emit_range<T: Taker>(
     taker: &mut T,
     coefficient: i64,
     first: u32,
@@ -51,7 +50,7 @@ pub fn give_range<T: Taker>(
 }
 
 /// The cells of a nurse's day on a shift type, whose variables follow one another.
-pub fn give_on<T: Taker>(
+pub fn emit_on<T: Taker>(
     instance: &Instance,
     taker: &mut T,
     sign: Sign,
@@ -59,65 +58,65 @@ pub fn give_on<T: Taker>(
     shift: u8,
     day: u8,
 ) -> Result<(), T::Fault>
-    requires nurse_in { nurse < (week_of instance.now).nurses }
-    requires shift_in { shift < (week_of instance.now).shifts }
-    requires day_in { day < 7 }
-    ensures { let week = week_of instance.now in
-        Takes T.Taker (sum_events week sign (on_cells week nurse shift day)) taker.old taker.new result }
+    requires nurse_in { nurse < (problem_of instance.now).nurses }
+    requires shift_in { shift < (problem_of instance.now).shifts }
+    requires day_in { day < DAYS }
+    ensures { let problem = problem_of instance.now in
+        Takes T.Taker (sum_events problem sign (on_cells problem nurse shift day)) taker.old taker.new result }
 {
     let first = first_var_on(instance, nurse, day, shift);
     let cells = u32::from(instance.skills());
-    give_range(taker, coefficient(sign), first, cells)
+    emit_range(taker, coefficient(sign), first, cells)
 }
 
 /// The cells of a nurse's day, whose variables follow one another.
-pub fn give_work<T: Taker>(
+pub fn emit_work<T: Taker>(
     instance: &Instance,
     taker: &mut T,
     sign: Sign,
     nurse: u16,
     day: u8,
 ) -> Result<(), T::Fault>
-    requires nurse_in { nurse < (week_of instance.now).nurses }
-    requires day_in { day < 7 }
-    ensures { let week = week_of instance.now in
-        Takes T.Taker (sum_events week sign (work_cells week nurse day)) taker.old taker.new result }
+    requires nurse_in { nurse < (problem_of instance.now).nurses }
+    requires day_in { day < DAYS }
+    ensures { let problem = problem_of instance.now in
+        Takes T.Taker (sum_events problem sign (work_cells problem nurse day)) taker.old taker.new result }
 {
     let first = first_var_on(instance, nurse, day, 0);
     let cells = u32::from(instance.shifts()) * u32::from(instance.skills());
-    give_range(taker, coefficient(sign), first, cells)
+    emit_range(taker, coefficient(sign), first, cells)
 }
 
 /// All cells of a nurse, whose variables follow one another.
-pub fn give_nurse_cells<T: Taker>(
+pub fn emit_nurse_cells<T: Taker>(
     instance: &Instance,
     taker: &mut T,
     sign: Sign,
     nurse: u16,
 ) -> Result<(), T::Fault>
-    requires { nurse < (week_of instance.now).nurses }
-    ensures { let week = week_of instance.now in
-        Takes T.Taker (sum_events week sign (nurse_cells week nurse)) taker.old taker.new result }
+    requires { nurse < (problem_of instance.now).nurses }
+    ensures { let problem = problem_of instance.now in
+        Takes T.Taker (sum_events problem sign (nurse_cells problem nurse)) taker.old taker.new result }
 {
     let first = first_var_on(instance, nurse, 0, 0);
-    let cells = 7 * u32::from(instance.shifts()) * u32::from(instance.skills());
-    give_range(taker, coefficient(sign), first, cells)
+    let cells = DAYS as u32 * u32::from(instance.shifts()) * u32::from(instance.skills());
+    emit_range(taker, coefficient(sign), first, cells)
 }
 
 /// The cells of a day's shift type and skill, one for each nurse.
 #[tactic(auto, using(crate::proofs::Taking::taking), unfolding(crate::specs::CellEvents::cell_term_events, crate::specs::Events::term_events))]
-pub fn give_demand_cells<T: Taker>(
+pub fn emit_demand_cells<T: Taker>(
     instance: &Instance,
     taker: &mut T,
     day: u8,
     shift: u8,
     skill: u8,
 ) -> Result<(), T::Fault>
-    requires day_in { day < 7 }
-    requires shift_in { shift < (week_of instance.now).shifts }
-    requires skill_in { skill < (week_of instance.now).skills }
-    ensures { let week = week_of instance.now in
-        Takes T.Taker (sum_events week Sign.Plus (demand_cells week day shift skill))
+    requires day_in { day < DAYS }
+    requires shift_in { shift < (problem_of instance.now).shifts }
+    requires skill_in { skill < (problem_of instance.now).skills }
+    ensures { let problem = problem_of instance.now in
+        Takes T.Taker (sum_events problem Sign.Plus (demand_cells problem day shift skill))
         taker.old taker.new result }
 {
     for nurse in 0..instance.nurses() {
@@ -132,18 +131,18 @@ pub fn give_demand_cells<T: Taker>(
     Ok(())
 }
 
-/// The cells of a nurse that need the skill, each with -1.
+/// The cells of a nurse that need the skill, each with coefficient -1.
 #[tactic(auto, using(crate::proofs::Taking::taking), unfolding(crate::specs::CellEvents::cell_term_events, crate::specs::Events::term_events))]
-pub fn give_skill_cells<T: Taker>(
+pub fn emit_skill_cells<T: Taker>(
     instance: &Instance,
     taker: &mut T,
     nurse: u16,
     skill: u8,
 ) -> Result<(), T::Fault>
-    requires nurse_in { nurse < (week_of instance.now).nurses }
-    requires skill_in { skill < (week_of instance.now).skills }
-    ensures { let week = week_of instance.now in
-        Takes T.Taker (sum_events week Sign.Minus (skill_cells week nurse skill))
+    requires nurse_in { nurse < (problem_of instance.now).nurses }
+    requires skill_in { skill < (problem_of instance.now).skills }
+    ensures { let problem = problem_of instance.now in
+        Takes T.Taker (sum_events problem Sign.Minus (skill_cells problem nurse skill))
         taker.old taker.new result }
 {
     for day in 0..DAYS {

@@ -1,16 +1,16 @@
-//! What takes the rows of a model, event by event.
+//! Takers of the rows of a model, event by event.
 ghost use Rattle.std.specs.Prelude.{◌≡◌, MatchResult, ℤ};
 ghost use Rattle.rota_items.specs.Events.{Event, start_row, term, close_row};
 
 use crate::part::Part;
 
-/// What takes the rows of a model, one event at a time: a row begins, has its terms one by one, and is
-/// closed with its degree.
+/// A taker of the rows of a model, one event at a time: a row starts, has its terms one by one, and is closed
+/// with its degree.
 ///
-/// A taker stands for a value, and an event that it takes is a step of that value. What an event that
-/// it refuses may leave is said by `left`.
+/// A taker has an abstract value, and an event that it takes is a step of that value. `left` describes its
+/// state after an event that it refuses.
 pub trait Taker {
-    /// Why an event may be refused.
+    /// The reason why an event may be refused.
     type Fault;
 
     ghost Value: { Type 0 };
@@ -21,7 +21,7 @@ pub trait Taker {
 
     ghost left: { Value → Event → Self → Type 0 };
 
-    /// Takes the begin of a row of this part. Only the taker answers an Err, and it ends a drive.
+    /// Starts a row of this part. Only the taker returns an `Err`, which ends a drive.
     fn start_row(&mut self, part: Part) -> Result<(), Self::Fault>
         ensures { MatchResult result
             (λ _. value self.new ≡ step (value self.old) (start_row part))
@@ -33,8 +33,8 @@ pub trait Taker {
             (λ _. value self.new ≡ step (value self.old) (term coefficient variable))
             (λ _. left (value self.old) (term coefficient variable) self.new) };
 
-    /// Takes the end of the open row: the sum of its terms is to be at least the degree. The objective's
-    /// degree is 0, and means nothing.
+    /// Closes the open row: the sum of its terms must be at least the degree. The objective's degree is 0 and
+    /// has no meaning.
     fn close_row(&mut self, degree: i64) -> Result<(), Self::Fault>
         ensures { MatchResult result
             (λ _. value self.new ≡ step (value self.old) (close_row degree))

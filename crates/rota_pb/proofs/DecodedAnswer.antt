@@ -1,10 +1,10 @@
--- What an answer decodes to.
+-- The decoding of an answer.
 use Rattle.std.proofs.Common.{◌≡◌, ℕ, ◌+◌, ◌≤◌, pos, Bool, false, List, [], ◌∷◌, map, refl, sym, ◌∙◌, subst, add-one}
 use Rattle.std.specs.Prelude.{sum, slice_index_or}
-use Rattle.rota_core.specs.Week.{Week}
+use Rattle.rota_core.specs.Problem.{Problem}
 use Rattle.rota_core.specs.declared.values.Cell.{Cell}
 use Rattle.rota_core.specs.Roster.{InWeek, Roster}
-use Rattle.rota_core.specs.RosterTables.{RosterTables, HasShapeOf, cell_place, set_of}
+use Rattle.rota_core.specs.RosterTables.{RosterTables, HasShapeOf, cell_index, set_of}
 use Rattle.rota_items.specs.AlikeRosters.{AreAlike, CostAlike}
 use Rattle.rota_items.specs.Linear.{objective_value}
 use Rattle.rota_core.specs.Rules.{soft_rules}
@@ -21,25 +21,25 @@ map-alike : {X Y : Type 0} (f g : X → Y) → ((x : X) → f x ≡ g x) → (xs
 map-alike f g same [] = refl
 map-alike f g same (x ∷ xs) = rw (same x, map-alike f g same xs) refl
 
-truth_behind : (bits : List Bool) (place : ℕ) → truth_of bits (place + 1) ≡ slice_index_or bits place false
-truth_behind bits place = rw add-one refl
+truth_after : (bits : List Bool) (index : ℕ) → truth_of bits (index + 1) ≡ slice_index_or bits index false
+truth_after bits index = rw add-one refl
 
-module _ (week : Week) (alike : (one other : Roster) → AreAlike week one other → CostAlike week one other)
+module _ (problem : Problem) (alike : (one other : Roster) → AreAlike problem one other → CostAlike problem one other)
     (solved : Solved) (verdict : Verdict) (roster : RosterTables) (total : ℕ)
-    (finds : FindsRoster solved.status) (met : IsMet week (truth_of solved.bits) verdict)
-    (objective : pos verdict.objective ≡ objective_value (truth_of solved.bits) (model_of week))
-    (shape : HasShapeOf week roster)
-    (cells : (cell : Cell) → InWeek week cell →
-    set_of roster cell ≡ slice_index_or solved.bits (cell_place week.shifts week.skills cell) false)
+    (finds : FindsRoster solved.status) (met : IsMet problem (truth_of solved.bits) verdict)
+    (objective : pos verdict.objective ≡ objective_value (truth_of solved.bits) (model_of problem))
+    (shape : HasShapeOf problem roster)
+    (cells : (cell : Cell) → InWeek problem cell →
+    set_of roster cell ≡ slice_index_or solved.bits (cell_index problem.shifts problem.skills cell) false)
     (is_total : total ≡ sum verdict.costs) where
-  same : (cell : Cell) → InWeek week cell → roster_of week (truth_of solved.bits) cell ≡ set_of roster cell
-  same cell in_week = truth_behind solved.bits (cell_place week.shifts week.skills cell) ∙ sym (cells cell in_week)
+  same : (cell : Cell) → InWeek problem cell → roster_of problem (truth_of solved.bits) cell ≡ set_of roster cell
+  same cell in_week = truth_after solved.bits (cell_index problem.shifts problem.skills cell) ∙ sym (cells cell in_week)
 
-  of_roster : total ≡ penalty week (set_of roster)
+  of_roster : total ≡ penalty problem (set_of roster)
   of_roster = is_total ∙ met.costs_rules.sum_is ∙ (alike _ _ same).penalties
 
   -- an assignment that satisfies the model is decoded
-  pub is_decoded : IsDecoded week solved (record {
+  pub is_decoded : IsDecoded problem solved (record {
     roster = roster;
     objective = verdict.objective;
     costs = verdict.costs;

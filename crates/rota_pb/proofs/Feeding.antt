@@ -3,11 +3,11 @@ use Rattle.std.proofs.Common.{◌≡◌, ℕ, ◌+◌, ◌<◌, refl, sym, ap, �
 use Rattle.std.proofs.Common.{List, [], ◌++◌, length, length-append, Result, Ok, Err, None, Some}
 use Rattle.std.specs.Io.KnownBytes.{prepend_known, IsAtEnd}
 use Rattle.std.proofs.lemmas.List.{append-nil}
-use Rattle.rota_core.specs.Ports.{Told}
+use Rattle.rota_core.specs.Ports.{KnownBytes}
 use Rattle.solver_text.specs.declared.answer.Answer.{Answer as AnswerState}
 use Rattle.solver_text.specs.declared.outcome.AnswerFault.{AnswerFault}
 use Rattle.solver_text.specs.declared.outcome.Solved.{Solved}
-use Rattle.solver_text.specs.Answers.{judge_all, outcome, fault_within}
+use Rattle.solver_text.specs.Answers.{check_all, outcome, fault_within}
 use Rattle.solver_text.specs.Lines.{cut}
 use Rattle.solver_text.specs.States.{LeadsTo}
 use Rattle.solver_text.specs.AnswerLaws.{FaultStays}
@@ -16,22 +16,22 @@ use Rattle.rota_pb.specs.declared.fault.Fault.TheVariants.{Read, Answer}
 use Rattle.rota_pb.specs.AnswerPieces.{FailsAnswer, IsSolved}
 use Rattle.rota_pb.specs.Feeding.{HasTaken, HasTakenAll, FaultTaken, StopsTaking}
 use Rattle.rota_pb.specs.RunPorts.{IsEnded, Reader}
-use Rattle.rota_pb.proofs.WholeFiles.{told_are}
+use Rattle.rota_pb.proofs.WholeFiles.{known_are}
 
-pub prepend_known-append : (xs ys : List ℕ) (told : Told) → prepend_known (xs ++ ys) told ≡ prepend_known xs (prepend_known ys told)
+pub prepend_known-append : (xs ys : List ℕ) (known : KnownBytes) → prepend_known (xs ++ ys) known ≡ prepend_known xs (prepend_known ys known)
 prepend_known-append xs ys None = refl
 prepend_known-append xs ys (Some bytes) = ap Some (append_assoc xs ys bytes)
 
-prepend_known-nil : (told : Told) → told ≡ prepend_known [] told
+prepend_known-nil : (known : KnownBytes) → known ≡ prepend_known [] known
 prepend_known-nil None = refl
 prepend_known-nil (Some bytes) = refl
 
 no_fault_yet : (variables : ℕ) → fault_within variables [] ≡ Ok tt
-unfolding judge_all cut
+unfolding check_all cut
 no_fault_yet variables = refl
 
--- nothing was taken yet
-pub taken_nothing : (given : Told) (answer : AnswerState) → HasTaken given given answer answer 0
+-- nothing has been taken yet
+pub taken_nothing : (given : KnownBytes) (answer : AnswerState) → HasTaken given given answer answer 0
 taken_nothing given answer = record {
   taken = [];
   front = prepend_known-nil given;
@@ -40,15 +40,15 @@ taken_nothing given answer = record {
   long = omega arith;
 }
 
-module _ (given before left : Told) (old middle new : AnswerState) (pieces : ℕ) (piece : List ℕ)
+module _ (given before left : KnownBytes) (old middle new : AnswerState) (pieces : ℕ) (piece : List ℕ)
     (result : Result (Unit {0}) AnswerFault) (so_far : HasTaken given before old middle pieces)
     (next : before ≡ prepend_known piece left)
     (judged : (variables : ℕ) (text : List ℕ) → LeadsTo variables text middle → result ≡ fault_within variables (text ++ piece)) where
   front-more : given ≡ prepend_known (so_far.taken ++ piece) left
   front-more =
-      so_far.front ∙ ap (λ (told : Told). prepend_known so_far.taken told) next ∙ sym (prepend_known-append so_far.taken piece left)
+      so_far.front ∙ ap (λ (known : KnownBytes). prepend_known so_far.taken known) next ∙ sym (prepend_known-append so_far.taken piece left)
 
-  -- one piece more was taken
+  -- one more piece was taken
   pub taken_more : (u : Unit {0}) → result ≡ Ok u → 0 < length piece →
       ((variables : ℕ) (text : List ℕ) → LeadsTo variables text middle → LeadsTo variables (text ++ piece) new) →
       HasTaken given left old new (pieces + 1)
@@ -60,12 +60,12 @@ module _ (given before left : Told) (old middle new : AnswerState) (pieces : ℕ
     long = let before = so_far.long in omega (arith, before, some, length-append so_far.taken piece);
   }
 
-  -- a fault was judged in one piece more
+  -- a fault was found in one more piece
   pub fault_taken : (reader : Reader) (fault : AnswerFault) → result ≡ Err fault → reader.given ≡ given → reader.left ≡ left →
       reader.failed ≡ reader.failed_before → FaultTaken reader old fault
   fault_taken reader fault is given_is left_is sound = record {
     taken = so_far.taken ++ piece;
-    front = given_is ∙ front-more ∙ ap (λ (told : Told). prepend_known (so_far.taken ++ piece) told) (sym left_is);
+    front = given_is ∙ front-more ∙ ap (λ (known : KnownBytes). prepend_known (so_far.taken ++ piece) known) (sym left_is);
     judged = λ variables from. sym (judged variables so_far.taken (so_far.leads variables from)) ∙ is;
     sound = sound;
   }
@@ -75,18 +75,18 @@ module _ (given before left : Told) (old middle new : AnswerState) (pieces : ℕ
 -- the bytes that were taken up to the end are all bytes
 all_taken : (reader : Reader) (taken bytes : List ℕ) → reader.given ≡ prepend_known taken reader.left → IsEnded reader →
     reader.given ≡ Some bytes → taken ≡ bytes
-all_taken reader taken bytes front at_end told =
-    let parts : (rest : List ℕ) × (reader.left ≡ Some rest) × (taken ++ rest ≡ bytes) = told_are reader.given reader.left taken bytes front told in
+all_taken reader taken bytes front at_end known =
+    let parts : (rest : List ℕ) × (reader.left ≡ Some rest) × (taken ++ rest ≡ bytes) = known_are reader.given reader.left taken bytes front known in
     let none : parts.0 ≡ [] = subst IsAtEnd parts.1 at_end.none_left in
     sym (append-nil taken) ∙ ap (λ (rest : List ℕ). taken ++ rest) (sym none) ∙ parts.2
 
 module _ (variables : ℕ) (reader : Reader) (old : AnswerState) (from : LeadsTo variables [] old) where
-  -- why not all bytes were taken is why the answer is not taken
+  -- the reason why not all bytes were taken is the reason why the answer is refused
   pub fails_answer : FaultStays → (fault : Fault) → StopsTaking reader old fault → FailsAnswer variables reader fault
   fails_answer stays (Answer fault) stops = record {
-    means = λ bytes told.
+    means = λ bytes known.
         let parts : (rest : List ℕ) × (reader.left ≡ Some rest) × (stops.taken ++ rest ≡ bytes) =
-        told_are reader.given reader.left stops.taken bytes stops.front told in
+        known_are reader.given reader.left stops.taken bytes stops.front known in
         subst (λ (text : List ℕ). outcome variables text ≡ Err fault) parts.2
         (stays.whole variables stops.taken parts.0 fault from.few (stops.judged variables from));
     sound = stops.sound;
@@ -105,8 +105,8 @@ module _ (variables : ℕ) (reader : Reader) (old : AnswerState) (from : LeadsTo
         ((text : List ℕ) → LeadsTo variables text new → outcome variables text ≡ Err fault) →
         FailsAnswer variables reader (Answer fault)
     fails_at_end fault ends = record {
-      means = λ bytes told.
-          subst (λ (text : List ℕ). outcome variables text ≡ Err fault) (all_taken reader all.taken bytes all.front all.at_end told)
+      means = λ bytes known.
+          subst (λ (text : List ℕ). outcome variables text ≡ Err fault) (all_taken reader all.taken bytes all.front all.at_end known)
           (ends all.taken (all.leads variables from));
       sound = all.sound;
     }
@@ -116,9 +116,9 @@ module _ (variables : ℕ) (reader : Reader) (old : AnswerState) (from : LeadsTo
         ((text : List ℕ) → LeadsTo variables text new → length solved.bits ≡ variables) →
         IsSolved variables reader solved
     is_solved solved ends bits = record {
-      means = λ bytes told.
+      means = λ bytes known.
           subst (λ (text : List ℕ). outcome variables text ≡ Ok solved)
-          (all_taken reader all.taken bytes all.front all.at_end told) (ends all.taken (all.leads variables from));
+          (all_taken reader all.taken bytes all.front all.at_end known) (ends all.taken (all.leads variables from));
       to_end = record { taken = all.taken; front = all.front; ended = all.at_end; sound = all.sound };
       bits = bits all.taken (all.leads variables from);
     }

@@ -37,9 +37,9 @@ assignment-pieces tables one =
     assignment-regrouped (name_at tables.nurses one.nurse) (name_at day_names one.day) (name_at tables.shifts one.shift)
     (name_at tables.skills one.skill)
 
--- the name of a number, where there is one
-pub name_at-is : (names : List (List ℕ)) (place : ℕ) (name : List ℕ) → slice_get names place ≡ Some name → name_at names place ≡ name
-name_at-is names place name is = ap (λ (found : Option (List ℕ)). unwrap_or found []) is
+-- the name of a number, if it has one
+pub name_at-is : (names : List (List ℕ)) (index : ℕ) (name : List ℕ) → slice_get names index ≡ Some name → name_at names index ≡ name
+name_at-is names index name is = ap (λ (found : Option (List ℕ)). unwrap_or found []) is
 
 -- the row of one more cell
 pub rows-more : (tables : InstanceTables) (cells : List Cell) (one : Cell) →
@@ -48,7 +48,7 @@ rows-more tables cells one =
     flat_map-append (assignment_text tables.scenario) cells (one ∷ []) ∙
     ap (λ (row : List ℕ). rows_text tables cells ++ row) (append-nil (assignment_text tables.scenario one))
 
--- and those of the cells after it
+-- and the rows of the cells after it
 pub rows-left : (tables : InstanceTables) (cells : List Cell) (one : Cell) (others : List Cell) →
     rows_text tables (cells ++ one ∷ others)
     ≡ (rows_text tables cells ++ assignment_text tables.scenario one) ++ rows_text tables others

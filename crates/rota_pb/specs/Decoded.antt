@@ -1,7 +1,7 @@
--- What an answer says of a week: its roster with what it costs, or why it has none.
+-- The meaning of an answer for a week: its roster with the costs, or the reason why it has none.
 use Rattle.std.specs.Prelude.{◌≡◌, ℕ, ◌≤◌, pos, Bool, map, sum, Some}
-use Rattle.rota_pb.specs.Words.{Cell, Fault, HasShapeOf, InWeek, KeepsHardRules, NoRoster, objective_value, penalty, roster_of, Rule}
-use Rattle.rota_pb.specs.Words.{SatisfiesModel, set_of, soft_rules, Unmet, Week}
+use Rattle.rota_pb.specs.Imports.{Cell, Fault, HasShapeOf, InWeek, KeepsHardRules, NoRoster, objective_value, penalty, roster_of, Rule}
+use Rattle.rota_pb.specs.Imports.{SatisfiesModel, set_of, soft_rules, Unmet, Problem}
 use Rattle.rota_items.specs.Penalty.{rule_cost}
 use Rattle.rota_items.specs.FirstUnmet.{first_unmet}
 use Rattle.rota_items.specs.Truths.{truth_of}
@@ -10,7 +10,7 @@ use Rattle.solver_text.specs.declared.outcome.Status.{Status}
 use Rattle.solver_text.specs.declared.outcome.Status.TheVariants.{Satisfiable, Optimum}
 use Rattle.solver_text.specs.declared.outcome.Solved.{Solved}
 use Rattle.rota_pb.specs.declared.decoded.Decoded.{Decoded}
-use Rattle.rota_pb.specs.Runs.{Run, check}
+use Rattle.rota_pb.specs.Steps.{Step, check}
 
 -- the statuses of an answer that gives an assignment
 abbrev pub FindsRoster : Status → Type 0
@@ -20,31 +20,31 @@ FindsRoster _ = ⊥
 
 -- The variables that the answer makes true satisfy the model of the week. The roster has exactly the cells whose variable is true, keeps
 -- the hard rules, and costs the penalty, which is at most the objective.
-pub record IsDecoded (week : Week) (solved : Solved) (decoded : Decoded) : Type 0 where
+pub record IsDecoded (problem : Problem) (solved : Solved) (decoded : Decoded) : Type 0 where
   pub finds : FindsRoster solved.status
-  pub satisfies : SatisfiesModel (truth_of solved.bits) (model_of week)
-  pub shape : HasShapeOf week decoded.roster
-  pub cells : (cell : Cell) → InWeek week cell → set_of decoded.roster cell ≡ roster_of week (truth_of solved.bits) cell
-  pub keeps : KeepsHardRules week (set_of decoded.roster)
-  pub objective : pos decoded.objective ≡ objective_value (truth_of solved.bits) (model_of week)
-  pub costs : decoded.costs ≡ map (rule_cost week (set_of decoded.roster)) soft_rules
+  pub satisfies : SatisfiesModel (truth_of solved.bits) (model_of problem)
+  pub shape : HasShapeOf problem decoded.roster
+  pub cells : (cell : Cell) → InWeek problem cell → set_of decoded.roster cell ≡ roster_of problem (truth_of solved.bits) cell
+  pub keeps : KeepsHardRules problem (set_of decoded.roster)
+  pub objective : pos decoded.objective ≡ objective_value (truth_of solved.bits) (model_of problem)
+  pub costs : decoded.costs ≡ map (rule_cost problem (set_of decoded.roster)) soft_rules
   pub sum_of_costs : decoded.penalty ≡ sum decoded.costs
-  pub penalty_is : decoded.penalty ≡ penalty week (set_of decoded.roster)
+  pub penalty_is : decoded.penalty ≡ penalty problem (set_of decoded.roster)
   pub penalty_at_most : decoded.penalty ≤ decoded.objective
   pub same_status : decoded.status ≡ solved.status
   pub same_last_o : decoded.last_o ≡ solved.last_o
 
 -- the constraint with this number, from 1, is the first of the model that the assignment does not satisfy
-pub record IsFirstUnmet (week : Week) (assignment : ℕ → Bool) (number : ℕ) : Type 0 where
+pub record IsFirstUnmet (problem : Problem) (assignment : ℕ → Bool) (number : ℕ) : Type 0 where
   pub rule : Rule
-  pub first : first_unmet assignment (rows_of week) ≡ Some (number, rule)
-  pub unsatisfied : SatisfiesModel assignment (model_of week) → ⊥
+  pub first : first_unmet assignment (rows_of problem) ≡ Some (number, rule)
+  pub unsatisfied : SatisfiesModel assignment (model_of problem) → ⊥
 
 -- Why an answer has no roster: its status says so, or its assignment does not satisfy the model.
-abbrev pub LacksRoster : Week → Solved → Fault → Type 0
-LacksRoster week solved (NoRoster status) = (status ≡ solved.status) × (FindsRoster solved.status → ⊥)
-LacksRoster week solved (Unmet number) = FindsRoster solved.status × IsFirstUnmet week (truth_of solved.bits) number
-LacksRoster week solved _ = ⊥
+abbrev pub LacksRoster : Problem → Solved → Fault → Type 0
+LacksRoster problem solved (NoRoster status) = (status ≡ solved.status) × (FindsRoster solved.status → ⊥)
+LacksRoster problem solved (Unmet number) = FindsRoster solved.status × IsFirstUnmet problem (truth_of solved.bits) number
+LacksRoster problem solved _ = ⊥
 
-abbrev pub find_roster : Week → Solved → Run Decoded
-find_roster week solved = check (IsDecoded week solved) (LacksRoster week solved)
+abbrev pub find_roster : Problem → Solved → Step Decoded
+find_roster problem solved = check (IsDecoded problem solved) (LacksRoster problem solved)

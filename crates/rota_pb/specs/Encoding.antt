@@ -1,27 +1,28 @@
--- What a run that encodes writes.
+-- The text that an encoding run writes.
 use Rattle.std.specs.Prelude.{◌≡◌, ℕ, List, Result}
-use Rattle.rota_pb.specs.Words.{Choice, Fault, Model, Week, week_of}
+use Rattle.rota_pb.specs.Imports.{Choice, Fault, Model, Problem, problem_of}
 use Rattle.opb_text.specs.ModelText.{opb_text}
 use Rattle.rota_pb.specs.ExactModel.{IsExactModel}
 use Rattle.rota_pb.specs.Meaning.{MeansRules}
 use Rattle.rota_pb.specs.RunPorts.{WeekReaders, Writer}
-use Rattle.rota_pb.specs.Runs.{Run, ◌>>=◌, find, send}
+use Rattle.rota_pb.specs.Steps.{Step, ◌>>=◌, find, send}
 use Rattle.rota_pb.specs.WeekFiles.{read_week}
 
 -- The text spells one model. It means the rules of the week, and it is exactly the week's.
-pub record IsModelText (week : Week) (text : List ℕ) : Type 0 where
+pub record IsModelText (problem : Problem) (text : List ℕ) : Type 0 where
   pub model : Model
   pub is_text : text ≡ opb_text model
   pub is_only : (other : Model) → text ≡ opb_text other → other ≡ model
-  pub means : MeansRules week model
-  pub exact : IsExactModel week model
+  pub means : MeansRules problem model
+  pub exact : IsExactModel problem model
 
 -- the files of a week are read, and the text of its model is sent
-abbrev pub encode_run : Choice → WeekReaders → Writer → Run (Unit {0})
+abbrev pub encode_run : Choice → WeekReaders → Writer → Step (Unit {0})
 encode_run choice readers out = do
   tables ← read_week choice readers
-  text ← find (IsModelText (week_of tables))
+  text ← find (IsModelText (problem_of tables))
   send out text
 
+-- an encoding run with this result left its readers and its writer like this
 unfoldable pub EncodeOutcome : Choice → WeekReaders → Writer → Result (Unit {0}) Fault → Type 0
 EncodeOutcome choice readers out = (encode_run choice readers out).ends

@@ -1,7 +1,7 @@
--- What a run that extends writes.
+-- The text that an extending run writes.
 use Rattle.std.specs.Prelude.{◌≡◌, ℕ, ◌<◌, ◌≤◌, pos, List, Some, Result, Ok}
-use Rattle.rota_core.specs.Week.{Week}
-use Rattle.rota_core.specs.InstanceTables.{InstanceTables, IsInstance, week_of}
+use Rattle.rota_core.specs.Problem.{Problem}
+use Rattle.rota_core.specs.InstanceTables.{InstanceTables, IsInstance, problem_of}
 use Rattle.rota_core.specs.RosterTables.{set_of}
 use Rattle.rota_core.specs.declared.values.Cell.{Cell}
 use Rattle.rota_core.specs.declared.fault.FileName.TheVariants as names
@@ -20,48 +20,49 @@ use Rattle.rota_pb.specs.declared.fault.Fault.{Fault}
 use Rattle.rota_pb.specs.declared.fault.Fault.TheVariants.{Breaks}
 use Rattle.rota_pb.specs.declared.week_files.Choice.{Choice}
 use Rattle.rota_pb.specs.RunPorts.{Reader, WeekReaders, Writer}
-use Rattle.rota_pb.specs.Runs.{Run, ◌>>=◌, ◌>>◌, check, send}
+use Rattle.rota_pb.specs.Steps.{Step, ◌>>=◌, ◌>>◌, check, send}
 use Rattle.rota_pb.specs.WeekFiles.{read_roster, read_week}
 
 -- the answer of the roster's extension with this objective
-unfoldable pub extension_answer : ℕ → Week → Roster → List ℕ
-extension_answer objective week roster = answer_text objective (extension_truths week roster)
+unfoldable pub extension_answer : ℕ → Problem → Roster → List ℕ
+extension_answer objective problem roster = answer_text objective (extension_truths problem roster)
 
 -- its objective is the roster's penalty
-abbrev pub extension_text : Week → Roster → List ℕ
-extension_text week roster = extension_answer (penalty week roster) week roster
+abbrev pub extension_text : Problem → Roster → List ℕ
+extension_text problem roster = extension_answer (penalty problem roster) problem roster
 
 -- why a roster has no extension: the first hard rule that it breaks
-abbrev pub BreaksRule : Week → Roster → Fault → Type 0
-BreaksRule week roster (Breaks rule) = FirstBroken week roster rule
-BreaksRule week roster _ = ⊥
+abbrev pub BreaksRule : Problem → Roster → Fault → Type 0
+BreaksRule problem roster (Breaks rule) = FirstBroken problem roster rule
+BreaksRule problem roster _ = ⊥
 
 -- the roster must keep the hard rules; then the answer of its extension is sent
-abbrev pub extend_roster : Week → Roster → Writer → Run (Unit {0})
-extend_roster week roster out = do
-  check (λ _. KeepsHardRules week roster) (BreaksRule week roster)
-  send out (extension_text week roster)
+abbrev pub extend_roster : Problem → Roster → Writer → Step (Unit {0})
+extend_roster problem roster out = do
+  check (λ _. KeepsHardRules problem roster) (BreaksRule problem roster)
+  send out (extension_text problem roster)
 
--- the files of a week are read, then a roster, and that is extended
-abbrev pub extend_run : Choice → WeekReaders → Reader → Writer → Run (Unit {0})
+-- the files of a week are read, then a roster, and its extension is sent
+abbrev pub extend_run : Choice → WeekReaders → Reader → Writer → Step (Unit {0})
 extend_run choice readers given out = do
   tables ← read_week choice readers
   roster ← read_roster names.Solution tables given
-  extend_roster (week_of tables) (set_of roster) out
+  extend_roster (problem_of tables) (set_of roster) out
 
 unfoldable pub ExtendOutcome : Choice → WeekReaders → Reader → Writer → Result (Unit {0}) Fault → Type 0
 ExtendOutcome choice readers given out = (extend_run choice readers given out).ends
 
--- what the answer of a roster's extension says of the week's model, and of the roster
-pub record IsReadBack (week : Week) (roster : Roster) : Type 0 where
-  pub outcome : outcome (model_of week).variables (extension_text week roster) ≡
-      Ok (record { status = Satisfiable; last_o = Some (pos (penalty week roster)); bits = extension_truths week roster })
-  pub truths : (v : ℕ) → 0 < v → v ≤ (model_of week).variables → truth_of (extension_truths week roster) v ≡ extension_of week roster v
-  pub same_roster : (cell : Cell) → InWeek week cell → roster_of week (truth_of (extension_truths week roster)) cell ≡ roster cell
+-- the meaning of the answer of a roster's extension, for the week's model and for the roster
+pub record IsReadBack (problem : Problem) (roster : Roster) : Type 0 where
+  pub outcome : outcome (model_of problem).variables (extension_text problem roster) ≡
+      Ok (record { status = Satisfiable; last_o = Some (pos (penalty problem roster)); bits = extension_truths problem roster })
+  pub truths : (v : ℕ) → 0 < v → v ≤ (model_of problem).variables →
+      truth_of (extension_truths problem roster) v ≡ extension_of problem roster v
+  pub same_roster : (cell : Cell) → InWeek problem cell → roster_of problem (truth_of (extension_truths problem roster)) cell ≡ roster cell
 
--- The answer of the extension of a roster that keeps the hard rules is read as that extension, at the roster's penalty, and stands for the
--- roster.
+-- The answer of the extension of a roster that keeps the hard rules is read as that extension, at the roster's penalty, and represents
+-- the roster.
 abbrev pub ExtensionIsReadBack : Type 0
 ExtensionIsReadBack =
-    (tables : InstanceTables) (roster : Roster) → IsInstance tables → KeepsHardRules (week_of tables) roster →
-    IsReadBack (week_of tables) roster
+    (tables : InstanceTables) (roster : Roster) → IsInstance tables → KeepsHardRules (problem_of tables) roster →
+    IsReadBack (problem_of tables) roster

@@ -1,6 +1,6 @@
--- What the fault of a run says, in words.
+-- The message for the fault of a run.
 use Rattle.std.specs.Prelude.{ℕ, List, ◌++◌, codes, decimal}
-use Rattle.rota_pb.specs.Words.{Answer, Breaks, Fault, File, Memory, NoRoster, Read, Unmet, Write}
+use Rattle.rota_pb.specs.Imports.{Answer, Breaks, Fault, File, Memory, NoRoster, Read, Unmet, Write}
 use Rattle.rota_core.specs.FaultTexts.{file_fault_text}
 use Rattle.rota_core.specs.RuleNames.{rule_name}
 use Rattle.solver_text.specs.FaultTexts.{answer_fault_text}

@@ -1,7 +1,7 @@
--- What feeding an answer with a reader's pieces does.
+-- The result of feeding an answer with a reader's pieces.
 use Rattle.std.specs.Prelude.{◌≡◌, ℕ, ◌≤◌, List, [], length, Ok, Err}
 use Rattle.std.specs.Io.KnownBytes.{prepend_known}
-use Rattle.rota_pb.specs.Words.{Answer, Fault, Read, Told}
+use Rattle.rota_pb.specs.Imports.{Answer, Fault, Read, KnownBytes}
 use Rattle.solver_text.specs.declared.answer.Answer.{Answer as AnswerState}
 use Rattle.solver_text.specs.declared.outcome.AnswerFault.{AnswerFault}
 use Rattle.solver_text.specs.States.{LeadsTo}
@@ -9,8 +9,9 @@ use Rattle.solver_text.specs.Answers.{fault_within}
 use Rattle.rota_pb.specs.AnswerPieces.{LacksEnd}
 use Rattle.rota_pb.specs.RunPorts.{IsEnded, Reader}
 
--- Bytes were taken in this number of pieces, each of which had some. They lead from no text to the answer, and no fault was judged in them.
-pub record HasTaken (given left : Told) (old new : AnswerState) (pieces : ℕ) : Type 0 where
+-- Bytes were taken in this number of pieces, none of them empty. They lead from no text to the answer, and no fault was found in them.
+-- them.
+pub record HasTaken (given left : KnownBytes) (old new : AnswerState) (pieces : ℕ) : Type 0 where
   pub taken : List ℕ
   pub front : given ≡ prepend_known taken left
   pub leads : (variables : ℕ) → LeadsTo variables [] old → LeadsTo variables taken new
@@ -25,14 +26,14 @@ pub record HasTakenAll (reader : Reader) (old new : AnswerState) : Type 0 where
   pub leads : (variables : ℕ) → LeadsTo variables [] old → LeadsTo variables taken new
   pub sound : reader.failed ≡ reader.failed_before
 
--- a fault was judged in the bytes that were taken, which follow no text
+-- a fault was found in the bytes that were taken, which follow no text
 pub record FaultTaken (reader : Reader) (old : AnswerState) (fault : AnswerFault) : Type 0 where
   pub taken : List ℕ
   pub front : reader.given ≡ prepend_known taken reader.left
   pub judged : (variables : ℕ) → LeadsTo variables [] old → fault_within variables taken ≡ Err fault
   pub sound : reader.failed ≡ reader.failed_before
 
--- no end came after the bytes that were taken, which follow no text, and no fault was judged in them
+-- no end came after the bytes that were taken, which follow no text, and no fault was found in them
 pub record NoEndTaken (reader : Reader) (old : AnswerState) : Type 0 where
   pub taken : List ℕ
   pub front : reader.given ≡ prepend_known taken reader.left

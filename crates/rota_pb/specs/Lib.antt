@@ -11,7 +11,7 @@ pub mod Meaning
 pub mod Report
 pub mod RunParts
 pub mod RunPorts
-pub mod Runs
+pub mod Steps
 pub mod Statuses
 pub mod WeekFiles
-pub mod Words
+pub mod Imports

@@ -1,6 +1,6 @@
 -- The exit status of each fault.
 use Rattle.std.specs.Prelude.{ℕ}
-use Rattle.rota_pb.specs.Words.{Answer, Breaks, Fault, File, Memory, NoRoster, Read, Unmet, Write}
+use Rattle.rota_pb.specs.Imports.{Answer, Breaks, Fault, File, Memory, NoRoster, Read, Unmet, Write}
 use Rattle.rota_core.specs.declared.fault.FileFault.TheVariants as refusals
 
 abbrev pub exit_status : Fault → ℕ

@@ -1,67 +1,70 @@
--- The files of a week, checked one after the other, and why one is not taken.
+-- The files of a week, checked one after the other, and why one is refused.
 use Rattle.std.specs.Prelude.{◌≡◌, ℕ, ◌≤◌, Bool, List, Some, None, ◌+◌}
-use Rattle.rota_pb.specs.Words.{Choice, Fault, File, FileFault, FileName, HasFault, HasShapeOf, HistoryTables, holding, InstanceTables}
-use Rattle.rota_pb.specs.Words.{IsInstance, Layout, LONGEST, Memory, Read, RosterTables, ScenarioTables, solution, Spells, SpellsRoster}
-use Rattle.rota_pb.specs.Words.{Told, week_of, WeekTables}
+use Rattle.rota_pb.specs.Imports.{Choice, Fault, File, FileFault, FileName, HasFault, HasShapeOf, HistoryTables, holding, InstanceTables}
+use Rattle.rota_pb.specs.Imports.{IsInstance, Layout, max_file_len, Memory, Read, RosterTables, ScenarioTables, solution, Spells}
+use Rattle.rota_pb.specs.Imports.{SpellsRoster}
+use Rattle.rota_pb.specs.Imports.{KnownBytes, problem_of, WeekTables}
 use Rattle.rota_core.specs.declared.fault.FileName.TheVariants as names
 use Rattle.rota_core.specs.declared.fault.Kind.TheVariants.{LateWeek}
 use Rattle.rota_read.specs.ScenarioLayout.{scenario}
 use Rattle.rota_read.specs.HistoryLayout.{history}
 use Rattle.rota_read.specs.WeekLayout.{week}
 use Rattle.rota_pb.specs.RunPorts.{IsReadToEnd, Reader, WeekReaders, FailsWithin, IsReadInPart, IsReadUpTo}
-use Rattle.rota_pb.specs.Runs.{Run, ◌>>=◌, check, find, only_if_asked, read}
+use Rattle.rota_pb.specs.Steps.{Step, ◌>>=◌, check, find, only_if_asked, read}
 use Rattle.rota_core.specs.declared.fault.FileFault.TheVariants as refusals
 
--- the file was read to its end, and its told bytes spell the value
+-- the file was read to its end, and its known bytes spell the value
 pub record IsRead {V : Type 0} (layout : Layout V) (reader : Reader) (value : V) : Type 0 where
   pub spelled : (bytes : List ℕ) → reader.given ≡ Some bytes → Spells layout bytes value
   pub to_end : IsReadToEnd reader
 
--- the file was read to its end, and its told bytes spell the roster
+-- the file was read to its end, and its known bytes spell the roster
 pub record IsRosterRead (tables : InstanceTables) (reader : Reader) (roster : RosterTables) : Type 0 where
   pub spelled : (bytes : List ℕ) → reader.given ≡ Some bytes → SpellsRoster tables bytes roster
-  pub shape : HasShapeOf (week_of tables) roster
+  pub shape : HasShapeOf (problem_of tables) roster
   pub to_end : IsReadToEnd reader
 
--- the told bytes have this fault, and it names the file
-abbrev pub IsRefused : {V : Type 0} → FileName → Layout V → Told → FileFault → Type 0
+-- the known bytes have this fault, and it names the file
+abbrev pub IsRefused : {V : Type 0} → FileName → Layout V → KnownBytes → FileFault → Type 0
 IsRefused name layout given (refusals.Bad kind file line) =
     (file ≡ name) ×
     ((bytes : List ℕ) → given ≡ Some bytes → HasFault layout bytes (record { kind = kind; line = line }))
 IsRefused name layout given refusals.Memory = ⊥
 
--- Why a file is not taken: it was read to its end, or to one byte more than a file may have, and its bytes have the fault; or memory ran
--- out, after some of it was read, and its source did not fail meanwhile; or its source failed before its end, and before that byte.
+-- Why a file is refused: it was read to its end, or to one byte more than a file may have, and its bytes have the fault; or memory ran
+-- out after some of it was read, and its source did not fail during the run; or its source failed before its end, and before that byte.
 abbrev pub FailsCheck : {V : Type 0} → FileName → Layout V → Reader → Fault → Type 0
 FailsCheck name layout reader (File file) =
-    IsRefused name layout reader.given file × ((taken : List ℕ) × IsReadUpTo (LONGEST + 1) reader taken)
+    IsRefused name layout reader.given file × ((taken : List ℕ) × IsReadUpTo (max_file_len + 1) reader taken)
 FailsCheck name layout reader Memory = IsReadInPart reader
-FailsCheck name layout reader Read = FailsWithin (LONGEST + 1) reader
+FailsCheck name layout reader Read = FailsWithin (max_file_len + 1) reader
 FailsCheck name layout reader _ = ⊥
 
-abbrev pub read_file : {V : Type 0} → FileName → Layout V → Reader → Run V
+-- a file with this layout is read: its value is found, or its check fails
+abbrev pub read_file : {V : Type 0} → FileName → Layout V → Reader → Step V
 read_file name layout reader = read reader (IsRead layout reader) (FailsCheck name layout reader)
 
-abbrev pub read_roster : FileName → InstanceTables → Reader → Run RosterTables
+-- a solution file is read: the roster that it spells is found, or its check fails
+abbrev pub read_roster : FileName → InstanceTables → Reader → Step RosterTables
 read_roster name tables reader = read reader (IsRosterRead tables reader) (FailsCheck name (solution tables.scenario) reader)
 
--- The tables of the three files, with no cell held, within their limits. The scenario must span the week: the history's week number is
--- late where it is not below the scenario's number of weeks.
-abbrev pub join : ScenarioTables → HistoryTables → WeekTables → Bool → Run InstanceTables
+-- The tables of the three files, with no cell held, within their limits. The week must be one of the scenario's: the history's week
+-- number is late if it is not below the scenario's number of weeks.
+abbrev pub join : ScenarioTables → HistoryTables → WeekTables → Bool → Step InstanceTables
 join s h w early =
     check (λ tables. (tables ≡ record { scenario = s; history = h; week = w; is_early = early; held = None }) × IsInstance tables)
     (λ fault. (s.weeks ≤ h.week) × (fault ≡ File (refusals.Bad LateWeek names.History 0)))
 
 -- the three files are read, and joined
-abbrev pub read_tables : Bool → Reader → Reader → Reader → Run InstanceTables
-read_tables early sce his wee = do
-  s ← read_file names.Scenario scenario sce
-  h ← read_file names.History (history s) his
-  w ← read_file names.Week (week s) wee
+abbrev pub read_tables : Bool → Reader → Reader → Reader → Step InstanceTables
+read_tables early scenario_file history_file week_file = do
+  s ← read_file names.Scenario scenario scenario_file
+  h ← read_file names.History (history s) history_file
+  w ← read_file names.Week (week s) week_file
   join s h w early
 
--- the three files are read, and then the fix file, where it is asked for: the tables then hold its roster's cells
-abbrev pub read_week : Choice → WeekReaders → Run InstanceTables
+-- the three files are read, and then the fix file, if it is asked for: the cells of its roster are then held
+abbrev pub read_week : Choice → WeekReaders → Step InstanceTables
 read_week choice readers = do
   tables ← read_tables choice.early readers.scenario readers.history readers.week
   only_if_asked choice.fixed tables do

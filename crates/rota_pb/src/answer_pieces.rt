@@ -5,13 +5,12 @@ ghost use Rattle.rota_pb.specs.Feeding.{HasTakenAll, StopsTaking};
 ghost use Rattle.rota_pb.specs.RunPorts.{reader_of};
 
 use crate::fault::Fault;
+use crate::read_file::PIECE;
 use rota_core::Source;
 use solver_text::{Answer, Solved, fault_of_a_beginning_stays};
 use std::alloc::Global;
 
-const PIECE: usize = 4096;
-
-// Feeds the answer with what the source has, to its end.
+// Feeds the answer with the bytes of the source, up to its end.
 fn feed_all<A: Source>(source: &mut A, answer: &mut Answer) -> Result<(), Fault>
     ensures taken { OnOk result (HasTakenAll (reader_of A.Source source.old source.new) answer.old answer.new) }
     ensures fault { IfErr result (StopsTaking (reader_of A.Source source.old source.new) answer.old) }
@@ -29,7 +28,7 @@ fn feed_all<A: Source>(source: &mut A, answer: &mut Answer) -> Result<(), Fault>
     Err(Fault::Read)
 }
 
-// The answer that the source gives, for this number of variables.
+// The answer that the source contains, for this number of variables.
 pub(crate) fn read_answer<A: Source>(
     alloc: Global,
     variables: u32,

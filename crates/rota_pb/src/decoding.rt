@@ -32,24 +32,24 @@ fn decode_answer<A: Source, W: Target, R: Target>(
 /// Reads the files of a week and a solver's answer to the week's model, each to its end, and writes
 /// the solution file of the answer's roster to `sol` and then a report to `report`.
 ///
-/// The files are the scenario, the history, the week's data and, where `choice.fixed` says so, the
-/// solution file of the cells that are held; else `fix_file` is not touched. The answer is read in
-/// pieces of 4096 bytes and not kept; it may be of any length that comes in less than 2^64 - 1 pieces.
+/// The files are the scenario, the history, the week's data and, if `choice.fixed` is true, the solution file
+/// of the held cells. Otherwise `fix_file` is not touched. The answer is read in pieces of 4096 bytes, which
+/// are not kept. It may have any length that fits into fewer than 2^64 pieces.
 ///
-/// Errors, in this order: `File` with the first fault of the first file that has one, or `LateWeek`
-/// after the three of the week, before the held cells; `Answer` with the answer's first fault;
-/// `NoRoster` where its status is neither `Satisfiable` nor `Optimum`; `Unmet` with the first
-/// constraint that it does not satisfy. `Read` where a reader failed before it said its end, or the
-/// answer had no end, before a fault was found in what had been read; `Memory` where there was none
-/// for a file, or for the answer's bits before it is read. Later readers are not touched then, and no
-/// writer is called. `Write` where a writer failed: what it got begins its text, and `report` gets
-/// nothing before the whole solution is out and flushed.
+/// Errors, in this order: `File` with the first fault of the first file that has one, or `LateWeek` after the
+/// three files of the week, before the held cells; `Answer` with the answer's first fault; `NoRoster` if its
+/// status is neither `Satisfiable` nor `Optimum`; `Unmet` with the first constraint that it does not satisfy.
+/// `Read` if a reader failed before it reported its end, or if the answer had no end, before a fault was
+/// found in the bytes read so far. `Memory` if memory ran out for a file, or for the answer's bits before the
+/// first read of the answer. Later readers are then not touched, and no writer is called. `Write` if a writer
+/// failed: it got a prefix of its text, and `report` gets nothing before the whole solution is written and
+/// flushed.
 ///
-/// Here the answer is in memory, the ports of the week's files are made as at the head of the
-/// crate, and `sol` and `report` are targets:
+/// Here the answer is in memory, the ports of the week's files are made as at the top of the crate, and `sol`
+/// and `report` are targets:
 ///
 /// ```
-/// let mut answer = MemorySource::new(answer, pace);
+/// let mut answer = MemorySource::new(answer, plan);
 /// run_decode(
 ///     alloc, choice, &mut sce, &mut his, &mut week, &mut fix, &mut answer, sol, report,
 /// )

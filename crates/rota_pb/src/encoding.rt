@@ -1,10 +1,10 @@
 //! Runs that write a model.
-ghost use Rattle.rota_core.specs.InstanceTables.{week_of};
+ghost use Rattle.rota_core.specs.InstanceTables.{problem_of};
 ghost use Rattle.rota_items.specs.WeekModel.{model_of};
 ghost use Rattle.opb_text.specs.ModelText.{opb_text};
 ghost use Rattle.rota_pb.specs.Encoding.{EncodeOutcome};
 ghost use Rattle.rota_pb.specs.RunPorts.{reader_of, week_readers, writer_of};
-ghost use Rattle.rota_pb.specs.Runs.{send};
+ghost use Rattle.rota_pb.specs.Steps.{send};
 
 use crate::fault::Fault;
 use crate::model_text::model_text_means_the_rules;
@@ -14,10 +14,9 @@ use rota_core::{Instance, Source, Target};
 use std::alloc::Global;
 
 /// Writes the whole model of the week, hard and soft rules, in the linear format of the Pseudo-Boolean
-/// Competition: the first line, the objective where it has a term, and the constraints.
+/// Competition: the first line, the objective if it has a term, and the constraints.
 ///
-/// Takes no memory. The only error is `Write`, where the writer failed: what went out then begins the
-/// text.
+/// Allocates nothing. The only error is `Write`, if the writer failed: it got a prefix of the text.
 ///
 /// Here the tables of the week are read, and `opb` is a target:
 ///
@@ -26,27 +25,27 @@ use std::alloc::Global;
 /// encode(&instance, opb)
 /// ```
 pub fn encode<W: Target>(instance: &Instance, out: &mut W) -> Result<(), Fault>
-    ensures { (send (writer_of W.Target out.old out.new) (opb_text (model_of (week_of instance.now)))).ends result }
+    ensures { (send (writer_of W.Target out.old out.new) (opb_text (model_of (problem_of instance.now)))).ends result }
 {
     let mut taker = OpbTaker::new(Sink::new(out));
     put_model(instance, &mut taker).map_err(|_| Fault::Write)?;
     taker.finish().map_err(|_| Fault::Write)
 }
 
-/// Reads the files of a week, each to its end, and writes the model of the week in the linear format
-/// of the Pseudo-Boolean Competition. Every roster that keeps the hard rules H1 to H5 extends to an
-/// assignment that satisfies the written constraints and whose objective is the roster's penalty, and
-/// every satisfying assignment stands for such a roster, of penalty at most its objective.
+/// Reads the files of a week, each to its end, and writes the model of the week in the linear format of the
+/// Pseudo-Boolean Competition. Every roster that keeps the hard rules H1 to H5 extends to an assignment that
+/// satisfies the written constraints and whose objective is the roster's penalty. Every satisfying assignment
+/// represents such a roster, whose penalty is at most the assignment's objective.
 ///
-/// The files are the scenario, the history, the week's data and, where `choice.fixed` says so, the
-/// solution file of the cells that are held; else `fix_file` is not touched.
+/// The files are the scenario, the history, the week's data and, if `choice.fixed` is true, the solution file
+/// of the held cells. Otherwise `fix_file` is not touched.
 ///
-/// Errors: `File` with the first fault of the first file that has one, or `LateWeek` after the three
-/// of the week, before the held cells; `Read` where a reader failed before it said its end; `Memory`.
-/// Readers after that file are not touched then, and the writer is not called. `Write` where the writer
-/// failed: it got a beginning of the text.
+/// Errors: `File` with the first fault of the first file that has one, or `LateWeek` after the three files of
+/// the week, before the held cells; `Read` if a reader failed before it reported its end; `Memory`. Readers
+/// after that file are then not touched, and the writer is not called. `Write` if the writer failed: it got a
+/// prefix of the text.
 ///
-/// See the example at the head of the crate.
+/// See the example at the top of the crate.
 pub fn run_encode<S: Source, H: Source, K: Source, F: Source, W: Target>(
     alloc: Global,
     choice: Choice,

@@ -1,12 +1,12 @@
 //! Runs that extend a roster to an answer of its week's model.
-ghost use Rattle.rota_core.specs.InstanceTables.{week_of};
+ghost use Rattle.rota_core.specs.InstanceTables.{problem_of};
 ghost use Rattle.rota_core.specs.RosterTables.{HasShapeOf, set_of};
 ghost use Rattle.rota_pb.specs.Extending.{ExtendOutcome, extend_roster};
 ghost use Rattle.rota_pb.specs.RunPorts.{reader_of, week_readers, writer_of};
 
 use crate::extension_answer::put_answer;
 use crate::fault::Fault;
-use crate::given_roster::read_roster;
+use crate::roster_files::read_roster;
 use crate::week_files::{Choice, read_instance};
 use opb_text::Sink;
 use rota_core::{Instance, Roster, Source, Target};
@@ -14,17 +14,17 @@ use rota_items::{Judge, verdict_of};
 use solver_text::AnswerWriter;
 use std::alloc::Global;
 
-/// Writes the answer that a solver would give for the roster, in the output format of the
-/// Pseudo-Boolean Competition: an `o` line with its penalty, the line `s SATISFIABLE`, and `v` lines
-/// with the values of all variables of the week's model, ten a line. True are the variables of the
-/// roster's cells, the unit variable, and of each constraint of a soft rule the first slacks, as many
-/// as the roster lacks there.
+/// Writes the answer that a solver would give for the roster, in the output format of the Pseudo-Boolean
+/// Competition: an `o` line with its penalty, the line `s SATISFIABLE`, and `v` lines with the values of all
+/// variables of the week's model, ten per line. The true variables are: the variables of the roster's cells,
+/// the unit variable, and the first slacks of each constraint of a soft rule. The number of true slacks of a
+/// constraint is its shortage on the roster.
 ///
-/// Takes no memory. Errors: `Breaks` with the first hard rule, in the order H1 to H5, that the roster
-/// breaks, and nothing is written; `Write` where the writer failed: what went out then begins the text.
+/// Allocates nothing. Errors: `Breaks` with the first hard rule, in the order H1 to H5, that the roster
+/// breaks, and nothing is written; `Write` if the writer failed: it got a prefix of the text.
 pub fn extend<W: Target>(instance: &Instance, roster: &Roster, out: &mut W) -> Result<(), Fault>
-    requires shape { HasShapeOf (week_of instance.now) roster.now }
-    ensures { (extend_roster (week_of instance.now) (set_of roster.now) (writer_of W.Target out.old out.new)).ends result }
+    requires shape { HasShapeOf (problem_of instance.now) roster.now }
+    ensures { (extend_roster (problem_of instance.now) (set_of roster.now) (writer_of W.Target out.old out.new)).ends result }
 {
     let verdict = verdict_of(instance, Judge::of_roster(instance, roster));
     if let Some((_, rule)) = verdict.unmet {
@@ -37,19 +37,19 @@ pub fn extend<W: Target>(instance: &Instance, roster: &Roster, out: &mut W) -> R
 /// Reads the files of a week and a solution file, each to its end, and writes the answer that a solver
 /// would give for the solution's roster, as `extend` does.
 ///
-/// The files of the week are the scenario, the history, the week's data and, where `choice.fixed` says
-/// so, the solution file of the cells that are held; else `fix_file` is not touched.
+/// The files of the week are the scenario, the history, the week's data and, if `choice.fixed` is true, the
+/// solution file of the held cells. Otherwise `fix_file` is not touched.
 ///
-/// Errors: `File` with the first fault of the first file that has one, or `LateWeek` after the three of
-/// the week, before the held cells; `Breaks` with the first hard rule that the roster breaks; `Read`
-/// where a reader failed before it said its end; `Memory`. Readers after that file are not touched then,
-/// and the writer is not called. `Write` where the writer failed: it got a beginning of the text.
+/// Errors: `File` with the first fault of the first file that has one, or `LateWeek` after the three files of
+/// the week, before the held cells; `Breaks` with the first hard rule that the roster breaks; `Read` if a
+/// reader failed before it reported its end; `Memory`. Readers after that file are then not touched, and the
+/// writer is not called. `Write` if the writer failed: it got a prefix of the text.
 ///
-/// Here the solution is in memory, the ports of the week's files are made as at the head of the
-/// crate, and `out` is a target:
+/// Here the solution is in memory, the ports of the week's files are made as at the top of the crate, and
+/// `out` is a target:
 ///
 /// ```
-/// let mut given = MemorySource::new(solution, pace);
+/// let mut given = MemorySource::new(solution, plan);
 /// run_extend(
 ///     alloc, choice, &mut sce, &mut his, &mut week, &mut fix, &mut given, out,
 /// )

@@ -1,4 +1,4 @@
-//! What the answer of a roster's extension says.
+//! The meaning of the answer of a roster's extension.
 ghost use Rattle.rota_pb.specs.Extending.{ExtensionIsReadBack};
 
 use rota_items::laws::{
@@ -8,7 +8,7 @@ use rota_items::laws::{
 use solver_text::written_answer_is_read;
 
 /// The answer that is written for a roster that keeps the hard rules is read as `SATISFIABLE`, with the
-/// roster's penalty and the values of its extension, whose roster is the same one.
+/// roster's penalty and the values of its extension. These represent the same roster.
 pub fn extension_is_read_back()
     ensures { ExtensionIsReadBack }
 {

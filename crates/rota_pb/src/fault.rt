@@ -14,20 +14,20 @@ use std::fmt;
 /// Why a run failed.
 #[derive(Clone, Copy, Debug, PartialEq, Eq)]
 pub enum Fault {
-    /// A file is no file of its kind: its first fault.
+    /// A file does not have the form of its kind: its first fault.
     File(FileFault),
     /// Memory ran out.
     Memory,
-    /// The writer failed, or took nothing of a piece that is not empty.
+    /// The writer failed, or accepted no byte of a piece that is not empty.
     Write,
     /// A reader failed.
     Read,
-    /// A solver's answer is no answer: its first fault.
+    /// A solver's answer does not have the form of an answer: its first fault.
     Answer(AnswerFault),
     /// The solver found no roster: the status of its answer.
     NoRoster(Status),
-    /// The answer does not satisfy the model: the number, from 1, of the first constraint that it does
-    /// not satisfy.
+    /// The answer does not satisfy the model: the number, from 1, of the first constraint that it does not
+    /// satisfy.
     Unmet(u32),
     /// The roster breaks a hard rule: the first one that it breaks.
     Breaks(Rule),
@@ -79,9 +79,9 @@ impl fmt::Display for Fault {
 
 impl Error for Fault {}
 
-/// The exit status of a program whose run failed: 1 for a fault of a file or an answer, 3 where a
-/// reader or a writer failed, 4 where memory ran out, 5 where a solver found no roster, 6 where an
-/// answer does not satisfy the model or a roster breaks a hard rule.
+/// The exit status of a program whose run failed: 1 for a fault of a file or an answer, 3 if a reader or a
+/// writer failed, 4 if memory ran out, 5 if a solver found no roster, 6 if an answer does not satisfy the
+/// model or a roster breaks a hard rule.
 pub fn status_of(fault: &Fault) -> u8
     ensures { result ≡ exit_status fault.now }
 {

@@ -5,7 +5,7 @@ ghost use Rattle.rota_read.specs.SolutionText.{spaced, ended};
 ghost use Rattle.solver_text.specs.Status.{status_words};
 ghost use Rattle.rota_pb.specs.Decoded.{FindsRoster};
 ghost use Rattle.rota_pb.specs.Report.{cost_lines, last_o_line, number_line, report_text};
-ghost use Rattle.rota_pb.specs.Runs.{send};
+ghost use Rattle.rota_pb.specs.Steps.{send};
 ghost use Rattle.rota_pb.specs.RunPorts.{writer_of};
 
 use crate::decoded::Decoded;
@@ -14,7 +14,7 @@ use opb_text::{Piece, Sink};
 use rota_core::{PortFault, Rule, SOFT_RULES, Target};
 use solver_text::Status;
 
-// Puts a line of a number.
+// Writes a line with a number.
 fn put_number_line<W: Target>(sink: &mut Sink<W>, name: &[u8], number: u64) -> Result<(), PortFault>
     ensures { PutsText sink.old result (number_line name.now number) sink.new }
 {
@@ -26,7 +26,7 @@ fn put_number_line<W: Target>(sink: &mut Sink<W>, name: &[u8], number: u64) -> R
     ])
 }
 
-// Puts the line of the status.
+// Writes the line of the status.
 fn put_status_line<W: Target>(sink: &mut Sink<W>, status: Status) -> Result<(), PortFault>
     ensures takes { PutsText sink.old result (ended (spaced (codes "status") (status_words status))) sink.new }
     ensures for_good { sink_failed sink.old ≡ true → IsErr result }
@@ -38,18 +38,18 @@ fn put_status_line<W: Target>(sink: &mut Sink<W>, status: Status) -> Result<(), 
     ])
 }
 
-// Puts the lines of the soft rules' costs.
+// Writes the lines of the soft rules' costs.
 fn put_cost_lines<W: Target>(sink: &mut Sink<W>, costs: &[u64; SOFT_RULES]) -> Result<(), PortFault>
     ensures { PutsText sink.old result (cost_lines costs.now) sink.new }
 {
-    for place in 0..SOFT_RULES {
-        let rule = Rule::SOFT[place];
-        put_number_line(sink, rule.name().as_bytes(), costs[place])?;
+    for index in 0..SOFT_RULES {
+        let rule = Rule::SOFT[index];
+        put_number_line(sink, rule.name().as_bytes(), costs[index])?;
     }
     Ok(())
 }
 
-// Puts the line of the last `o` value, where there is one.
+// Writes the line of the last `o` value, if there is one.
 fn put_last_o_line<W: Target>(sink: &mut Sink<W>, last_o: Option<i64>) -> Result<(), PortFault>
     ensures { PutsText sink.old result (last_o_line last_o) sink.new }
 {
@@ -63,7 +63,7 @@ fn put_last_o_line<W: Target>(sink: &mut Sink<W>, last_o: Option<i64>) -> Result
     ])
 }
 
-// Puts the text of the report.
+// Writes the text of the report.
 fn put_report<W: Target>(sink: &mut Sink<W>, decoded: &Decoded) -> Result<(), PortFault>
     ensures takes { PutsText sink.old result (report_text decoded.now) sink.new }
     ensures for_good { sink_failed sink.old ≡ true → IsErr result }
@@ -75,11 +75,10 @@ fn put_report<W: Target>(sink: &mut Sink<W>, decoded: &Decoded) -> Result<(), Po
     put_last_o_line(sink, decoded.last_o)
 }
 
-/// Writes the report on a decoded answer, a line each: the status, the objective, the penalty, the
-/// costs of the soft rules, and the last `o` value where the answer had one.
+/// Writes the report on a decoded answer, one item per line: the status, the objective, the penalty, the
+/// costs of the soft rules, and the last `o` value if the answer had one.
 ///
-/// Takes no memory. The only error is `Write`, where the writer failed: what went out then begins the
-/// text.
+/// Allocates nothing. The only error is `Write`, if the writer failed: it got a prefix of the text.
 pub fn write_report<W: Target>(decoded: &Decoded, out: &mut W) -> Result<(), Fault>
     requires finds { FindsRoster decoded.now.status }
     ensures { (send (writer_of W.Target out.old out.new) (report_text decoded.now)).ends result }

@@ -6,28 +6,28 @@ ghost use Rattle.rota_read.specs.ScenarioLayout.{scenario as scenario_layout};
 ghost use Rattle.rota_read.specs.HistoryLayout.{history as history_layout};
 ghost use Rattle.rota_read.specs.WeekLayout.{week as week_layout};
 ghost use Rattle.rota_pb.specs.RunPorts.{reader_of, week_readers};
-ghost use Rattle.rota_pb.specs.WeekFiles.{join as joining, read_file, read_tables as tables_reading, read_week as week_reading};
+ghost use Rattle.rota_pb.specs.WeekFiles.{join as joining, read_file as file_reading, read_tables as tables_reading, read_week as week_reading};
 
 use crate::fault::Fault;
-use crate::given_roster::read_held;
-use crate::whole_read::read_within;
+use crate::read_file::read_file;
+use crate::roster_files::read_held;
 use rota_core::{History, Instance, Scenario, Source, Week};
-use rota_read::{LONGEST, read_history, read_scenario, read_week};
+use rota_read::{read_history, read_scenario, read_week};
 use std::alloc::Global;
 
-/// What is asked of a run beside its files.
+/// The choices for a run, in addition to its files.
 #[derive(Clone, Copy, Debug, PartialEq, Eq)]
 pub struct Choice {
-    /// What exceeds a total is charged in each week, and not only in the last.
+    /// The excess of a total is charged in each week, not only in the last.
     pub early: bool,
     /// The cells of a fix file are held.
     pub fixed: bool,
 }
 
 fn read_scenario_from<S: Source>(alloc: Global, source: &mut S) -> Result<Scenario, Fault>
-    ensures { (read_file names.Scenario scenario_layout (reader_of S.Source source.old source.new)).ends result }
+    ensures { (file_reading names.Scenario scenario_layout (reader_of S.Source source.old source.new)).ends result }
 {
-    let text = read_within(alloc, source, LONGEST + 1)?;
+    let text = read_file(alloc, source)?;
     Ok(read_scenario(alloc, &text)?)
 }
 
@@ -37,9 +37,9 @@ fn read_history_from<S: Source>(
     source: &mut S,
 ) -> Result<History, Fault>
     ensures fits { IfOk result (λ h. HasNumbersOf scenario.now h.nurses h.shifts h.skills) }
-    ensures reads { (read_file names.History (history_layout scenario.now) (reader_of S.Source source.old source.new)).ends result }
+    ensures reads { (file_reading names.History (history_layout scenario.now) (reader_of S.Source source.old source.new)).ends result }
 {
-    let text = read_within(alloc, source, LONGEST + 1)?;
+    let text = read_file(alloc, source)?;
     Ok(read_history(alloc, scenario, &text)?)
 }
 
@@ -49,13 +49,13 @@ fn read_week_from<S: Source>(
     source: &mut S,
 ) -> Result<Week, Fault>
     ensures fits { IfOk result (λ w. HasNumbersOf scenario.now w.nurses w.shifts w.skills) }
-    ensures reads { (read_file names.Week (week_layout scenario.now) (reader_of S.Source source.old source.new)).ends result }
+    ensures reads { (file_reading names.Week (week_layout scenario.now) (reader_of S.Source source.old source.new)).ends result }
 {
-    let text = read_within(alloc, source, LONGEST + 1)?;
+    let text = read_file(alloc, source)?;
     Ok(read_week(alloc, scenario, &text)?)
 }
 
-// The three files joined, where the scenario spans the week.
+// The three files joined, if the week is one of the scenario's.
 fn join(scenario: Scenario, history: History, week: Week, early: bool) -> Result<Instance, Fault>
     requires history_fits { HasNumbersOf scenario history.nurses history.shifts history.skills }
     requires week_fits { HasNumbersOf scenario week.nurses week.shifts week.skills }
@@ -64,8 +64,8 @@ fn join(scenario: Scenario, history: History, week: Week, early: bool) -> Result
     Ok(Instance::join(scenario, history, week, early)?)
 }
 
-// The instance that the three files spell, with no cell held. The first check that fails is the
-// answer, and later readers are not touched.
+// The instance that the three files spell, with no cell held. The first check that fails decides the fault,
+// and later readers are not touched.
 fn read_tables<S: Source, H: Source, K: Source>(
     alloc: Global,
     early: bool,
@@ -82,8 +82,8 @@ fn read_tables<S: Source, H: Source, K: Source>(
     join(scenario, history, week, early)
 }
 
-// The instance that the files of a week spell, with the cells held that the fix file spells, where
-// one is chosen. The first check that fails is the answer, and later readers are not touched.
+// The instance that the files of a week spell, with the cells of the fix file held, if one is chosen. The
+// first check that fails decides the fault, and later readers are not touched.
 pub(crate) fn read_instance<S: Source, H: Source, K: Source, F: Source>(
     alloc: Global,
     choice: Choice,

@@ -1,24 +1,23 @@
 //! The solution file of a roster.
 ghost use Rattle.std.specs.Prelude.{◌≡◌, ◌≤◌, length, true, IsErr, OnOk};
-ghost use Rattle.rota_core.specs.InstanceTables.{IsInstance, week_of};
+ghost use Rattle.rota_core.specs.InstanceTables.{IsInstance, problem_of};
 ghost use Rattle.rota_core.specs.Roster.{InWeek};
 ghost use Rattle.rota_core.specs.HardRules.{KeepsOneCell};
 ghost use Rattle.rota_core.specs.RosterTables.{HasShapeOf, set_of};
-ghost use Rattle.rota_read.specs.Files.{LONGEST};
 ghost use Rattle.rota_read.specs.SolutionLayout.{SpellsRoster};
 ghost use Rattle.rota_read.specs.SolutionText.{assignment_text, heading_text, rows_text, solution_text};
 ghost use Rattle.opb_text.specs.Sink.{PutsText, sink_failed};
 ghost use Rattle.rota_core.specs.RosterCells.{cells_of};
-ghost use Rattle.rota_pb.specs.Runs.{send};
+ghost use Rattle.rota_pb.specs.Steps.{send};
 ghost use Rattle.rota_pb.specs.RunPorts.{writer_of};
 
 use crate::fault::Fault;
 use opb_text::{Piece, Sink};
 use rota_core::laws::rosters_list_their_cells;
-use rota_core::{Cell, Instance, PortFault, Roster, Target};
+use rota_core::{Cell, Instance, MAX_FILE_LEN, PortFault, Roster, Target};
 use rota_read::{day_name, each_roster_has_its_text};
 
-// Puts the lines before the assignments, of which there are `count`.
+// Writes the lines before the `count` assignments.
 fn put_heading<W: Target>(
     sink: &mut Sink<W>,
     instance: &Instance,
@@ -39,13 +38,13 @@ fn put_heading<W: Target>(
     ])
 }
 
-// Puts the line of an assignment.
+// Writes the line of an assignment.
 fn put_assignment<W: Target>(
     sink: &mut Sink<W>,
     instance: &Instance,
     cell: Cell,
 ) -> Result<(), PortFault>
-    requires in_week { InWeek (week_of instance.now) cell }
+    requires in_week { InWeek (problem_of instance.now) cell }
     ensures { PutsText sink.old result (assignment_text instance.now.scenario cell) sink.new }
 {
     sink.put_all(&[
@@ -60,15 +59,15 @@ fn put_assignment<W: Target>(
     ])
 }
 
-// Puts the lines of the roster's assignments.
+// Writes the lines of the roster's assignments.
 fn put_assignments<W: Target>(
     sink: &mut Sink<W>,
     instance: &Instance,
     roster: &Roster,
 ) -> Result<(), PortFault>
-    requires shape { HasShapeOf (week_of instance.now) roster.now }
+    requires shape { HasShapeOf (problem_of instance.now) roster.now }
     ensures { PutsText sink.old result
-        (rows_text instance.now (cells_of (week_of instance.now) (set_of roster.now))) sink.new }
+        (rows_text instance.now (cells_of (problem_of instance.now) (set_of roster.now))) sink.new }
 {
     rosters_list_their_cells();
     for cell in roster.cells() {
@@ -77,13 +76,13 @@ fn put_assignments<W: Target>(
     Ok(())
 }
 
-// Puts the text of the solution file.
+// Writes the text of the solution file.
 fn put_solution<W: Target>(
     sink: &mut Sink<W>,
     instance: &Instance,
     roster: &Roster,
 ) -> Result<(), PortFault>
-    requires shape { HasShapeOf (week_of instance.now) roster.now }
+    requires shape { HasShapeOf (problem_of instance.now) roster.now }
     ensures limits { IsInstance instance.now }
     ensures takes { PutsText sink.old result (solution_text instance.now (set_of roster.now)) sink.new }
     ensures for_good { sink_failed sink.old ≡ true → IsErr result }
@@ -93,25 +92,23 @@ fn put_solution<W: Target>(
     put_assignments(sink, instance, roster)
 }
 
-/// Writes the solution file of the roster, in the text form of INRC-II: the week's number and the
-/// scenario's name, the number of assignments, and a line for each, by nurse, day, shift type and
-/// skill. `read_solution` of `rota_read` gives the roster back, where the text has at most 4,194,304
-/// bytes.
+/// Writes the solution file of the roster, in the text form of INRC-II: the week's number and the scenario's
+/// name, the number of assignments, and a line for each, in the order of nurse, day, shift type and skill.
+/// `read_solution` of `rota_read` returns the same roster, if the text has at most `MAX_FILE_LEN` bytes.
 ///
-/// Takes no memory. The only error is `Write`, where the writer failed: what went out then begins the
-/// text.
+/// Allocates nothing. The only error is `Write`, if the writer failed: it got a prefix of the text.
 pub fn write_solution<W: Target>(
     instance: &Instance,
     roster: &Roster,
     out: &mut W,
 ) -> Result<(), Fault>
-    requires shape { HasShapeOf (week_of instance.now) roster.now }
-    requires one_cell { KeepsOneCell (week_of instance.now) (set_of roster.now) }
+    requires shape { HasShapeOf (problem_of instance.now) roster.now }
+    requires one_cell { KeepsOneCell (problem_of instance.now) (set_of roster.now) }
     ensures sends { (send (writer_of W.Target out.old out.new) (solution_text instance.now (set_of roster.now))).ends result }
 
-    // what went out spells the same roster, where it is not too long to be read
+    // the written text spells the same roster, if it is not too long to be read
     ensures spelled { OnOk result (
-        length (solution_text instance.now (set_of roster.now)) ≤ LONGEST →
+        length (solution_text instance.now (set_of roster.now)) ≤ MAX_FILE_LEN →
         SpellsRoster instance.now (solution_text instance.now (set_of roster.now)) roster.now) }
 {
     each_roster_has_its_text();

@@ -1,4 +1,4 @@
--- Each row of requirements takes a pair of a shift type and a skill that had none, so a greater bound on the rows changes nothing.
+-- Each row of requirements uses a pair of a shift type and a skill that had none, so a larger bound on the rows changes nothing.
 use Rattle.std.proofs.Common.{◌≡◌, ℕ, zero, suc, ◌+◌, ◌*◌, ◌<◌, ◌≤◌, Bool, true, false, if◌then◌else◌, refl, ap, ◌∙◌, arith}
 use Rattle.std.proofs.Common.{List, Option, Some, None, Result, Ok, Err, length, get_or, is_some, slice_set, codes}
 use Rattle.std.specs.List.{count_by}
@@ -9,16 +9,16 @@ use Rattle.rota_core.specs.ScenarioTables.{ScenarioTables}
 use Rattle.rota_core.specs.declared.values.Demand.{Demand}
 use Rattle.rota_read.specs.declared.fault.Fault.{Fault}
 use Rattle.rota_read.specs.Tokens.{Token}
-use Rattle.rota_read.specs.Reading.{Reading, and_then, read}
+use Rattle.rota_read.specs.Reading.{Reading, then_read, read_layout}
 use Rattle.rota_read.specs.Layout.{Layout, shift_or}
 use Rattle.rota_read.specs.Files.{Fills}
 use Rattle.rota_read.specs.WeekLayout.{Requirements, is_listed, requirement, requirement_of, requirement_row}
-use Rattle.rota_read.specs.WeekLayout.{after_row, repeat_until, most_rows, no_requirements, requirement_rows}
+use Rattle.rota_read.specs.WeekLayout.{after_row, repeat_until, max_rows, no_requirements, requirement_rows}
 use Rattle.rota_read.specs.WeekBound.{BoundEndsNoRows}
 use Rattle.rota_read.proofs.FileLaws.{fills-read}
 use Rattle.rota_read.proofs.SlotLaws.{known_name-below, known_name-free, shift_or-below}
 
--- ---- how many pairs have no row
+-- ---- the number of pairs without a row
 
 abbrev is_vacant : Option (List Demand) → Bool
 is_vacant None = true
@@ -34,15 +34,15 @@ vacant_at : (row : Option (List Demand)) → is_some row ≡ false → as_number
 vacant_at None h = refl
 vacant_at (Some days) h = absurd (cc)
 
--- a row was put where there was none
-one_less : (rows : Requirements) (place : ℕ) (days : List Demand) → place < length rows → is_listed rows place ≡ false →
-    vacant rows ≡ suc (vacant (slice_set rows place (Some days)))
-one_less rows place days lt free =
-    let e = sum_by-set as_number rows place (Some days) None lt in
-    let one = vacant_at (get_or rows place None) free in
+-- a row was put at an index that had none
+one_less : (rows : Requirements) (index : ℕ) (days : List Demand) → index < length rows → is_listed rows index ≡ false →
+    vacant rows ≡ suc (vacant (slice_set rows index (Some days)))
+one_less rows index days lt free =
+    let e = sum_by-set as_number rows index (Some days) None lt in
+    let one = vacant_at (get_or rows index None) free in
     omega arith
 
--- a row leaves one pair less without a row
+-- a row leaves one fewer pair without a row
 abbrev OneLess : Requirements → Requirements → Type 0
 OneLess rows next = (length next ≡ length rows) × (vacant rows ≡ suc (vacant next))
 
@@ -51,15 +51,15 @@ requirement-takes : (shifts skills : List (List ℕ)) (shift : ℕ) (rows : Requ
     Fills (requirement skills shift rows) front next → OneLess rows next
 unfolding Fills requirement
 requirement-takes shifts skills shift rows front next lt size h =
-    let place = shift * length skills + h.0 in
+    let index = shift * length skills + h.0 in
     let days = h.5.0 in
     let listed : ℕ → Bool = λ k. is_listed rows (shift * length skills + k) in
     let skill = known_name-below skills listed h.1 h.0 h.4 in
-    let turned : place < length skills * length shifts = mul-add-lt shift (length skills) h.0 (length shifts) lt skill in
+    let turned : index < length skills * length shifts = mul-add-lt shift (length skills) h.0 (length shifts) lt skill in
     let same : length skills * length shifts ≡ length shifts * length skills = omega arith in
-    let within : place < length rows = omega (arith, turned, same, size) in
+    let within : index < length rows = omega (arith, turned, same, size) in
     let free = known_name-free skills listed h.1 h.0 h.4 in
-    rw h.5.5.1 (length-set rows place (Some days), one_less rows place days within free)
+    rw h.5.5.1 (length-set rows index (Some days), one_less rows index days within free)
 
 requirement_row-takes : (t : ScenarioTables) (rows : Requirements) (front : List Token) (next : Requirements) →
     length rows ≡ length t.shifts * length t.skills → Fills (requirement_row t rows) front (true, next) → OneLess rows next
@@ -77,31 +77,31 @@ requirement_row-takes t rows front next size h = by h.0 h.1 h.4 h.2 h.5
 -- ---- two bounds
 
 and_then-same : {A B : Type 0} (r : Result A Fault) (f g : A → Result B Fault) → ((a : A) → r ≡ Ok a → f a ≡ g a) →
-    and_then r f ≡ and_then r g
+    then_read r f ≡ then_read r g
 and_then-same (Ok a) f g same = same a refl
 and_then-same (Err e) f g same = refl
 
 after_row-same : (rows rows' : Requirements → Layout Requirements) (more : Bool) (state : Requirements) (left : Reading) →
-    (more ≡ true → read (rows state) left ≡ read (rows' state) left) →
-    read (after_row rows more state) left ≡ read (after_row rows' more state) left
+    (more ≡ true → read_layout (rows state) left ≡ read_layout (rows' state) left) →
+    read_layout (after_row rows more state) left ≡ read_layout (after_row rows' more state) left
 after_row-same rows rows' true state left same = same refl
 after_row-same rows rows' false state left same = refl
 
--- two bounds that are above the number of pairs without a row read the same
+-- two bounds above the number of pairs without a row give the same result
 bounds_agree : (t : ScenarioTables) (n m : ℕ) (rows : Requirements) (left : Reading) →
     length rows ≡ length t.shifts * length t.skills → vacant rows < n → vacant rows < m →
-    read (repeat_until n (requirement_row t) rows) left ≡ read (repeat_until m (requirement_row t) rows) left
-unfolding read repeat_until
+    read_layout (repeat_until n (requirement_row t) rows) left ≡ read_layout (repeat_until m (requirement_row t) rows) left
+unfolding read_layout repeat_until
 bounds_agree t zero m rows left size few few' = absurd (omega arith)
 bounds_agree t (suc n) zero rows left size few few' = absurd (omega arith)
 bounds_agree t (suc n) (suc m) rows left size few few' =
-    and_then-same (read (requirement_row t rows) left)
-    (λ x. read (after_row (repeat_until n (requirement_row t)) x.0.0 x.0.1) x.1)
-    (λ x. read (after_row (repeat_until m (requirement_row t)) x.0.0 x.0.1) x.1)
+    and_then-same (read_layout (requirement_row t rows) left)
+    (λ x. read_layout (after_row (repeat_until n (requirement_row t)) x.0.0 x.0.1) x.1)
+    (λ x. read_layout (after_row (repeat_until m (requirement_row t)) x.0.0 x.0.1) x.1)
     (λ x is.
     after_row-same (repeat_until n (requirement_row t)) (repeat_until m (requirement_row t)) x.0.0 x.0.1 x.1
     (λ more.
-    let found : read (requirement_row t rows) left ≡ Ok ((true, x.0.1), x.1) = is ∙ ap (λ (b : Bool). Ok ((b, x.0.1), x.1)) more in
+    let found : read_layout (requirement_row t rows) left ≡ Ok ((true, x.0.1), x.1) = is ∙ ap (λ (b : Bool). Ok ((b, x.0.1), x.1)) more in
     let fills = fills-read (requirement_row t rows) left.last left.rest (true, x.0.1) x.1 found in
     let less = requirement_row-takes t rows fills.0 x.0.1 size fills.3 in
     bounds_agree t n m x.0.1 x.1 (less.0 ∙ size) (omega (arith, less.1)) (omega (arith, less.1))))
@@ -112,4 +112,4 @@ bound_ends_no_rows t more left =
     let pairs = length t.shifts * length t.skills in
     let size = length-replicate {A = Option (List Demand)} pairs None in
     let few : vacant (no_requirements t) ≤ pairs = omega (arith, count_by-le-length is_vacant (no_requirements t), size) in
-    bounds_agree t (most_rows t + more) (most_rows t) (no_requirements t) left size (omega (arith, few)) (omega (arith, few))
+    bounds_agree t (max_rows t + more) (max_rows t) (no_requirements t) left size (omega (arith, few)) (omega (arith, few))

@@ -1,13 +1,14 @@
--- What a history's text spells is within the limits, and each nurse has her past.
+-- The history that a text spells is within the limits, and each nurse has her past.
 use Rattle.std.proofs.Common.{◌≡◌, ℕ, zero, suc, ◌+◌, ◌<◌, ◌≤◌, Bool, false, cond, refl, sym, ap, ◌∙◌, subst, arith}
 use Rattle.std.proofs.Common.{List, [], ◌∷◌, length, codes, map, set, replicate, Option, Some, None, unwrap_or, is_some}
 use Rattle.std.specs.List.{AllByRecursion, count_by}
 use Rattle.std.proofs.lemmas.List.{length-set, length-map, length-replicate}
 use Rattle.std.proofs.lemmas.List.Sums.{sum_by-cons, sum_by-set, count_by-le-length}
+use Rattle.rota_core.specs.Limits.{max_number}
 use Rattle.rota_core.specs.declared.values.Past.{Past}
 use Rattle.rota_core.specs.InstanceTables.{HasNumbersOf}
 use Rattle.rota_core.specs.ScenarioTables.{ScenarioTables}
-use Rattle.rota_core.specs.Week.{no_past}
+use Rattle.rota_core.specs.Problem.{no_past}
 use Rattle.rota_core.specs.WeekTables.{HistoryTables, IsHistory, IsPast}
 use Rattle.rota_read.specs.Tokens.{Token, tokens}
 use Rattle.rota_read.specs.Layout.{repeat}
@@ -28,12 +29,12 @@ past-is_past shifts front one h =
     let work_run = shift_run.5 in
     let off_run = work_run.5 in
     rw off_run.5.1 (record {
-      totals = ((number-within 0 9999 h.1 h.0 h.4).1, (number-within 0 9999 weekends.1 weekends.0 weekends.4).1);
+      totals = ((number-within 0 max_number h.1 h.0 h.4).1, (number-within 0 max_number weekends.1 weekends.0 weekends.4).1);
       last = shift_or-below (codes "None") shifts last.1 last.0 last.4;
       runs = (
-        (number-within 0 9999 shift_run.1 shift_run.0 shift_run.4).1,
-        (number-within 0 9999 work_run.1 work_run.0 work_run.4).1,
-        (number-within 0 9999 off_run.1 off_run.0 off_run.4).1,
+        (number-within 0 max_number shift_run.1 shift_run.0 shift_run.4).1,
+        (number-within 0 max_number work_run.1 work_run.0 work_run.4).1,
+        (number-within 0 max_number off_run.1 off_run.0 off_run.4).1,
       );
     })
 
@@ -44,7 +45,7 @@ all_set P [] i x all p = tt
 all_set P (y ∷ xs) zero x all p = (p, all.1)
 all_set P (y ∷ xs) (suc i) x all p = (all.0, all_set P xs i x all.1 p)
 
--- the pasts of the nurses, of whom i have one
+-- the pasts of the nurses, if i nurses have one
 abbrev Kept : ℕ → ℕ → ℕ → Pasts → Type 0
 Kept nurses shifts i pasts =
     (length pasts ≡ nurses)
@@ -92,7 +93,7 @@ none_counted : (n : ℕ) → count_by (is_some {T = Past}) (replicate n None) �
 none_counted zero = refl
 none_counted (suc n) = none_counted n
 
--- what each row keeps holds after all of them
+-- a property that each row keeps holds after all of them
 rows-keep : (tables : ScenarioTables) (n i : ℕ) (pasts : Pasts) (front : List Token) (last : Pasts) →
     Fills (repeat n (past_row tables) pasts) front last →
     Kept (length tables.nurses) (length tables.shifts) i pasts → Kept (length tables.nurses) (length tables.shifts) (n + i) last
@@ -117,7 +118,7 @@ past_rows-kept tables front pasts h =
     let e : nurses + 0 ≡ nurses = omega arith in
     subst (λ n. Kept nurses shifts n pasts) e kept
 
--- where as many as there are have one, each has one
+-- if the number of nurses with a past is the number of nurses, each has one
 all_given : (pasts : Pasts) → count_by is_some pasts ≡ length pasts → pasts ≡ map Some (map (λ past. unwrap_or past no_past) pasts)
 all_given [] h = refl
 all_given (None ∷ pasts) h =
@@ -135,11 +136,11 @@ all_past : (shifts : ℕ) (pasts : Pasts) → AllByRecursion (λ one. IsPast shi
 all_past shifts [] h = tt
 all_past shifts (one ∷ pasts) h = (h.0, all_past shifts pasts h.1)
 
-heading-within : (front : List Token) (week : ℕ) → Fills history_heading front week → week ≤ 9999
+heading-within : (front : List Token) (week : ℕ) → Fills history_heading front week → week ≤ max_number
 unfolding Fills history_heading
 heading-within front week h =
     let number = h.5 in
-    rw number.5.5.5.1 (number-within 0 9999 number.1 number.0 number.4).1
+    rw number.5.5.5.1 (number-within 0 max_number number.1 number.0 number.4).1
 
 -- the rows give the past of each nurse
 pub gives_each_past : (tables : ScenarioTables) → GivesEachPast tables
@@ -167,7 +168,7 @@ pub spells-is_history : (tables : ScenarioTables) (text : List ℕ) (spelled : H
     HasLimitedNumbers spelled → Spells (history tables) text spelled → IsHistory spelled
 spells-is_history tables text spelled numbers h = history-is_history tables (tokens text) spelled numbers h.filled
 
--- the numbers of a history are those of its scenario
+-- a history has the numbers of its scenario
 pub spells-HasNumbersOf : (tables : ScenarioTables) (text : List ℕ) (spelled : HistoryTables) →
     Spells (history tables) text spelled → HasNumbersOf tables spelled.nurses spelled.shifts spelled.skills
 unfolding Fills history

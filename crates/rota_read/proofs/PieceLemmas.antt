@@ -1,4 +1,4 @@
--- Pieces of a text that fill parts of a layout, whatever is behind them.
+-- Pieces of a text that fill parts of a layout, for any bytes after them.
 use Rattle.std.proofs.Common.{◌≡◌, ℕ, ◌≤◌, Bool, true, false, ◌||◌, refl, sym, ap, ◌∙◌, subst, arith, append_assoc}
 use Rattle.std.proofs.Common.{List, [], ◌∷◌, ◌++◌, Some, None}
 use Rattle.std.specs.Prelude.{nat_le, unwrap_or}
@@ -6,16 +6,16 @@ use Rattle.std.specs.List.{list_all}
 use Rattle.std.proofs.lemmas.Bool.{and_parts, or_parts, not-true}
 use Rattle.std.proofs.lemmas.Bool.Decides.{nat_tests}
 use Rattle.std.proofs.lemmas.List.{append-nil}
-use Rattle.rota_core.specs.Words.{place_of, is_blank, is_sign, is_word_byte, IsWord}
+use Rattle.rota_core.specs.Words.{index_of, is_whitespace, is_sign, is_word_byte, IsWord}
 use Rattle.rota_core.specs.Numeral.{numeral, decimal}
-use Rattle.rota_read.specs.Tokens.{Token, tokens_from, lengthen, line_after}
+use Rattle.rota_read.specs.Tokens.{Token, tokens_from, lengthen, next_line}
 use Rattle.rota_read.specs.Layout.{Slot, wants_exactly, wants_number, wants_word, wants_known, Layout, end, slot, ◌>>=◌}
 use Rattle.rota_read.specs.Layout.{misfit, is_sign_token, exactly, number, any_word, known_name}
 use Rattle.rota_read.specs.Files.{Fills}
-use Rattle.rota_core.specs.NumeralLaws.{TellsNumber}
+use Rattle.rota_core.specs.NumeralLaws.{ReadsBack}
 use Rattle.rota_read.proofs.TokenLemmas.{tokens_from-sign, one_blank, one_longer, last_byte}
 
--- The piece, at the front of any bytes, is a number of tokens that fill the layout with the value.
+-- The piece, in front of any bytes, is a number of tokens that fill the layout with the value.
 abbrev pub FillsAsPiece : {V : Type 0} → Layout V → List ℕ → V → Type 0
 FillsAsPiece layout piece value =
     (line : ℕ) → (front : List Token) × (next : ℕ) × Fills layout front value
@@ -48,20 +48,20 @@ piece-map l f piece a fills =
     subst (λ p. FillsAsPiece (l >>= (λ x. end (f x))) p (f a)) (append-nil piece)
     (piece-bind l (λ x. end (f x)) piece [] a (f a) fills (piece-end (f a)))
 
--- a blank more at the front changes nothing
-pub piece-blank : {V : Type 0} (l : Layout V) (b : ℕ) (piece : List ℕ) (value : V) → is_blank b ≡ true →
+-- one more blank at the front changes nothing
+pub piece-blank : {V : Type 0} (l : Layout V) (b : ℕ) (piece : List ℕ) (value : V) → is_whitespace b ≡ true →
     FillsAsPiece l piece value → FillsAsPiece l (b ∷ piece) value
 piece-blank l b piece value blank fills = λ line.
-    let part = fills (line_after b line) in
+    let part = fills (next_line b line) in
     (part.0, part.1, part.2, λ rest. one_blank b line (piece ++ rest) blank ∙ part.3 rest)
 
 -- ---- one token
 
-no_word_byte : (b : ℕ) → is_blank b ≡ true → is_word_byte b ≡ false
+no_word_byte : (b : ℕ) → is_whitespace b ≡ true → is_word_byte b ≡ false
 no_word_byte b blank = rw blank refl
 
-tokens_from-word_and_blank : (word : List ℕ) (b line : ℕ) (rest : List ℕ) → IsWord word → is_blank b ≡ true →
-    tokens_from line (word ++ b ∷ rest) ≡ record { word = word; line = line } ∷ tokens_from (line_after b line) rest
+tokens_from-word_and_blank : (word : List ℕ) (b line : ℕ) (rest : List ℕ) → IsWord word → is_whitespace b ≡ true →
+    tokens_from line (word ++ b ∷ rest) ≡ record { word = word; line = line } ∷ tokens_from (next_line b line) rest
 tokens_from-word_and_blank [] b line rest is_word blank = absurd (omega (arith, is_word.0))
 tokens_from-word_and_blank (x ∷ []) b line rest is_word blank =
     let parts = and_parts (is_word_byte x) true is_word.1 in
@@ -74,18 +74,18 @@ tokens_from-word_and_blank (x ∷ y ∷ ys) b line rest is_word blank =
     ∙ ap (lengthen x) (tokens_from-word_and_blank (y ∷ ys) b line rest (omega arith, parts.1) blank)
 
 -- a word and a blank
-pub piece-word : (s : Slot) (word : List ℕ) (b : ℕ) → IsWord word → is_blank b ≡ true → misfit s word ≡ None →
+pub piece-word : (s : Slot) (word : List ℕ) (b : ℕ) → IsWord word → is_whitespace b ≡ true → misfit s word ≡ None →
     FillsAsPiece (slot s) (word ++ b ∷ []) word
 unfolding Fills
 piece-word s word b is_word blank fits = λ line. (
   record { word = word; line = line } ∷ [],
-  line_after b line,
+  next_line b line,
   (record { word = word; line = line }, refl, fits, refl),
   λ rest. ap (tokens_from line) (append_assoc word (b ∷ []) rest) ∙ tokens_from-word_and_blank word b line rest is_word blank,
 )
 
 -- a sign
-pub piece-sign : (b : ℕ) → is_blank b ≡ false → is_sign b ≡ true → misfit (wants_exactly (b ∷ [])) (b ∷ []) ≡ None →
+pub piece-sign : (b : ℕ) → is_whitespace b ≡ false → is_sign b ≡ true → misfit (wants_exactly (b ∷ [])) (b ∷ []) ≡ None →
     FillsAsPiece (exactly (b ∷ [])) (b ∷ []) (b ∷ [])
 unfolding Fills exactly
 piece-sign b no_blank sign fits = λ line. (
@@ -101,39 +101,39 @@ no_sign : (word : List ℕ) → IsWord word → is_sign_token word ≡ false
 no_sign [] is_word = absurd (omega (arith, is_word.0))
 no_sign (x ∷ xs) is_word =
     let first = and_parts (is_word_byte x) (list_all is_word_byte xs) is_word.1 in
-    (or_parts (is_blank x) (is_sign x) (not-true (is_blank x || is_sign x) first.0)).1
+    (or_parts (is_whitespace x) (is_sign x) (not-true (is_whitespace x || is_sign x) first.0)).1
 
-pub piece-exactly : (word : List ℕ) (b : ℕ) → IsWord word → is_blank b ≡ true → misfit (wants_exactly word) word ≡ None →
+pub piece-exactly : (word : List ℕ) (b : ℕ) → IsWord word → is_whitespace b ≡ true → misfit (wants_exactly word) word ≡ None →
     FillsAsPiece (exactly word) (word ++ b ∷ []) word
 unfolding exactly
 piece-exactly word b is_word blank fits = piece-word (wants_exactly word) word b is_word blank fits
 
-pub piece-any_word : (word : List ℕ) (b : ℕ) → IsWord word → is_blank b ≡ true → FillsAsPiece any_word (word ++ b ∷ []) word
+pub piece-any_word : (word : List ℕ) (b : ℕ) → IsWord word → is_whitespace b ≡ true → FillsAsPiece any_word (word ++ b ∷ []) word
 unfolding any_word
 piece-any_word word b is_word blank = piece-word wants_word word b is_word blank (rw (no_sign word is_word) refl)
 
--- a numeral that tells its number
-module _ (tells : (n : ℕ) → TellsNumber n) where
+-- a numeral whose value is its number
+module _ (reads_back : (n : ℕ) → ReadsBack n) where
   fits-number : (low high n : ℕ) → low ≤ n → n ≤ high → misfit (wants_number low high) (numeral n) ≡ None
   fits-number low high n from up_to =
-      rw ((tells n).decimal_only, (tells n).number, below low n from, below n high up_to) refl
+      rw ((reads_back n).decimal_only, (reads_back n).number, below low n from, below n high up_to) refl
     where
       below : (a b : ℕ) → a ≤ b → nat_le a b ≡ true
       below a b h = grind (arith, nat_tests)
 
-  pub piece-number : (low high n b : ℕ) → low ≤ n → n ≤ high → is_blank b ≡ true →
+  pub piece-number : (low high n b : ℕ) → low ≤ n → n ≤ high → is_whitespace b ≡ true →
       FillsAsPiece (number low high) (numeral n ++ b ∷ []) n
   unfolding number
   piece-number low high n b from up_to blank =
-      subst (FillsAsPiece (number low high) (numeral n ++ b ∷ [])) (tells n).number
+      subst (FillsAsPiece (number low high) (numeral n ++ b ∷ [])) (reads_back n).number
       (piece-map (slot (wants_number low high)) decimal (numeral n ++ b ∷ []) (numeral n)
-      (piece-word (wants_number low high) (numeral n) b (tells n).word blank (fits-number low high n from up_to)))
+      (piece-word (wants_number low high) (numeral n) b (reads_back n).word blank (fits-number low high n from up_to)))
 
-pub piece-known_name : (names : List (List ℕ)) (is_taken : ℕ → Bool) (name : List ℕ) (place b : ℕ) → IsWord name →
-    is_blank b ≡ true → place_of names name ≡ Some place → is_taken place ≡ false →
-    FillsAsPiece (known_name names is_taken) (name ++ b ∷ []) place
+pub piece-known_name : (names : List (List ℕ)) (is_taken : ℕ → Bool) (name : List ℕ) (index b : ℕ) → IsWord name →
+    is_whitespace b ≡ true → index_of names name ≡ Some index → is_taken index ≡ false →
+    FillsAsPiece (known_name names is_taken) (name ++ b ∷ []) index
 unfolding known_name
-piece-known_name names is_taken name place b is_word blank found free =
+piece-known_name names is_taken name index b is_word blank found free =
     subst (FillsAsPiece (known_name names is_taken) (name ++ b ∷ [])) (ap (λ o. unwrap_or o 0) found)
-    (piece-map (slot (wants_known names is_taken)) (λ word. unwrap_or (place_of names word) 0) (name ++ b ∷ []) name
+    (piece-map (slot (wants_known names is_taken)) (λ word. unwrap_or (index_of names word) 0) (name ++ b ∷ []) name
     (piece-word (wants_known names is_taken) name b is_word blank (rw (no_sign name is_word, found, free) refl)))

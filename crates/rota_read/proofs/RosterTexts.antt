@@ -6,26 +6,27 @@ use Rattle.std.proofs.lemmas.Bool.{or_from}
 use Rattle.std.proofs.lemmas.Bool.Decides.{nat_tests}
 use Rattle.std.proofs.lemmas.Bool.{false_from_ne_true}
 use Rattle.std.proofs.lemmas.List.{append-nil}
+use Rattle.rota_core.specs.Limits.{max_file_len, max_number}
 use Rattle.rota_core.specs.declared.values.Cell.{Cell}
-use Rattle.rota_core.specs.InstanceTables.{InstanceTables, IsInstance, week_of}
+use Rattle.rota_core.specs.InstanceTables.{InstanceTables, IsInstance, problem_of}
 use Rattle.rota_core.specs.Numeral.{numeral}
 use Rattle.rota_core.specs.Roster.{Has, InWeek, Roster, cell}
 use Rattle.rota_core.specs.HardRules.{KeepsOneCell}
-use Rattle.rota_core.specs.RosterTables.{RosterTables, HasShapeOf, cell_place, set_of}
+use Rattle.rota_core.specs.RosterTables.{RosterTables, HasShapeOf, cell_index, set_of}
 use Rattle.rota_core.specs.ScenarioTables.{ScenarioTables, IsShiftName, AreDistinct}
 use Rattle.rota_core.specs.Words.{IsWord}
 use Rattle.rota_core.proofs.LogicWords.{AllByRecursion-append, all-weaker}
 use Rattle.rota_core.specs.CellLists.{ListsCells}
-use Rattle.rota_core.specs.NumeralLaws.{TellsNumber}
+use Rattle.rota_core.specs.NumeralLaws.{ReadsBack}
 use Rattle.rota_core.specs.RisingLists.{RisesWithin}
 use Rattle.rota_read.specs.Layout.{day_names, setting, Layout, end, exactly, number, any_word, known_name, none_taken, repeat}
-use Rattle.rota_read.specs.Files.{Fills, LONGEST}
+use Rattle.rota_read.specs.Files.{Fills}
 use Rattle.rota_read.specs.SolutionLayout.{is_same_cell, is_one_cell, assignment_row, solution_heading, solution, SpellsRoster}
 use Rattle.rota_read.specs.SolutionText.{name_at, spaced, ended, heading_text, assignment_text, text_of_cells, solution_text}
 use Rattle.rota_read.specs.Tokens.{tokens_from, tokens}
 use Rattle.rota_core.specs.RosterCells.{cells_of}
 use Rattle.rota_read.proofs.CellLists.{is_one_cell-cells_of}
-use Rattle.rota_read.proofs.NamePlaces.{holds-name_at, place_of-name_at}
+use Rattle.rota_read.proofs.NameIndices.{holds-name_at, index_of-name_at}
 use Rattle.rota_read.proofs.PieceLemmas.{FillsAsPiece, piece-bind, piece-end, piece-map, piece-blank}
 use Rattle.rota_read.proofs.PieceLemmas.{piece-sign, piece-exactly, piece-any_word, piece-number, piece-known_name}
 
@@ -48,7 +49,7 @@ distinct_days = (
 
 -- ---- one assignment
 
--- the line of an assignment, cut behind each of its blanks
+-- the line of an assignment, cut after each of its blanks
 cut_row : (a b c d : List ℕ) →
     ended (spaced a (spaced b (spaced c d))) ≡ (a ++ 32 ∷ []) ++ ((b ++ 32 ∷ []) ++ ((c ++ 32 ∷ []) ++ (d ++ 10 ∷ [])))
 cut_row a b c d =
@@ -59,7 +60,7 @@ cut_row a b c d =
     ∙ ap (λ rest. a ++ 32 ∷ rest) (sym (append_assoc b (32 ∷ []) ((c ++ 32 ∷ []) ++ (d ++ 10 ∷ []))))
     ∙ sym (append_assoc a (32 ∷ []) ((b ++ 32 ∷ []) ++ ((c ++ 32 ∷ []) ++ (d ++ 10 ∷ []))))
 
--- a line of two words before other lines, cut behind the blank and behind the line
+-- a line of two words before other lines, cut after the blank and after the line
 cut_line : (a b rest : List ℕ) → ended (spaced a b) ++ rest ≡ (a ++ 32 ∷ []) ++ ((b ++ 10 ∷ []) ++ rest)
 cut_line a b rest =
     append_assoc (a ++ 32 ∷ b) (10 ∷ []) rest
@@ -67,7 +68,7 @@ cut_line a b rest =
     ∙ sym (append_assoc a (32 ∷ []) (b ++ 10 ∷ rest))
     ∙ ap (λ more. (a ++ 32 ∷ []) ++ more) (sym (append_assoc b (10 ∷ []) rest))
 
--- the empty line and that of the number, cut at the blanks and the sign
+-- the empty line and the line of the number, cut at the blanks and the sign
 cut_count : (digits : List ℕ) → ended [] ++ ended (codes "ASSIGNMENTS = " ++ digits)
     ≡ (10 ∷ (codes "ASSIGNMENTS" ++ 32 ∷ [])) ++ ((61 ∷ []) ++ (32 ∷ (digits ++ 10 ∷ [])))
 cut_count digits = refl
@@ -87,14 +88,14 @@ shift_words : (names : List (List ℕ)) → AllByRecursion IsShiftName names →
 shift_words [] all = tt
 shift_words (x ∷ xs) all = (all.0.0, shift_words xs all.1)
 
-module _ (tells : (n : ℕ) → TellsNumber n) (tables : InstanceTables) (valid : IsInstance tables) where
+module _ (reads_back : (n : ℕ) → ReadsBack n) (tables : InstanceTables) (valid : IsInstance tables) where
   abbrev scenario : ScenarioTables
   scenario = tables.scenario
 
-  abbrev named : (names : List (List ℕ)) (is_taken : ℕ → Bool) (place b : ℕ) → Type 0
-  named names is_taken place b = FillsAsPiece (known_name names is_taken) (name_at names place ++ b ∷ []) place
+  abbrev named : (names : List (List ℕ)) (is_taken : ℕ → Bool) (index b : ℕ) → Type 0
+  named names is_taken index b = FillsAsPiece (known_name names is_taken) (name_at names index ++ b ∷ []) index
 
-  row-spelled : (rows : List Cell) (one : Cell) → InWeek (week_of tables) one → is_one_cell rows one ≡ false →
+  row-spelled : (rows : List Cell) (one : Cell) → InWeek (problem_of tables) one → is_one_cell rows one ≡ false →
       FillsAsPiece (assignment_row scenario rows) (assignment_text scenario one) (rows ++ one ∷ [])
   unfolding assignment_row assignment_text
   row-spelled rows one in_week is_new =
@@ -105,20 +106,20 @@ module _ (tells : (n : ℕ) → TellsNumber n) (tables : InstanceTables) (valid 
       let nurse : named scenario.nurses none_taken one.nurse 32 =
       piece-known_name scenario.nurses none_taken (name_at scenario.nurses one.nurse) one.nurse 32
       (holds-name_at IsWord scenario.nurses one.nurse nurses.1 in_week.nurse_in) refl
-      (place_of-name_at scenario.nurses one.nurse nurses.2 in_week.nurse_in) refl in
+      (index_of-name_at scenario.nurses one.nurse nurses.2 in_week.nurse_in) refl in
       let day : named day_names none_taken one.day 32 =
       piece-known_name day_names none_taken (name_at day_names one.day) one.day 32
       (holds-name_at IsWord day_names one.day day_words in_week.day_in) refl
-      (place_of-name_at day_names one.day distinct_days in_week.day_in) refl in
+      (index_of-name_at day_names one.day distinct_days in_week.day_in) refl in
       let shift : named scenario.shifts none_taken one.shift 32 =
       piece-known_name scenario.shifts none_taken (name_at scenario.shifts one.shift) one.shift 32
       (holds-name_at IsWord scenario.shifts one.shift shift_names in_week.shift_in) refl
-      (place_of-name_at scenario.shifts one.shift shifts.2 in_week.shift_in) refl in
+      (index_of-name_at scenario.shifts one.shift shifts.2 in_week.shift_in) refl in
       let taken : ℕ → Bool = λ k. is_one_cell rows (cell one.nurse one.day one.shift k) in
       let skill : named scenario.skills taken one.skill 10 =
       piece-known_name scenario.skills taken (name_at scenario.skills one.skill) one.skill 10
       (holds-name_at IsWord scenario.skills one.skill skills.1 in_week.skill_in) refl
-      (place_of-name_at scenario.skills one.skill skills.2 in_week.skill_in) is_new in
+      (index_of-name_at scenario.skills one.skill skills.2 in_week.skill_in) is_new in
       subst (λ text. FillsAsPiece (assignment_row scenario rows) text (rows ++ one ∷ []))
       (sym (cut_row (name_at scenario.nurses one.nurse) (name_at day_names one.day) (name_at scenario.shifts one.shift)
       (name_at scenario.skills one.skill)))
@@ -129,11 +130,11 @@ module _ (tells : (n : ℕ) → TellsNumber n) (tables : InstanceTables) (valid 
 
   -- ---- all assignments
 
-  abbrev place : Cell → ℕ
-  place = cell_place (week_of tables).shifts (week_of tables).skills
+  abbrev index : Cell → ℕ
+  index = cell_index (problem_of tables).shifts (problem_of tables).skills
 
-  -- a cell of a higher place is none of those before
-  is_new : (rows : List Cell) (first : ℕ) (one : Cell) → AllByRecursion (λ other. place other < first) rows → first ≤ place one →
+  -- a cell with a higher index is none of the cells before
+  is_new : (rows : List Cell) (first : ℕ) (one : Cell) → AllByRecursion (λ other. index other < first) rows → first ≤ index one →
       is_one_cell rows one ≡ false
   is_new [] first one all later = refl
   is_new (other ∷ rows) first one all later =
@@ -146,26 +147,26 @@ module _ (tells : (n : ℕ) → TellsNumber n) (tables : InstanceTables) (valid 
           let d : one.day ≡ other.day = grind (arith, nat_tests) in
           let s : one.shift ≡ other.shift = grind (arith, nat_tests) in
           let k : one.skill ≡ other.skill = grind (arith, nat_tests) in
-          let e : place one ≡ place other = rw (n, d, s, k) refl in
+          let e : index one ≡ index other = rw (n, d, s, k) refl in
           omega (arith, all.0)
 
-  all_below : (rows : List Cell) (first more : ℕ) → first ≤ more → AllByRecursion (λ other. place other < first) rows →
-      AllByRecursion (λ other. place other < more) rows
+  all_below : (rows : List Cell) (first more : ℕ) → first ≤ more → AllByRecursion (λ other. index other < first) rows →
+      AllByRecursion (λ other. index other < more) rows
   all_below [] first more up all = tt
   all_below (other ∷ rows) first more up all = (omega (arith, all.0), all_below rows first more up all.1)
 
-  rows-spelled : (rows cells : List Cell) (first last : ℕ) → AllByRecursion (λ other. place other < first) rows →
-      RisesWithin place first last cells → AllByRecursion (InWeek (week_of tables)) cells →
+  rows-spelled : (rows cells : List Cell) (first last : ℕ) → AllByRecursion (λ other. index other < first) rows →
+      RisesWithin index first last cells → AllByRecursion (InWeek (problem_of tables)) cells →
       FillsAsPiece (repeat (length cells) (assignment_row scenario) rows) (flat_map (assignment_text scenario) cells) (rows ++ cells)
   unfolding repeat
   rows-spelled rows [] first last before rises in_week =
       subst (FillsAsPiece (end rows) []) (sym (append-nil rows)) (piece-end rows)
   rows-spelled rows (one ∷ cells) first last before rises in_week =
       let count : length (one ∷ cells) ≡ suc (length cells) = omega arith in
-      let next : AllByRecursion (λ other. place other < place one + 1) (rows ++ one ∷ []) =
-      AllByRecursion-append (λ other. place other < place one + 1) rows (one ∷ [])
-      (all_below rows first (place one + 1) (omega (arith, rises.0)) before) (omega arith, tt) in
-      let rest = rows-spelled (rows ++ one ∷ []) cells (place one + 1) last next rises.1 in_week.1 in
+      let next : AllByRecursion (λ other. index other < index one + 1) (rows ++ one ∷ []) =
+      AllByRecursion-append (λ other. index other < index one + 1) rows (one ∷ [])
+      (all_below rows first (index one + 1) (omega (arith, rises.0)) before) (omega arith, tt) in
+      let rest = rows-spelled (rows ++ one ∷ []) cells (index one + 1) last next rises.1 in_week.1 in
       let text = flat_map (assignment_text scenario) (one ∷ cells) in
       subst (λ n. FillsAsPiece (repeat n (assignment_row scenario) rows) text (rows ++ one ∷ cells)) (sym count)
       (subst (FillsAsPiece (repeat (suc (length cells)) (assignment_row scenario) rows) text)
@@ -176,40 +177,40 @@ module _ (tells : (n : ℕ) → TellsNumber n) (tables : InstanceTables) (valid 
 
   -- ---- the lines before them
 
-  heading-spelled : (count : ℕ) → count ≤ 9999 → FillsAsPiece solution_heading (heading_text tables count) count
+  heading-spelled : (count : ℕ) → count ≤ max_number → FillsAsPiece solution_heading (heading_text tables count) count
   unfolding solution_heading setting heading_text
   heading-spelled count few =
       let name : List ℕ = scenario.name in
-      let week : List ℕ = numeral tables.history.week in
+      let problem : List ℕ = numeral tables.history.week in
       let number_line : List ℕ = 32 ∷ (numeral count ++ 10 ∷ []) in
       let count_line : List ℕ = (10 ∷ (codes "ASSIGNMENTS" ++ 32 ∷ [])) ++ ((61 ∷ []) ++ number_line) in
-      subst (λ text. FillsAsPiece solution_heading text count) (sym (cut_heading week name (numeral count)))
+      subst (λ text. FillsAsPiece solution_heading text count) (sym (cut_heading problem name (numeral count)))
       (piece-bind (exactly (codes "SOLUTION")) _ (codes "SOLUTION" ++ 10 ∷ [])
-      ((week ++ 32 ∷ []) ++ ((name ++ 10 ∷ []) ++ count_line)) (codes "SOLUTION") count
+      ((problem ++ 32 ∷ []) ++ ((name ++ 10 ∷ []) ++ count_line)) (codes "SOLUTION") count
       (piece-exactly (codes "SOLUTION") 10 (omega arith, refl) refl refl)
-      (piece-bind (number 0 9999) _ (week ++ 32 ∷ []) ((name ++ 10 ∷ []) ++ count_line) tables.history.week count
-      (piece-number tells 0 9999 tables.history.week 32 (omega arith) valid.history.week refl)
+      (piece-bind (number 0 max_number) _ (problem ++ 32 ∷ []) ((name ++ 10 ∷ []) ++ count_line) tables.history.week count
+      (piece-number reads_back 0 max_number tables.history.week 32 (omega arith) valid.history.week refl)
       (piece-bind any_word _ (name ++ 10 ∷ []) count_line name count (piece-any_word name 10 valid.scenario.name refl)
       (piece-bind (exactly (codes "ASSIGNMENTS")) _ (10 ∷ (codes "ASSIGNMENTS" ++ 32 ∷ [])) ((61 ∷ []) ++ number_line)
       (codes "ASSIGNMENTS") count
       (piece-blank (exactly (codes "ASSIGNMENTS")) 10 (codes "ASSIGNMENTS" ++ 32 ∷ []) (codes "ASSIGNMENTS") refl
       (piece-exactly (codes "ASSIGNMENTS") 32 (omega arith, refl) refl refl))
       (piece-bind (exactly (codes "=")) _ (61 ∷ []) number_line (codes "=") count (piece-sign 61 refl refl refl)
-      (piece-blank (number 0 9999) 32 (numeral count ++ 10 ∷ []) count refl
-      (piece-number tells 0 9999 count 10 (omega arith) few refl)))))))
+      (piece-blank (number 0 max_number) 32 (numeral count ++ 10 ∷ []) count refl
+      (piece-number reads_back 0 max_number count 10 (omega arith) few refl)))))))
 
   -- ---- the whole text
 
-  pub roster_text-spelled : ((roster : Roster) → ListsCells (week_of tables) roster) →
-      (roster : RosterTables) → HasShapeOf (week_of tables) roster → KeepsOneCell (week_of tables) (set_of roster) →
-      length (solution_text tables (set_of roster)) ≤ LONGEST → SpellsRoster tables (solution_text tables (set_of roster)) roster
+  pub roster_text-spelled : ((roster : Roster) → ListsCells (problem_of tables) roster) →
+      (roster : RosterTables) → HasShapeOf (problem_of tables) roster → KeepsOneCell (problem_of tables) (set_of roster) →
+      length (solution_text tables (set_of roster)) ≤ max_file_len → SpellsRoster tables (solution_text tables (set_of roster)) roster
   unfolding solution text_of_cells tokens_from
   roster_text-spelled lists roster shape one_cell short =
-      let week = week_of tables in
-      let cells : List Cell = cells_of week (set_of roster) in
+      let problem = problem_of tables in
+      let cells : List Cell = cells_of problem (set_of roster) in
       let listed = lists (set_of roster) in
-      let few : length cells ≤ 9999 = omega (arith, listed.few one_cell, valid.scenario.nurses.0.1) in
-      let theirs = all-weaker (Has week (set_of roster)) (InWeek week) (λ one has. has.in_week) cells listed.theirs in
+      let few : length cells ≤ max_number = omega (arith, listed.few one_cell, valid.scenario.nurses.0.1) in
+      let theirs = all-weaker (Has problem (set_of roster)) (InWeek problem) (λ one has. has.in_week) cells listed.theirs in
       let rows : FillsAsPiece (repeat (length cells) (assignment_row scenario) []) (flat_map (assignment_text scenario) cells) cells =
       rows-spelled [] cells _ _ tt listed.rise theirs in
       let whole : FillsAsPiece (solution scenario) (solution_text tables (set_of roster)) cells =
@@ -218,7 +219,7 @@ module _ (tells : (n : ℕ) → TellsNumber n) (tables : InstanceTables) (valid 
       record {
         rows = cells;
         spelled = record { short = short; filled = all_of_it (solution scenario) (solution_text tables (set_of roster)) cells whole };
-        cells = record { shape = shape; set = λ one in_week. is_one_cell-cells_of week (set_of roster) listed one in_week };
+        cells = record { shape = shape; set = λ one in_week. is_one_cell-cells_of problem (set_of roster) listed one in_week };
       }
     where
       all_of_it : {V : Type 0} (layout : Layout V) (text : List ℕ) (value : V) → FillsAsPiece layout text value →

@@ -1,4 +1,4 @@
--- What a token that fits a slot says.
+-- The meaning of a token that fits a slot.
 use Rattle.std.proofs.Common.{◌≡◌, ℕ, zero, suc, ◌+◌, ◌<◌, ◌≤◌, nat_le, Bool, true, false, ◌&&◌, if◌then◌else◌}
 use Rattle.std.proofs.Common.{List, [], ◌∷◌, ◌++◌, length, Option, Some, None, unwrap_or, refl, ap, ◌∙◌, subst, arith}
 use Rattle.std.specs.List.{AllByRecursion}
@@ -9,7 +9,7 @@ use Rattle.std.proofs.lemmas.List.{length-append}
 use Rattle.std.proofs.lemmas.List.Quantifiers.{position-Some}
 use Rattle.std.specs.Str.{bytes_eq}
 use Rattle.rota_core.proofs.LogicWords.{AllByRecursion-append, AllByRecursion-back}
-use Rattle.rota_core.specs.Words.{IsWord, is_among, place_of}
+use Rattle.rota_core.specs.Words.{IsWord, is_among, index_of}
 use Rattle.rota_core.specs.declared.fault.Kind.{Kind}
 use Rattle.rota_core.specs.declared.fault.Kind.TheVariants as kinds
 use Rattle.rota_read.specs.Tokens.{Token}
@@ -46,15 +46,15 @@ any_fits : (b : Bool) → (if b then Some kinds.OtherWord else None) ≡ None �
 any_fits true h = absurd (cc)
 any_fits false h = refl
 
--- why a token is no known name: it is a sign, it names nothing, or its place is taken
+-- why a token is no known name: it is a sign, it names nothing, or its index is taken
 abbrev no_known : Bool → Option ℕ → (ℕ → Bool) → Option Kind
-no_known sign place is_taken =
+no_known sign index is_taken =
     if sign then Some kinds.OtherWord
-    else option_map_or (λ p. if is_taken p then Some kinds.Repeated else None) place (Some kinds.Unknown)
+    else option_map_or (λ p. if is_taken p then Some kinds.Repeated else None) index (Some kinds.Unknown)
 
-is_known : (sign : Bool) (place : Option ℕ) (is_taken : ℕ → Bool) → no_known sign place is_taken ≡ None →
-    (p : ℕ) × (place ≡ Some p) × (is_taken p ≡ false)
-is_known true place is_taken h = absurd (cc)
+is_known : (sign : Bool) (index : Option ℕ) (is_taken : ℕ → Bool) → no_known sign index is_taken ≡ None →
+    (p : ℕ) × (index ≡ Some p) × (is_taken p ≡ false)
+is_known true index is_taken h = absurd (cc)
 is_known false None is_taken h = absurd (cc)
 is_known false (Some p) is_taken h = (p, refl, free (is_taken p) h)
   where
@@ -85,40 +85,40 @@ new_name-is_new names front word all h =
     let e = is_new (is_sign_token h.0.word) (is_among names h.0.word) h.2 in
     rw h.3 (one_token h.0 front h.1 all e.0, e.1)
 
--- a known name is a word that names the place, which is not taken
-known_name-names : (names : List (List ℕ)) (is_taken : ℕ → Bool) (front : List Token) (place : ℕ) →
-    Fills (known_name names is_taken) front place →
-    (word : List ℕ) × (place_of names word ≡ Some place) × (is_taken place ≡ false)
+-- a known name is a word that names the index, which is not taken
+known_name-names : (names : List (List ℕ)) (is_taken : ℕ → Bool) (front : List Token) (index : ℕ) →
+    Fills (known_name names is_taken) front index →
+    (word : List ℕ) × (index_of names word ≡ Some index) × (is_taken index ≡ false)
 unfolding Fills known_name
-known_name-names names is_taken front place h =
+known_name-names names is_taken front index h =
     let t = h.4.0 in
-    let known = is_known (is_sign_token t.word) (place_of names t.word) is_taken h.4.2 in
-    let same : place ≡ known.0 = h.5.1 ∙ ap (λ w. unwrap_or (place_of names w) 0) h.4.3 ∙ ap (λ o. unwrap_or o 0) known.1 in
+    let known = is_known (is_sign_token t.word) (index_of names t.word) is_taken h.4.2 in
+    let same : index ≡ known.0 = h.5.1 ∙ ap (λ w. unwrap_or (index_of names w) 0) h.4.3 ∙ ap (λ o. unwrap_or o 0) known.1 in
     rw same (t.word, known.1, known.2)
 
-pub known_name-below : (names : List (List ℕ)) (is_taken : ℕ → Bool) (front : List Token) (place : ℕ) →
-    Fills (known_name names is_taken) front place → place < length names
-known_name-below names is_taken front place h =
-    let known = known_name-names names is_taken front place h in
-    (position-Some (bytes_eq known.0) names place [] known.1).0
+pub known_name-below : (names : List (List ℕ)) (is_taken : ℕ → Bool) (front : List Token) (index : ℕ) →
+    Fills (known_name names is_taken) front index → index < length names
+known_name-below names is_taken front index h =
+    let known = known_name-names names is_taken front index h in
+    (position-Some (bytes_eq known.0) names index [] known.1).0
 
--- a known name is at a place that is not taken
-pub known_name-free : (names : List (List ℕ)) (is_taken : ℕ → Bool) (front : List Token) (place : ℕ) →
-    Fills (known_name names is_taken) front place → is_taken place ≡ false
-known_name-free names is_taken front place h = (known_name-names names is_taken front place h).2
+-- a known name has an index that is not taken
+pub known_name-free : (names : List (List ℕ)) (is_taken : ℕ → Bool) (front : List Token) (index : ℕ) →
+    Fills (known_name names is_taken) front index → is_taken index ≡ false
+known_name-free names is_taken front index h = (known_name-names names is_taken front index h).2
 
-below_shifts : (n place : ℕ) → place < suc n → ForSome (shift_at place) (λ s. s < n)
+below_shifts : (n index : ℕ) → index < suc n → ForSome (shift_at index) (λ s. s < n)
 below_shifts n zero lt s e = absurd (cc)
 below_shifts n (suc shift) lt s e = let same : shift ≡ s = cc in subst (λ k. k < n) same (omega arith)
 
--- a shift type in place of the word is one of those that are known
+-- a shift type in the position of the word is a known shift type
 pub shift_or-below : (word : List ℕ) (shifts : List (List ℕ)) (front : List Token) (shift : Option ℕ) →
     Fills (shift_or word shifts) front shift → ForSome shift (λ s. s < length shifts)
 unfolding Fills shift_or
 shift_or-below word shifts front shift h =
     rw h.5.1 (below_shifts (length shifts) h.0 (known_name-below (word ∷ shifts) none_taken h.1 h.0 h.4))
 
--- what each row keeps holds after all of them
+-- a property that each row keeps holds after all of them
 pub repeat-keeps : {S : Type 0} (row : S → Layout S) (Keeps : ℕ → S → Type 0) →
     ((i : ℕ) (s : S) (front : List Token) (next : S) → AreTokens front → Fills (row s) front next → Keeps i s → Keeps (suc i) next) →
     (n i : ℕ) (s : S) (front : List Token) (last : S) → AreTokens front → Fills (repeat n row s) front last → Keeps i s → Keeps (n + i) last

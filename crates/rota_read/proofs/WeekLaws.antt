@@ -1,11 +1,12 @@
--- What a week's text spells is within the limits.
+-- The week that a text spells is within the limits.
 use Rattle.std.proofs.Common.{◌≡◌, ℕ, zero, suc, ◌+◌, ◌*◌, ◌≤◌, Bool, true, false, refl, ◌∙◌, arith}
 use Rattle.std.proofs.Common.{List, [], ◌∷◌, Option, Some, None, length, get_or, map}
 use Rattle.std.specs.List.{All, AllByRecursion, flat_map, range_with_len}
 use Rattle.std.proofs.lemmas.List.{length-map, length-replicate, length-set}
 use Rattle.std.proofs.lemmas.List.Elements.{All-replicate, All-set, recursion_from_All}
+use Rattle.rota_core.specs.Limits.{max_number}
 use Rattle.rota_core.specs.ScenarioTables.{ScenarioTables}
-use Rattle.rota_core.specs.Week.{no_demand}
+use Rattle.rota_core.specs.Problem.{no_demand}
 use Rattle.rota_core.specs.InstanceTables.{HasNumbersOf}
 use Rattle.rota_core.specs.WeekTables.{WeekTables, IsWeek, IsDemand}
 use Rattle.rota_core.specs.declared.values.Demand.{Demand}
@@ -13,7 +14,7 @@ use Rattle.rota_read.specs.declared.week.RequestRow.{RequestRow}
 use Rattle.rota_read.specs.Tokens.{Token, tokens}
 use Rattle.rota_read.specs.Layout.{Layout}
 use Rattle.rota_read.specs.WeekLayout.{demand, demands_of_days, Requirements, requirement, requirement_of, requirement_row}
-use Rattle.rota_read.specs.WeekLayout.{after_row, repeat_until, most_rows, no_requirements, requirement_rows}
+use Rattle.rota_read.specs.WeekLayout.{after_row, repeat_until, max_rows, no_requirements, requirement_rows}
 use Rattle.rota_read.specs.WeekLayout.{demand_on, demand_table, request_row, request_table, requirements_part, requests_part, week}
 use Rattle.rota_read.specs.WeekRows.{AreWithin}
 use Rattle.rota_read.specs.Files.{Fills, Spells}
@@ -21,9 +22,9 @@ use Rattle.rota_core.proofs.LogicWords.{AllByRecursion-append}
 use Rattle.rota_read.proofs.WordLaws.{tokens-are_tokens}
 use Rattle.rota_read.proofs.SlotLaws.{AreTokens, length_push, number-within, repeat-keeps}
 use Rattle.rota_read.proofs.ScenarioLaws.{left, right, pair-limits, rows_length}
-use Rattle.rota_read.proofs.CountLemmas.{request_table-length, request_table-most}
+use Rattle.rota_read.proofs.CountLemmas.{request_table-length, request_table-maximum}
 
--- ---- what holds of each element
+-- ---- properties of each element
 
 all_map : {X Y : Type 0} (P : X → Type 0) (Q : Y → Type 0) (f : X → Y) → ((x : X) → P x → Q (f x)) →
     (xs : List X) → AllByRecursion P xs → AllByRecursion Q (map f xs)
@@ -41,7 +42,7 @@ at_or P [] k d h p = p
 at_or P (x ∷ xs) zero d h p = h.0
 at_or P (x ∷ xs) (suc k) d h p = at_or P xs k d h.1 p
 
--- what more rows keep holds, whether there are any
+-- a property that more rows keep holds, whether or not there are more rows
 after_row-keeps : {S : Type 0} (rows : S → Layout S) (Keeps : S → Type 0) →
     ((s : S) (front : List Token) (last : S) → Fills (rows s) front last → Keeps s → Keeps last) →
     (more : Bool) (s : S) (front : List Token) (last : S) → Fills (after_row rows more s) front last → Keeps s → Keeps last
@@ -49,7 +50,7 @@ unfolding Fills
 after_row-keeps rows Keeps each true s front last h k = each s front last h k
 after_row-keeps rows Keeps each false s front last h k = rw h.1 k
 
--- what each row keeps holds after the last one
+-- a property that each row keeps holds after the last one
 repeat_until-keeps : {S : Type 0} (row : S → Layout (Bool × S)) (Keeps : S → Type 0) →
     ((s : S) (front : List Token) (next : Bool × S) → Fills (row s) front next → Keeps s → Keeps next.1) →
     (n : ℕ) (s : S) (front : List Token) (last : S) → Fills (repeat_until n row s) front last → Keeps s → Keeps last
@@ -85,7 +86,7 @@ demands_of_days-limits front days h =
     let sunday = demand-limits sun.1 sun.0 sun.4 in
     rw sun.5.1 (monday, (tuesday, (wednesday, (thursday, (friday, (saturday, (sunday, tt)))))))
 
--- the demands of a row are within the limits, where there is one
+-- the demands of a row are within the limits, if it exists
 abbrev AreDemands : Option (List Demand) → Type 0
 AreDemands None = Unit {0}
 AreDemands (Some days) = AllByRecursion IsDemand days
@@ -98,11 +99,11 @@ requirement-keeps : (pairs : ℕ) (skills : List (List ℕ)) (shift : ℕ) (rows
     Fills (requirement skills shift rows) front next → RowsKept pairs rows → RowsKept pairs next
 unfolding Fills requirement
 requirement-keeps pairs skills shift rows front next h k =
-    let place = shift * length skills + h.0 in
+    let index = shift * length skills + h.0 in
     let days = h.5 in
     rw days.5.1 (
-      length-set rows place (Some days.0) ∙ k.0,
-      All-set AreDemands rows place (Some days.0) (demands_of_days-limits days.1 days.0 days.4) k.1,
+      length-set rows index (Some days.0) ∙ k.0,
+      All-set AreDemands rows index (Some days.0) (demands_of_days-limits days.1 days.0 days.4) k.1,
     )
 
 requirement_row-keeps : (pairs : ℕ) (t : ScenarioTables) (rows : Requirements) (front : List Token) (next : Bool × Requirements) →
@@ -120,14 +121,14 @@ unfolding Fills requirements_part requirement_rows
 requirements-kept t front rows h =
     let pairs = length t.shifts * length t.skills in
     let last = h.5.5 in
-    repeat_until-keeps (requirement_row t) (RowsKept pairs) (requirement_row-keeps pairs t) (most_rows t) (no_requirements t)
+    repeat_until-keeps (requirement_row t) (RowsKept pairs) (requirement_row-keeps pairs t) (max_rows t) (no_requirements t)
     last.2 rows last.5 (length-replicate pairs None, All-replicate AreDemands pairs None tt)
 
 demand_on-limits : (day : ℕ) (row : Option (List Demand)) → AreDemands row → IsDemand (demand_on day row)
 demand_on-limits day None h = (omega arith, omega arith)
 demand_on-limits day (Some days) h = at_or IsDemand days day no_demand h (omega arith, omega arith)
 
--- the table has a place for each day, shift type and skill
+-- the table has an index for each day, shift type and skill
 demand_table-kept : (shifts skills : ℕ) (rows : Requirements) → RowsKept (shifts * skills) rows →
     (length (demand_table rows) ≡ 7 * shifts * skills) × AllByRecursion IsDemand (demand_table rows)
 demand_table-kept shifts skills rows k =
@@ -147,26 +148,26 @@ request_row-keeps t i rows front next all h k =
     rw day.5.1 (length_push rows (record { nurse = h.0; shift = h.5.0; day = day.0 }) i k)
 
 requests-few : (t : ScenarioTables) (front : List Token) (rows : List RequestRow) → AreTokens front →
-    Fills (requests_part t) front rows → length rows ≤ 9999
+    Fills (requests_part t) front rows → length rows ≤ max_number
 unfolding Fills requests_part
 requests-few t front rows all h =
     let count = h.5 in
-    let behind = right h.2 count.1 count.2 count.3 (right front h.1 h.2 h.3 all) in
+    let after = right h.2 count.1 count.2 count.3 (right front h.1 h.2 h.3 all) in
     let kept =
-    repeat-keeps (request_row t) (λ i rows. length rows ≡ i) (request_row-keeps t) count.0 0 [] count.2 rows behind count.5 refl in
-    let most = (number-within 0 9999 count.1 count.0 count.4).1 in
+    repeat-keeps (request_row t) (λ i rows. length rows ≡ i) (request_row-keeps t) count.0 0 [] count.2 rows after count.5 refl in
+    let maximum = (number-within 0 max_number count.1 count.0 count.4).1 in
     omega arith
 
 -- ---- the week
 
--- what fills the slots of a week's file is a week
+-- tokens that fill the slots of a week's file give a week
 week-is_week : (t : ScenarioTables) (front : List Token) (tables : WeekTables) → AreWithin t → AreTokens front →
     Fills (week t) front tables → IsWeek tables
 unfolding Fills week
 week-is_week t front tables counts all h =
     let requests = h.5 in
-    let behind = right front h.1 h.2 h.3 all in
-    let few = requests-few t requests.1 requests.0 (left h.2 requests.1 requests.2 requests.3 behind) requests.4 in
+    let after = right front h.1 h.2 h.3 all in
+    let few = requests-few t requests.1 requests.0 (left h.2 requests.1 requests.2 requests.3 after) requests.4 in
     rw requests.5.1 (record {
       nurses = counts.0;
       shifts = counts.1;
@@ -174,8 +175,8 @@ week-is_week t front tables counts all h =
       demands = demand_table-kept (length t.shifts) (length t.skills) h.0 (requirements-kept t h.1 h.0 h.4);
       requests = (
         request_table-length (length t.nurses) (length t.shifts) requests.0,
-        recursion_from_All (λ n. n ≤ 9999) (request_table (length t.nurses) (length t.shifts) requests.0)
-            (request_table-most (length t.nurses) (length t.shifts) requests.0 9999 few),
+        recursion_from_All (λ n. n ≤ max_number) (request_table (length t.nurses) (length t.shifts) requests.0)
+            (request_table-maximum (length t.nurses) (length t.shifts) requests.0 max_number few),
       );
     })
 
@@ -184,7 +185,7 @@ pub spells-is_week : (t : ScenarioTables) (text : List ℕ) (tables : WeekTables
     IsWeek tables
 spells-is_week t text tables counts h = week-is_week t (tokens text) tables counts (tokens-are_tokens text) h.filled
 
--- the numbers of a week are those of its scenario
+-- a week has the numbers of its scenario
 pub spells-HasNumbersOf : (t : ScenarioTables) (text : List ℕ) (tables : WeekTables) → Spells (week t) text tables →
     HasNumbersOf t tables.nurses tables.shifts tables.skills
 unfolding Fills week

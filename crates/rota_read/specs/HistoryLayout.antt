@@ -1,21 +1,22 @@
 -- The slots of a history file.
 use Rattle.std.specs.Prelude.{ℕ, Bool, List, codes, length, map, replicate, slice_index_or, slice_set}
 use Rattle.std.specs.Prelude.{Option, Some, None, unwrap_or, is_some}
+use Rattle.rota_core.specs.Limits.{max_number}
 use Rattle.rota_core.specs.declared.values.Past.{Past}
 use Rattle.rota_core.specs.ScenarioTables.{ScenarioTables}
-use Rattle.rota_core.specs.Week.{no_past}
+use Rattle.rota_core.specs.Problem.{no_past}
 use Rattle.rota_core.specs.WeekTables.{HistoryTables}
-use Rattle.rota_read.specs.Layout.{MOST, shift_or, Layout, end, ◌>>=◌, exactly, number, any_word, known_name, repeat}
+use Rattle.rota_read.specs.Layout.{shift_or, Layout, end, ◌>>=◌, exactly, number, any_word, known_name, repeat}
 
 -- the totals, the last shift type or `None`, and the runs
 unfoldable pub past : List (List ℕ) → Layout Past
 past shifts = do
-  assignments ← number 0 MOST
-  weekends ← number 0 MOST
+  assignments ← number 0 max_number
+  weekends ← number 0 max_number
   last ← shift_or (codes "None") shifts
-  shift_run ← number 0 MOST
-  work_run ← number 0 MOST
-  off_run ← number 0 MOST
+  shift_run ← number 0 max_number
+  work_run ← number 0 max_number
+  off_run ← number 0 max_number
   end (record {
     assignments = assignments;
     weekends = weekends;
@@ -25,14 +26,15 @@ past shifts = do
     off_run = off_run;
   })
 
--- by nurse, her past where a row has given it
+-- by nurse, her past if a row has given it
 abbrev pub Pasts : Type 0
 Pasts = List (Option Past)
 
+-- whether a row has given the nurse's past
 abbrev pub has_past : Pasts → ℕ → Bool
 has_past pasts nurse = is_some (slice_index_or pasts nurse None)
 
--- the row of a nurse who had none yet
+-- the row of a nurse who had none before
 unfoldable pub past_row : ScenarioTables → Pasts → Layout Pasts
 past_row tables pasts = do
   nurse ← known_name tables.nurses (has_past pasts)
@@ -43,10 +45,11 @@ past_row tables pasts = do
 unfoldable pub past_rows : ScenarioTables → Layout Pasts
 past_rows tables = repeat (length tables.nurses) (past_row tables) (replicate (length tables.nurses) None)
 
+-- the number of the week; any word may be the scenario's name
 unfoldable pub history_heading : Layout ℕ
 history_heading = do
   _ ← exactly (codes "HISTORY")
-  week ← number 0 MOST
+  week ← number 0 max_number
   _ ← any_word
   _ ← exactly (codes "NURSE_HISTORY")
   end week

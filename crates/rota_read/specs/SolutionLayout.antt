@@ -1,15 +1,17 @@
 -- The slots of a solution file, and the roster that it spells.
 use Rattle.std.specs.Prelude.{ℕ, ◌==◌, ◌&&◌, Bool, List, [], ◌∷◌, ◌++◌, codes, ◌≡◌}
 use Rattle.std.specs.List.{list_any}
+use Rattle.rota_core.specs.Limits.{max_number}
 use Rattle.rota_core.specs.declared.values.Cell.{Cell}
 use Rattle.rota_core.specs.Roster.{cell, InWeek}
 use Rattle.rota_core.specs.ScenarioTables.{ScenarioTables}
-use Rattle.rota_read.specs.Layout.{MOST, day_names, setting, Layout, end, ◌>>=◌, exactly, number, any_word, known_name, none_taken, repeat}
-use Rattle.rota_core.specs.InstanceTables.{InstanceTables, week_of}
+use Rattle.rota_read.specs.Layout.{day_names, setting, Layout, end, ◌>>=◌, exactly, number, any_word, known_name, none_taken, repeat}
+use Rattle.rota_core.specs.InstanceTables.{InstanceTables, problem_of}
 use Rattle.rota_core.specs.RosterTables.{RosterTables, HasShapeOf, set_of}
-use Rattle.rota_core.specs.Week.{Week}
+use Rattle.rota_core.specs.Problem.{Problem}
 use Rattle.rota_read.specs.Files.{Spells}
 
+-- whether two cells have the same nurse, day, shift type and skill
 abbrev pub is_same_cell : Cell → Cell → Bool
 is_same_cell one other = one.nurse == other.nurse && one.day == other.day && one.shift == other.shift && one.skill == other.skill
 
@@ -17,7 +19,7 @@ is_same_cell one other = one.nurse == other.nurse && one.day == other.day && one
 abbrev pub is_one_cell : List Cell → Cell → Bool
 is_one_cell cells one = list_any (is_same_cell one) cells
 
--- one more assignment, the four names together once
+-- one more assignment; no four names occur together twice
 unfoldable pub assignment_row : ScenarioTables → List Cell → Layout (List Cell)
 assignment_row tables rows = do
   nurse ← known_name tables.nurses none_taken
@@ -30,9 +32,9 @@ assignment_row tables rows = do
 unfoldable pub solution_heading : Layout ℕ
 solution_heading = do
   _ ← exactly (codes "SOLUTION")
-  _ ← number 0 MOST
+  _ ← number 0 max_number
   _ ← any_word
-  setting (codes "ASSIGNMENTS") 0 MOST
+  setting (codes "ASSIGNMENTS") 0 max_number
 
 -- the assignments, in the order of the file
 unfoldable pub solution : ScenarioTables → Layout (List Cell)
@@ -40,13 +42,13 @@ solution tables = do
   count ← solution_heading
   repeat count (assignment_row tables) []
 
--- the roster is one of the week's shape, and its cells are these
-pub record HasCells (week : Week) (roster : RosterTables) (cells : List Cell) : Type 0 where
-  pub shape : HasShapeOf week roster
-  pub set : (one : Cell) → InWeek week one → set_of roster one ≡ is_one_cell cells one
+-- the roster has the week's shape, and its cells are these
+pub record HasCells (problem : Problem) (roster : RosterTables) (cells : List Cell) : Type 0 where
+  pub shape : HasShapeOf problem roster
+  pub set : (one : Cell) → InWeek problem one → set_of roster one ≡ is_one_cell cells one
 
 -- the text spells the assignments of the roster
 pub record SpellsRoster (tables : InstanceTables) (text : List ℕ) (roster : RosterTables) : Type 0 where
   pub rows : List Cell
   pub spelled : Spells (solution tables.scenario) text rows
-  pub cells : HasCells (week_of tables) roster rows
+  pub cells : HasCells (problem_of tables) roster rows

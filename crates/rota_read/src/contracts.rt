@@ -3,19 +3,15 @@
 ghost use Rattle.std.specs.Prelude.{◌≡◌, ◌≤◌, ◌+◌, length, OnOk};
 ghost use Rattle.rota_core.specs.Parts.{bytes_of};
 ghost use Rattle.rota_read.specs.Layout.{repeat};
-ghost use Rattle.rota_read.specs.Reading.{read, Reads};
+ghost use Rattle.rota_read.specs.Reading.{read_layout, Reads};
 ghost use Rattle.rota_read.specs.ScenarioLayout.{contract, contract_row, contracts_part};
-ghost use Rattle.rota_read.specs.ScenarioRows.{contracts_of, no_contract};
+ghost use Rattle.rota_read.specs.ScenarioRows.{contracts_of, no_contracts};
 
 use crate::cursor::Cursor;
 use crate::fault::Stop;
-use crate::slots::MOST;
 use indexmap::IndexSet;
-use rota_core::{Contract, add_name};
+use rota_core::{Contract, MAX_CONTRACTS, MAX_NUMBER, add_name};
 use std::alloc::Global;
-
-/// The greatest number of contracts.
-pub const MOST_CONTRACTS: u16 = 64;
 
 #[derive(Drop)]
 pub struct ContractRows {
@@ -24,15 +20,15 @@ pub struct ContractRows {
 }
 
 impl<'a> Cursor<'a> {
-    // What a contract asks.
-    #[tactic(auto, unfolding(crate::specs::ScenarioLayout::contract, crate::specs::Reading::read))]
+    // The numbers of a contract.
+    #[tactic(auto, unfolding(crate::specs::ScenarioLayout::contract, crate::specs::Reading::read_layout))]
     fn contract(&mut self) -> Result<Contract, Stop>
-        ensures { Reads (λ c. c) result self.new (read contract self.old) }
+        ensures { Reads (λ c. c) result self.new (read_layout contract self.old) }
     {
         let total = self.pair()?;
         let work = self.pair()?;
         let off = self.pair()?;
-        let weekends = self.number(0, MOST)?;
+        let weekends = self.number(0, MAX_NUMBER)?;
         let complete = self.number(0, 1)?;
         Ok(Contract {
             total,
@@ -43,9 +39,9 @@ impl<'a> Cursor<'a> {
         })
     }
 
-    #[tactic(auto, unfolding(crate::specs::ScenarioLayout::contract_row, crate::specs::Reading::read))]
+    #[tactic(auto, unfolding(crate::specs::ScenarioLayout::contract_row, crate::specs::Reading::read_layout))]
     fn contract_row(&mut self, alloc: Global, rows: &mut ContractRows) -> Result<(), Stop>
-        ensures read { Reads (λ _. contracts_of rows.new) result self.new (read (contract_row (contracts_of rows.old)) self.old) }
+        ensures read { Reads (λ _. contracts_of rows.new) result self.new (read_layout (contract_row (contracts_of rows.old)) self.old) }
         ensures longer { OnOk result (length (bytes_of rows.new.names) ≡ length (bytes_of rows.old.names) + 1) }
     {
         let name = self.new_name(&rows.names)?;
@@ -61,7 +57,7 @@ impl<'a> Cursor<'a> {
         count: u16,
         rows: &mut ContractRows,
     ) -> Result<(), Stop>
-        ensures read { Reads (λ _. contracts_of rows.new) result self.new (read (repeat count contract_row (contracts_of rows.old)) self.old) }
+        ensures read { Reads (λ _. contracts_of rows.new) result self.new (read_layout (repeat count contract_row (contracts_of rows.old)) self.old) }
         ensures longer { OnOk result (length (bytes_of rows.new.names) ≡ length (bytes_of rows.old.names) + count) }
     {
         for _ in 0..count {
@@ -70,20 +66,20 @@ impl<'a> Cursor<'a> {
         Ok(())
     }
 
-    #[tactic(auto, unfolding(crate::specs::ScenarioLayout::contracts_part, crate::specs::Reading::read))]
+    #[tactic(auto, unfolding(crate::specs::ScenarioLayout::contracts_part, crate::specs::Reading::read_layout))]
     pub fn contracts_part(&mut self, alloc: Global, rows: &mut ContractRows) -> Result<(), Stop>
-        requires { contracts_of rows.old ≡ no_contract }
-        ensures read { Reads (λ _. contracts_of rows.new) result self.new (read contracts_part self.old) }
-        ensures few { OnOk result (length (bytes_of rows.new.names) ≤ MOST_CONTRACTS) }
+        requires { contracts_of rows.old ≡ no_contracts }
+        ensures read { Reads (λ _. contracts_of rows.new) result self.new (read_layout contracts_part self.old) }
+        ensures few { OnOk result (length (bytes_of rows.new.names) ≤ MAX_CONTRACTS) }
     {
-        let count = self.setting(b"CONTRACTS", 1, MOST_CONTRACTS)?;
+        let count = self.setting(b"CONTRACTS", 1, MAX_CONTRACTS)?;
         self.contract_rows(alloc, count, rows)
     }
 }
 
-/// What is there before the first contract.
+/// The rows before the first contract.
 pub fn no_contracts(alloc: Global) -> ContractRows
-    ensures { contracts_of result ≡ no_contract }
+    ensures { contracts_of result ≡ no_contracts }
 {
     ContractRows {
         names: IndexSet::new(alloc),

@@ -13,9 +13,6 @@ use crate::scenario::scenario_parts;
 use rota_core::{FileFault, FileName, Scenario};
 use std::alloc::Global;
 
-/// The greatest number of bytes of a file.
-pub const LONGEST: usize = 4_194_304;
-
 impl Stop {
     pub(crate) fn in_file(self, file: FileName) -> FileFault
         ensures { result ≡ fault_in file self }
@@ -31,19 +28,19 @@ impl Stop {
     }
 }
 
-/// The scenario that the text spells.
+/// Returns the scenario that the text spells.
 ///
-/// The text is a scenario file of the Second International Nurse Rostering Competition (INRC-II), in
-/// the layout of `docs/formats.md`: skills, shift types and the successions that are forbidden,
-/// contracts and nurses, all numbered from 0 in the order of the file.
+/// The text is a scenario file of the Second International Nurse Rostering Competition (INRC-II), in the
+/// layout of `docs/formats.md`: skills, shift types and forbidden successions, contracts and nurses, all
+/// numbered from 0 in the order of the file.
 ///
-/// See the example at the head of the crate.
+/// See the example at the top of the crate.
 ///
 /// # Errors
 ///
-/// `Bad` is the text's one fault: that of the first token that does not fit its place, with the
-/// token's line, or that of the end, with the last line; a text of more than 4,194,304 bytes has
-/// `Limit` on line 0. `Memory` comes only where memory runs out before a fault was met.
+/// `Bad` is the text's one fault: the fault of the first token that does not fit its position, with the
+/// token's line, or the fault of the end, with the last line. A text of more than `MAX_FILE_LEN` bytes has `Limit`
+/// on line 0. `Memory` is returned only if memory runs out before a fault was found.
 #[tactic(auto, using(crate::proofs::FileLaws::file_steps))]
 pub fn read_scenario(alloc: Global, text: &[u8]) -> Result<Scenario, FileFault>
     ensures spelled { IfOk result (Spells scenario text.now) }

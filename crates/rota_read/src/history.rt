@@ -2,7 +2,7 @@
 
 ghost use Rattle.std.specs.Prelude.{◌≡◌, ◌<◌, length, map, None, unwrap_or, replicate, IfOk, IfErr};
 ghost use Rattle.rota_core.specs.Parts.{history_of};
-ghost use Rattle.rota_core.specs.Week.{no_past};
+ghost use Rattle.rota_core.specs.Problem.{no_past};
 ghost use Rattle.rota_core.specs.InstanceTables.{HasNumbersOf};
 ghost use Rattle.rota_core.specs.ScenarioTables.{ScenarioTables};
 ghost use Rattle.rota_core.specs.declared.fault.FileName.TheVariants as files;
@@ -12,15 +12,14 @@ ghost use Rattle.rota_read.specs.OneMeaning.{OneMeaning};
 ghost use Rattle.rota_read.specs.HistoryLayout.{past, has_past, past_row, past_rows, history_heading, history};
 ghost use Rattle.rota_read.specs.HistoryRows.{GivesEachPast, HasLimitedNumbers};
 ghost use Rattle.rota_read.specs.Layout.{repeat};
-ghost use Rattle.rota_read.specs.Reading.{read, Reads, read_file, ReadsFile};
+ghost use Rattle.rota_read.specs.Reading.{read_layout, Reads, read_text, ReadsFile};
 
 use crate::cursor::Cursor;
 use crate::fault::Stop;
-use crate::slots::MOST;
-use rota_core::{FileFault, FileName, History, HistoryParts, Past, Scenario};
+use rota_core::{FileFault, FileName, History, HistoryParts, MAX_NUMBER, Past, Scenario};
 use std::alloc::{AllocError, Global};
 
-// What a nurse has behind her who never worked.
+// The history of a nurse who has never worked.
 const NO_PAST: Past = Past {
     assignments: 0,
     weekends: 0,
@@ -31,16 +30,16 @@ const NO_PAST: Past = Past {
 };
 
 impl<'a> Cursor<'a> {
-    #[tactic(auto, unfolding(crate::specs::HistoryLayout::past, crate::specs::Reading::read))]
+    #[tactic(auto, unfolding(crate::specs::HistoryLayout::past, crate::specs::Reading::read_layout))]
     fn past(&mut self, scenario: &Scenario) -> Result<Past, Stop>
-        ensures { Reads (λ p. p) result self.new (read (past scenario.now.shifts) self.old) }
+        ensures { Reads (λ p. p) result self.new (read_layout (past scenario.now.shifts) self.old) }
     {
-        let assignments = self.number(0, MOST)?;
-        let weekends = self.number(0, MOST)?;
+        let assignments = self.number(0, MAX_NUMBER)?;
+        let weekends = self.number(0, MAX_NUMBER)?;
         let last = self.shift_or(b"None", scenario)?;
-        let shift_run = self.number(0, MOST)?;
-        let work_run = self.number(0, MOST)?;
-        let off_run = self.number(0, MOST)?;
+        let shift_run = self.number(0, MAX_NUMBER)?;
+        let work_run = self.number(0, MAX_NUMBER)?;
+        let off_run = self.number(0, MAX_NUMBER)?;
         Ok(Past {
             assignments,
             weekends,
@@ -51,10 +50,10 @@ impl<'a> Cursor<'a> {
         })
     }
 
-    #[tactic(auto, using(crate::proofs::NameSteps::known_taken), unfolding(crate::specs::HistoryLayout::past_row, crate::specs::Reading::read))]
+    #[tactic(auto, using(crate::proofs::NameSteps::known_taken), unfolding(crate::specs::HistoryLayout::past_row, crate::specs::Reading::read_layout))]
     fn past_row(&mut self, scenario: &Scenario, pasts: &mut [Option<Past>]) -> Result<(), Stop>
         requires { length pasts.old ≡ length scenario.now.nurses }
-        ensures { Reads (λ _. pasts.new) result self.new (read (past_row scenario.now pasts.old) self.old) }
+        ensures { Reads (λ _. pasts.new) result self.new (read_layout (past_row scenario.now pasts.old) self.old) }
     {
         let nurse = self.nurse(scenario)?;
         let row = usize::from(nurse);
@@ -72,7 +71,7 @@ impl<'a> Cursor<'a> {
         pasts: &mut [Option<Past>],
     ) -> Result<(), Stop>
         requires { length pasts.old ≡ length scenario.now.nurses }
-        ensures { Reads (λ _. pasts.new) result self.new (read (repeat count (past_row scenario.now) pasts.old) self.old) }
+        ensures { Reads (λ _. pasts.new) result self.new (read_layout (repeat count (past_row scenario.now) pasts.old) self.old) }
     {
         for _ in 0..count {
             self.past_row(scenario, pasts)?;
@@ -80,10 +79,10 @@ impl<'a> Cursor<'a> {
         Ok(())
     }
 
-    // The row of each nurse, by nurse.
+    // The row of each nurse, ordered by nurse.
     #[tactic(auto, unfolding(crate::specs::HistoryLayout::past_rows))]
     fn past_rows(&mut self, alloc: Global, scenario: &Scenario) -> Result<Vec<Option<Past>>, Stop>
-        ensures { Reads (λ v. v.items) result self.new (read (past_rows scenario.now) self.old) }
+        ensures { Reads (λ v. v.items) result self.new (read_layout (past_rows scenario.now) self.old) }
     {
         let count = scenario.nurses();
         let mut pasts = no_rows(alloc, count)?;
@@ -92,12 +91,12 @@ impl<'a> Cursor<'a> {
     }
 
     // The number of the week.
-    #[tactic(auto, unfolding(crate::specs::HistoryLayout::history_heading, crate::specs::Reading::read))]
+    #[tactic(auto, unfolding(crate::specs::HistoryLayout::history_heading, crate::specs::Reading::read_layout))]
     fn history_heading(&mut self) -> Result<u16, Stop>
-        ensures { Reads (λ n. n) result self.new (read history_heading self.old) }
+        ensures { Reads (λ n. n) result self.new (read_layout history_heading self.old) }
     {
         self.exactly(b"HISTORY")?;
-        let week = self.number(0, MOST)?;
+        let week = self.number(0, MAX_NUMBER)?;
         self.word()?;
         self.exactly(b"NURSE_HISTORY")?;
         Ok(week)
@@ -121,9 +120,9 @@ fn each_past(alloc: Global, pasts: &[Option<Past>]) -> Result<Vec<Past>, AllocEr
 }
 
 // The rows of a history, from the whole text.
-#[tactic(auto, using(crate::proofs::EndLemmas::front_fails), unfolding(crate::specs::HistoryLayout::history, crate::specs::Reading::read, crate::specs::Reading::read_file))]
+#[tactic(auto, using(crate::proofs::EndLemmas::front_fails), unfolding(crate::specs::HistoryLayout::history, crate::specs::Reading::read_layout, crate::specs::Reading::read_text))]
 fn history_parts(alloc: Global, scenario: &Scenario, text: &[u8]) -> Result<HistoryParts, Stop>
-    ensures read { ReadsFile history_of result (read_file (history scenario.now) text.now) }
+    ensures read { ReadsFile history_of result (read_text (history scenario.now) text.now) }
     ensures limits { IfOk result (λ parts. HasLimitedNumbers (history_of parts)) }
 {
     let mut cursor = Cursor::open(text)?;
@@ -139,19 +138,19 @@ fn history_parts(alloc: Global, scenario: &Scenario, text: &[u8]) -> Result<Hist
     })
 }
 
-/// The history that the text spells, for a scenario.
+/// Returns the history that the text spells, for a scenario.
 ///
-/// The text is a history file of the Second International Nurse Rostering Competition (INRC-II), in
-/// the layout of `docs/formats.md`: the number of the week, and a row for each nurse of the scenario,
-/// in any order. The history's rows are by nurse, numbered as in the scenario.
+/// The text is a history file of the Second International Nurse Rostering Competition (INRC-II), in the
+/// layout of `docs/formats.md`: the number of the week, and a row for each nurse of the scenario, in any
+/// order. The rows of the result are ordered by nurse, numbered as in the scenario.
 ///
-/// See the example at the head of the crate.
+/// See the example at the top of the crate.
 ///
 /// # Errors
 ///
-/// `Bad` is the text's one fault: that of the first token that does not fit its place, with the
-/// token's line, or that of the end, with the last line; a text of more than 4,194,304 bytes has
-/// `Limit` on line 0. `Memory` comes only where memory runs out before a fault was met.
+/// `Bad` is the text's one fault: the fault of the first token that does not fit its position, with the
+/// token's line, or the fault of the end, with the last line. A text of more than `MAX_FILE_LEN` bytes has `Limit`
+/// on line 0. `Memory` is returned only if memory runs out before a fault was found.
 #[tactic(auto, using(crate::proofs::FileLaws::file_steps))]
 pub fn read_history(alloc: Global, scenario: &Scenario, text: &[u8]) -> Result<History, FileFault>
     ensures spelled { IfOk result (Spells (history scenario.now) text.now) }

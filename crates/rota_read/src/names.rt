@@ -1,4 +1,4 @@
-//! Reads names: new ones, and known ones by their places.
+//! Reads names: new names, and known names by their indices.
 
 ghost use Rattle.std.specs.Prelude.{◌≡◌, true, false, ◌<◌, ◌++◌, IfOk, MatchResult, length};
 ghost use Rattle.std.specs.Option.{ForSome};
@@ -7,17 +7,17 @@ ghost use Rattle.rota_core.specs.Words.{is_among};
 ghost use Rattle.rota_core.specs.Parts.{bytes_of};
 ghost use Rattle.rota_core.specs.ScenarioTables.{reserved};
 ghost use Rattle.rota_read.specs.Layout.{new_name, known_name, none_taken, is_one_of, shift_or};
-ghost use Rattle.rota_read.specs.Reading.{read, Reads};
+ghost use Rattle.rota_read.specs.Reading.{read_layout, Reads};
 
 use crate::cursor::Cursor;
 use crate::fault::{Fault, Stop};
 use indexmap::IndexSet;
-use rota_core::{Kind, Scenario, is_name, place_of_name};
+use rota_core::{Kind, Scenario, index_of_name, is_name};
 
-pub(crate) fn is_taken(taken: &[usize], place: usize) -> bool
-    ensures { result ≡ is_one_of taken.now place }
+pub(crate) fn is_taken(taken: &[usize], index: usize) -> bool
+    ensures { result ≡ is_one_of taken.now index }
 {
-    taken.iter().any(|p| *p == place)
+    taken.iter().any(|p| *p == index)
 }
 
 fn is_reserved(word: &[u8]) -> bool
@@ -27,7 +27,7 @@ fn is_reserved(word: &[u8]) -> bool
 }
 
 impl<'a> Cursor<'a> {
-    /// Refuses the name before, where it is taken.
+    /// Refuses the previous name if it is taken.
     pub(crate) fn unless_taken(&self, taken: bool) -> Result<(), Stop>
         ensures { MatchResult result
             (λ _. taken ≡ false)
@@ -45,7 +45,7 @@ impl<'a> Cursor<'a> {
     /// A word that is none of the names.
     #[tactic(auto, using(crate::proofs::NameSteps::new_by_word))]
     pub fn new_name(&mut self, names: &IndexSet<Vec<u8>>) -> Result<&'a [u8], Stop>
-        ensures read { Reads (λ w. w.now) result self.new (read (new_name (bytes_of names.now)) self.old) }
+        ensures read { Reads (λ w. w.now) result self.new (read_layout (new_name (bytes_of names.now)) self.old) }
         ensures new { IfOk result (λ w. is_among (bytes_of names.now) w.now ≡ false) }
     {
         let name = self.word()?;
@@ -56,7 +56,7 @@ impl<'a> Cursor<'a> {
     /// A new name that is not reserved.
     #[tactic(auto, using(crate::proofs::NameSteps::new_by_word))]
     pub fn new_shift_name(&mut self, names: &IndexSet<Vec<u8>>) -> Result<&'a [u8], Stop>
-        ensures read { Reads (λ w. w.now) result self.new (read (new_name (reserved ++ bytes_of names.now)) self.old) }
+        ensures read { Reads (λ w. w.now) result self.new (read_layout (new_name (reserved ++ bytes_of names.now)) self.old) }
         ensures new { IfOk result (λ w. is_among (bytes_of names.now) w.now ≡ false) }
     {
         let name = self.word()?;
@@ -64,20 +64,20 @@ impl<'a> Cursor<'a> {
         Ok(name.word)
     }
 
-    /// The place of a name.
+    /// The index of a name.
     #[tactic(auto, using(crate::proofs::NameSteps::known_by_word))]
     pub fn known_name(&mut self, names: &IndexSet<Vec<u8>>) -> Result<usize, Stop>
-        ensures read { Reads (λ n. n) result self.new (read (known_name (bytes_of names.now) none_taken) self.old) }
+        ensures read { Reads (λ n. n) result self.new (read_layout (known_name (bytes_of names.now) none_taken) self.old) }
         ensures below { IfOk result (λ n. n < length (bytes_of names.now)) }
     {
         let name = self.word()?;
-        place_of_name(names, name.word).ok_or(name.fault(Kind::Unknown))
+        index_of_name(names, name.word).ok_or(name.fault(Kind::Unknown))
     }
 
     /// The number of a nurse.
     #[tactic(auto, using(crate::proofs::NameSteps::known_by_word))]
     pub fn nurse(&mut self, scenario: &Scenario) -> Result<u16, Stop>
-        ensures read { Reads (λ n. n) result self.new (read (known_name scenario.now.nurses none_taken) self.old) }
+        ensures read { Reads (λ n. n) result self.new (read_layout (known_name scenario.now.nurses none_taken) self.old) }
         ensures below { IfOk result (λ n. n < length scenario.now.nurses) }
     {
         let name = self.word()?;
@@ -89,7 +89,7 @@ impl<'a> Cursor<'a> {
     /// The number of a shift type.
     #[tactic(auto, using(crate::proofs::NameSteps::known_by_word))]
     pub fn shift(&mut self, scenario: &Scenario) -> Result<u8, Stop>
-        ensures read { Reads (λ s. s) result self.new (read (known_name scenario.now.shifts none_taken) self.old) }
+        ensures read { Reads (λ s. s) result self.new (read_layout (known_name scenario.now.shifts none_taken) self.old) }
         ensures below { IfOk result (λ s. s < length scenario.now.shifts) }
     {
         let name = self.word()?;
@@ -101,7 +101,7 @@ impl<'a> Cursor<'a> {
     /// The number of a skill.
     #[tactic(auto, using(crate::proofs::NameSteps::known_by_word))]
     pub fn skill(&mut self, scenario: &Scenario) -> Result<u8, Stop>
-        ensures read { Reads (λ k. k) result self.new (read (known_name scenario.now.skills none_taken) self.old) }
+        ensures read { Reads (λ k. k) result self.new (read_layout (known_name scenario.now.skills none_taken) self.old) }
         ensures below { IfOk result (λ k. k < length scenario.now.skills) }
     {
         let name = self.word()?;
@@ -110,10 +110,10 @@ impl<'a> Cursor<'a> {
             .ok_or(name.fault(Kind::Unknown))
     }
 
-    /// The number of a shift type, or `None` where the word is in its place.
-    #[tactic(auto, using(crate::proofs::NameSteps::known_by_word), unfolding(crate::specs::Layout::shift_or, crate::specs::Reading::read))]
+    /// The number of a shift type, or `None` if the word is in its position.
+    #[tactic(auto, using(crate::proofs::NameSteps::known_by_word), unfolding(crate::specs::Layout::shift_or, crate::specs::Reading::read_layout))]
     pub fn shift_or(&mut self, word: &[u8], scenario: &Scenario) -> Result<Option<u8>, Stop>
-        ensures read { Reads (λ s. s) result self.new (read (shift_or word.now scenario.now.shifts) self.old) }
+        ensures read { Reads (λ s. s) result self.new (read_layout (shift_or word.now scenario.now.shifts) self.old) }
         ensures below { IfOk result (λ s. ForSome s (λ n. n < length scenario.now.shifts)) }
     {
         let name = self.word()?;

@@ -1,19 +1,19 @@
 //! Reads the requirements of a week's file.
 
 ghost use Rattle.std.specs.Prelude.{◌≡◌, ◌<◌, ◌*◌, ◌+◌, length};
-ghost use Rattle.rota_read.specs.Reading.{read, Reads};
+ghost use Rattle.rota_read.specs.Reading.{read_layout, Reads};
 ghost use Rattle.rota_read.specs.WeekLayout.{demand, demands_of_days, requirement_row, requirement_rows, requirements_part};
 
 use crate::cursor::Cursor;
 use crate::fault::Stop;
-use rota_core::{Demand, Scenario};
+use rota_core::{DAYS, Demand, Scenario};
 use std::alloc::Global;
 
 impl<'a> Cursor<'a> {
     // A minimum and an optimal number.
-    #[tactic(auto, unfolding(crate::specs::WeekLayout::demand, crate::specs::Reading::read))]
+    #[tactic(auto, unfolding(crate::specs::WeekLayout::demand, crate::specs::Reading::read_layout))]
     fn demand(&mut self) -> Result<Demand, Stop>
-        ensures { Reads (λ d. d) result self.new (read demand self.old) }
+        ensures { Reads (λ d. d) result self.new (read_layout demand self.old) }
     {
         let numbers = self.pair()?;
         Ok(Demand {
@@ -23,9 +23,9 @@ impl<'a> Cursor<'a> {
     }
 
     // The demands of Monday to Sunday.
-    #[tactic(auto, unfolding(crate::specs::WeekLayout::demands_of_days, crate::specs::Reading::read))]
-    fn demands_of_days(&mut self) -> Result<[Demand; 7], Stop>
-        ensures { Reads (λ d. d) result self.new (read demands_of_days self.old) }
+    #[tactic(auto, unfolding(crate::specs::WeekLayout::demands_of_days, crate::specs::Reading::read_layout))]
+    fn demands_of_days(&mut self) -> Result<[Demand; DAYS as usize], Stop>
+        ensures { Reads (λ d. d) result self.new (read_layout demands_of_days self.old) }
     {
         let monday = self.demand()?;
         let tuesday = self.demand()?;
@@ -39,24 +39,24 @@ impl<'a> Cursor<'a> {
         ])
     }
 
-    // One more row of requirements, or the word that ends them: whether there was a row.
-    #[tactic(auto, unfolding(crate::specs::WeekLayout::requirement_row, crate::specs::Reading::read))]
+    // Reads one more row of requirements, or the word that ends them. Returns whether there was a row.
+    #[tactic(auto, unfolding(crate::specs::WeekLayout::requirement_row, crate::specs::Reading::read_layout))]
     fn requirement_row(
         &mut self,
         scenario: &Scenario,
-        rows: &mut Vec<Option<[Demand; 7]>>,
+        rows: &mut Vec<Option<[Demand; DAYS as usize]>>,
     ) -> Result<bool, Stop>
         requires { length rows.old.items ≡ length scenario.now.shifts * length scenario.now.skills }
-        ensures read { Reads (λ more. (more, rows.new.items)) result self.new (read (requirement_row scenario.now rows.old.items) self.old) }
+        ensures read { Reads (λ more. (more, rows.new.items)) result self.new (read_layout (requirement_row scenario.now rows.old.items) self.old) }
         ensures rows { length rows.new.items ≡ length rows.old.items }
     {
         let Some(shift) = self.shift_or(b"SHIFT_OFF_REQUESTS", scenario)? else {
             return Ok(false);
         };
         let skill = self.skill(scenario)?;
-        let place = usize::from(shift) * usize::from(scenario.skills()) + usize::from(skill);
-        self.unless_taken(rows[place].is_some())?;
-        rows[place] = Some(self.demands_of_days()?);
+        let index = usize::from(shift) * usize::from(scenario.skills()) + usize::from(skill);
+        self.unless_taken(rows[index].is_some())?;
+        rows[index] = Some(self.demands_of_days()?);
         Ok(true)
     }
 
@@ -65,8 +65,8 @@ impl<'a> Cursor<'a> {
         &mut self,
         alloc: Global,
         scenario: &Scenario,
-    ) -> Result<Vec<Option<[Demand; 7]>>, Stop>
-        ensures { Reads (λ v. v.items) result self.new (read (requirement_rows scenario.now) self.old) }
+    ) -> Result<Vec<Option<[Demand; DAYS as usize]>>, Stop>
+        ensures { Reads (λ v. v.items) result self.new (read_layout (requirement_rows scenario.now) self.old) }
     {
         // one row more than there are pairs of a shift type and a skill
         let pairs = usize::from(scenario.shifts()) * usize::from(scenario.skills());
@@ -79,13 +79,13 @@ impl<'a> Cursor<'a> {
         Ok(rows)
     }
 
-    #[tactic(auto, unfolding(crate::specs::WeekLayout::requirements_part, crate::specs::Reading::read))]
+    #[tactic(auto, unfolding(crate::specs::WeekLayout::requirements_part, crate::specs::Reading::read_layout))]
     pub fn requirements_part(
         &mut self,
         alloc: Global,
         scenario: &Scenario,
-    ) -> Result<Vec<Option<[Demand; 7]>>, Stop>
-        ensures { Reads (λ v. v.items) result self.new (read (requirements_part scenario.now) self.old) }
+    ) -> Result<Vec<Option<[Demand; DAYS as usize]>>, Stop>
+        ensures { Reads (λ v. v.items) result self.new (read_layout (requirements_part scenario.now) self.old) }
     {
         self.exactly(b"WEEK_DATA")?;
         self.word()?;

@@ -2,7 +2,7 @@
 
 ghost use Rattle.std.specs.Prelude.{◌≡◌, ◌≤◌, [], IfOk};
 ghost use Rattle.rota_core.specs.Parts.{bytes_of, scenario_of};
-ghost use Rattle.rota_read.specs.Reading.{read, read_file, Reads, ReadsFile};
+ghost use Rattle.rota_read.specs.Reading.{read_layout, read_text, Reads, ReadsFile};
 ghost use Rattle.rota_read.specs.ScenarioRows.{tables_of, IsEmpty};
 ghost use Rattle.rota_read.specs.ScenarioLayout.{heading, skills_part, scenario};
 
@@ -11,12 +11,11 @@ use crate::cursor::Cursor;
 use crate::fault::Stop;
 use crate::nurses::{NurseRows, no_nurses};
 use crate::shift_types::{ShiftRows, no_shift_types};
-use crate::slots::MOST;
 use indexmap::IndexSet;
-use rota_core::ScenarioParts;
+use rota_core::{MAX_NUMBER, MAX_SKILLS, MAX_WEEKS, ScenarioParts};
 use std::alloc::Global;
 
-// What the sections of a scenario file hold.
+// The contents of the sections of a scenario file.
 pub struct ScenarioRows {
     pub name: Vec<u8>,
     pub weeks: u16,
@@ -42,7 +41,7 @@ impl Drop for ScenarioRows {
 }
 
 impl ScenarioRows {
-    // What is there before the first section.
+    // The rows before the first section.
     fn new(alloc: Global) -> ScenarioRows
         ensures { IsEmpty result }
     {
@@ -86,33 +85,33 @@ impl ScenarioRows {
 }
 
 impl<'a> Cursor<'a> {
-    #[tactic(auto, unfolding(crate::specs::ScenarioLayout::heading, crate::specs::Reading::read))]
+    #[tactic(auto, unfolding(crate::specs::ScenarioLayout::heading, crate::specs::Reading::read_layout))]
     fn heading(&mut self, name: &mut Vec<u8>) -> Result<u16, Stop>
         requires { name.old.items ≡ [] }
-        ensures { Reads (λ weeks. (name.new.items, weeks)) result self.new (read heading self.old) }
+        ensures { Reads (λ weeks. (name.new.items, weeks)) result self.new (read_layout heading self.old) }
     {
         self.exactly(b"SCENARIO")?;
         self.exactly(b"=")?;
         name.extend_from_slice(self.word()?.word)?;
-        self.setting(b"WEEKS", 1, 52)
+        self.setting(b"WEEKS", 1, MAX_WEEKS)
     }
 
-    #[tactic(auto, unfolding(crate::specs::ScenarioLayout::skills_part, crate::specs::Reading::read))]
+    #[tactic(auto, unfolding(crate::specs::ScenarioLayout::skills_part, crate::specs::Reading::read_layout))]
     fn skills_part(&mut self, alloc: Global, names: &mut IndexSet<Vec<u8>>) -> Result<u16, Stop>
         requires { bytes_of names.old ≡ [] }
-        ensures read { Reads (λ count. (count, bytes_of names.new)) result self.new (read skills_part self.old) }
-        ensures most { IfOk result (λ count. count ≤ MOST) }
+        ensures read { Reads (λ count. (count, bytes_of names.new)) result self.new (read_layout skills_part self.old) }
+        ensures maximum { IfOk result (λ count. count ≤ MAX_NUMBER) }
     {
-        let count = self.setting(b"SKILLS", 1, 16)?;
+        let count = self.setting(b"SKILLS", 1, MAX_SKILLS)?;
         self.new_names(alloc, count, names)?;
         Ok(count)
     }
 
-    // Each section, into rows that one caller owns.
-    #[tactic(auto, unfolding(crate::specs::ScenarioLayout::scenario, crate::specs::Reading::read))]
+    // Reads each section into rows that one caller owns.
+    #[tactic(auto, unfolding(crate::specs::ScenarioLayout::scenario, crate::specs::Reading::read_layout))]
     fn sections(&mut self, alloc: Global, rows: &mut ScenarioRows) -> Result<(), Stop>
         requires { IsEmpty rows.old }
-        ensures { Reads (λ _. tables_of rows.new) result self.new (read scenario self.old) }
+        ensures { Reads (λ _. tables_of rows.new) result self.new (read_layout scenario self.old) }
     {
         rows.weeks = self.heading(&mut rows.name)?;
         let skill_count = self.skills_part(alloc, &mut rows.skills)?;
@@ -132,9 +131,9 @@ impl<'a> Cursor<'a> {
 }
 
 /// The parts of a scenario, from the whole text.
-#[tactic(auto, using(crate::proofs::EndLemmas::front_fails), unfolding(crate::specs::Reading::read_file))]
+#[tactic(auto, using(crate::proofs::EndLemmas::front_fails), unfolding(crate::specs::Reading::read_text))]
 pub fn scenario_parts(alloc: Global, text: &[u8]) -> Result<ScenarioParts, Stop>
-    ensures { ReadsFile scenario_of result (read_file scenario text.now) }
+    ensures { ReadsFile scenario_of result (read_text scenario text.now) }
 {
     let mut cursor = Cursor::open(text)?;
     let mut rows = ScenarioRows::new(alloc);

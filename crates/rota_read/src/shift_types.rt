@@ -3,17 +3,16 @@
 ghost use Rattle.std.specs.Prelude.{◌≡◌, ◌==◌, ◌≤◌, [], position, IfOk, OnOk};
 ghost use Rattle.rota_core.specs.Parts.{bytes_of};
 ghost use Rattle.rota_read.specs.Layout.{repeat};
-ghost use Rattle.rota_read.specs.Reading.{read, Reads};
+ghost use Rattle.rota_read.specs.Reading.{read_layout, Reads};
 ghost use Rattle.rota_read.specs.ScenarioLayout.{after_shift as after, forbidden_table, shift_row, succession_row, shifts_part, successions_part};
-ghost use Rattle.rota_read.specs.ScenarioRows.{no_shift_type, shifts_of, successions_of};
+ghost use Rattle.rota_read.specs.ScenarioRows.{no_shift_types, shifts_of, successions_of};
 
 use crate::cursor::Cursor;
 use crate::fault::Stop;
 use crate::names::is_taken;
 use crate::rows::append_marks;
-use crate::slots::MOST;
 use indexmap::IndexSet;
-use rota_core::{Span, add_name};
+use rota_core::{MAX_NUMBER, MAX_SHIFTS, Span, add_name};
 use std::alloc::{AllocError, Global};
 
 #[derive(Drop)]
@@ -29,9 +28,9 @@ struct SuccessionRows {
 }
 
 impl<'a> Cursor<'a> {
-    #[tactic(auto, unfolding(crate::specs::ScenarioLayout::shift_row, crate::specs::Reading::read))]
+    #[tactic(auto, unfolding(crate::specs::ScenarioLayout::shift_row, crate::specs::Reading::read_layout))]
     fn shift_row(&mut self, alloc: Global, rows: &mut ShiftRows) -> Result<(), Stop>
-        ensures { Reads (λ _. shifts_of rows.new) result self.new (read (shift_row (shifts_of rows.old)) self.old) }
+        ensures { Reads (λ _. shifts_of rows.new) result self.new (read_layout (shift_row (shifts_of rows.old)) self.old) }
     {
         let name = self.new_shift_name(&rows.names)?;
         let limit = self.pair()?;
@@ -41,7 +40,7 @@ impl<'a> Cursor<'a> {
 
     #[tactic(auto, using(crate::proofs::RowSteps::row_steps))]
     fn shift_rows(&mut self, alloc: Global, count: u16, rows: &mut ShiftRows) -> Result<(), Stop>
-        ensures { Reads (λ _. shifts_of rows.new) result self.new (read (repeat count shift_row (shifts_of rows.old)) self.old) }
+        ensures { Reads (λ _. shifts_of rows.new) result self.new (read_layout (repeat count shift_row (shifts_of rows.old)) self.old) }
     {
         for _ in 0..count {
             self.shift_row(alloc, rows)?;
@@ -49,18 +48,18 @@ impl<'a> Cursor<'a> {
         Ok(())
     }
 
-    #[tactic(auto, unfolding(crate::specs::ScenarioLayout::shifts_part, crate::specs::Reading::read))]
+    #[tactic(auto, unfolding(crate::specs::ScenarioLayout::shifts_part, crate::specs::Reading::read_layout))]
     pub fn shifts_part(&mut self, alloc: Global, rows: &mut ShiftRows) -> Result<u16, Stop>
-        requires { shifts_of rows.old ≡ no_shift_type }
-        ensures read { Reads (λ count. (count, shifts_of rows.new)) result self.new (read shifts_part self.old) }
-        ensures most { IfOk result (λ count. count ≤ MOST) }
+        requires { shifts_of rows.old ≡ no_shift_types }
+        ensures read { Reads (λ count. (count, shifts_of rows.new)) result self.new (read_layout shifts_part self.old) }
+        ensures maximum { IfOk result (λ count. count ≤ MAX_NUMBER) }
     {
-        let count = self.setting(b"SHIFT_TYPES", 1, 16)?;
+        let count = self.setting(b"SHIFT_TYPES", 1, MAX_SHIFTS)?;
         self.shift_rows(alloc, count, rows)?;
         Ok(count)
     }
 
-    #[tactic(auto, using(crate::proofs::NameSteps::known_taken, std::proofs::lemmas::Grind::common_steps), unfolding(crate::specs::ScenarioLayout::succession_row, crate::specs::Reading::read))]
+    #[tactic(auto, using(crate::proofs::NameSteps::known_taken, std::proofs::lemmas::Grind::common_steps), unfolding(crate::specs::ScenarioLayout::succession_row, crate::specs::Reading::read_layout))]
     fn succession_row(
         &mut self,
         alloc: Global,
@@ -68,8 +67,8 @@ impl<'a> Cursor<'a> {
         count: u16,
         rows: &mut SuccessionRows,
     ) -> Result<(), Stop>
-        requires { count ≤ MOST }
-        ensures { Reads (λ _. successions_of rows.new) result self.new (read (succession_row (bytes_of names.now) count (successions_of rows.old)) self.old) }
+        requires { count ≤ MAX_NUMBER }
+        ensures { Reads (λ _. successions_of rows.new) result self.new (read_layout (succession_row (bytes_of names.now) count (successions_of rows.old)) self.old) }
     {
         let shift = self.known_name(names)?;
         self.unless_taken(is_taken(&rows.shifts, shift))?;
@@ -86,8 +85,8 @@ impl<'a> Cursor<'a> {
         count: u16,
         rows: &mut SuccessionRows,
     ) -> Result<(), Stop>
-        requires { count ≤ MOST }
-        ensures { Reads (λ _. successions_of rows.new) result self.new (read (repeat count (succession_row (bytes_of names.now) count) (successions_of rows.old)) self.old) }
+        requires { count ≤ MAX_NUMBER }
+        ensures { Reads (λ _. successions_of rows.new) result self.new (read_layout (repeat count (succession_row (bytes_of names.now) count) (successions_of rows.old)) self.old) }
     {
         for _ in 0..count {
             self.succession_row(alloc, names, count, rows)?;
@@ -95,7 +94,7 @@ impl<'a> Cursor<'a> {
         Ok(())
     }
 
-    #[tactic(auto, unfolding(crate::specs::ScenarioLayout::successions_part, crate::specs::Reading::read))]
+    #[tactic(auto, unfolding(crate::specs::ScenarioLayout::successions_part, crate::specs::Reading::read_layout))]
     pub fn successions_part(
         &mut self,
         alloc: Global,
@@ -103,9 +102,9 @@ impl<'a> Cursor<'a> {
         count: u16,
         table: &mut Vec<bool>,
     ) -> Result<(), Stop>
-        requires most { count ≤ MOST }
+        requires maximum { count ≤ MAX_NUMBER }
         requires none { table.old.items ≡ [] }
-        ensures { Reads (λ _. table.new.items) result self.new (read (successions_part (bytes_of names.now) count) self.old) }
+        ensures { Reads (λ _. table.new.items) result self.new (read_layout (successions_part (bytes_of names.now) count) self.old) }
     {
         self.exactly(b"FORBIDDEN_SHIFT_TYPES_SUCCESSIONS")?;
         let mut rows = no_successions(alloc);
@@ -114,9 +113,9 @@ impl<'a> Cursor<'a> {
     }
 }
 
-/// What is there before the first shift type.
+/// The rows before the first shift type.
 pub fn no_shift_types(alloc: Global) -> ShiftRows
-    ensures { shifts_of result ≡ no_shift_type }
+    ensures { shifts_of result ≡ no_shift_types }
 {
     ShiftRows {
         names: IndexSet::new(alloc),
@@ -124,7 +123,7 @@ pub fn no_shift_types(alloc: Global) -> ShiftRows
     }
 }
 
-// What is there before the first row of successions.
+// The rows before the first row of successions.
 fn no_successions(alloc: Global) -> SuccessionRows
     ensures { successions_of result ≡ record { shifts = []; after = [] } }
 {
@@ -134,21 +133,21 @@ fn no_successions(alloc: Global) -> SuccessionRows
     }
 }
 
-fn place_of_shift(shifts: &[usize], shift: usize) -> Option<usize>
+fn index_of_shift(shifts: &[usize], shift: usize) -> Option<usize>
     ensures { result ≡ position (λ p. p == shift) shifts.now }
 {
     shifts.iter().position(|p| *p == shift)
 }
 
-// What may not follow a shift type.
+// The shift types that may not follow a shift type.
 fn after_shift(rows: &SuccessionRows, shift: usize) -> &[usize]
     ensures { result.now ≡ after (successions_of rows.now) shift }
 {
-    let Some(place) = place_of_shift(&rows.shifts, shift) else {
+    let Some(index) = index_of_shift(&rows.shifts, shift) else {
         return &[];
     };
-    match rows.after.get(place) {
-        Some(places) => places,
+    match rows.after.get(index) {
+        Some(indices) => indices,
         None => &[],
     }
 }

@@ -4,16 +4,13 @@ ghost use Rattle.std.specs.Prelude.{◌≡◌, IfOk, ◌≤◌, ◌∷◌, [], m
 ghost use Rattle.rota_core.specs.declared.fault.Kind.TheVariants.{Ended};
 ghost use Rattle.rota_core.specs.Numeral.{is_decimal, decimal};
 ghost use Rattle.rota_read.specs.Layout.{exactly, number, any_word};
-ghost use Rattle.rota_read.specs.Reading.{read, Reads, at_end, ReadsFile};
+ghost use Rattle.rota_read.specs.Reading.{read_layout, Reads, check_end, ReadsFile};
 
 use crate::cursor::{Cursor, Token, is_sign};
 use crate::fault::{Fault, Stop};
-use rota_core::Kind;
+use rota_core::{Kind, MAX_NUMBER};
 
-/// The greatest number of a file.
-pub const MOST: u16 = 9999;
-
-// The number that decimal digits stand for, or 10000 where it is more.
+// The value of decimal digits, or 10000 if it is larger.
 fn decimal_of(word: &[u8]) -> Option<u16>
     ensures { result ≡ (if is_decimal word.now then Some (min (decimal word.now) 10000) else None) }
 {
@@ -52,10 +49,10 @@ impl<'a> Cursor<'a> {
         }))
     }
 
-    /// The next token, where that is a word.
-    #[tactic(auto, unfolding(crate::specs::Layout::any_word, crate::specs::Reading::read))]
+    /// The next token, if it is a word.
+    #[tactic(auto, unfolding(crate::specs::Layout::any_word, crate::specs::Reading::read_layout))]
     pub(crate) fn word(&mut self) -> Result<Token<'a>, Stop>
-        ensures read { Reads (λ t. t.word.now) result self.new (read any_word self.old) }
+        ensures read { Reads (λ t. t.word.now) result self.new (read_layout any_word self.old) }
         ensures line { IfOk result (λ t. t.line ≡ self.new.last) }
     {
         let token = self.token()?;
@@ -67,7 +64,7 @@ impl<'a> Cursor<'a> {
 
     /// The end of the file.
     pub fn finish(&mut self) -> Result<(), Stop>
-        ensures { ReadsFile (λ _. tt) result (at_end self.old.rest) }
+        ensures { ReadsFile (λ _. tt) result (check_end self.old.rest) }
     {
         match self.next() {
             None => Ok(()),
@@ -76,9 +73,9 @@ impl<'a> Cursor<'a> {
     }
 
     /// This word or sign.
-    #[tactic(auto, unfolding(crate::specs::Layout::exactly, crate::specs::Reading::read))]
+    #[tactic(auto, unfolding(crate::specs::Layout::exactly, crate::specs::Reading::read_layout))]
     pub fn exactly(&mut self, wanted: &[u8]) -> Result<(), Stop>
-        ensures { Reads (λ _. wanted.now) result self.new (read (exactly wanted.now) self.old) }
+        ensures { Reads (λ _. wanted.now) result self.new (read_layout (exactly wanted.now) self.old) }
     {
         let token = self.token()?;
         if token.word != wanted {
@@ -88,10 +85,10 @@ impl<'a> Cursor<'a> {
     }
 
     /// A number between the limits.
-    #[tactic(auto, unfolding(crate::specs::Layout::number, crate::specs::Reading::read))]
+    #[tactic(auto, unfolding(crate::specs::Layout::number, crate::specs::Reading::read_layout))]
     pub fn number(&mut self, low: u16, high: u16) -> Result<u16, Stop>
-        requires { high ≤ MOST }
-        ensures read { Reads (λ n. n) result self.new (read (number low high) self.old) }
+        requires { high ≤ MAX_NUMBER }
+        ensures read { Reads (λ n. n) result self.new (read_layout (number low high) self.old) }
         ensures within { IfOk result (λ n. n ≤ high) }
     {
         let token = self.token()?;

@@ -2,33 +2,32 @@
 
 ghost use Rattle.std.specs.Prelude.{List, ◌∷◌, ◌++◌, [], IfOk, IfErr};
 ghost use Rattle.rota_core.specs.declared.fault.FileName.TheVariants as files;
-ghost use Rattle.rota_core.specs.InstanceTables.{week_of};
+ghost use Rattle.rota_core.specs.InstanceTables.{problem_of};
 ghost use Rattle.rota_core.specs.RosterTables.{HasShapeOf};
 ghost use Rattle.rota_core.specs.ScenarioTables.{ScenarioTables};
 ghost use Rattle.rota_read.specs.FileAnswers.{IsFaultOf};
 ghost use Rattle.rota_read.specs.OneMeaning.{OneMeaning};
 ghost use Rattle.rota_read.specs.Layout.{repeat};
-ghost use Rattle.rota_read.specs.Reading.{read, Reads, read_file};
+ghost use Rattle.rota_read.specs.Reading.{read_layout, Reads, read_text};
 ghost use Rattle.rota_read.specs.SolutionLayout.{assignment_row, solution_heading, solution, HasCells, SpellsRoster};
 ghost use Rattle.rota_read.specs.SolutionText.{EachRosterHasItsText};
 ghost use Rattle.rota_read.specs.RosterReading.{ReadsRoster, ReadsRosterFile};
 
 use crate::cursor::Cursor;
 use crate::fault::Stop;
-use crate::slots::MOST;
-use rota_core::laws::{numerals_tell_their_numbers, rosters_list_their_cells};
-use rota_core::{Cell, FileFault, FileName, Instance, Roster};
+use rota_core::laws::{numerals_read_back, rosters_list_their_cells};
+use rota_core::{Cell, FileFault, FileName, Instance, MAX_NUMBER, Roster};
 use std::alloc::Global;
 
 impl<'a> Cursor<'a> {
-    // One more assignment, which is put into the roster.
-    #[tactic(auto, using(crate::proofs::NameSteps::known_taken), unfolding(crate::specs::SolutionLayout::assignment_row, crate::specs::Reading::read))]
+    // Reads one more assignment, and puts it into the roster.
+    #[tactic(auto, using(crate::proofs::NameSteps::known_taken), unfolding(crate::specs::SolutionLayout::assignment_row, crate::specs::Reading::read_layout))]
     fn assignment_row(&mut self, instance: &Instance, roster: &mut Roster) -> Result<Cell, Stop>
-        requires { HasShapeOf (week_of instance.now) roster.old }
-        ensures read { (rows : List Cell) → HasCells (week_of instance.now) roster.old rows →
-            Reads (λ one. rows ++ one ∷ []) result self.new (read (assignment_row instance.now.scenario rows) self.old) }
-        ensures put { (rows : List Cell) → HasCells (week_of instance.now) roster.old rows →
-            IfOk result (λ one. HasCells (week_of instance.now) roster.new (rows ++ one ∷ [])) }
+        requires { HasShapeOf (problem_of instance.now) roster.old }
+        ensures read { (rows : List Cell) → HasCells (problem_of instance.now) roster.old rows →
+            Reads (λ one. rows ++ one ∷ []) result self.new (read_layout (assignment_row instance.now.scenario rows) self.old) }
+        ensures put { (rows : List Cell) → HasCells (problem_of instance.now) roster.old rows →
+            IfOk result (λ one. HasCells (problem_of instance.now) roster.new (rows ++ one ∷ [])) }
     {
         let scenario = instance.scenario();
         let nurse = self.nurse(scenario)?;
@@ -52,7 +51,7 @@ impl<'a> Cursor<'a> {
         instance: &Instance,
         count: u16,
     ) -> Result<Roster, Stop>
-        ensures { ReadsRoster (week_of instance.now) result self.new (read (repeat count (assignment_row instance.now.scenario) []) self.old) }
+        ensures { ReadsRoster (problem_of instance.now) result self.new (read_layout (repeat count (assignment_row instance.now.scenario) []) self.old) }
     {
         let mut roster = Roster::new(alloc, instance)?;
         for _ in 0..count {
@@ -62,21 +61,21 @@ impl<'a> Cursor<'a> {
     }
 
     // The number of the assignments.
-    #[tactic(auto, unfolding(crate::specs::SolutionLayout::solution_heading, crate::specs::Reading::read))]
+    #[tactic(auto, unfolding(crate::specs::SolutionLayout::solution_heading, crate::specs::Reading::read_layout))]
     fn solution_heading(&mut self) -> Result<u16, Stop>
-        ensures { Reads (λ n. n) result self.new (read solution_heading self.old) }
+        ensures { Reads (λ n. n) result self.new (read_layout solution_heading self.old) }
     {
         self.exactly(b"SOLUTION")?;
-        self.number(0, MOST)?;
+        self.number(0, MAX_NUMBER)?;
         self.word()?;
-        self.setting(b"ASSIGNMENTS", 0, MOST)
+        self.setting(b"ASSIGNMENTS", 0, MAX_NUMBER)
     }
 }
 
 // The roster of a solution, from the whole text.
-#[tactic(auto, using(crate::proofs::EndLemmas::front_fails), unfolding(crate::specs::SolutionLayout::solution, crate::specs::Reading::read, crate::specs::Reading::read_file))]
+#[tactic(auto, using(crate::proofs::EndLemmas::front_fails), unfolding(crate::specs::SolutionLayout::solution, crate::specs::Reading::read_layout, crate::specs::Reading::read_text))]
 fn solution_roster(alloc: Global, instance: &Instance, text: &[u8]) -> Result<Roster, Stop>
-    ensures { ReadsRosterFile (week_of instance.now) result (read_file (solution instance.now.scenario) text.now) }
+    ensures { ReadsRosterFile (problem_of instance.now) result (read_text (solution instance.now.scenario) text.now) }
 {
     let mut cursor = Cursor::open(text)?;
     let count = cursor.solution_heading()?;
@@ -85,12 +84,11 @@ fn solution_roster(alloc: Global, instance: &Instance, text: &[u8]) -> Result<Ro
     Ok(roster)
 }
 
-/// The roster that the text spells, for an instance.
+/// Returns the roster that the text spells, for an instance.
 ///
-/// The text is a solution file of the Second International Nurse Rostering Competition (INRC-II), in
-/// the layout of `docs/formats.md`. The roster's cells are the assignments of the text, with nurses,
-/// shift types and skills numbered as in the instance and days from 0 for Monday. Whether they keep
-/// the rules is not asked.
+/// The text is a solution file of the Second International Nurse Rostering Competition (INRC-II), in the
+/// layout of `docs/formats.md`. The roster's cells are the assignments of the text, with nurses, shift types
+/// and skills numbered as in the instance and days from 0 for Monday. The rules are not checked.
 ///
 /// Here `extend` of `rota_pb` writes the answer that a solver would give for the roster:
 ///
@@ -101,9 +99,9 @@ fn solution_roster(alloc: Global, instance: &Instance, text: &[u8]) -> Result<Ro
 ///
 /// # Errors
 ///
-/// `Bad` is the text's one fault: that of the first token that does not fit its place, with the
-/// token's line, or that of the end, with the last line; a text of more than 4,194,304 bytes has
-/// `Limit` on line 0. `Memory` comes only where memory runs out before a fault was met.
+/// `Bad` is the text's one fault: the fault of the first token that does not fit its position, with the
+/// token's line, or the fault of the end, with the last line. A text of more than `MAX_FILE_LEN` bytes has `Limit`
+/// on line 0. `Memory` is returned only if memory runs out before a fault was found.
 #[tactic(auto, using(crate::proofs::SolutionLaws::roster_steps))]
 pub fn read_solution(alloc: Global, instance: &Instance, text: &[u8]) -> Result<Roster, FileFault>
     ensures spelled { IfOk result (SpellsRoster instance.now text.now) }
@@ -112,11 +110,11 @@ pub fn read_solution(alloc: Global, instance: &Instance, text: &[u8]) -> Result<
     solution_roster(alloc, instance, text).map_err(|stop| stop.in_file(FileName::Solution))
 }
 
-/// The cells that are to be held, as `read_solution` reads a roster.
+/// Returns the cells to hold, read like the roster of `read_solution`.
 ///
 /// # Errors
 ///
-/// Those of `read_solution`, with the name `Fixed`.
+/// The errors of `read_solution`, with the file name `Fixed`.
 #[tactic(auto, using(crate::proofs::SolutionLaws::roster_steps))]
 pub fn read_fixed(alloc: Global, instance: &Instance, text: &[u8]) -> Result<Roster, FileFault>
     ensures spelled { IfOk result (SpellsRoster instance.now text.now) }
@@ -125,18 +123,18 @@ pub fn read_fixed(alloc: Global, instance: &Instance, text: &[u8]) -> Result<Ros
     solution_roster(alloc, instance, text).map_err(|stop| stop.in_file(FileName::Fixed))
 }
 
-/// A law: for each scenario, every text spells the assignments of one solution or has one fault, and
-/// never both.
+/// A law: for each scenario, every text spells the assignments of one solution or has one fault, and never
+/// both.
 #[tactic(auto, using(crate::proofs::FileLaws::one_meaning))]
 pub fn each_text_means_one_solution()
     ensures { (tables : ScenarioTables) → OneMeaning (solution tables) }
 {}
 
-/// A law: for each instance, the solution file of a roster with at most one cell for each nurse and
-/// day spells that roster, where it has at most 4,194,304 bytes.
+/// A law: for each instance, the solution file of a roster with at most one cell for each nurse and day
+/// spells that roster, if the file has at most `MAX_FILE_LEN` bytes.
 pub fn each_roster_has_its_text()
     ensures { EachRosterHasItsText }
 {
-    numerals_tell_their_numbers();
+    numerals_read_back();
     rosters_list_their_cells();
 }

@@ -10,20 +10,18 @@ ghost use Rattle.rota_core.specs.declared.fault.FileName.TheVariants as files;
 ghost use Rattle.rota_read.specs.Files.{Spells};
 ghost use Rattle.rota_read.specs.FileAnswers.{IsFaultOf};
 ghost use Rattle.rota_read.specs.OneMeaning.{OneMeaning};
-ghost use Rattle.rota_read.specs.Reading.{read, read_file, Reads, ReadsFile};
+ghost use Rattle.rota_read.specs.Reading.{read_layout, read_text, Reads, ReadsFile};
 ghost use Rattle.rota_read.specs.WeekBound.{BoundEndsNoRows};
 ghost use Rattle.rota_read.specs.WeekRows.{IsRequest, AreWithin};
 ghost use Rattle.rota_read.specs.WeekLayout.{request_row, requests_part, week};
 
 use crate::cursor::Cursor;
 use crate::fault::Stop;
-use crate::slots::MOST;
 use crate::week_tables::{demands_of, requests_of};
-use rota_core::{FileFault, FileName, Scenario, Week, WeekParts};
+use rota_core::{FileFault, FileName, MAX_NUMBER, Scenario, Week, WeekParts};
 use std::alloc::Global;
 
-/// A row of requests: the nurse asks for the day off, by a shift type or, where there is none, by
-/// any.
+/// A row of requests: the nurse asks for the day off, from a shift type or, if none is named, from any.
 #[derive(Clone, Copy)]
 pub struct RequestRow {
     pub nurse: u16,
@@ -32,10 +30,10 @@ pub struct RequestRow {
 }
 
 impl<'a> Cursor<'a> {
-    #[tactic(auto, unfolding(crate::specs::WeekLayout::request_row, crate::specs::Reading::read))]
+    #[tactic(auto, unfolding(crate::specs::WeekLayout::request_row, crate::specs::Reading::read_layout))]
     fn request_row(&mut self, scenario: &Scenario, rows: &mut Vec<RequestRow>) -> Result<(), Stop>
         requires { All (IsRequest (length scenario.now.nurses) (length scenario.now.shifts)) rows.old.items }
-        ensures read { Reads (λ _. rows.new.items) result self.new (read (request_row scenario.now rows.old.items) self.old) }
+        ensures read { Reads (λ _. rows.new.items) result self.new (read_layout (request_row scenario.now rows.old.items) self.old) }
         ensures within { OnOk result (All (IsRequest (length scenario.now.nurses) (length scenario.now.shifts)) rows.new.items) }
         ensures longer { OnOk result (length rows.new.items ≡ length rows.old.items + 1) }
     {
@@ -52,7 +50,7 @@ impl<'a> Cursor<'a> {
         scenario: &Scenario,
         count: u16,
     ) -> Result<Vec<RequestRow>, Stop>
-        ensures read { Reads (λ v. v.items) result self.new (read (repeat count (request_row scenario.now) []) self.old) }
+        ensures read { Reads (λ v. v.items) result self.new (read_layout (repeat count (request_row scenario.now) []) self.old) }
         ensures within { IfOk result (λ v. All (IsRequest (length scenario.now.nurses) (length scenario.now.shifts)) v.items) }
         ensures count { IfOk result (λ v. length v.items ≡ count) }
     {
@@ -63,22 +61,22 @@ impl<'a> Cursor<'a> {
         Ok(rows)
     }
 
-    #[tactic(auto, unfolding(crate::specs::WeekLayout::requests_part, crate::specs::Reading::read))]
+    #[tactic(auto, unfolding(crate::specs::WeekLayout::requests_part, crate::specs::Reading::read_layout))]
     fn requests_part(&mut self, alloc: Global, scenario: &Scenario) -> Result<Vec<RequestRow>, Stop>
-        ensures read { Reads (λ v. v.items) result self.new (read (requests_part scenario.now) self.old) }
+        ensures read { Reads (λ v. v.items) result self.new (read_layout (requests_part scenario.now) self.old) }
         ensures within { IfOk result (λ v. All (IsRequest (length scenario.now.nurses) (length scenario.now.shifts)) v.items) }
-        ensures count { IfOk result (λ v. length v.items ≤ MOST) }
+        ensures count { IfOk result (λ v. length v.items ≤ MAX_NUMBER) }
     {
         self.exactly(b"=")?;
-        let count = self.number(0, MOST)?;
+        let count = self.number(0, MAX_NUMBER)?;
         self.request_rows(alloc, scenario, count)
     }
 }
 
 // The rows of a week, from the whole text.
-#[tactic(auto, using(crate::proofs::EndLemmas::front_fails), unfolding(crate::specs::WeekLayout::week, crate::specs::Reading::read, crate::specs::Reading::read_file))]
+#[tactic(auto, using(crate::proofs::EndLemmas::front_fails), unfolding(crate::specs::WeekLayout::week, crate::specs::Reading::read_layout, crate::specs::Reading::read_text))]
 fn week_parts(alloc: Global, scenario: &Scenario, text: &[u8]) -> Result<WeekParts, Stop>
-    ensures read { ReadsFile week_tables_of result (read_file (week scenario.now) text.now) }
+    ensures read { ReadsFile week_tables_of result (read_text (week scenario.now) text.now) }
     ensures within { IfOk result (λ _. AreWithin scenario.now) }
 {
     let mut cursor = Cursor::open(text)?;
@@ -96,14 +94,14 @@ fn week_parts(alloc: Global, scenario: &Scenario, text: &[u8]) -> Result<WeekPar
     })
 }
 
-/// The week that the text spells, for a scenario.
+/// Returns the week that the text spells, for a scenario.
 ///
-/// The text is a week data file of the Second International Nurse Rostering Competition (INRC-II),
-/// in the layout of `docs/formats.md`. A pair of a shift type and a skill that no row of requirements
-/// names asks for nobody. Rows of requests may be equal: each counts, and one for `Any` counts for
-/// every shift type.
+/// The text is a week data file of the Second International Nurse Rostering Competition (INRC-II), in the
+/// layout of `docs/formats.md`. If no row of requirements names a pair of a shift type and a skill, the pair
+/// needs no nurse. Rows of requests may be equal: each counts, and a row for `Any` counts for every shift
+/// type.
 ///
-/// Here the three files of a week are read, and joined:
+/// Here the three files of a week are read and joined:
 ///
 /// ```
 /// let scenario = read_scenario(alloc, scenario)?;
@@ -114,9 +112,9 @@ fn week_parts(alloc: Global, scenario: &Scenario, text: &[u8]) -> Result<WeekPar
 ///
 /// # Errors
 ///
-/// `Bad` is the text's one fault: that of the first token that does not fit its place, with the
-/// token's line, or that of the end, with the last line; a text of more than 4,194,304 bytes has
-/// `Limit` on line 0. `Memory` comes only where memory runs out before a fault was met.
+/// `Bad` is the text's one fault: the fault of the first token that does not fit its position, with the
+/// token's line, or the fault of the end, with the last line. A text of more than `MAX_FILE_LEN` bytes has `Limit`
+/// on line 0. `Memory` is returned only if memory runs out before a fault was found.
 #[tactic(auto, using(crate::proofs::FileLaws::file_steps))]
 pub fn read_week(alloc: Global, scenario: &Scenario, text: &[u8]) -> Result<Week, FileFault>
     ensures spelled { IfOk result (Spells (week scenario.now) text.now) }
@@ -135,8 +133,8 @@ pub fn each_text_means_one_week()
     ensures { (t : ScenarioTables) → OneMeaning (week t) }
 {}
 
-/// A law: the bound on the rows of requirements, one row more than there are pairs of a shift type
-/// and a skill, ends no rows.
+/// A law: the bound on the rows of requirements, one row more than there are pairs of a shift type and a
+/// skill, cuts off no row.
 #[tactic(auto, using(crate::proofs::BoundLaws::bound_ends_no_rows))]
 pub fn no_requirement_is_cut_off()
     ensures { BoundEndsNoRows }

@@ -1,4 +1,4 @@
-//! What a row of a table changes in the texts of its base.
+//! The changes of a table's row to the texts of its base.
 use crate::jobs::{Job, Kind};
 use std::alloc::{AllocError, Global};
 
@@ -10,32 +10,32 @@ pub enum File {
     Week,
     /// The held cells.
     Fix,
-    /// The answer, or the given roster.
+    /// The answer, or the roster to extend.
     Last,
 }
 
-/// What is changed in a text. Lines are numbered from 1.
+/// A change to a text. Lines are numbered from 1.
 #[derive(Clone, Copy)]
 pub enum Edit<'a> {
-    /// It is this one.
+    /// The whole text is replaced by this one.
     Is(&'a [u8]),
-    /// The line is this one; past the last line, one more.
+    /// The line is replaced by this one. Past the last line, this line is added.
     Line(usize, &'a [u8]),
-    /// This comes in place of the line and of all that follows.
+    /// The line and all lines after it are replaced by this text.
     Ends(usize, &'a [u8]),
-    /// It is this many bytes long: cut, or with blanks at its end.
+    /// The text gets this length: it is cut, or extended with blanks.
     Sized(usize),
 }
 
 /// The changes of a row, one after the other.
 pub type Changes<'a> = &'a [(File, Edit<'a>)];
 
-/// The texts of a table, which a row changes.
+/// The texts of a table, which its rows change.
 #[derive(Clone, Copy)]
 pub struct Base<'a> {
     pub kind: Kind,
     pub early: bool,
-    /// The scenario, the history, the week, the held cells, and the answer or the given roster.
+    /// The scenario, the history, the week, the held cells, and the answer or the roster to extend.
     pub inputs: [&'a [u8]; 5],
 }
 
@@ -61,7 +61,7 @@ impl Texts {
     }
 }
 
-// The text up to a line, and what comes in its place; then the rest, where it goes on.
+// The text up to a line, the replacement, and then the rest, if it is kept.
 fn with_line(
     alloc: Global,
     text: &[u8],

@@ -1,16 +1,17 @@
-//! What rosters of small weeks cost: by the answer that each extends to, and by the report on that answer.
+//! The costs of rosters of small weeks: by the answer to which each extends, and by the report on that
+//! answer.
 use crate::changes::{Base, Changes, texts_of};
 use crate::jobs::{HISTORY, Job, Kind, SCENARIO, WEDNESDAY, WEEK};
 use crate::tables::{end_of, of};
 use crate::weeks::{
-    ABOVE, ABOVE_BEFORE, BELOW, CLOSED, LONG_MINIMUM, LONG_RUN, OPTIMUM, REQUESTS, RUN_FAR_ABOVE,
-    SHORT_RUN, TWELVE, WEEKENDS,
+    ABOVE, ABOVE_BEFORE, BELOW, CLOSED, LONG_MINIMUM, LONG_RUN, MANY_DAYS_OFF, OPTIMUM, REQUESTS,
+    RUN_FAR_ABOVE, SHORT_RUN, TWELVE, WEEKENDS,
 };
 use std::alloc::Global;
 use std::process::Abort;
 use std::test::Fail;
 
-// The rows of rosters, from their number on.
+// The rows of rosters, from the line with their number on.
 const NOBODY: &[u8] = b"ASSIGNMENTS = 0\n";
 
 const MONDAY: &[u8] = b"ASSIGNMENTS = 1\nAnn Mon Day Nurse\n";
@@ -29,7 +30,7 @@ const ALL_DAYS: &[u8] = b"ASSIGNMENTS = 7
 Ann Mon Day Nurse\nAnn Tue Day Nurse\nAnn Wed Day Nurse\nAnn Thu Day Nurse\nAnn Fri Day Nurse
 Ann Sat Day Nurse\nAnn Sun Day Nurse\n";
 
-// A week, a roster, its penalty, and what each soft rule charges of it.
+// A week, a roster, its penalty, and the charge of each soft rule.
 type Charge = (Changes<'static>, &'static [u8], u64, [u64; 7]);
 
 const CHARGES: &[Charge] = &[
@@ -39,6 +40,7 @@ const CHARGES: &[Charge] = &[
     (SHORT_RUN, NOBODY, 60, [0, 60, 0, 0, 0, 0, 0]),
     (CLOSED, MONDAY, 15, [0, 15, 0, 0, 0, 0, 0]),
     (LONG_MINIMUM, SUNDAY_TOO, 240, [0, 240, 0, 0, 0, 0, 0]),
+    (MANY_DAYS_OFF, NOBODY, 150, [0, 0, 150, 0, 0, 0, 0]),
     (REQUESTS, EARLY, 30, [0, 0, 0, 30, 0, 0, 0]),
     (REQUESTS, LATE, 10, [0, 0, 0, 10, 0, 0, 0]),
     (ABOVE, ALL_DAYS, 300, [0, 0, 0, 0, 0, 240, 60]),
@@ -47,7 +49,7 @@ const CHARGES: &[Charge] = &[
     (WEEKENDS, SATURDAY, 30, [0, 0, 0, 0, 30, 0, 0]),
 ];
 
-// What exceeds a total is charged in each week.
+// The excess of a total is charged in each week.
 const EARLY_CHARGES: &[Charge] = &[
     (ABOVE, ALL_DAYS, 170, [0, 0, 0, 0, 0, 140, 30]),
     (ABOVE_BEFORE, ALL_DAYS, 170, [0, 0, 0, 0, 0, 140, 30]),
@@ -74,7 +76,7 @@ fn report(alloc: Global, penalty: u64, costs: [u64; 7]) -> Result<String, Fail> 
     )?)
 }
 
-// The answer, decoded, gives this report, and the roster again.
+// The decoded answer gives this report, and the same roster.
 fn check_answer(
     rt: &impl Abort,
     alloc: Global,

@@ -12,7 +12,7 @@ use std::alloc::{AllocError, Global};
 use std::process::Abort;
 use std::test::Fail;
 
-// Arithmetic gives what counting does.
+// Arithmetic gives the same counts as counting.
 fn is_counted(instance: &Instance) -> bool {
     let mut counter = Counter::new();
     let Ok(()) = drive_objective(instance, &mut counter);
@@ -20,7 +20,7 @@ fn is_counted(instance: &Instance) -> bool {
     counter.counts == counts(instance)
 }
 
-// The same of the week of these files, with its held cells.
+// The same for the week of these files, with its held cells.
 fn are_counted(alloc: Global, texts: &Texts, early: bool) -> Result<bool, FileFault> {
     let instance = read_tables(alloc, texts, early)?;
     if texts.fix.is_empty() {

@@ -12,14 +12,14 @@ use solver_text::AnswerFault::{BothValues, Literal, Objective, Range, StatusText
 use solver_text::Status;
 use std::test::Fail;
 
-/// The week of one nurse, of which an answer is decoded.
+/// The week of one nurse whose answers are decoded.
 pub const DECODING: Base = Base {
     kind: jobs::Kind::Decode,
     early: false,
     inputs: [SCENARIO, HISTORY, WEEK, b"", b""],
 };
 
-// Costs of nothing, and the beginning of a report of an answer that is no optimum.
+// Costs of zero, and the start of a report on an answer that is not an optimum.
 const FREE: &[u8] = b"S1 0\nS2 0\nS3 0\nS4 0\nS5 0\nS6 0\nS7 0\n";
 
 const PLAIN: &[u8] = b"status SATISFIABLE\nobjective 0\npenalty 0\n";
@@ -61,14 +61,14 @@ const DECODED: &[Row] = rows! {
     "Wednesday held, and worked": [Fix Is(WEDNESDAY), Last Is(b"s SATISFIABLE\nv x8 x3\n")] => WEDNESDAYS;
 };
 
-// What a row of these tests needs beside its answer.
+// The changes that a row of these tests needs in addition to its answer.
 const TWELVE_HELD: &[Row] = rows! {
     "all days": [Last Is(ALL_DAYS_ANSWER)] => EIGHTY;
     "all days, and Wednesday held": [Fix Is(WEDNESDAY), Last Is(ALL_DAYS_ANSWER)] => EIGHTY;
     "Wednesday held, and off": [Fix Is(WEDNESDAY), Last Is(b"s SATISFIABLE\nv x8\n")] => Fails(Unmet(9));
 };
 
-// Answers to the week that no row changes.
+// Answers to the unchanged week.
 const REFUSED: &[(&[u8], Fault)] = &[
     (b"v x1 -x1\n", Answer(BothValues)),
     (b"v -x8 x8\n", Answer(BothValues)),
@@ -107,7 +107,7 @@ const REFUSED: &[(&[u8], Fault)] = &[
     (ALL_DAYS_ANSWER, Answer(Range)),
 ];
 
-// Other refusals, and in which order.
+// Other refusals, and their order.
 const IN_ORDER: &[Row] = rows! {
     "a slack that is missing": [Sce Line(6, b"Day (1,0)"), Last Is(b"s SATISFIABLE\nv x8 x1\n")] =>
         Fails(Unmet(9));

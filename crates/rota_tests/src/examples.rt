@@ -1,18 +1,18 @@
-//! The example with which `rota_pb` opens, line for line: `tests/documents.sh` compares them.
+//! The example at the top of `rota_pb`, line for line: `tests/repository.sh` compares them.
 use crate::jobs::encoding;
-use rota_core::{MemorySource, MemoryTarget, Pace};
+use rota_core::{CallPlan, MemorySource, MemoryTarget};
 use rota_pb::{Choice, run_encode};
 use std::test::Fail;
 
 #[test]
 fn example_of_rota_pb(rt: HostRuntime) -> Result<(), Fail> {
     let (alloc, [scenario, history, week, ..]) = (rt.alloc(), encoding().inputs);
-    let pace = Pace::new(4096, None);
-    let mut sce = MemorySource::new(scenario, pace);
-    let mut his = MemorySource::new(history, pace);
-    let mut week = MemorySource::new(week, pace);
-    let mut fix = MemorySource::new(b"", pace);
-    let mut out = MemoryTarget::new(alloc, 4096, pace)?;
+    let plan = CallPlan::new(4096, None);
+    let mut sce = MemorySource::new(scenario, plan);
+    let mut his = MemorySource::new(history, plan);
+    let mut week = MemorySource::new(week, plan);
+    let mut fix = MemorySource::new(b"", plan);
+    let mut out = MemoryTarget::new(alloc, 4096, plan)?;
     let choice = Choice {
         early: false,
         fixed: false,

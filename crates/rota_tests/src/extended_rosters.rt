@@ -1,4 +1,4 @@
-//! Rosters of small weeks: the answer that each extends to, or the fault.
+//! Rosters of small weeks: the answer to which each extends, or the fault.
 use crate::changes::Edit::{Ends, Is, Line};
 use crate::changes::File::{Fix, His, Last, Sce, Week};
 use crate::changes::{Base, texts_of};
@@ -64,7 +64,7 @@ const EXTENDED: &[Row] = rows! {
 const ALL_DAYS_ANSWER: &[u8] =
     b"o 80\ns SATISFIABLE\nv x1 x2 x3 x4 x5 x6 x7 x8 x9 x10\nv x11 x12\n";
 
-// Twelve assignments before the week, of at most fifteen in both.
+// Twelve assignments before the week. The maximum over both weeks is fifteen.
 const EARLY: &[Row] = rows! {
     "all days": [Last Is(ALL_DAYS)] => Writes(&[ALL_DAYS_ANSWER]);
     "all days, and Wednesday held": [Fix Is(WEDNESDAY), Last Is(ALL_DAYS)] => Writes(&[ALL_DAYS_ANSWER]);

@@ -2,40 +2,39 @@
 use crate::changes::texts_of;
 use crate::decoded_answers::DECODING;
 use crate::job_runs::{
-    Ended, NOTHING, PIECE, Paces, Sent, by_bytes, done, end_of, even, refused, whole,
+    CallPlans, Ended, NOTHING, PIECE, Sent, by_bytes, done, end_of, even, refused, whole,
 };
 use crate::jobs::{
     Job, decoding, decoding_held, encoding, extending, extending_held, holding, jobs,
 };
-use rota_core::{FileFault, FileName, Kind, MemorySource, Pace, ToWrite};
-use rota_pb::{Choice, Fault, run_encode, status_of};
+use rota_core::{CallPlan, FileFault, FileName, Kind};
+use rota_pb::Fault;
 use solver_text::AnswerFault;
 use std::alloc::{AllocError, Global};
-use std::io::{self, Write};
 use std::process::Abort;
 use std::test::Fail;
 
 // No port fails.
-fn all_even() -> Paces {
-    Paces {
+fn all_even() -> CallPlans {
+    CallPlans {
         readers: [even(); 5],
         targets: [even(); 2],
     }
 }
 
 // The reader of this number has this pace, and the targets have the other.
-fn with_reader(reader: usize, pace: Pace, targets: Pace) -> Paces {
-    let mut paces = Paces {
+fn with_reader(reader: usize, plan: CallPlan, targets: CallPlan) -> CallPlans {
+    let mut paces = CallPlans {
         targets: [targets; 2],
         ..all_even()
     };
     if let Some(own) = paces.readers.get_mut(reader) {
-        *own = pace;
+        *own = plan;
     }
     paces
 }
 
-// The run ended so. Its kind and number are told where it did not.
+// The run ended like this. Otherwise its kind and number are printed.
 fn check_end(rt: &impl Abort, found: Ended, wanted: Ended, kind: &str, number: usize) {
     assert_eq!(rt; found, wanted, "{kind} {number}");
 }
@@ -45,8 +44,8 @@ fn check_end(rt: &impl Abort, found: Ended, wanted: Ended, kind: &str, number: u
 fn runs_in_pieces_of_each_length(rt: HostRuntime) {
     for job in &jobs() {
         for length in 1..200 {
-            let pieces = Pace::new(length, None);
-            let paces = Paces {
+            let pieces = CallPlan::new(length, None);
+            let paces = CallPlans {
                 readers: [pieces; 5],
                 targets: [pieces; 2],
             };
@@ -56,21 +55,21 @@ fn runs_in_pieces_of_each_length(rt: HostRuntime) {
     }
 }
 
-// How many calls read the text to its end. The last of them finds nothing.
+// The number of calls that read the text to its end. The last of them finds nothing.
 fn calls_to_the_end(text: &[u8]) -> u64 {
     text.len().div_ceil(PIECE) as u64 + 1
 }
 
-// The run ends where the reader fails, with no target called, whose answer is `Write`; where none fails, it is whole.
+// If the reader fails, the run ends and calls no target (that would be `Write`). Otherwise it is complete.
 fn check_reader(rt: &impl Abort, alloc: Global, job: &Job, reader: usize, text: &[u8]) {
     let calls = calls_to_the_end(text);
     for good_calls in 0..calls {
-        let failing = Pace::new(PIECE, Some(good_calls));
+        let failing = CallPlan::new(PIECE, Some(good_calls));
         let paces = with_reader(reader, failing, by_bytes(0));
         let end = end_of(alloc, job, &paces);
         check_end(rt, end, refused(Fault::Read), "reader", reader);
     }
-    let paces = with_reader(reader, Pace::new(PIECE, Some(calls)), even());
+    let paces = with_reader(reader, CallPlan::new(PIECE, Some(calls)), even());
     let end = end_of(alloc, job, &paces);
     check_end(rt, end, done(job), "reader", reader);
 }
@@ -86,27 +85,27 @@ fn runs_end_where_a_read_fails(rt: HostRuntime) {
     }
 }
 
-// The first target takes a byte a call and fails after this many.
-fn with_first_target(good_calls: u64) -> Paces {
-    Paces {
+// The first target accepts one byte per call and fails after this number of calls.
+fn with_first_target(good_calls: u64) -> CallPlans {
+    CallPlans {
         targets: [by_bytes(good_calls), even()],
         ..all_even()
     }
 }
 
-fn with_second_target(good_calls: u64) -> Paces {
-    Paces {
+fn with_second_target(good_calls: u64) -> CallPlans {
+    CallPlans {
         targets: [even(), by_bytes(good_calls)],
         ..all_even()
     }
 }
 
-// This many bytes of the text went out, and none is flushed.
+// This number of bytes of the text was sent, and none is flushed.
 fn cut_after(bytes: usize) -> Sent {
     Sent { bytes, ..NOTHING }
 }
 
-// What went out before a failure is out. The flush is the last call; where it is good too, the run is whole.
+// Bytes written before a failure were sent. The flush is the last call; if it succeeds, the run is complete.
 fn check_first_target(rt: &impl Abort, alloc: Global, job: &Job) {
     let calls = job.outputs[0].len().saturating_add(1);
     for good_calls in 0..calls {
@@ -128,7 +127,7 @@ fn runs_end_where_a_write_fails(rt: HostRuntime) {
     }
 }
 
-// The solution goes out whole before the report gets a byte.
+// The whole solution is sent before the report gets a byte.
 fn check_second_target(rt: &impl Abort, alloc: Global, job: &Job) {
     let [solution, report] = job.outputs;
     let calls = report.len().saturating_add(1);
@@ -149,10 +148,10 @@ fn decoding_ends_where_the_report_fails(rt: HostRuntime) {
     check_second_target(&rt, rt.alloc(), &decoding());
 }
 
-// The job with another text in place of the input of this number.
-fn with_input(job: Job<'static>, place: usize, text: &'static [u8]) -> Job<'static> {
+// The job with another text for the input of this number.
+fn with_input(job: Job<'static>, index: usize, text: &'static [u8]) -> Job<'static> {
     let mut inputs = job.inputs;
-    if let Some(own) = inputs.get_mut(place) {
+    if let Some(own) = inputs.get_mut(index) {
         *own = text;
     }
     Job { inputs, ..job }
@@ -162,7 +161,7 @@ fn bad(kind: Kind, file: FileName, line: u32) -> Fault {
     Fault::File(FileFault::Bad { kind, file, line })
 }
 
-// A job with an input that is at fault, the number of a later reader, and the fault.
+// A job with a faulty input, the number of a later reader, and the fault.
 type Faulty = (Job<'static>, usize, Fault);
 
 fn with_faulty_scenario(job: Job<'static>, reader: usize) -> Faulty {
@@ -208,7 +207,7 @@ fn fault_of_an_earlier_file_comes_first(rt: HostRuntime) {
     }
 }
 
-// A fault that is judged in what was read comes before the reader's failure.
+// A fault in the bytes that were read comes before the reader's failure.
 #[test]
 fn answer_fails_after_some_bytes(rt: HostRuntime) {
     let rows: [(&[u8], Fault); 2] = [
@@ -217,21 +216,21 @@ fn answer_fails_after_some_bytes(rt: HostRuntime) {
     ];
     for (answer, fault) in rows {
         let job = with_input(decoding(), 4, answer);
-        let paces = with_reader(4, Pace::new(200, Some(1)), even());
+        let paces = with_reader(4, CallPlan::new(200, Some(1)), even());
         let end = end_of(rt.alloc(), &job, &paces);
         check_end(&rt, end, refused(fault), "reader", 4);
     }
 }
 
-// The run on this answer, of which one piece of 4096 bytes is read before a read fails.
+// The run on this answer, if one piece of 4096 bytes is read before a read fails.
 fn end_of_one_piece(alloc: Global, answer: Vec<u8>) -> Result<Ended, AllocError> {
     let mut texts = texts_of(alloc, &DECODING, &[])?;
     texts.last = answer;
-    let paces = with_reader(4, Pace::new(4096, Some(1)), even());
+    let paces = with_reader(4, CallPlan::new(4096, Some(1)), even());
     Ok(end_of(alloc, &texts.job(&DECODING), &paces))
 }
 
-// A fault that the last byte of the piece shows is judged before the next read fails. A byte less shows none.
+// A fault shown by the piece's last byte is found before the next read fails. One byte less shows none.
 #[test]
 fn answer_of_one_piece_fails(rt: HostRuntime) -> Result<(), Fail> {
     let mut answer = Vec::from_slice(rt.alloc(), b"c")?;
@@ -257,42 +256,4 @@ fn answer_of_one_piece_fails(rt: HostRuntime) -> Result<(), Fail> {
         4,
     );
     Ok(())
-}
-
-// A writer that takes nothing of any piece.
-#[derive(Drop)]
-struct TakesNothing;
-
-impl Write for TakesNothing {
-    fn write(&mut self, _buf: &[u8]) -> io::Result<usize> {
-        Ok(0)
-    }
-
-    fn flush(&mut self) -> io::Result<()> {
-        Ok(())
-    }
-}
-
-#[test]
-fn writer_that_takes_nothing(rt: HostRuntime) {
-    let [scenario, history, week, ..] = encoding().inputs;
-    let plain = Choice {
-        early: false,
-        fixed: false,
-    };
-    let mut sce = MemorySource::new(scenario, even());
-    let mut his = MemorySource::new(history, even());
-    let mut week = MemorySource::new(week, even());
-    let mut target = ToWrite::new(TakesNothing);
-    let outcome = run_encode(
-        rt.alloc(),
-        plain,
-        &mut sce,
-        &mut his,
-        &mut week,
-        &mut MemorySource::new(b"", by_bytes(0)),
-        &mut target,
-    );
-    assert_eq!(rt; outcome, Err(Fault::Write));
-    assert_eq!(rt; status_of(&Fault::Write), 3);
 }

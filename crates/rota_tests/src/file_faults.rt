@@ -1,4 +1,4 @@
-//! Files with a fault: the readers tell its kind and its line.
+//! Files with a fault: the readers report its kind and its line.
 use crate::changes::Edit::{Ends, Is, Line, Sized};
 use crate::changes::File::{Fix, His, Last, Sce, Week};
 use crate::changes::{Base, Edit, File, Texts, texts_of};
@@ -11,7 +11,7 @@ use std::alloc::{AllocError, Global};
 use std::process::Abort;
 use std::test::Fail;
 
-/// The week that no row changes.
+/// The unchanged week.
 pub const BASE: Base = Base {
     kind: jobs::Kind::Extend,
     early: false,
@@ -135,7 +135,8 @@ const FAULTS_OF_TWO: &[Faulty] = faults! {
     Week Ends(7, b"Ann Any") => Ended 7;
 };
 
-// The rows of a solution file, from its second line on. Held cells have the same faults, under their own name.
+// The rows of a solution file, from its second line on. Held cells have the same faults, with their own file
+// name.
 const SOLUTIONS: &[Faulty] = faults! {
     Last Is(b"SOLUTION 0 s1\nASSIGNMENTS = 10000") => Limit 2;
     Last Is(b"SOLUTION 0 s1\nASSIGNMENTS = 1\nCid Mon Early Nurse") => Unknown 3;
@@ -148,7 +149,7 @@ const SOLUTIONS: &[Faulty] = faults! {
     Last Is(b"SOLUTION 0 s1\nASSIGNMENTS = 0\nAnn Mon Early Nurse") => Trailing 3;
 };
 
-/// What the files of the week spell, with no cell held.
+/// The instance that the files of the week spell, with no cell held.
 pub fn read_tables(alloc: Global, texts: &Texts, early: bool) -> Result<Instance, FileFault> {
     let scenario = read_scenario(alloc, &texts.sce)?;
     let history = read_history(alloc, &scenario, &texts.his)?;
@@ -156,7 +157,8 @@ pub fn read_tables(alloc: Global, texts: &Texts, early: bool) -> Result<Instance
     Instance::join(scenario, history, week, early)
 }
 
-/// What the files spell, with how many cells are held and given, or their first fault in the order of a run's checks.
+/// The instance that the files spell, and the number of held and given cells, or their first fault in the
+/// order of a run's checks.
 pub fn read_all(alloc: Global, texts: &Texts) -> Result<(Instance, u32), FileFault> {
     let instance = read_tables(alloc, texts, false)?;
     let held = read_fixed(alloc, &instance, &texts.fix)?.count();
@@ -164,7 +166,7 @@ pub fn read_all(alloc: Global, texts: &Texts) -> Result<(Instance, u32), FileFau
     Ok((instance, held.saturating_add(given)))
 }
 
-/// How a fault names the file.
+/// The file's name in a fault.
 pub fn name_of(file: File) -> FileName {
     match file {
         Sce => FileName::Scenario,

@@ -1,4 +1,5 @@
-//! Files without a fault: what they spell, each cut after every byte, and numbers, counts and lengths at their limits.
+//! Files without a fault: their values, each file cut after every byte, and numbers, counts and lengths at
+//! their limits.
 use crate::changes::Edit::{Line, Sized};
 use crate::changes::File::{self, Fix, His, Last, Sce, Week};
 use crate::changes::{Changes, Texts, texts_of};
@@ -11,7 +12,7 @@ use std::alloc::{AllocError, Global};
 use std::process::Abort;
 use std::test::Fail;
 
-// The nurses' rows are in the other order; of the requests two are for the first shift type, and one for any.
+// The nurses' rows are in the other order. Two of the requests are for the first shift type, and one for any.
 fn has_values(instance: &Instance) -> bool {
     if instance.nurses() != 2 || instance.shifts() != 2 || instance.skills() != 1 {
         return false;
@@ -35,7 +36,7 @@ fn files_have_their_values(rt: HostRuntime) -> Result<(), Fail> {
     Ok(())
 }
 
-// Without more than its last end of line the file ends too early, or in another word.
+// If more than its last end of line is missing, the file ends too early or in another word.
 fn check_cut(
     rt: &impl Abort,
     alloc: Global,
@@ -91,7 +92,7 @@ const NUMBERS: Changes = of!([
     His Line(4, b"Ann 9999 9999 Day 9999 9999 9999")
 ]);
 
-// The model of the week begins so.
+// The model of the week begins with this.
 fn check_head(
     rt: &impl Abort,
     alloc: Global,
@@ -119,7 +120,7 @@ fn numbers_at_their_limits(rt: HostRuntime) -> Result<(), Fail> {
 
 const SKILLS: &str = "16 a b c d e f g h i j k l m n o p";
 
-// So many lines, each with its number.
+// This number of lines, each with its number.
 fn numbered(alloc: Global, count: u32, before: &str, after: &str) -> Result<String, Fail> {
     let mut text = String::new(alloc);
     for number in 0..count {
@@ -129,8 +130,8 @@ fn numbered(alloc: Global, count: u32, before: &str, after: &str) -> Result<Stri
     Ok(text)
 }
 
-// The scenario and the history of so many nurses and shift types, 64 contracts, and these skills, which each nurse
-// has.
+// The scenario and the history of this number of nurses and shift types, 64 contracts, and these skills,
+// which each nurse has.
 fn large(alloc: Global, nurses: u32, shifts: u32, skills: &str) -> Result<Texts, Fail> {
     let limits = numbered(alloc, shifts, "t", " (1,9)")?;
     let forbidden = numbered(alloc, shifts, "t", " 0")?;
@@ -191,7 +192,7 @@ fn most_held_cells(rt: HostRuntime) -> Result<(), Fail> {
     Ok(())
 }
 
-// A name so long that the file has as many bytes as it may.
+// A name that gives the file the maximum number of bytes.
 #[test]
 fn longest_name(rt: HostRuntime) -> Result<(), Fail> {
     let mut texts = texts_of(rt.alloc(), &ENCODING, &[])?;

@@ -1,46 +1,46 @@
-//! Runs over memory, and what they end with.
+//! Runs over memory, and their results.
 use crate::jobs::{Job, Kind};
-use rota_core::{MemorySource, MemoryTarget, Pace};
+use rota_core::{CallPlan, MemorySource, MemoryTarget};
 use rota_pb::{Choice, Fault, run_decode, run_encode, run_extend};
 use std::alloc::{AllocError, Global};
 
-/// The paces of a run's ports: of its five readers, and of its two targets.
+/// The paces of a run's ports: its five readers, and its two targets.
 #[derive(Clone, Copy)]
-pub struct Paces {
-    pub readers: [Pace; 5],
-    pub targets: [Pace; 2],
+pub struct CallPlans {
+    pub readers: [CallPlan; 5],
+    pub targets: [CallPlan; 2],
 }
 
-/// How many bytes an even port moves in a call.
+/// The number of bytes that an even port moves in a call.
 pub const PIECE: usize = 7;
 
 /// A pace at which no call fails.
-pub fn even() -> Pace {
-    Pace::new(PIECE, None)
+pub fn even() -> CallPlan {
+    CallPlan::new(PIECE, None)
 }
 
-/// A pace of one byte a call, at which a call fails after this many.
-pub fn by_bytes(good_calls: u64) -> Pace {
-    Pace::new(1, Some(good_calls))
+/// A pace of one byte per call. The call after this number of calls fails.
+pub fn by_bytes(good_calls: u64) -> CallPlan {
+    CallPlan::new(1, Some(good_calls))
 }
 
-/// What went out to a target.
+/// The bytes that were sent to a target.
 #[derive(Clone, Copy, PartialEq, Eq, Debug)]
 pub struct Sent {
     pub bytes: usize,
     pub flushed: usize,
-    /// It begins the text that was wanted.
+    /// Whether they are a prefix of the wanted text.
     pub begins: bool,
 }
 
-/// Nothing went out.
+/// Nothing was sent.
 pub const NOTHING: Sent = Sent {
     bytes: 0,
     flushed: 0,
     begins: true,
 };
 
-/// The text went out whole, and was flushed.
+/// The whole text was sent, and was flushed.
 pub fn whole(text: &[u8]) -> Sent {
     Sent {
         bytes: text.len(),
@@ -49,14 +49,14 @@ pub fn whole(text: &[u8]) -> Sent {
     }
 }
 
-/// What a run answered, and what went out to its targets.
+/// The result of a run, and the bytes that were sent to its targets.
 #[derive(Clone, Copy, PartialEq, Eq, Debug)]
 pub struct Ended {
     pub outcome: Result<(), Fault>,
     pub sent: [Sent; 2],
 }
 
-/// The run answers this fault, and nothing goes out.
+/// The run returns this fault, and sends nothing.
 pub fn refused(fault: Fault) -> Ended {
     Ended {
         outcome: Err(fault),
@@ -64,7 +64,7 @@ pub fn refused(fault: Fault) -> Ended {
     }
 }
 
-/// The run writes what the job is to write, and flushes it.
+/// The run writes the outputs of the job, and flushes them.
 pub fn done(job: &Job) -> Ended {
     Ended {
         outcome: Ok(()),
@@ -72,7 +72,7 @@ pub fn done(job: &Job) -> Ended {
     }
 }
 
-// A target has room for this many bytes.
+// A target has room for this number of bytes.
 const ROOM: usize = 4096;
 
 fn sent_to(target: &MemoryTarget, text: &[u8]) -> Sent {
@@ -83,12 +83,12 @@ fn sent_to(target: &MemoryTarget, text: &[u8]) -> Sent {
     }
 }
 
-/// What the job's run answers. It uses the second target only where it has two outputs. Where the job has no held
+/// The result of the job's run. It uses the second target only if it has two outputs. If the job has no held
 /// cells, their reader would fail at its first call.
 pub fn outcome(
     alloc: Global,
     job: &Job,
-    readers: [Pace; 5],
+    readers: [CallPlan; 5],
     first: &mut MemoryTarget,
     second: &mut MemoryTarget,
 ) -> Result<(), Fault> {
@@ -99,12 +99,12 @@ pub fn outcome(
     let mut sce = MemorySource::new(job.inputs[0], readers[0]);
     let mut his = MemorySource::new(job.inputs[1], readers[1]);
     let mut week = MemorySource::new(job.inputs[2], readers[2]);
-    let fix_pace = if choice.fixed {
+    let fix_plan = if choice.fixed {
         readers[3]
     } else {
         by_bytes(0)
     };
-    let mut fix = MemorySource::new(job.inputs[3], fix_pace);
+    let mut fix = MemorySource::new(job.inputs[3], fix_plan);
     let mut last = MemorySource::new(job.inputs[4], readers[4]);
     match job.kind {
         Kind::Encode => run_encode(
@@ -119,11 +119,11 @@ pub fn outcome(
     }
 }
 
-// How the job's run ends, with a first target.
+// The end of the job's run, with a first target.
 fn end_with(
     alloc: Global,
     job: &Job,
-    paces: &Paces,
+    paces: &CallPlans,
     first: &mut MemoryTarget,
 ) -> Result<Ended, AllocError> {
     let mut second = MemoryTarget::new(alloc, ROOM, paces.targets[1])?;
@@ -137,8 +137,8 @@ fn end_with(
     })
 }
 
-/// How the job's run ends at these paces. Where no target can be made, as a run without memory does.
-pub fn end_of(alloc: Global, job: &Job, paces: &Paces) -> Ended {
+/// The end of the job's run at these paces. If no target can be made, it ends like a run without memory.
+pub fn end_of(alloc: Global, job: &Job, paces: &CallPlans) -> Ended {
     let Ok(mut first) = MemoryTarget::new(alloc, ROOM, paces.targets[0]) else {
         return refused(Fault::Memory);
     };

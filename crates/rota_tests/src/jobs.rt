@@ -1,6 +1,6 @@
-//! What a run reads and writes: one job of each kind, without and with held cells.
+//! The inputs and outputs of a run: one job of each kind, without and with held cells.
 
-/// What a run does.
+/// The kind of a run.
 #[derive(Clone, Copy, PartialEq, Eq, Debug)]
 pub enum Kind {
     Encode,
@@ -8,14 +8,14 @@ pub enum Kind {
     Extend,
 }
 
-/// A run's inputs in the order in which it reads them, and its outputs in the order in which it writes them;
-/// an input or output that it does not have is empty.
+/// A run's inputs in the order in which it reads them, and its outputs in the order in which it writes them.
+/// An input or output that it does not have is empty.
 #[derive(Clone, Copy)]
 pub struct Job<'a> {
     pub kind: Kind,
-    /// What exceeds a total is charged in each week.
+    /// The excess of a total is charged in each week.
     pub early: bool,
-    /// The scenario, the history, the week, the held cells, and the answer or the given roster.
+    /// The scenario, the history, the week, the held cells, and the answer or the roster to extend.
     pub inputs: [&'a [u8]; 5],
     /// The model, or the solution and its report, or the answer.
     pub outputs: [&'a [u8]; 2],
@@ -35,8 +35,8 @@ NURSES = 1
 Ann Full 1 Nurse
 ";
 
-// No assignment to Day is allowed without a charge: each day's costs 15.
-const CLOSED: &[u8] = b"SCENARIO = s1
+/// The scenario in which no assignment to Day is allowed without a charge: each day's costs 15.
+pub const CLOSED_SCENARIO: &[u8] = b"SCENARIO = s1
 WEEKS = 2
 SKILLS = 1
 Nurse
@@ -91,7 +91,7 @@ pub fn encoding() -> Job<'static> {
     }
 }
 
-/// The answer has lines that say nothing of variables, and each line ends with CR LF.
+/// The answer has lines that say nothing about variables, and each line ends with CR LF.
 pub fn decoding() -> Job<'static> {
     Job {
         kind: Kind::Decode,
@@ -125,7 +125,7 @@ pub fn extending() -> Job<'static> {
     Job {
         kind: Kind::Extend,
         early: false,
-        inputs: [CLOSED, HISTORY, WEEK, b"", MONDAY],
+        inputs: [CLOSED_SCENARIO, HISTORY, WEEK, b"", MONDAY],
         outputs: [
             b"o 15
 s SATISFIABLE
@@ -137,7 +137,7 @@ v -x11 -x12 -x13 -x14 -x15
     }
 }
 
-// The same with Wednesday's assignment, which is held.
+// The same with Wednesday's assignment held.
 
 pub const WEDNESDAY: &[u8] = b"SOLUTION
 0 s1
@@ -200,7 +200,7 @@ pub fn extending_held() -> Job<'static> {
     Job {
         kind: Kind::Extend,
         early: false,
-        inputs: [CLOSED, HISTORY, WEEK, WEDNESDAY, WEDNESDAY],
+        inputs: [CLOSED_SCENARIO, HISTORY, WEEK, WEDNESDAY, WEDNESDAY],
         outputs: [
             b"o 15
 s SATISFIABLE

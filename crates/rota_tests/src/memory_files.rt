@@ -2,10 +2,10 @@
 ghost use Rattle.std.specs.Prelude.{◌≡◌, None, Some, option_map};
 ghost use Rattle.std.specs.List.{find};
 ghost use Rattle.std.specs.Str.{bytes_eq};
-ghost use Rattle.inrc2pb_job.specs.Places.{file_of, nothing};
+ghost use Rattle.inrc2pb_job.specs.Paths.{file_of, nothing};
 
-use inrc2pb_job::{Opens, Placed};
-use rota_core::{MemorySource, MemoryTarget, Pace, PortFault, Target};
+use inrc2pb_job::{HasPath, Opens};
+use rota_core::{CallPlan, MemorySource, MemoryTarget, PortFault, Target};
 
 /// A file: its bytes, and its path.
 #[derive(Clone, Copy)]
@@ -21,11 +21,11 @@ fn file_at<'a>(files: &'a [MemoryFile<'a>], path: &str) -> Option<&'a MemoryFile
     files.iter().find(|file| file.path == path)
 }
 
-/// Files that are opened by their paths. At another path nothing opens.
+/// Files that are opened by their paths. No file opens at another path.
 #[derive(Clone, Copy)]
 pub struct MemoryFiles<'a> {
     pub files: &'a [MemoryFile<'a>],
-    pub pace: Pace,
+    pub plan: CallPlan,
 }
 
 impl<'a> Opens for MemoryFiles<'a> {
@@ -34,24 +34,24 @@ impl<'a> Opens for MemoryFiles<'a> {
     ghost at = { λ machine path. elim (find (λ file. bytes_eq file.path.now path) machine.files.now)
         [ None ↦ nothing | Some file ↦ file_of file.bytes.now ] };
 
-    ghost asked = { λ _. None };
+    ghost log = { λ _. None };
 
     fn open(&mut self, path: &str) -> Result<MemorySource<'a>, PortFault> {
         match file_at(self.files, path) {
-            Some(file) => Ok(MemorySource::new(file.bytes, self.pace)),
+            Some(file) => Ok(MemorySource::new(file.bytes, self.plan)),
             None => Err(PortFault),
         }
     }
 }
 
-/// A target in memory that is at a path, or at none.
+/// A target in memory that has a path, or none.
 #[derive(Drop)]
-pub struct PlacedTarget<'a> {
+pub struct TargetAtPath<'a> {
     pub path: Option<&'a str>,
     pub target: MemoryTarget,
 }
 
-impl Target for PlacedTarget<'_> {
+impl Target for TargetAtPath<'_> {
     ghost sent = { λ placed. ⟦<MemoryTarget as Target>⟧.sent placed.target };
 
     ghost flushed = { λ placed. ⟦<MemoryTarget as Target>⟧.flushed placed.target };
@@ -67,6 +67,6 @@ impl Target for PlacedTarget<'_> {
     }
 }
 
-impl Placed for PlacedTarget<'_> {
-    ghost place = { λ placed. option_map (λ path. path.now) placed.path };
+impl HasPath for TargetAtPath<'_> {
+    ghost path = { λ placed. option_map (λ path. path.now) placed.path };
 }

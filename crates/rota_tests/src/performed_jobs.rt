@@ -1,7 +1,7 @@
-//! Jobs that are performed over files in memory: what goes to which output, and each path that is not there.
+//! Jobs that are performed over files in memory: the texts of each output, and each missing path.
 use crate::job_runs::even;
 use crate::jobs::{self, Kind, jobs};
-use crate::memory_files::{MemoryFile, MemoryFiles, PlacedTarget};
+use crate::memory_files::{MemoryFile, MemoryFiles, TargetAtPath};
 use inrc2pb_job::{Inputs, Job, perform};
 use rota_core::{MemorySource, MemoryTarget};
 use rota_pb::Fault;
@@ -9,7 +9,7 @@ use std::alloc::{AllocError, Global};
 use std::process::Abort;
 use std::test::Fail;
 
-// Where a job's texts are: the scenario, the history, the week, the held cells, and the answer or the roster.
+// The texts of a job: the scenario, the history, the week, the held cells, and the answer or the roster.
 fn files_of(texts: &jobs::Job<'static>) -> [MemoryFile<'static>; 5] {
     let [scenario, history, week, held, last] = texts.inputs;
     [
@@ -40,7 +40,8 @@ fn inputs(alloc: Global, texts: &jobs::Job) -> Result<Inputs, AllocError> {
     })
 }
 
-// The job of these texts, whose model goes to this file and whose answer is in that one, where they are named.
+// The job of these texts. Its model goes to the first file, and its answer comes from the second, if they are
+// named.
 fn job(
     alloc: Global,
     texts: &jobs::Job,
@@ -72,7 +73,7 @@ fn copy(alloc: Global, path: Option<&str>) -> Result<Option<String>, AllocError>
     }
 }
 
-// What a job answered, and what went out to its file and to the output.
+// The result of a job, and the bytes that were sent to its file and to the output.
 #[derive(Drop)]
 struct Ended {
     outcome: Result<(), Fault>,
@@ -88,14 +89,14 @@ fn end_of(
 ) -> Result<Ended, AllocError> {
     let mut files = MemoryFiles {
         files,
-        pace: even(),
+        plan: even(),
     };
     let mut input = MemorySource::new(input, even());
-    let mut file = PlacedTarget {
+    let mut file = TargetAtPath {
         path: job.output_path(),
         target: MemoryTarget::new(alloc, 4096, even())?,
     };
-    let mut output = PlacedTarget {
+    let mut output = TargetAtPath {
         path: None,
         target: MemoryTarget::new(alloc, 4096, even())?,
     };
@@ -129,7 +130,7 @@ fn texts_go_to_their_outputs(rt: HostRuntime) -> Result<(), Fail> {
     Ok(())
 }
 
-// Where no file is named, the model goes to the output, and the answer comes from the input.
+// If no file is named, the model goes to the output, and the answer comes from the input.
 #[test]
 fn input_and_output_where_no_file_is_named(rt: HostRuntime) -> Result<(), Fail> {
     let alloc = rt.alloc();
@@ -146,7 +147,7 @@ fn input_and_output_where_no_file_is_named(rt: HostRuntime) -> Result<(), Fail> 
     Ok(())
 }
 
-// Each file in turn is elsewhere: the read failed where the job names it, and nothing went out.
+// Each file in turn is at another path: the read fails if the job names the file, and nothing is sent.
 #[test]
 fn each_path_missing(rt: HostRuntime) -> Result<(), Fail> {
     let alloc = rt.alloc();

@@ -1,5 +1,6 @@
-//! Out of memory in the middle of a run. The test prints how each row ended; `tests/refused_memory.sh` refuses each
-//! allocation in turn, and asks for `out of memory`, whatever fault comes later in the files of the row.
+//! Out of memory in the middle of a run. The test prints how each row ended. `tests/refused_memory.sh`
+//! refuses each allocation in turn, and requires `out of memory`, whatever fault comes later in the files of
+//! the row.
 use crate::changes::Edit::{Ends, Is, Line};
 use crate::changes::File::{Fix, His, Last, Sce, Week};
 use crate::changes::{Base, Changes, texts_of};
@@ -9,7 +10,7 @@ use crate::tables::{End, end_of, of};
 use std::alloc::{AllocError, Global};
 use std::io;
 
-// Weeks with held cells, and what changes in their files: with a fault at the end of each.
+// Weeks with held cells, and the changes to their files, which have a fault at the end of each.
 const ROWS: &[(Kind, Changes)] = &[
     (Kind::Extend, of!([Sce Ends(12, b"Ann Full 1 Nur")])),
     (Kind::Extend, of!([His Line(5, b"more")])),
@@ -22,7 +23,7 @@ const ROWS: &[(Kind, Changes)] = &[
     (Kind::Decode, of!([Last Is(b"s SATISFIABLE\nv x8")])),
 ];
 
-// Prints what the run of the job found. It writes its outputs whole, or nothing.
+// Prints the result of the job's run. It writes its outputs whole, or nothing.
 fn print_end(rt: &impl Print, job: &Job, end: Result<End, AllocError>) -> io::Result<()> {
     let Ok(end) = end else {
         return println!(rt; "out of memory");

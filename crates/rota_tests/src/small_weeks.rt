@@ -1,4 +1,4 @@
-//! Small weeks and their models: totals and requests, what is charged early, held cells, other spellings, and files
+//! Small weeks and their models: totals and requests, early charges, held cells, other spellings, and files
 //! that are refused.
 use crate::changes::Base;
 use crate::changes::Edit::{Ends, Is, Line, Sized};
@@ -13,7 +13,7 @@ use crate::weeks::{
 use rota_core::{FileName, Kind};
 use std::test::Fail;
 
-// The model of the week that no row changes, and that with Wednesday held.
+// The model of the unchanged week, and the model with Wednesday held.
 const PLAIN: Wanted = Writes(&[b"* #variable= 8 #constraint= 8\n", ONE_CELL]);
 
 const HOLDING: Wanted = Writes(&[
@@ -22,7 +22,7 @@ const HOLDING: Wanted = Writes(&[
     b"+1 x3 >= 1 ;\n",
 ]);
 
-// Above the totals, the constant aside; below the least one; within sight of the greatest one.
+// Above the totals, except for the constant; below the minimum; close to the maximum.
 const ABOVE_HEAD: &[u8] = b"* #variable= 17 #constraint= 11
 min: +20 x9 +20 x10 +20 x11 +20 x12 +20 x13 +20 x14 +20 x15 +30 x16 +30 x17 ;\n";
 
@@ -62,7 +62,7 @@ min: +30 x9 +30 x10 ;\n", ONE_CELL, b"-1 x6 +1 x7 +1 x9 >= 0 ;
 +1 x6 -1 x7 +1 x10 >= 0 ;\n"]);
 };
 
-// What exceeds a total is charged in each week.
+// The excess of a total is charged in each week.
 pub const EARLY: &[Row] = rows! {
     "above the totals": ABOVE => Writes(&[ABOVE_HEAD, ONE_CELL, ABOVE_ROWS]);
     "above the totals before the last week": ABOVE_BEFORE => Writes(&[ABOVE_HEAD, ONE_CELL, ABOVE_ROWS]);
@@ -90,7 +90,7 @@ pub const HELD: &[Row] = rows! {
         Writes(&[b"* #variable= 15 #constraint= 10\nmin: +30 x1 +10 x2 ;\n", TWO_CELLS, b"+1 x1 >= 1 ;\n+1 x2 >= 1 ;\n"]);
 };
 
-// Other spellings of the same week, and what a week that is not the last one leaves out.
+// Other spellings of the same week, and the rows that a week other than the last one omits.
 const SPELLED: &[Row] = rows! {
     "within the totals, not early": TWELVE => PLAIN;
     "no end of the last line": [Sce Ends(12, b"Ann Full 1 Nurse")] => PLAIN;
@@ -102,7 +102,7 @@ const SPELLED: &[Row] = rows! {
     "as long as a file may be": [Sce Sized(4194304)] => PLAIN;
 };
 
-// Files that are refused, and in which order.
+// Files that are refused, and their order.
 const REFUSED: &[Row] = rows! {
     "a late week": LATE => Bad(Kind::LateWeek, FileName::History, 0);
     "a late week before the held cells": [His Line(2, b"2 s1"), Fix Is(b"SOLUTION")] =>

@@ -1,4 +1,5 @@
-//! Tables of worked rows: what each changes in the texts of its base, and what the run then writes, or its fault.
+//! Tables of worked rows: the changes of each to the texts of its base, and the texts that the run then
+//! writes, or its fault.
 use crate::changes::{Base, Changes, texts_of};
 use crate::job_runs::{even, outcome};
 use crate::jobs::Job;
@@ -23,7 +24,7 @@ pub enum Wanted<'a> {
     Bad(Kind, FileName, u32),
 }
 
-/// What the row shows, what it changes, and how the run ends then.
+/// The purpose of the row, its changes, and the end of the run.
 #[derive(Clone, Copy)]
 pub struct Row<'a>(pub &'a str, pub Changes<'a>, pub Wanted<'a>);
 
@@ -33,7 +34,7 @@ macro_rules! of {
     ($week:ident) => { $week };
 }
 
-/// Rows of a table, each with what it shows, its changes or the name of its week, and how the run ends.
+/// Rows of a table, each with its purpose, its changes or the name of its week, and the end of the run.
 macro_rules! rows {
     ($($what:literal: $changes:tt => $wanted:expr;)*) => { &[$(Row($what, of!($changes), $wanted)),*] };
 }
@@ -63,10 +64,10 @@ pub fn is_sent(target: &MemoryTarget, pieces: Pieces) -> bool {
     is_text(target.bytes(), pieces) && target.flushed() == target.bytes().len()
 }
 
-// A target has room for this many bytes.
+// A target has room for this number of bytes.
 const ROOM: usize = 1048576;
 
-/// What a run answered, and its targets.
+/// The result of a run, and its targets.
 #[derive(Drop)]
 pub struct End {
     pub outcome: Result<(), Fault>,
@@ -74,7 +75,7 @@ pub struct End {
     pub second: MemoryTarget,
 }
 
-/// The run of the job over ports that fail at no call.
+/// The run of the job over ports that never fail.
 pub fn end_of(alloc: Global, job: &Job) -> Result<End, AllocError> {
     let mut first = MemoryTarget::new(alloc, ROOM, even())?;
     let mut second = MemoryTarget::new(alloc, ROOM, even())?;
@@ -104,7 +105,7 @@ fn check_fault(rt: &impl Abort, end: &End, what: &str, fault: Fault) {
     );
 }
 
-/// The run of the job ends so.
+/// The run of the job ends like this.
 pub fn check_run(
     rt: &impl Abort,
     alloc: Global,
@@ -122,7 +123,7 @@ pub fn check_run(
     Ok(())
 }
 
-/// Each row of the table ends as it is wanted.
+/// Each row of the table ends as wanted.
 pub fn check(rt: &impl Abort, alloc: Global, base: &Base, rows: &[Row]) -> Result<(), AllocError> {
     for Row(what, changes, wanted) in rows {
         let texts = texts_of(alloc, base, changes)?;

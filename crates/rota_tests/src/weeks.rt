@@ -1,8 +1,8 @@
-//! Small weeks: what each changes in that of one nurse, one shift type and one skill.
+//! Small weeks: the changes of each to the week of one nurse, one shift type and one skill.
 use crate::changes::Edit::{Is, Line};
 use crate::changes::File::{His, Sce, Week};
 use crate::changes::{Base, Changes};
-use crate::jobs::{HISTORY, Kind, SCENARIO, WEEK};
+use crate::jobs::{CLOSED_SCENARIO, HISTORY, Kind, SCENARIO, WEEK};
 use crate::tables::of;
 
 /// The week of one nurse, one shift type and one skill, to be encoded.
@@ -22,7 +22,7 @@ pub const ONE_CELL: &[u8] = b"+1 x8 >= 1 ;
 -1 x6 >= -1 ;
 -1 x7 >= -1 ;\n";
 
-/// The same where there are two shift types or skills.
+/// The same for two shift types or skills.
 pub const TWO_CELLS: &[u8] = b"+1 x15 >= 1 ;
 -1 x1 -1 x2 >= -1 ;
 -1 x3 -1 x4 >= -1 ;
@@ -53,7 +53,7 @@ pub const SHORT_RUN: Changes =
     of!([Sce Line(10, b"Full (1,9) (3,9) (1,9) 9 0"), His Line(4, b"Ann 1 0 Day 1 1 0")]);
 
 /// No assignment to Day is allowed without a charge.
-pub const CLOSED: Changes = of!([Sce Line(6, b"Day (1,0)")]);
+pub const CLOSED: Changes = of!([Sce Is(CLOSED_SCENARIO)]);
 
 pub const LONG_MINIMUM: Changes = of!([Sce Line(10, b"Full (1,9) (9,9) (1,9) 9 0")]);
 
@@ -61,7 +61,7 @@ pub const FEW_DAYS_OFF: Changes = of!([Sce Line(10, b"Full (1,9) (1,9) (2,9) 9 0
 
 pub const MANY_DAYS_OFF: Changes = of!([Sce Line(10, b"Full (1,9) (1,9) (1,2) 9 0")]);
 
-/// Two shift types, and requests for Monday: twice the first one, and once any.
+/// Two shift types, and three requests for Monday: two for the first, and one for any.
 pub const REQUESTS: Changes =
     of!([Sce Line(5, b"SHIFT_TYPES = 2"), Sce Line(6, b"Early (1,9)\nLate (1,9)"), Sce Line(9, b"Early 0\nLate 0"), Week Line(4, b"SHIFT_OFF_REQUESTS = 3\nAnn Early Mon\nAnn Early Mon\nAnn Any Mon")]);
 
@@ -76,7 +76,7 @@ pub const BELOW: Changes =
 
 pub const BELOW_BEFORE: Changes = of!([Sce Line(10, b"Full (10,15) (1,9) (1,9) 9 0")]);
 
-/// Twelve assignments before the week, of at most fifteen in both.
+/// Twelve assignments before the week. The maximum over both weeks is fifteen.
 pub const TWELVE: Changes =
     of!([Sce Line(10, b"Full (10,15) (1,9) (1,9) 9 0"), His Line(4, b"Ann 12 0 None 0 0 0")]);
 
@@ -87,7 +87,7 @@ pub const WEEKENDS: Changes = of!([Sce Line(10, b"Full (1,9) (1,9) (1,9) 9 1")])
 
 pub const LATE: Changes = of!([His Line(2, b"2 s1")]);
 
-/// The solution files of no assignment, and of one on each day.
+/// The solution files without assignments, and with one on each day.
 pub const NOBODY: &[u8] = b"SOLUTION\n0 s1\n\nASSIGNMENTS = 0\n";
 
 pub const ALL_DAYS: &[u8] = b"SOLUTION\n0 s1\n\nASSIGNMENTS = 7

@@ -3,7 +3,7 @@ use Rattle.std.proofs.Common.{◌≡◌, ℕ, zero, suc, ◌+◌, ◌%◌, ◌<�
 use Rattle.std.proofs.Common.{take, drop, refl, ap, sym, ◌∙◌, arith, append_assoc, append-nil, length-drop}
 use Rattle.std.specs.List.{flat_map}
 use Rattle.std.proofs.lemmas.Bool.{eq-eqb, ne_eqb}
-use Rattle.solver_text.specs.AnswerText.{literal_word, literal_words, rows_within, behind_blank, blank_words, value_line, answer_head}
+use Rattle.solver_text.specs.AnswerText.{literal_word, literal_words, rows_within, after_blank, blank_words, value_line, answer_head}
 use Rattle.solver_text.specs.AnswerWriter.{is_full_row, literal_text, literals_text, end_text, WritesAnswerText}
 
 full : (n : ℕ) → n % 10 ≡ 0 → is_full_row n ≡ true
@@ -12,7 +12,7 @@ full n e = eq-eqb (n % 10) 0 e
 not_full : (n : ℕ) → 0 < n % 10 → is_full_row n ≡ false
 not_full n some = ne_eqb (n % 10) 0 (λ none. omega arith)
 
--- what the literals and the end put after n literals
+-- the text that the literals and the end write after n literals
 abbrev rest_text : ℕ → List Bool → List ℕ
 rest_text n truths = literals_text n truths ++ end_text (n + length truths)
 
@@ -29,9 +29,9 @@ rest_text-cons n truth truths =
     ap (λ (m : ℕ). (literal_text n truth ++ literals_text (n + 1) truths) ++ end_text m) next
     ∙ append_assoc (literal_text n truth) (literals_text (n + 1) truths) (end_text ((n + 1) + length truths))
 
--- the word of the next literal, behind a blank
+-- the word of the next literal, after a blank
 abbrev blank_word : ℕ → Bool → List ℕ
-blank_word n truth = behind_blank (literal_word (n + 1) truth)
+blank_word n truth = after_blank (literal_word (n + 1) truth)
 
 literal_first : (n : ℕ) (truth : Bool) → n % 10 ≡ 0 → literal_text n truth ≡ 118 ∷ blank_word n truth
 literal_first n truth e =
@@ -48,7 +48,7 @@ literal_last n truth some next = rw (not_full n some, full (n + 1) next) refl
 abbrev words_after : ℕ → List Bool → List (List ℕ)
 words_after n truths = literal_words (n + 1) truths
 
--- the words, each behind a blank
+-- the words, each after a blank
 drop-words_after : (k n : ℕ) (truths : List Bool) → drop k (words_after n truths) ≡ words_after (n + k) (drop k truths)
 drop-words_after zero n truths = let same : n ≡ n + 0 = omega arith in ap (λ (m : ℕ). words_after m truths) same
 drop-words_after (suc k) n [] = refl
@@ -81,12 +81,12 @@ row_rest (suc d) n (truth ∷ truths) e some =
     (append_assoc (blank_word n truth) (blank_words (take (suc d) (words_after (n + 1) truths)))
     (10 ∷ rest_text (n + suc (suc d)) (drop (suc d) truths)))
 
--- a line of values and what follows
+-- a line of values and the text after it
 line_then : (word : List ℕ) (words : List (List ℕ)) (text : List ℕ) →
-    (118 ∷ behind_blank word) ++ (blank_words words ++ 10 ∷ text) ≡ value_line (word ∷ words) ++ text
+    (118 ∷ after_blank word) ++ (blank_words words ++ 10 ∷ text) ≡ value_line (word ∷ words) ++ text
 line_then word words text =
     ap (λ (t : List ℕ). 118 ∷ t)
-    (sym (append_assoc (behind_blank word) (blank_words words) (10 ∷ text)) ∙ sym (append_assoc (blank_words (word ∷ words)) (10 ∷ []) text))
+    (sym (append_assoc (after_blank word) (blank_words words) (10 ∷ text)) ∙ sym (append_assoc (blank_words (word ∷ words)) (10 ∷ []) text))
 
 rest_text-rows : (k n : ℕ) (truths : List Bool) → length truths ≤ k → n % 10 ≡ 0 →
     rest_text n truths ≡ flat_map value_line (rows_within k (words_after n truths))

@@ -11,4 +11,3 @@ pub mod TextLaws
 pub mod TruthLaws
 pub mod WordBytes
 pub mod WordLaws
-pub mod WrittenLiterals

@@ -6,7 +6,7 @@ use Rattle.std.specs.Option.{option_map_or}
 use Rattle.std.proofs.lemmas.Bool.{lt-ltb, le-leb, ne_eqb}
 use Rattle.std.proofs.lemmas.List.Elements.{All-nil, All-cons}
 use Rattle.rota_core.specs.Numeral.{numeral, decimal, is_decimal}
-use Rattle.rota_core.specs.NumeralLaws.{AreDigits, TellsNumber}
+use Rattle.rota_core.specs.NumeralLaws.{AreDigits, ReadsBack}
 use Rattle.solver_text.specs.Lines.{is_blank, is_line_feed, has_bytes}
 use Rattle.solver_text.specs.Answers.{Literal, magnitude_of, positive_of, number_of, variable_of, literal_of}
 use Rattle.solver_text.specs.AnswerText.{literal_word}
@@ -19,7 +19,7 @@ pub word_byte : (b : ℕ) → 33 ≤ b → IsWordByte b
 word_byte b high =
     (rw (ne_eqb b 32 (λ e. omega arith), ne_eqb b 9 (λ e. omega arith), ne_eqb b 13 (λ e. omega arith)) refl, ne_eqb b 10 (λ e. omega arith))
 
--- bytes that are a word of a line
+-- bytes that form a word of a line
 pub record IsWord (word : List ℕ) : Type 0 where
   pub some : has_bytes word ≡ true
   pub bytes : All IsWordByte word
@@ -52,13 +52,13 @@ unsigned-digits [] these some = absurd (omega arith)
 unsigned-digits (b ∷ digits) these some =
     rw (ne_eqb b 45 (λ e. omega (arith, these.0)), ne_eqb b 43 (λ e. omega (arith, these.0))) refl
 
--- as numerals tell their numbers
-module _ (tells : (n : ℕ) → TellsNumber n) where
+-- for numerals whose value is their number
+module _ (reads_back : (n : ℕ) → ReadsBack n) where
   numeral-word_bytes : (n : ℕ) → All IsWordByte (numeral n)
-  numeral-word_bytes n = digits-word_bytes (numeral n) (tells n).digits
+  numeral-word_bytes n = digits-word_bytes (numeral n) (reads_back n).digits
 
   pub numeral-is_word : (n : ℕ) → IsWord (numeral n)
-  numeral-is_word n = record { some = has_some_bytes (numeral n) (tells n).word.0; bytes = numeral-word_bytes n }
+  numeral-is_word n = record { some = has_some_bytes (numeral n) (reads_back n).word.0; bytes = numeral-word_bytes n }
 
   pub literal-is_word : (variable : ℕ) (truth : Bool) → IsWord (literal_word variable truth)
   literal-is_word variable true =
@@ -73,8 +73,8 @@ module _ (tells : (n : ℕ) → TellsNumber n) where
 
   variable-numeral : (positive : Bool) (n : ℕ) → variable_of positive (numeral n) ≡ literal_of_variable positive n
   variable-numeral positive n =
-      variable-digits positive (numeral n) (tells n).word.0 (tells n).decimal_only
-      ∙ ap (λ (m : ℕ). literal_of_variable positive m) (tells n).number
+      variable-digits positive (numeral n) (reads_back n).word.0 (reads_back n).decimal_only
+      ∙ ap (λ (m : ℕ). literal_of_variable positive m) (reads_back n).number
 
   -- a literal's word names the literal
   pub literal_of-literal_word : (variable : ℕ) (truth : Bool) →
@@ -85,6 +85,6 @@ module _ (tells : (n : ℕ) → TellsNumber n) where
   -- a numeral of at most 18 digits spells its number
   pub number_of-numeral : (n : ℕ) → n < 10 ^ 18 → number_of (numeral n) ≡ Some (pos n)
   number_of-numeral n small =
-      unsigned-digits (numeral n) (tells n).digits (tells n).word.0
+      unsigned-digits (numeral n) (reads_back n).digits (reads_back n).word.0
       ∙ ap (λ (m : Option ℕ). option_map_or (λ d. Some (pos d)) m None)
-      (magnitude-digits (numeral n) (tells n).word.0 ((tells n).short 17 small) (tells n).decimal_only ∙ ap Some (tells n).number)
+      (magnitude-digits (numeral n) (reads_back n).word.0 ((reads_back n).short 17 small) (reads_back n).decimal_only ∙ ap Some (reads_back n).number)

@@ -1,4 +1,4 @@
--- What is judged in lines that words were joined to.
+-- The judgements of lines made of joined words.
 use Rattle.std.proofs.Common.{◌≡◌, ℕ, zero, suc, ◌≤◌, true, false, List, [], ◌∷◌, ◌++◌, length, map, take, drop}
 use Rattle.std.proofs.Common.{refl, sym, ap, ◌∙◌, arith, append_assoc, append-nil, length-drop}
 use Rattle.std.specs.Prelude.{All}
@@ -8,7 +8,7 @@ use Rattle.std.proofs.lemmas.List.Elements.{All-nil, All-cons, All-append, All-h
 use Rattle.std.proofs.lemmas.List.Splits.{slice_split_none, slice_split_at, slice_split-cons_yes}
 use Rattle.solver_text.specs.Lines.{is_blank, is_line_feed, has_bytes, words}
 use Rattle.solver_text.specs.Answers.{Judgement, of_literal, judgements_of_line, judgements}
-use Rattle.solver_text.specs.AnswerText.{rows_within, behind_blank, blank_words, value_line}
+use Rattle.solver_text.specs.AnswerText.{rows_within, after_blank, blank_words, value_line}
 use Rattle.solver_text.proofs.NumeralWords.{IsWordByte, IsWord}
 
 -- no byte of a word is a blank
@@ -21,7 +21,7 @@ NoFeed b = is_line_feed b ≡ false
 pub no_feed : (word : List ℕ) → All IsWordByte word → All NoFeed word
 no_feed word these = All-weaker IsWordByte NoFeed (λ b h. h.1) word these
 
--- a word before a blank, and what follows
+-- a word before a blank, and the bytes after it
 filter-words : (word : List ℕ) (others : List (List ℕ)) → has_bytes word ≡ true →
     filter has_bytes (word ∷ others) ≡ word ∷ filter has_bytes others
 filter-words word others e = rw e refl
@@ -39,14 +39,14 @@ words-joined word (next ∷ these) is are =
     ∙ ap (λ (others : List (List ℕ)). word ∷ others)
     (words-joined next these (All-head IsWord next these are) (All-tail IsWord next these are))
 
--- words behind blanks are the words of the bytes
-pub words-behind_blanks : (these : List (List ℕ)) → All IsWord these → words (blank_words these) ≡ these
-words-behind_blanks [] are = refl
-words-behind_blanks (word ∷ these) are =
+-- words after blanks are the words of the bytes
+pub words-after_blanks : (these : List (List ℕ)) → All IsWord these → words (blank_words these) ≡ these
+words-after_blanks [] are = refl
+words-after_blanks (word ∷ these) are =
     ap (λ (parts : List (List ℕ)). filter has_bytes parts) (slice_split-cons_yes is_blank 32 (word ++ blank_words these) refl)
     ∙ words-joined word these (All-head IsWord word these are) (All-tail IsWord word these are)
 
--- a line and what follows it
+-- a line and the text after it
 pub judgements-line : (line rest : List ℕ) → All NoFeed line → judgements (line ++ 10 ∷ rest) ≡ judgements_of_line line ++ judgements rest
 judgements-line line rest none =
     ap (λ (parts : List (List ℕ)). flat_map judgements_of_line parts) (slice_split_at is_line_feed line 10 rest none refl)
@@ -54,13 +54,13 @@ judgements-line line rest none =
 feed_free-blanks : (these : List (List ℕ)) → All IsWord these → All NoFeed (blank_words these)
 feed_free-blanks [] are = All-nil NoFeed
 feed_free-blanks (word ∷ these) are =
-    All-append NoFeed (behind_blank word) (blank_words these)
+    All-append NoFeed (after_blank word) (blank_words these)
     (All-cons NoFeed 32 word refl (no_feed word (All-head IsWord word these are).bytes))
     (feed_free-blanks these (All-tail IsWord word these are))
 
 judgements-values : (these : List (List ℕ)) → All IsWord these → judgements_of_line (118 ∷ blank_words these) ≡ map of_literal these
 judgements-values [] are = refl
-judgements-values (word ∷ these) are = ap (λ (all : List (List ℕ)). map of_literal all) (words-behind_blanks (word ∷ these) are)
+judgements-values (word ∷ these) are = ap (λ (all : List (List ℕ)). map of_literal all) (words-after_blanks (word ∷ these) are)
 
 judgements-value_line : (these : List (List ℕ)) (rest : List ℕ) → All IsWord these →
     judgements (value_line these ++ rest) ≡ map of_literal these ++ judgements rest
@@ -69,7 +69,7 @@ judgements-value_line these rest are =
     ∙ judgements-line (118 ∷ blank_words these) rest (All-cons NoFeed 118 (blank_words these) refl (feed_free-blanks these are))
     ∙ ap (λ (these : List Judgement). these ++ judgements rest) (judgements-values these are)
 
--- the literals of rows are those of the words
+-- the literals of rows are the literals of the words
 pub judgements-rows : (k : ℕ) (these : List (List ℕ)) → length these ≤ k → All IsWord these →
     judgements (flat_map value_line (rows_within k these)) ≡ map of_literal these
 judgements-rows zero [] le are = refl

@@ -1,4 +1,4 @@
--- What holds of all texts.
+-- Properties of all texts.
 use Rattle.std.specs.Prelude.{◌≡◌, ◌==◌, ℕ, ◌<◌, ◌≤◌, ◌-◌, ◌^◌, pos, Bool, false, ◌&&◌, List, length, Some, ◌++◌, Ok, Err, slice_index_or}
 use Rattle.std.specs.List.{list_any}
 use Rattle.std.specs.Option.{option_map_or}
@@ -8,7 +8,7 @@ use Rattle.solver_text.specs.Answers.{Judgement, of_status, of_objective, of_lit
 use Rattle.solver_text.specs.AnswerText.{answer_text}
 use Rattle.solver_text.specs.declared.outcome.Status.TheVariants as statuses
 
--- A fault of a beginning is that of each longer beginning and of the whole.
+-- A fault of a prefix is the fault of each longer prefix and of the whole.
 pub record FaultStays : Type 0 where
   pub within : (variables : ℕ) (text more : List ℕ) (fault : AnswerFault) → variables < 2 ^ 32 →
       fault_within variables text ≡ Err fault → fault_within variables (text ++ more) ≡ Err fault
@@ -26,8 +26,8 @@ pub record TrueByLiteral : Type 0 where
   pub truths : (variables : ℕ) (text : List ℕ) (solved : Solved) (v : ℕ) → outcome variables text ≡ Ok solved → 0 < v → v ≤ variables
       → slice_index_or solved.bits (v - 1) false ≡ list_any (makes_true v) (judgements text)
 
--- The text of an answer says the objective's value and the values of as many variables, where the value has at most 18
--- digits.
+-- Reading the text of an answer, for its number of variables, gives the objective's value and the values of the variables, if the
+-- objective's value has at most 18 digits.
 abbrev pub WrittenAnswerIsRead : Type 0
 WrittenAnswerIsRead =
     (objective : ℕ) (truths : List Bool) → objective < 10 ^ 18 → length truths < 2 ^ 32 →

@@ -1,5 +1,5 @@
--- The text of an answer: a solver's lines for an assignment that satisfies all constraints, in the output format of the
--- Pseudo-Boolean Competition.
+-- The text of an answer: a solver's lines for an assignment that satisfies all constraints, in the output format of the Pseudo-Boolean
+-- Competition.
 use Rattle.std.specs.Prelude.{ℕ, zero, suc, ◌+◌, Bool, true, false, List, [], ◌∷◌, ◌++◌, length, take, drop, codes}
 use Rattle.std.specs.List.{flat_map}
 use Rattle.rota_core.specs.Numeral.{numeral}
@@ -9,12 +9,12 @@ abbrev pub literal_word : ℕ → Bool → List ℕ
 literal_word variable true = codes "x" ++ numeral variable
 literal_word variable false = codes "-x" ++ numeral variable
 
--- the literals of the variables from this one on, in turn
+-- the literals of the variables from this one on, in order
 abbrev pub literal_words : ℕ → List Bool → List (List ℕ)
 literal_words variable [] = []
 literal_words variable (truth ∷ truths) = literal_word variable truth ∷ literal_words (variable + 1) truths
 
--- rows of ten, the last with the rest, where there are no more rows than the number
+-- rows of ten, and a last row with the rest, if the number of rows is at most the given number
 abbrev pub rows_within : {A : Type 0} → ℕ → List A → List (List A)
 rows_within zero xs = []
 rows_within (suc k) [] = []
@@ -24,12 +24,12 @@ abbrev pub rows_of_ten : {A : Type 0} → List A → List (List A)
 rows_of_ten xs = rows_within (length xs) xs
 
 -- a blank before the word
-abbrev pub behind_blank : List ℕ → List ℕ
-behind_blank word = codes " " ++ word
+abbrev pub after_blank : List ℕ → List ℕ
+after_blank word = codes " " ++ word
 
 -- the words, with a blank before each
 abbrev pub blank_words : List (List ℕ) → List ℕ
-blank_words words = flat_map behind_blank words
+blank_words words = flat_map after_blank words
 
 abbrev pub value_line : List (List ℕ) → List ℕ
 value_line words = codes "v" ++ blank_words words ++ codes "\n"

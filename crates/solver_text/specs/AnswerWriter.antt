@@ -1,21 +1,21 @@
--- What a writer of an answer stands for, and what each of its calls puts.
+-- The abstract value of a writer of an answer, and the text that each of its calls writes.
 use Rattle.std.specs.Prelude.{◌≡◌, ℕ, ◌+◌, ◌%◌, ◌==◌, Bool, List, [], ◌∷◌, ◌++◌, length, codes, if◌then◌else◌}
 use Rattle.rota_core.specs.declared.ports.Target.{Ghosts}
 use Rattle.opb_text.specs.declared.sink.Sink.{Sink}
-use Rattle.solver_text.specs.AnswerText.{behind_blank, literal_word, answer_head, answer_text}
+use Rattle.solver_text.specs.AnswerText.{after_blank, literal_word, answer_head, answer_text}
 use Rattle.solver_text.specs.declared.answer_writer.Phase.{Phase}
 use Rattle.solver_text.specs.declared.answer_writer.AnswerWriter.{AnswerWriter}
 
 module _ {W : Type 0} {target : Ghosts W} where
   -- the sink that the text goes to
-  abbrev pub sink_of : AnswerWriter W target → Sink W target
-  sink_of writer = writer.sink
+  abbrev pub writer_sink : AnswerWriter W target → Sink W target
+  writer_sink writer = writer.sink
 
-  -- whether the head of the answer was put, and its end
+  -- whether the first lines of the answer were written, and its end
   abbrev pub phase_of : AnswerWriter W target → Phase
   phase_of writer = writer.phase
 
-  -- the number of literals that were put
+  -- the number of literals that were written
   abbrev pub literals_of : AnswerWriter W target → ℕ
   literals_of writer = writer.literals
 
@@ -23,28 +23,28 @@ module _ {W : Type 0} {target : Ghosts W} where
 abbrev pub is_full_row : ℕ → Bool
 is_full_row n = n % 10 == 0
 
--- what comes before the literal after n literals
+-- the text before the literal, after n literals
 abbrev pub row_start : ℕ → List ℕ
 row_start n = if is_full_row n then codes "v" else []
 
--- what comes after n literals, where the row is full
+-- the text after n literals, if the row is full
 abbrev pub row_end : ℕ → List ℕ
 row_end n = if is_full_row n then codes "\n" else []
 
--- what the value of the next variable puts after n literals
+-- the text that the value of the next variable writes after n literals
 abbrev pub literal_text : ℕ → Bool → List ℕ
-literal_text n truth = row_start n ++ behind_blank (literal_word (n + 1) truth) ++ row_end (n + 1)
+literal_text n truth = row_start n ++ after_blank (literal_word (n + 1) truth) ++ row_end (n + 1)
 
--- what the values of the next variables put after n literals
+-- the text that the values of the next variables write after n literals
 abbrev pub literals_text : ℕ → List Bool → List ℕ
 literals_text n [] = []
 literals_text n (truth ∷ truths) = literal_text n truth ++ literals_text (n + 1) truths
 
--- what the end of the answer puts after n literals: the end of a row that is not full
+-- the text that the end of the answer writes after n literals: the end of a row that is not full
 abbrev pub end_text : ℕ → List ℕ
 end_text n = if is_full_row n then [] else codes "\n"
 
--- the head, the texts of the literals and the end are the answer's text
+-- the first lines, the texts of the literals and the end are the answer's text
 abbrev pub WritesAnswerText : Type 0
 WritesAnswerText =
     (objective : ℕ) (truths : List Bool) →

@@ -1,4 +1,4 @@
--- What the faults of an answer say, in words.
+-- The messages for the faults of an answer.
 use Rattle.std.specs.Prelude.{ℕ, List, codes}
 use Rattle.solver_text.specs.declared.outcome.AnswerFault.{AnswerFault}
 use Rattle.solver_text.specs.declared.outcome.AnswerFault.TheVariants.{Statuses, StatusText, Literal, Range, BothValues, Objective}

@@ -2,8 +2,8 @@
 
 ghost use Rattle.std.specs.Prelude.{◌≡◌, ℕ, ◌<◌, List, [], ◌++◌, length, IfOk, MatchResult, Some, Err, OnOk};
 
-use crate::facts::Facts;
-use crate::line_state::{Keyword, Line, LineState, begins_skipped, behind_empty_lines, line_end};
+use crate::answer_state::AnswerState;
+use crate::line_state::{Keyword, Line, LineState, after_empty_lines, begins_skipped, line_end};
 use crate::literal::{LiteralFront, is_blank};
 use crate::outcome::{AnswerFault, Solved};
 use std::alloc::{AllocError, Global};
@@ -11,11 +11,11 @@ use std::alloc::{AllocError, Global};
 /// A solver's answer that is being read, in any pieces: the `s`, `o` and `v` lines of the output format
 /// of the Pseudo-Boolean Competition (Roussel and Manquinho). Every other line is skipped.
 ///
-/// However the text is cut, what is answered is that of the whole text. After a fault every later call
-/// answers it again. Only `new` takes memory.
+/// The answer does not depend on the pieces into which the text is cut. After a fault every later call
+/// returns it again. Only `new` allocates memory.
 #[derive(Drop)]
 pub struct Answer {
-    facts: Facts,
+    known: AnswerState,
     state: LineState,
     fault: Option<AnswerFault>,
 }
@@ -23,25 +23,24 @@ pub struct Answer {
 impl Answer {
     ghost use Rattle.solver_text.specs.Answers.{outcome, fault_within};
     ghost use Rattle.solver_text.specs.LineStates.{take_byte, take_bytes, end_word, end_line};
-    ghost use Rattle.solver_text.specs.States.{facts_of, line_of, fault_of, LeadsTo, Gives, Moves};
+    ghost use Rattle.solver_text.specs.States.{known_of, line_of, fault_of, LeadsTo, Gives, Moves};
 
-    /// An answer of which nothing was read yet, for the variables 1 to `variables`. It fails only for want
-    /// of memory.
+    /// A new answer, before any text is read, for the variables 1 to `variables`. It fails only if memory
+    /// runs out.
     pub fn new(alloc: Global, variables: u32) -> Result<Answer, AllocError>
         ensures { IfOk result (λ answer. LeadsTo variables [] answer) }
     {
         Ok(Answer {
-            facts: Facts::new(alloc, variables)?,
+            known: AnswerState::new(alloc, variables)?,
             state: LineState::start(),
             fault: None,
         })
     }
 
-    /// Takes the next piece of the text, of any length. It answers the first fault that is judged in the
-    /// text so far: of a word of a `v` line once a blank or the line's end follows it, of an `s` or `o`
-    /// line at its end.
+    /// Takes the next piece of the text, of any length. Returns the first fault in the text so far. A word of
+    /// a `v` line is judged when a blank or the line's end follows it, and an `s` or `o` line at its end.
     ///
-    /// Here a number is too large, and cut in two; its fault is answered from then on:
+    /// Here a number is too large, and cut in two. Its fault is returned from then on:
     ///
     /// ```
     /// let mut answer = Answer::new(rt.alloc(), 8)?;
@@ -56,7 +55,7 @@ impl Answer {
     pub fn feed(&mut self, piece: &[u8]) -> Result<(), AnswerFault>
         ensures leads { (variables : ℕ) → (text : List ℕ) → LeadsTo variables text self.old
             → LeadsTo variables (text ++ piece.now) self.new }
-        ensures judged { (variables : ℕ) → (text : List ℕ) → LeadsTo variables text self.old
+        ensures checked { (variables : ℕ) → (text : List ℕ) → LeadsTo variables text self.old
             → result ≡ fault_within variables (text ++ piece.now) }
         ensures for_good { (fault : AnswerFault) → fault_of self.old ≡ Some fault
             → (result ≡ Err fault) × (self.new ≡ self.old) }
@@ -69,10 +68,10 @@ impl Answer {
         taken
     }
 
-    /// Judges what is left of the text, and gives what the whole of it says, or its fault. A text without
-    /// an `s` line has `Statuses`.
+    /// Judges the rest of the text, and returns the meaning of the whole text, or its fault. A text without
+    /// an `s` line has the fault `Statuses`.
     ///
-    /// See the example at the head of the crate.
+    /// See the example at the top of the crate.
     pub fn finish(self) -> Result<Solved, AnswerFault>
         ensures outcome { (variables : ℕ) → (text : List ℕ) → LeadsTo variables text self
             → outcome variables text ≡ result }
@@ -85,14 +84,14 @@ impl Answer {
             return Err(fault);
         }
         answer.end_line()?;
-        let Answer { facts, .. } = answer;
-        facts.finish()
+        let Answer { known, .. } = answer;
+        known.finish()
     }
 
     // Takes bytes until there is a fault.
     fn take_bytes(&mut self, piece: &[u8]) -> Result<(), AnswerFault>
-        ensures { Moves result (facts_of self.new.facts, line_of self.new)
-            (take_bytes (facts_of self.old.facts) (line_of self.old) piece.now) }
+        ensures { Moves result (known_of self.new.known, line_of self.new)
+            (take_bytes (known_of self.old.known) (line_of self.old) piece.now) }
     {
         let mut rest = piece;
         while let Some((b, after)) = rest.split_first() {
@@ -102,7 +101,7 @@ impl Answer {
                 _ if *b == b'\n' => {
                     self.end_line()?;
                     self.state.start_again();
-                    rest = behind_empty_lines(after);
+                    rest = after_empty_lines(after);
                 }
                 _ => {
                     self.take_byte(*b)?;
@@ -113,7 +112,7 @@ impl Answer {
         Ok(())
     }
 
-    // Takes the rest of a word of a `v` line and the byte behind it, and gives what is behind both.
+    // Takes the rest of a word of a `v` line and the byte after it, and returns the bytes after both.
     fn take_word<'p>(
         &mut self,
         front: LiteralFront,
@@ -122,15 +121,15 @@ impl Answer {
         requires values { (line_of self.old).line ≡ Line.Values front }
         requires some { 0 < length bytes.now }
         ensures taken { MatchResult result
-            (λ rest. take_bytes (facts_of self.old.facts) (line_of self.old) bytes.now
-            ≡ take_bytes (facts_of self.new.facts) (line_of self.new) rest.now)
-            (λ fault. take_bytes (facts_of self.old.facts) (line_of self.old) bytes.now ≡ Err fault) }
+            (λ rest. take_bytes (known_of self.old.known) (line_of self.old) bytes.now
+            ≡ take_bytes (known_of self.new.known) (line_of self.new) rest.now)
+            (λ fault. take_bytes (known_of self.old.known) (line_of self.old) bytes.now ≡ Err fault) }
         ensures shorter { IfOk result (λ rest. length rest.now < length bytes.now) }
     {
-        let (front, behind) = front.read_on(bytes);
-        match behind.split_first() {
+        let (front, after) = front.read_on(bytes);
+        match after.split_first() {
             Some((b, rest)) if is_blank(*b) => {
-                self.facts.judge_front(front)?;
+                self.known.check_front(front)?;
                 self.state.go_to(LiteralFront::Empty);
                 Ok(rest)
             }
@@ -141,23 +140,22 @@ impl Answer {
             }
             None => {
                 self.state.go_to(front);
-                Ok(behind)
+                Ok(after)
             }
         }
     }
 
-    // Passes over the rest of a line that is skipped and over the lines behind it that are, and gives
-    // what is behind them.
+    // Skips the rest of a skipped line and the skipped lines after it, and returns the bytes after them.
     fn skip_lines<'p>(&mut self, bytes: &'p [u8]) -> &'p [u8]
         requires skipped { (line_of self.old).line ≡ Line.Skipped }
         requires some { 0 < length bytes.now }
-        ensures takes { take_bytes (facts_of self.old.facts) (line_of self.old) bytes.now
-            ≡ take_bytes (facts_of self.new.facts) (line_of self.new) result.now }
+        ensures takes { take_bytes (known_of self.old.known) (line_of self.old) bytes.now
+            ≡ take_bytes (known_of self.new.known) (line_of self.new) result.now }
         ensures shorter { length result.now < length bytes.now }
     {
         let mut rest = bytes;
         while let Some(end) = line_end(rest) {
-            rest = behind_empty_lines(&rest[end + 1..]);
+            rest = after_empty_lines(&rest[end + 1..]);
             if !begins_skipped(rest) {
                 self.state.start_again();
                 return rest;
@@ -168,8 +166,8 @@ impl Answer {
     }
 
     fn take_byte(&mut self, b: u8) -> Result<(), AnswerFault>
-        ensures { Moves result (facts_of self.new.facts, line_of self.new)
-            (take_byte (facts_of self.old.facts) (line_of self.old) b) }
+        ensures { Moves result (known_of self.new.known, line_of self.new)
+            (take_byte (known_of self.old.known) (line_of self.old) b) }
     {
         if b == b'\n' {
             self.end_line()?;
@@ -185,32 +183,32 @@ impl Answer {
 
     // Judges the word before a blank.
     fn end_word(&mut self) -> Result<(), AnswerFault>
-        ensures judged { Gives result (facts_of self.new.facts) (end_word (facts_of self.old.facts) (line_of self.old).line) }
-        ensures place { OnOk result (line_of self.new ≡ line_of self.old) }
+        ensures checked { Gives result (known_of self.new.known) (end_word (known_of self.old.known) (line_of self.old).line) }
+        ensures index { OnOk result (line_of self.new ≡ line_of self.old) }
     {
         match self.state.line() {
-            Line::Values(front) => self.facts.judge_front(front),
+            Line::Values(front) => self.known.check_front(front),
             _ => Ok(()),
         }
     }
 
     // Judges the line before its end.
     fn end_line(&mut self) -> Result<(), AnswerFault>
-        ensures { Gives result (facts_of self.new.facts) (end_line (facts_of self.old.facts) (line_of self.old).line (line_of self.old).word) }
+        ensures { Gives result (known_of self.new.known) (end_line (known_of self.old.known) (line_of self.old).line (line_of self.old).word) }
     {
         match self.state.line() {
             Line::Start | Line::Skipped | Line::Alone(Keyword::Values) => Ok(()),
-            Line::Alone(Keyword::Status) => self.facts.judge_status(None),
-            Line::Alone(Keyword::Objective) => self.facts.judge_objective(None),
+            Line::Alone(Keyword::Status) => self.known.check_status(None),
+            Line::Alone(Keyword::Objective) => self.known.check_objective(None),
             Line::Status(words) => {
                 let status = self.state.status(words);
-                self.facts.judge_status(status)
+                self.known.check_status(status)
             }
             Line::Objective(words) => {
                 let value = self.state.value(words);
-                self.facts.judge_objective(value)
+                self.known.check_objective(value)
             }
-            Line::Values(front) => self.facts.judge_front(front),
+            Line::Values(front) => self.known.check_front(front),
         }
     }
 }

@@ -7,7 +7,7 @@ ghost use Rattle.solver_text.specs.AnswerWriter.{literal_text, end_text};
 use opb_text::Sink;
 use rota_core::{PortFault, Target};
 
-// What a writer has put so far: nothing, the head and some literals, or the whole answer.
+// The text that a writer has written so far: nothing, the first lines and some literals, or the whole answer.
 #[derive(Clone, Copy)]
 enum Phase {
     New,
@@ -15,13 +15,13 @@ enum Phase {
     Finished,
 }
 
-/// Puts an answer's text into a sink, in the output format of the Pseudo-Boolean Competition (Roussel
-/// and Manquinho): an `o` line with the objective's value, the line `s SATISFIABLE`, and `v` lines with
-/// the literals of the variables 1, 2, .. in turn, ten a line, the last line with the rest.
+/// Writes an answer's text into a sink, in the output format of the Pseudo-Boolean Competition (Roussel and
+/// Manquinho): an `o` line with the objective's value, the line `s SATISFIABLE`, and `v` lines with the
+/// literals of the variables 1, 2, .. in order, ten per line. The last line has the rest.
 ///
-/// `start` is called first and once, then `literal` for each variable, and `finish` last and once. It
-/// fails only where the target does. What went out then begins what was put, with the text of the call
-/// that failed.
+/// Call `start` exactly one time, before all other calls; then `literal` for each variable; then `finish`,
+/// exactly one time. The writer fails only if the target does. The bytes that were sent are then a prefix of
+/// the written text followed by the text of the call that failed.
 #[derive(Drop)]
 pub struct AnswerWriter<'a, W: Target> {
     sink: Sink<'a, W>,
@@ -29,7 +29,7 @@ pub struct AnswerWriter<'a, W: Target> {
     literals: u32,
 }
 
-// Puts the literal of the next variable after `literals` others: a line begins after each ten.
+// Writes the literal of the next variable after `literals` others. A line begins after each ten.
 fn put_literal<W: Target>(
     sink: &mut Sink<W>,
     literals: u32,
@@ -49,7 +49,7 @@ fn put_literal<W: Target>(
     sink.number_between(front, variable, end)
 }
 
-// Puts the lines before the values.
+// Writes the lines before the values.
 fn put_head<W: Target>(sink: &mut Sink<W>, objective: u64) -> Result<(), PortFault>
     ensures takes { PutsText sink.old result (answer_head objective) sink.new }
     ensures for_good { sink_failed sink.old ≡ true → IsErr result }
@@ -57,7 +57,7 @@ fn put_head<W: Target>(sink: &mut Sink<W>, objective: u64) -> Result<(), PortFau
     sink.number_between(b"o ", objective, b"\ns SATISFIABLE\n")
 }
 
-// Puts the end of the last line of values after `literals` literals, where it is not full.
+// Writes the end of the last line of values after `literals` literals, if it is not full.
 fn put_end<W: Target>(sink: &mut Sink<W>, literals: u32) -> Result<(), PortFault>
     ensures takes { PutsText sink.old result (end_text literals) sink.new }
     ensures for_good { sink_failed sink.old ≡ true → IsErr result }
@@ -67,11 +67,11 @@ fn put_end<W: Target>(sink: &mut Sink<W>, literals: u32) -> Result<(), PortFault
 }
 
 impl<'a, W: Target> AnswerWriter<'a, W> {
-    ghost use Rattle.solver_text.specs.AnswerWriter.{sink_of, phase_of, literals_of};
+    ghost use Rattle.solver_text.specs.AnswerWriter.{writer_sink, phase_of, literals_of};
 
-    /// A writer whose text goes into the sink. Nothing is put yet.
+    /// A writer whose text goes into the sink. Nothing has been written.
     pub fn new(sink: Sink<'a, W>) -> AnswerWriter<'a, W>
-        ensures sink { sink_of result ≡ sink.entry }
+        ensures sink { writer_sink result ≡ sink.entry }
         ensures phase { phase_of result ≡ Phase.New }
         ensures literals { literals_of result ≡ 0 }
     {
@@ -82,49 +82,49 @@ impl<'a, W: Target> AnswerWriter<'a, W> {
         }
     }
 
-    /// Puts the objective's value and the status. It fails only where the target does.
+    /// Writes the objective's value and the status. It fails only if the target does.
     pub fn start(&mut self, objective: u64) -> Result<(), PortFault>
         requires { phase_of self.old ≡ Phase.New }
         ensures phase { phase_of self.new ≡ Phase.Started }
         ensures literals { literals_of self.new ≡ 0 }
-        ensures takes { PutsText (sink_of self.old) result (answer_head objective) (sink_of self.new) }
-        ensures for_good { sink_failed (sink_of self.old) ≡ true → IsErr result }
+        ensures takes { PutsText (writer_sink self.old) result (answer_head objective) (writer_sink self.new) }
+        ensures for_good { sink_failed (writer_sink self.old) ≡ true → IsErr result }
     {
         self.phase = Phase::Started;
         self.literals = 0;
         put_head(&mut self.sink, objective)
     }
 
-    /// Puts the literal of the next variable, positive where it is true. The number of literals counts
-    /// up to 4,294,967,295 and stays there. It fails only where the target does.
+    /// Writes the literal of the next variable, positive if it is true. The number of literals counts up to
+    /// 4,294,967,295 and stays there. It fails only if the target does.
     pub fn literal(&mut self, positive: bool) -> Result<(), PortFault>
         requires { phase_of self.old ≡ Phase.Started }
         ensures phase { phase_of self.new ≡ Phase.Started }
         ensures literals { literals_of self.new ≡ min (literals_of self.old + 1) (2 ^ 32 - 1) }
-        ensures takes { PutsText (sink_of self.old) result (literal_text (literals_of self.old) positive) (sink_of self.new) }
-        ensures for_good { sink_failed (sink_of self.old) ≡ true → IsErr result }
+        ensures takes { PutsText (writer_sink self.old) result (literal_text (literals_of self.old) positive) (writer_sink self.new) }
+        ensures for_good { sink_failed (writer_sink self.old) ≡ true → IsErr result }
     {
         let literals = self.literals;
         self.literals = literals.saturating_add(1);
         put_literal(&mut self.sink, literals, positive)
     }
 
-    /// Ends the text and finishes the sink: Ok says that all that was put is out and flushed. It fails
-    /// only where the target does.
+    /// Ends the text and finishes the sink: `Ok` means that everything that was written is sent and flushed.
+    /// It fails only if the target does.
     pub fn finish(&mut self) -> Result<(), PortFault>
         requires { phase_of self.old ≡ Phase.Started }
         ensures phase { phase_of self.new ≡ Phase.Finished }
         ensures literals { literals_of self.new ≡ literals_of self.old }
-        ensures finishes { FinishesSink (sink_of self.old) result (end_text (literals_of self.old)) (sink_of self.new) }
+        ensures finishes { FinishesSink (writer_sink self.old) result (end_text (literals_of self.old)) (writer_sink self.new) }
     {
         self.phase = Phase::Finished;
         put_end(&mut self.sink, self.literals)?;
         self.sink.finish()
     }
 
-    /// The sink, with what was put into it.
+    /// The sink, with the text that was written into it.
     pub fn into_sink(self) -> Sink<'a, W>
-        ensures { result ≡ sink_of self.entry }
+        ensures { result ≡ writer_sink self.entry }
     {
         let AnswerWriter { sink, .. } = self;
         sink

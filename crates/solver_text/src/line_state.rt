@@ -1,9 +1,9 @@
-//! What is kept of the line that is being read.
+//! The kept state of the line that is being read.
 
 ghost use Rattle.std.specs.Prelude.{◌≡◌, ◌≤◌, [], IsTrue, length};
 ghost use Rattle.memchr.specs.Find.{IsFirstByte, is_byte};
-ghost use Rattle.solver_text.specs.Answers.{Facts, keyword_of as keyword_of_letter};
-ghost use Rattle.solver_text.specs.LineStates.{line_after, line_behind, skipped, start, take_bytes};
+ghost use Rattle.solver_text.specs.Answers.{AnswerState, keyword_of as keyword_of_letter};
+ghost use Rattle.solver_text.specs.LineStates.{line_after, line_after_letter, skipped, start, take_bytes};
 
 use crate::literal::{LiteralFront, is_blank};
 use crate::outcome::Status;
@@ -20,7 +20,7 @@ pub(crate) enum Keyword {
     Values,
 }
 
-/// What a line is so far.
+/// The meaning of a line so far.
 #[derive(Clone, Copy)]
 pub(crate) enum Line {
     Start,
@@ -31,14 +31,14 @@ pub(crate) enum Line {
     Skipped,
 }
 
-// A word of 20 bytes or more is no status, and no number of a sign and at most 18 digits.
-const KEPT: usize = 20;
+// A word of 20 bytes or more is no status, and no number with a sign and at most 18 digits.
+const MAX_WORD_LEN: usize = 20;
 
-/// What is kept of a line: what it is so far, and the front of its open word where it is an `s` or `o` line.
+/// The kept state of a line: its meaning so far, and the front of its open word if it is an `s` or `o` line.
 #[derive(Drop)]
 pub(crate) struct LineState {
     line: Line,
-    word: ArrayVec<u8, KEPT>,
+    word: ArrayVec<u8, MAX_WORD_LEN>,
 }
 
 impl Model for LineState {
@@ -60,9 +60,9 @@ fn keyword_of(letter: u8) -> Option<Keyword>
     }
 }
 
-/// Whether the line that these bytes begin is one that is skipped.
+/// Whether the line that these bytes begin is skipped.
 pub(crate) fn begins_skipped(bytes: &[u8]) -> bool
-    ensures { IsTrue result → (facts : Facts) → take_bytes facts start bytes.now ≡ take_bytes facts skipped bytes.now }
+    ensures { IsTrue result → (known : AnswerState) → take_bytes known start bytes.now ≡ take_bytes known skipped bytes.now }
 {
     match bytes.split_first() {
         Some((letter, _)) => keyword_of(*letter).is_none(),
@@ -70,29 +70,29 @@ pub(crate) fn begins_skipped(bytes: &[u8]) -> bool
     }
 }
 
-/// What is behind the empty lines that these bytes begin with.
-pub(crate) fn behind_empty_lines(bytes: &[u8]) -> &[u8]
-    ensures passes { (facts : Facts) → take_bytes facts start bytes.now ≡ take_bytes facts start result.now }
+/// The bytes after the empty lines at the front of these bytes.
+pub(crate) fn after_empty_lines(bytes: &[u8]) -> &[u8]
+    ensures passes { (known : AnswerState) → take_bytes known start bytes.now ≡ take_bytes known start result.now }
     ensures no_longer { length result.now ≤ length bytes.now }
 {
     let mut rest = bytes;
-    while let Some((b, behind)) = rest.split_first() {
+    while let Some((b, after)) = rest.split_first() {
         if *b != b'\n' {
             break;
         }
-        rest = behind;
+        rest = after;
     }
     rest
 }
 
-// The first bytes of a line are looked at one by one up to this place, since many lines are short.
-const FEW: usize = 8;
+// The first bytes of a line are checked one by one up to this index, since many lines are short.
+const SHORT_LINE: usize = 8;
 
-/// Where the line ends, if it does within the bytes.
+/// The index at which the line ends, if it ends within the bytes.
 pub(crate) fn line_end(bytes: &[u8]) -> Option<usize>
     ensures { IsFirstByte (is_byte 10) bytes.now result }
 {
-    for k in 0..bytes.len().min(FEW) {
+    for k in 0..bytes.len().min(SHORT_LINE) {
         if bytes[k] == b'\n' {
             return Some(k);
         }
@@ -101,8 +101,8 @@ pub(crate) fn line_end(bytes: &[u8]) -> Option<usize>
 }
 
 impl Keyword {
-    fn line_behind(self) -> Line
-        ensures { result ≡ line_behind self }
+    fn line_after_letter(self) -> Line
+        ensures { result ≡ line_after_letter self }
     {
         match self {
             Keyword::Status => Line::Status(StatusWords::Nothing),
@@ -113,7 +113,7 @@ impl Keyword {
 }
 
 impl Line {
-    // The line behind one more byte, where no bytes of the word are kept.
+    // The line after one more byte, if no bytes of the word are kept.
     fn with_byte(self, b: u8) -> Line
         ensures { result ≡ line_after self b }
     {
@@ -122,7 +122,7 @@ impl Line {
                 Some(keyword) => Line::Alone(keyword),
                 None => Line::Skipped,
             },
-            Line::Alone(keyword) if is_blank(b) => keyword.line_behind(),
+            Line::Alone(keyword) if is_blank(b) => keyword.line_after_letter(),
             Line::Values(_) if is_blank(b) => Line::Values(LiteralFront::Empty),
             Line::Values(front) => Line::Values(front.with_byte(b)),
             Line::Alone(_) | Line::Skipped => Line::Skipped,
@@ -134,7 +134,7 @@ impl Line {
 impl LineState {
     ghost use Rattle.solver_text.specs.LineStates.{in_word, with_line_byte, kept_byte, ended_status, ended_objective, named_status, named_objective};
 
-    /// A line of which nothing was read yet.
+    /// A line before any byte is read.
     pub(crate) fn start() -> LineState
         ensures { result ≡ start }
     {
@@ -144,7 +144,7 @@ impl LineState {
         }
     }
 
-    /// What the line is so far.
+    /// The meaning of the line so far.
     pub(crate) fn line(&self) -> Line
         ensures { result ≡ self.now.line }
     {
@@ -196,7 +196,7 @@ impl LineState {
         self.word.clear();
     }
 
-    // Keeps the byte where there is room.
+    // Keeps the byte if there is room.
     fn keep(&mut self, b: u8)
         ensures { self.new ≡ record { line = self.old.line; word = kept_byte self.old.word b } }
     {
@@ -205,7 +205,7 @@ impl LineState {
         }
     }
 
-    // The words with the open one behind them.
+    // The words with the open one after them.
     fn with_status(&self, words: StatusWords) -> StatusWords
         ensures { result ≡ ended_status words self.now.word }
     {
@@ -226,14 +226,14 @@ impl LineState {
         }
     }
 
-    /// The status that the words of an `s` line name, with the open word behind them.
+    /// The status that the words of an `s` line name, with the open word after them.
     pub(crate) fn status(&self, words: StatusWords) -> Option<Status>
         ensures { result ≡ named_status (ended_status words self.now.word) }
     {
         self.with_status(words).status()
     }
 
-    /// The value that the words of an `o` line name, with the open word behind them.
+    /// The value that the words of an `o` line name, with the open word after them.
     pub(crate) fn value(&self, words: ObjectiveWords) -> Option<i64>
         ensures { result ≡ named_objective (ended_objective words self.now.word) }
     {

@@ -3,11 +3,11 @@
 ghost use Rattle.std.specs.Prelude.{◌≡◌, ◌≤◌, ℕ, IsTrue, List, length, min};
 ghost use Rattle.std.specs.Char.{is_ascii_digit as is_digit};
 ghost use Rattle.rota_core.specs.Numeral.{with_digit};
-ghost use Rattle.solver_text.specs.Answers.{Facts};
+ghost use Rattle.solver_text.specs.Answers.{AnswerState};
 ghost use Rattle.solver_text.specs.Lines.{is_blank as blank_byte};
-ghost use Rattle.solver_text.specs.LineStates.{MOST, take_bytes, in_word, with_literal_byte, with_number};
+ghost use Rattle.solver_text.specs.LineStates.{MAX_VARIABLE, take_bytes, in_word, with_literal_byte, with_number};
 
-/// What the bytes of a word of a v line are so far.
+/// The meaning so far of the bytes of a word of a v line.
 #[derive(Clone, Copy)]
 pub(crate) enum LiteralFront {
     Empty,
@@ -24,25 +24,25 @@ pub(crate) fn is_blank(b: u8) -> bool
 }
 
 impl LiteralFront {
-    /// Reads on in a word of a `v` line, up to the blank or the line's end behind it, and gives what the
-    /// word is then, and the bytes behind it.
+    /// Reads on in a word of a `v` line, up to the blank or the line's end after it. Returns the meaning of
+    /// the word then, and the bytes after it.
     pub(crate) fn read_on(self, bytes: &[u8]) -> (LiteralFront, &[u8])
-        ensures reads { (facts : Facts) → (word : List ℕ) →
-            take_bytes facts (in_word self word) bytes.now ≡ take_bytes facts (in_word result.0 word) result.1.now }
+        ensures reads { (known : AnswerState) → (word : List ℕ) →
+            take_bytes known (in_word self word) bytes.now ≡ take_bytes known (in_word result.0 word) result.1.now }
         ensures shorter { length result.1.now ≤ length bytes.now }
     {
         let mut front = self;
         let mut rest = bytes;
-        while let Some((b, behind)) = rest.split_first() {
+        while let Some((b, after)) = rest.split_first() {
             if is_blank(*b) || *b == b'\n' {
                 break;
             }
             front = front.with_byte(*b);
-            rest = behind;
+            rest = after;
             if let LiteralFront::Number(positive, number) = front {
-                let (number, behind) = read_digits(positive, number, rest);
+                let (number, after) = read_digits(positive, number, rest);
                 front = LiteralFront::Number(positive, number);
-                rest = behind;
+                rest = after;
             }
         }
         (front, rest)
@@ -68,14 +68,14 @@ impl LiteralFront {
     }
 }
 
-// A number below this one and a digit more still fit.
+// A number below this one and one more digit still fit.
 const ROOM_FOR_A_DIGIT: u64 = 1_000_000_000_000_000_000;
 
-// The number with the digit of this byte behind it, or the greatest number where that is greater.
+// The number with the digit of this byte after it, or the maximum number if the result is larger.
 #[inline(always)]
 fn number_with(number: u64, b: u8) -> u64
     requires digit { IsTrue (is_digit b) }
-    ensures { result ≡ min (with_digit number b) MOST }
+    ensures { result ≡ min (with_digit number b) MAX_VARIABLE }
 {
     let digit = u64::from(b - b'0');
     if number < ROOM_FOR_A_DIGIT {
@@ -95,22 +95,22 @@ fn number_front(positive: bool, number: u64, b: u8) -> LiteralFront
     }
 }
 
-// Reads the digits at the head of the bytes, behind those of a number, and gives the number with them and
-// the bytes behind them.
+// Reads the digits at the front of the bytes, which follow the digits of a number. Returns the number with
+// them and the bytes after them.
 fn read_digits(positive: bool, number: u64, bytes: &[u8]) -> (u64, &[u8])
-    ensures reads { (facts : Facts) → (word : List ℕ) →
-        take_bytes facts (in_word (LiteralFront.Number positive number) word) bytes.now
-        ≡ take_bytes facts (in_word (LiteralFront.Number positive result.0) word) result.1.now }
+    ensures reads { (known : AnswerState) → (word : List ℕ) →
+        take_bytes known (in_word (LiteralFront.Number positive number) word) bytes.now
+        ≡ take_bytes known (in_word (LiteralFront.Number positive result.0) word) result.1.now }
     ensures shorter { length result.1.now ≤ length bytes.now }
 {
     let mut number = number;
     let mut rest = bytes;
-    while let Some((b, behind)) = rest.split_first() {
+    while let Some((b, after)) = rest.split_first() {
         if !b.is_ascii_digit() {
             break;
         }
         number = number_with(number, *b);
-        rest = behind;
+        rest = after;
     }
     (number, rest)
 }

@@ -1,4 +1,4 @@
-//! What a solver's answer says, and the faults of its text.
+//! The meaning of a solver's answer, and the faults of its text.
 ghost use Rattle.std.specs.Prelude.{◌≡◌};
 
 use rota_core::Bits;
@@ -9,13 +9,14 @@ use thiserror::Error;
 pub enum Status {
     /// `SATISFIABLE`: the assignment satisfies all constraints.
     Satisfiable,
-    /// `OPTIMUM FOUND`: it does, and no other one that does has a lower objective.
+    /// `OPTIMUM FOUND`: the assignment satisfies all constraints, and no other such assignment has a lower
+    /// objective.
     Optimum,
     /// `UNSATISFIABLE`: no assignment satisfies all constraints.
     Unsatisfiable,
-    /// `UNKNOWN`: the solver found no assignment, and did not show that there is none.
+    /// `UNKNOWN`: the solver found no assignment, and did not show that none exists.
     Unknown,
-    /// `UNSUPPORTED`: the solver does not read such a model.
+    /// `UNSUPPORTED`: the solver cannot read such a model.
     Unsupported,
 }
 
@@ -36,7 +37,7 @@ impl Status {
     }
 }
 
-/// Why a text is no answer.
+/// The reason why a text is not a valid answer.
 #[derive(Clone, Copy, Debug, PartialEq, Eq, Error)]
 #[error("{}", self.text())]
 pub enum AnswerFault {
@@ -57,7 +58,7 @@ pub enum AnswerFault {
 impl AnswerFault {
     ghost use Rattle.solver_text.specs.FaultTexts.{answer_fault_text};
 
-    /// What the fault says, in words.
+    /// The message for the fault.
     pub fn text(self) -> &'static str
         ensures { result.now ≡ answer_fault_text self }
     {
@@ -72,13 +73,14 @@ impl AnswerFault {
     }
 }
 
-/// What a whole answer says.
+/// The meaning of a whole answer.
 #[derive(Drop)]
 pub struct Solved {
     /// The status of the `s` line.
     pub status: Status,
-    /// The value of the last `o` line, where there was one: what the solver claims.
+    /// The value of the last `o` line, if there was one: the solver's own figure.
     pub last_o: Option<i64>,
-    /// A truth value a variable, variable 1 first: true exactly where a positive literal of it was read.
+    /// A truth value for each variable, variable 1 first. A variable is true if and only if a positive
+    /// literal of it was read.
     pub bits: Bits,
 }

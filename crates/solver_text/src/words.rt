@@ -7,7 +7,7 @@ ghost use Rattle.solver_text.specs.LineStates.{with_status_word, with_objective_
 
 use crate::outcome::Status;
 
-/// What the words of an s line are so far.
+/// The meaning so far of the words of an s line.
 #[derive(Clone, Copy)]
 pub(crate) enum StatusWords {
     Nothing,
@@ -16,7 +16,7 @@ pub(crate) enum StatusWords {
     Other,
 }
 
-/// What the words of an o line are so far.
+/// The meaning so far of the words of an o line.
 #[derive(Clone, Copy)]
 pub(crate) enum ObjectiveWords {
     Nothing,
@@ -65,14 +65,14 @@ impl StatusWords {
     }
 }
 
-// Up to this many digits always fit the value of an `o` line.
-const MOST_DIGITS: usize = 18;
+// A value with up to this number of digits always fits the value of an `o` line.
+const MAX_DIGITS: usize = 18;
 
-// The number that 1 to 18 digits stand for.
+// The value of 1 to 18 digits.
 fn magnitude(digits: &[u8]) -> Option<i64>
     ensures { result ≡ option_map_or (λ n. Some (pos n)) (magnitude_of digits.now) None }
 {
-    if digits.is_empty() || digits.len() > MOST_DIGITS {
+    if digits.is_empty() || digits.len() > MAX_DIGITS {
         return None;
     }
     let mut value: u64 = 0;

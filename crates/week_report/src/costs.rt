@@ -1,4 +1,4 @@
-//! What a roster costs.
+//! The costs of a roster.
 use crate::files::Stop;
 use rota_core::{Instance, Rule};
 use rota_items::{Judge, Verdict, verdict_of};
@@ -6,8 +6,8 @@ use rota_read::read_solution;
 use std::fs;
 use std::rt::Files;
 
-/// How many cells the roster of the solution has, the first row that it leaves unmet with that row's rule, and
-/// what it costs, in all and by each soft rule.
+/// Prints the number of cells in the roster of the solution, the first row that it does not satisfy with the
+/// rule of that row, and the roster's costs, in total and by soft rule.
 pub fn print_costs<R: Files + Print + AllocGlobal>(
     rt: &R,
     instance: &Instance,

@@ -1,6 +1,6 @@
 //! The words of the command line, and the files that they name, read.
 ghost use Rattle.std.specs.Prelude.{IfOk};
-ghost use Rattle.rota_core.specs.InstanceTables.{HasNumbersOf, week_of as tables_of};
+ghost use Rattle.rota_core.specs.InstanceTables.{HasNumbersOf, problem_of as tables_of};
 ghost use Rattle.rota_core.specs.RosterTables.{HasShapeOf};
 
 use rota_core::{FileFault, History, Instance, Roster, Scenario, Week};
@@ -9,7 +9,7 @@ use std::alloc::AllocError;
 use std::rt::{Env, Files};
 use std::{env, fs, io};
 
-/// Why the program stops.
+/// The reason why the program stops.
 #[derive(Debug, Drop)]
 pub enum Stop {
     File(FileFault),
@@ -40,7 +40,7 @@ pub fn command_line<R: Env + AllocGlobal>(rt: &R) -> Result<Vec<String>, Stop> {
     Ok(env::args(rt)?.collect(rt.alloc())?)
 }
 
-/// What the words of the command line name.
+/// The options and paths that the words of the command line name.
 #[derive(Clone, Copy)]
 pub struct Words<'a> {
     early: bool,
@@ -52,7 +52,8 @@ pub struct Words<'a> {
 }
 
 impl<'a> Words<'a> {
-    /// What these words name, the first of which is the program's name. None where they name no week.
+    /// The options and paths that these words name. The first word is the program's name. Returns `None` if
+    /// they name no week.
     pub fn of(words: &'a [String]) -> Option<Words<'a>> {
         let (_, words) = words.split_first()?;
         let (early, words) = match words {
@@ -96,7 +97,7 @@ fn history_of<R: Files + AllocGlobal>(
 }
 
 // The week that the file at the path spells.
-fn week_of<R: Files + AllocGlobal>(rt: &R, scenario: &Scenario, path: &str) -> Result<Week, Stop>
+fn problem_of<R: Files + AllocGlobal>(rt: &R, scenario: &Scenario, path: &str) -> Result<Week, Stop>
     ensures { IfOk result (λ w. HasNumbersOf scenario.now w.nurses w.shifts w.skills) }
 {
     let text = fs::read(rt, path)?;
@@ -120,11 +121,11 @@ fn after<R: Files + AllocGlobal>(
 // The instance that the three files spell.
 fn joined<R: Files + AllocGlobal>(rt: &R, words: &Words<'_>) -> Result<Instance, Stop> {
     let scenario = scenario_of(rt, words.scenario)?;
-    let week = week_of(rt, &scenario, words.week)?;
-    after(rt, scenario, words.history, week, words.early)
+    let problem = problem_of(rt, &scenario, words.week)?;
+    after(rt, scenario, words.history, problem, words.early)
 }
 
-// The cells that the file at the path holds.
+// The cells of the file at the path, which must be held.
 fn held_of<R: Files + AllocGlobal>(rt: &R, instance: &Instance, path: &str) -> Result<Roster, Stop>
     ensures { IfOk result (λ roster. HasShapeOf (tables_of instance.now) roster) }
 {

@@ -1,20 +1,15 @@
-//! What the public calls find in a week's files, as lines for tests to compare.
+//! The results of the public calls for a week's files, as lines for tests to compare.
 //!
 //!     week_report [--early] [--fix FILE] SCENARIO HISTORY WEEK [SOLUTION]
 //!
-//! It prints the week's tables, how its cells are numbered, and how large its model is, by arithmetic and
-//! by counting. With a solution it prints what the judge says of the roster.
+//! It prints the week's tables, the numbers of its cells, and the size of its model, by arithmetic and by
+//! counting. With a solution it prints the judge's verdict on the roster.
 #![tactic(auto)]
 
-// What a roster costs.
 mod costs;
-// The files, read.
 mod files;
-// The numbers of cells and models.
 mod numbers;
-// The tables that have a row for each nurse, shift type and skill.
 mod tables;
-// Numbers and names as the report says them.
 mod words;
 
 use crate::costs::print_costs;

@@ -1,5 +1,5 @@
-//! How cells are numbered, and how large the model is.
-ghost use Rattle.rota_core.specs.InstanceTables.{week_of};
+//! The numbers of the cells, and the size of the model.
+ghost use Rattle.rota_core.specs.InstanceTables.{problem_of};
 ghost use Rattle.rota_core.specs.Roster.{InWeek};
 
 use crate::files::Stop;
@@ -10,7 +10,7 @@ use rota_items::{
 
 // The last cell of the week.
 fn last_cell(instance: &Instance) -> Cell
-    ensures { InWeek (week_of instance.now) result }
+    ensures { InWeek (problem_of instance.now) result }
 {
     Cell {
         nurse: instance.nurses() - 1,
@@ -20,8 +20,7 @@ fn last_cell(instance: &Instance) -> Cell
     }
 }
 
-// The number of the last cell and the cell of that number, the unit variable's number and that it has no
-// cell.
+// The number of the last cell and the cell of that number, and the unit variable's number, which has no cell.
 fn print_variables<R: Print>(rt: &R, instance: &Instance) -> Result<(), Stop> {
     print_variable(
         rt,

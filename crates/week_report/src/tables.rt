@@ -1,11 +1,11 @@
 //! The tables of a week: a line for each nurse, shift type and skill, for each skill that a nurse has, each
-//! forbidden succession, and each place at which nurses are demanded or a day off is asked for.
+//! forbidden succession, each demand, and each requested day off.
 ghost use Rattle.std.specs.Prelude.{◌<◌};
-ghost use Rattle.rota_core.specs.InstanceTables.{week_of};
+ghost use Rattle.rota_core.specs.InstanceTables.{problem_of};
 
 use crate::files::Stop;
 use crate::words::{Place, text_of};
-use rota_core::{Contract, Demand, Instance, Past};
+use rota_core::{Contract, DAYS, Demand, Instance, Past};
 
 const NOBODY: Demand = Demand {
     minimum: 0,
@@ -41,7 +41,7 @@ fn print_skills<R: Print>(rt: &R, instance: &Instance) -> Result<(), Stop> {
     Ok(())
 }
 
-// Each shift type: its number, limits and name, and what may not follow it.
+// Each shift type: its number, limits and name, and the shift types that may not follow it.
 fn print_shifts<R: Print>(rt: &R, instance: &Instance) -> Result<(), Stop> {
     for shift in 0..instance.shifts() {
         let limits = instance.limits(shift);
@@ -54,7 +54,7 @@ fn print_shifts<R: Print>(rt: &R, instance: &Instance) -> Result<(), Stop> {
 
 // The shift types that may not follow this one.
 fn print_successions<R: Print>(rt: &R, instance: &Instance, shift: u8) -> Result<(), Stop>
-    requires { shift < (week_of instance.now).shifts }
+    requires { shift < (problem_of instance.now).shifts }
 {
     for next in 0..instance.shifts() {
         if instance.forbidden(shift, next) {
@@ -97,7 +97,7 @@ fn print_contract<R: Print>(rt: &R, contract: &Contract) -> Result<(), Stop> {
     Ok(())
 }
 
-// What came before this week.
+// The nurse's history before this week.
 fn print_past<R: Print>(rt: &R, past: &Past) -> Result<(), Stop> {
     println!(rt;
         "before {} {} {}",
@@ -114,7 +114,7 @@ fn print_past<R: Print>(rt: &R, past: &Past) -> Result<(), Stop> {
 
 // The skills that the nurse has.
 fn print_skills_of<R: Print>(rt: &R, instance: &Instance, nurse: u16) -> Result<(), Stop>
-    requires { nurse < (week_of instance.now).nurses }
+    requires { nurse < (problem_of instance.now).nurses }
 {
     for skill in 0..instance.skills() {
         if instance.has_skill(nurse, skill) {
@@ -124,11 +124,11 @@ fn print_skills_of<R: Print>(rt: &R, instance: &Instance, nurse: u16) -> Result<
     Ok(())
 }
 
-// The day and shift type of each cell that request rows of the nurse match, and how many rows do.
+// The day and shift type of each cell that request rows of the nurse match, and the number of such rows.
 fn print_requests_of<R: Print>(rt: &R, instance: &Instance, nurse: u16) -> Result<(), Stop>
-    requires { nurse < (week_of instance.now).nurses }
+    requires { nurse < (problem_of instance.now).nurses }
 {
-    for day in 0..7 {
+    for day in 0..DAYS {
         for shift in 0..instance.shifts() {
             let rows = instance.requests(nurse, day, shift);
             if rows > 0 {
@@ -141,7 +141,7 @@ fn print_requests_of<R: Print>(rt: &R, instance: &Instance, nurse: u16) -> Resul
 
 // The day, shift type and skill of each demand for nurses.
 fn print_demands<R: Print>(rt: &R, instance: &Instance) -> Result<(), Stop> {
-    for day in 0..7 {
+    for day in 0..DAYS {
         for shift in 0..instance.shifts() {
             for skill in 0..instance.skills() {
                 let demand = instance.demand(day, shift, skill);
@@ -154,7 +154,7 @@ fn print_demands<R: Print>(rt: &R, instance: &Instance) -> Result<(), Stop> {
     Ok(())
 }
 
-// The day, shift type and skill, and the least and the optimal number of nurses.
+// The day, shift type and skill, and the minimum and the optimal number of nurses.
 fn print_demand<R: Print>(
     rt: &R,
     day: u8,

@@ -1,8 +1,8 @@
-//! Numbers and names as the report says them.
+//! Numbers and names as the report prints them.
 use std::fmt;
 use std::str::from_utf8;
 
-/// A number that may be missing: `-` stands for none.
+/// A number that may be missing. A missing number is printed as `-`.
 #[derive(Clone, Copy)]
 pub struct Place<T>(pub Option<T>);
 
@@ -15,7 +15,7 @@ impl<T: fmt::Display> fmt::Display for Place<T> {
     }
 }
 
-/// The name, or `?` where it is no text.
+/// The name, or `?` if it is not text.
 pub fn text_of(name: &[u8]) -> &str {
     match from_utf8(name) {
         Ok(text) => text,

@@ -1,16 +1,16 @@
-//! Prints who could fill each place of a week, with the variable that stands for it in the week's model: a small
-//! program over `rota_core`, `rota_read` and `rota_items` only.
+//! Prints the nurses who could fill each demand of a week, with the variable of each in the week's model. It
+//! is a small program that uses only `rota_core`, `rota_read` and `rota_items`.
 //!
-//! `who_fits SCENARIO HISTORY WEEK` prints a line for each day, shift type and skill that is asked for. A nurse fits
-//! who has the skill and, on Monday, whose last shift does not forbid the shift type.
+//! `who_fits SCENARIO HISTORY WEEK` prints a line for each day, shift type and skill that needs nurses. A
+//! nurse fits if she has the skill and, on Monday, if her last shift does not forbid the shift type.
 #![tactic(auto)]
 
 ghost use Rattle.std.specs.Prelude.{◌<◌, IfOk};
-ghost use Rattle.rota_core.specs.InstanceTables.{HasNumbersOf, week_of};
+ghost use Rattle.rota_core.specs.InstanceTables.{HasNumbersOf, problem_of};
 ghost use Rattle.rota_core.specs.Roster.{InWeek};
 
 use anyhow::{Context, Result, bail};
-use rota_core::{Cell, History, Instance, Scenario, Week};
+use rota_core::{Cell, DAYS, History, Instance, Scenario, Week};
 use rota_items::cell_var;
 use rota_read::{day_name, read_history, read_scenario, read_week};
 use std::io::Write;
@@ -26,7 +26,7 @@ fn main(rt: HostRuntime) -> Result<()> {
     tell_places(&rt, &instance)
 }
 
-// The bytes of the file, whose name an error gives.
+// The bytes of the file. An error gives its name.
 fn bytes_of<R: Files + AllocGlobal>(rt: &R, path: &str) -> Result<Vec<u8>> {
     fs::read(rt, path).context(format_args!("{path}"))
 }
@@ -66,9 +66,9 @@ fn join<R: Files + AllocGlobal>(
     Ok(Instance::join(scenario, history, week, false)?)
 }
 
-// The lines of all places that are asked for.
+// The lines of all demands.
 fn tell_places(rt: &impl Print, instance: &Instance) -> Result<()> {
-    for day in 0..7 {
+    for day in 0..DAYS {
         for shift in 0..instance.shifts() {
             for skill in 0..instance.skills() {
                 tell_place(rt, instance, day, shift, skill)?;
@@ -78,11 +78,11 @@ fn tell_places(rt: &impl Print, instance: &Instance) -> Result<()> {
     Ok(())
 }
 
-// A line with who fits, where the place is asked for.
+// A line with the nurses who fit, if there is a demand.
 fn tell_place(rt: &impl Print, instance: &Instance, day: u8, shift: u8, skill: u8) -> Result<()>
-    requires day_in { day < 7 }
-    requires shift_in { shift < (week_of instance.now).shifts }
-    requires skill_in { skill < (week_of instance.now).skills }
+    requires day_in { day < DAYS }
+    requires shift_in { shift < (problem_of instance.now).shifts }
+    requires skill_in { skill < (problem_of instance.now).skills }
 {
     let demand = instance.demand(day, shift, skill);
     if demand.minimum == 0 && demand.optimal == 0 {
@@ -114,7 +114,7 @@ fn tell_place(rt: &impl Print, instance: &Instance, day: u8, shift: u8, skill: u
 
 // Whether the nurse has the skill, and her last shift does not forbid the shift type.
 fn fits(instance: &Instance, cell: Cell) -> bool
-    requires { InWeek (week_of instance.now) cell }
+    requires { InWeek (problem_of instance.now) cell }
 {
     let forbidden = match instance.past(cell.nurse).last {
         Some(last) if cell.day == 0 && last < instance.shifts() => {

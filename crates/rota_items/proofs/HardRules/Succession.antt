@@ -1,6 +1,6 @@
 -- H3: no shift type after one that it may not follow.
-use Rattle.rota_items.proofs.Common.Words.{◌≡◌, ℕ, ◌+◌, ◌<◌, ◌≤◌, ◌++◌, true, false, cond, inl, inr, refl, ap, ◌∙◌, arith, count_by, negsuc, Option, Some, None, cases_Bool, sum_by-append, AllByRecursion-append}
-use Rattle.rota_items.proofs.Common.Words.{KeepsOneCell, KeepsSuccession, is_on, InWeek, Roster, Week, cell_number, on_cells, h3_monday_row, h3_row, is_forbidden_after, H3}
+use Rattle.rota_items.proofs.Common.Imports.{◌≡◌, ℕ, ◌+◌, ◌<◌, ◌≤◌, ◌++◌, true, false, cond, inl, inr, refl, ap, ◌∙◌, arith, count_by, negsuc, Option, Some, None, cases_Bool, sum_by-append, AllByRecursion-append}
+use Rattle.rota_items.proofs.Common.Imports.{KeepsOneCell, KeepsSuccession, is_on, InWeek, Roster, Problem, cell_number, on_cells, h3_monday_row, h3_row, is_forbidden_after, H3}
 use Rattle.rota_core.proofs.LogicWords.{rises-append}
 use Rattle.rota_items.proofs.CellCounts.{any-on_cells, one-on}
 use Rattle.rota_items.proofs.HardRules.Sound.{at_most, Holds, IsHardRuleSound, IsRowSound}
@@ -9,83 +9,83 @@ use Rattle.rota_items.proofs.PatternItems.{any_or_none}
 use Rattle.rota_items.proofs.RisingCells.{day_start, on-keeps, rises-on_cells}
 use Rattle.rota_items.proofs.SoundTerms.{in-on_cells, sound-cells}
 
-module _ (week : Week) where
+module _ (problem : Problem) where
   module _ (roster : Roster) where
-    allowed-after : KeepsSuccession week roster → (n t : ℕ) → n < week.nurses → t < week.shifts →
-        is_on week roster n t 0 ≡ true → (last : Option ℕ) → (week.past n).last ≡ last → is_forbidden_after week last t ≡ false
+    allowed-after : KeepsSuccession problem roster → (n t : ℕ) → n < problem.nurses → t < problem.shifts →
+        is_on problem roster n t 0 ≡ true → (last : Option ℕ) → (problem.past n).last ≡ last → is_forbidden_after problem last t ≡ false
     allowed-after kept n t n_in t_in on None last_is = refl
     allowed-after kept n t n_in t_in on (Some s) last_is = kept.from_history n s t n_in t_in last_is on
 
-    some-on : (n s d : ℕ) → is_on week roster n s d ≡ true → 1 ≤ count_by roster (on_cells week n s d)
-    some-on n s d on = grind (arith, any_or_none roster (on_cells week n s d), any-on_cells week roster n s d)
+    some-on : (n s d : ℕ) → is_on problem roster n s d ≡ true → 1 ≤ count_by roster (on_cells problem n s d)
+    some-on n s d on = grind (arith, any_or_none roster (on_cells problem n s d), any-on_cells problem roster n s d)
 
-    monday-few : KeepsSuccession week roster → (n t : ℕ) → n < week.nurses → t < week.shifts →
-        is_forbidden_after week (week.past n).last t ≡ true → count_by roster (on_cells week n t 0) ≤ 0
+    monday-few : KeepsSuccession problem roster → (n t : ℕ) → n < problem.nurses → t < problem.shifts →
+        is_forbidden_after problem (problem.past n).last t ≡ true → count_by roster (on_cells problem n t 0) ≤ 0
     monday-few kept n t n_in t_in forbidden =
-        let allowed : is_on week roster n t 0 ≡ true → is_forbidden_after week (week.past n).last t ≡ false =
-        λ on. allowed-after kept n t n_in t_in on (week.past n).last refl in
-        grind (arith, any_or_none roster (on_cells week n t 0), any-on_cells week roster n t 0)
+        let allowed : is_on problem roster n t 0 ≡ true → is_forbidden_after problem (problem.past n).last t ≡ false =
+        λ on. allowed-after kept n t n_in t_in on (problem.past n).last refl in
+        grind (arith, any_or_none roster (on_cells problem n t 0), any-on_cells problem roster n t 0)
 
-    row-few : KeepsOneCell week roster → KeepsSuccession week roster → (n d s t : ℕ) →
-        n < week.nurses → d < 6 → s < week.shifts → t < week.shifts → week.is_forbidden s t ≡ true →
-        count_by roster (on_cells week n s d ++ on_cells week n t (d + 1)) ≤ 1
+    row-few : KeepsOneCell problem roster → KeepsSuccession problem roster → (n d s t : ℕ) →
+        n < problem.nurses → d < 6 → s < problem.shifts → t < problem.shifts → problem.is_forbidden s t ≡ true →
+        count_by roster (on_cells problem n s d ++ on_cells problem n t (d + 1)) ≤ 1
     row-few one kept n d s t n_in d_in s_in t_in forbidden =
         grind (
           arith,
-          sum_by-append (λ c. cond (roster c) 1 0) (on_cells week n s d) (on_cells week n t (d + 1)),
-          any_or_none roster (on_cells week n s d),
-          any-on_cells week roster n s d,
-          any_or_none roster (on_cells week n t (d + 1)),
-          any-on_cells week roster n t (d + 1),
+          sum_by-append (λ c. cond (roster c) 1 0) (on_cells problem n s d) (on_cells problem n t (d + 1)),
+          any_or_none roster (on_cells problem n s d),
+          any-on_cells problem roster n s d,
+          any_or_none roster (on_cells problem n t (d + 1)),
+          any-on_cells problem roster n t (d + 1),
           kept.in_week n d s t n_in d_in s_in t_in,
-          one-on week roster one n d n_in (omega arith) s s_in,
-          one-on week roster one n (d + 1) n_in (omega arith) t t_in,
+          one-on problem roster one n d n_in (omega arith) s s_in,
+          one-on problem roster one n (d + 1) n_in (omega arith) t t_in,
         )
 
-  pub succession : IsHardRuleSound week H3
+  pub succession : IsHardRuleSound problem H3
   succession =
-      let rows-are = in-turns {n = week.nurses} (λ n. in-parts
-      (in-turns {n = week.shifts} (λ t. where-holds {test = is_forbidden_after week (week.past n).last t} {x = h3_monday_row week n t}))
-      (in-turns {n = 6} (λ d. in-turns {n = week.shifts} (λ s. in-turns {n = week.shifts} (λ t.
-      where-holds {test = week.is_forbidden s t} {x = h3_row week n d s t}))))) in record {
-        rows = rows-are.all (IsRowSound week H3) (λ n n_in. (
+      let rows-are = in-turns {n = problem.nurses} (λ n. in-parts
+      (in-turns {n = problem.shifts} (λ t. where-holds {test = is_forbidden_after problem (problem.past n).last t} {x = h3_monday_row problem n t}))
+      (in-turns {n = 6} (λ d. in-turns {n = problem.shifts} (λ s. in-turns {n = problem.shifts} (λ t.
+      where-holds {test = problem.is_forbidden s t} {x = h3_row problem n d s t}))))) in record {
+        rows = rows-are.all (IsRowSound problem H3) (λ n n_in. (
           λ t t_in forbidden. record {
             part_is = refl;
-            terms = sound-cells week (negsuc 0) (inr refl) _ _ (on_cells week n t 0) (in-on_cells week n t 0 n_in t_in (omega arith))
-                (rises-on_cells week n t 0);
-            holds = λ roster _ kept. (at_most roster (on_cells week n t 0) 0).1 (monday-few roster kept n t n_in t_in forbidden);
+            terms = sound-cells problem (negsuc 0) (inr refl) _ _ (on_cells problem n t 0) (in-on_cells problem n t 0 n_in t_in (omega arith))
+                (rises-on_cells problem n t 0);
+            holds = λ roster _ kept. (at_most roster (on_cells problem n t 0) 0).1 (monday-few roster kept n t n_in t_in forbidden);
           },
           λ d d_in s s_in t t_in forbidden. record {
             part_is = refl;
-            terms = sound-cells week (negsuc 0) (inr refl) _ _ (on_cells week n s d ++ on_cells week n t (d + 1))
-                (AllByRecursion-append (InWeek week) (on_cells week n s d) (on_cells week n t (d + 1))
-                (in-on_cells week n s d n_in s_in (omega arith)) (in-on_cells week n t (d + 1) n_in t_in (omega arith)))
-                (rises-append (cell_number week) (day_start week n d) (day_start week n (d + 1)) (day_start week n (d + 1 + 1)) _ _
-                (on-keeps week n s d s_in) (on-keeps week n t (d + 1) t_in));
+            terms = sound-cells problem (negsuc 0) (inr refl) _ _ (on_cells problem n s d ++ on_cells problem n t (d + 1))
+                (AllByRecursion-append (InWeek problem) (on_cells problem n s d) (on_cells problem n t (d + 1))
+                (in-on_cells problem n s d n_in s_in (omega arith)) (in-on_cells problem n t (d + 1) n_in t_in (omega arith)))
+                (rises-append (cell_number problem) (day_start problem n d) (day_start problem n (d + 1)) (day_start problem n (d + 1 + 1)) _ _
+                (on-keeps problem n s d s_in) (on-keeps problem n t (d + 1) t_in));
             holds = λ roster one kept.
-                (at_most roster (on_cells week n s d ++ on_cells week n t (d + 1)) 1).1
+                (at_most roster (on_cells problem n s d ++ on_cells problem n t (d + 1)) 1).1
                 (row-few roster one kept n d s t n_in d_in s_in t_in forbidden);
           },
         ));
         mean = λ roster all.
             let each = rows-are.each (Holds roster) all in record {
               from_history = λ n s t n_in t_in last_is on.
-                  elim (cases_Bool (week.is_forbidden s t)) [
+                  elim (cases_Bool (problem.is_forbidden s t)) [
                     | inl forbidden ↦
-                        let row = (each n n_in).0 t t_in (ap (λ last. is_forbidden_after week last t) last_is ∙ forbidden) in
-                        absurd (omega (arith, some-on roster n t 0 on, (at_most roster (on_cells week n t 0) 0).0 row))
+                        let row = (each n n_in).0 t t_in (ap (λ last. is_forbidden_after problem last t) last_is ∙ forbidden) in
+                        absurd (omega (arith, some-on roster n t 0 on, (at_most roster (on_cells problem n t 0) 0).0 row))
                     | inr allowed ↦ allowed
                   ];
               in_week = λ n d s t n_in d_in s_in t_in first second.
-                  elim (cases_Bool (week.is_forbidden s t)) [
+                  elim (cases_Bool (problem.is_forbidden s t)) [
                     | inl forbidden ↦
                         let row = (each n n_in).1 d d_in s s_in t t_in forbidden in
                         absurd (omega (
                           arith,
-                          sum_by-append (λ c. cond (roster c) 1 0) (on_cells week n s d) (on_cells week n t (d + 1)),
+                          sum_by-append (λ c. cond (roster c) 1 0) (on_cells problem n s d) (on_cells problem n t (d + 1)),
                           some-on roster n s d first,
                           some-on roster n t (d + 1) second,
-                          (at_most roster (on_cells week n s d ++ on_cells week n t (d + 1)) 1).0 row,
+                          (at_most roster (on_cells problem n s d ++ on_cells problem n t (d + 1)) 1).0 row,
                         ))
                     | inr allowed ↦ allowed
                   ];

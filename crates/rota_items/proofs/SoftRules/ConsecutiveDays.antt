@@ -1,17 +1,23 @@
 -- The items of a nurse's runs charge the cost of those runs: on the shift types, of working days and of days off.
-use Rattle.rota_items.proofs.Common.Words.{◌≡◌, ℕ, ◌*◌, ◌<◌, Bool, not, List, arith, ap, ◌∙◌, refl, sum_by-append, AllByRecursion-append, AllByRecursion-each_below, each_below, KeepsOneCell}
-use Rattle.rota_items.proofs.Common.Words.{is_off, is_on, works, Roster, Week, Rule, Cell, Item, on_cells, work_cells, weighted_shortages, Span, Property, Present, Absent, Runs, run_items}
-use Rattle.rota_items.proofs.Common.Words.{run_cost, S2, S3, history_on, off_run_weight, off_runs, shift_run_cost, shift_run_weight, work_run_weight, shift_runs, work_runs}
+use Rattle.rota_items.proofs.Common.Imports.{◌≡◌, ℕ, ◌*◌, ◌<◌, Bool, not, List, arith, ap, ◌∙◌, refl, sum_by-append, AllByRecursion-append, AllByRecursion-concat_below, concat_below, KeepsOneCell}
+use Rattle.rota_items.proofs.Common.Imports.{is_off, is_on, works, Roster, Problem, Rule, Cell, Item, on_cells, work_cells, weighted_shortages, Span, Property, Present, Absent, Runs, run_items}
+use Rattle.rota_items.proofs.Common.Imports.{max_number, max_shifts, ◌+◌, run_cost, off_runs, shift_runs, work_runs}
+use Rattle.rota_core.specs.declared.rule.Rule.TheVariants.{S2, S3}
+use Rattle.rota_items.specs.rules.ConsecutiveAssignments.Cost.{consecutive_assignment_cost_of, history_on, shift_run_cost, shift_run_weight, work_run_weight}
+use Rattle.rota_items.specs.rules.ConsecutiveDaysOff.Cost.{consecutive_day_off_cost_of, off_run_weight}
+use Rattle.rota_items.specs.rules.ConsecutiveAssignments.Items.{assignment_runs_of}
+use Rattle.rota_items.specs.rules.ConsecutiveDaysOff.Items.{days_off_runs_of}
 use Rattle.rota_items.proofs.AlikeRosters.{on-alike, run_cost-alike, works-alike}
 use Rattle.rota_items.proofs.CellCounts.{any-on, any-works}
-use Rattle.rota_items.proofs.Lists.{sum_by-each-times, sum_below-same}
+use Rattle.rota_items.proofs.Lists.{few-append, few-concat_below, sum_by-each-times, sum_below-at_most, sum_below-same}
 use Rattle.rota_items.proofs.RunLaw.{weighted_shortages-run_items}
 use Rattle.rota_items.proofs.SoftRules.NurseProperties.{of_nurse-on, of_nurse-work, one-at_work, sound-run_items}
+use Rattle.rota_items.proofs.SoftRules.Sizes.{length-on, length-work, run_cost-le, small-runs}
 use Rattle.rota_items.proofs.SoftRules.Sound.{IsItemSound, IsNurseRuleSound, weighted}
 
 -- ---- the cost of runs, on a roster with one cell a day
 
-module _ (week : Week) (roster : Roster) (one : KeepsOneCell week roster) (n : ℕ) (n_in : n < week.nurses) (rule : Rule) (weight history : ℕ)
+module _ (problem : Problem) (roster : Roster) (one : KeepsOneCell problem roster) (n : ℕ) (n_in : n < problem.nurses) (rule : Rule) (weight history : ℕ)
     (limits : Span) where
   abbrev runs : Property Cell → Runs Cell
   runs property = record { rule = rule; weight = weight; property = property; history = history; limits = limits }
@@ -19,60 +25,78 @@ module _ (week : Week) (roster : Roster) (one : KeepsOneCell week roster) (n : �
   abbrev cost : (ℕ → Bool) → ℕ
   cost has = weight * run_cost has history limits
 
-  pub weighted-on_runs : (s : ℕ) → s < week.shifts →
-      weighted_shortages roster (run_items (runs (Present (on_cells week n s)))) ≡ cost (is_on week roster n s)
+  pub weighted-on_runs : (s : ℕ) → s < problem.shifts →
+      weighted_shortages roster (run_items (runs (Present (on_cells problem n s)))) ≡ cost (is_on problem roster n s)
   weighted-on_runs s s_in =
-      weighted_shortages-run_items (runs (Present (on_cells week n s))) roster ((of_nurse-on week n n_in s s_in).one roster one) ∙
-      ap cost (any-on week roster n s)
+      weighted_shortages-run_items (runs (Present (on_cells problem n s))) roster ((of_nurse-on problem n n_in s s_in).one roster one) ∙
+      ap cost (any-on problem roster n s)
 
-  pub weighted-work_runs : weighted_shortages roster (run_items (runs (Present (work_cells week n)))) ≡ cost (works week roster n)
+  pub weighted-work_runs : weighted_shortages roster (run_items (runs (Present (work_cells problem n)))) ≡ cost (works problem roster n)
   weighted-work_runs =
-      weighted_shortages-run_items (runs (Present (work_cells week n))) roster (one-at_work week n n_in roster one) ∙
-      ap cost (any-works week roster n)
+      weighted_shortages-run_items (runs (Present (work_cells problem n))) roster (one-at_work problem n n_in roster one) ∙
+      ap cost (any-works problem roster n)
 
-  pub weighted-off_runs : weighted_shortages roster (run_items (runs (Absent (work_cells week n)))) ≡ cost (is_off week roster n)
+  pub weighted-off_runs : weighted_shortages roster (run_items (runs (Absent (work_cells problem n)))) ≡ cost (is_off problem roster n)
   weighted-off_runs =
-      weighted_shortages-run_items (runs (Absent (work_cells week n))) roster (one-at_work week n n_in roster one) ∙
-      ap (λ has. cost (λ d. not (has d))) (any-works week roster n)
+      weighted_shortages-run_items (runs (Absent (work_cells problem n))) roster (one-at_work problem n n_in roster one) ∙
+      ap (λ has. cost (λ d. not (has d))) (any-works problem roster n)
 
 -- ---- the rules
 
-module _ (week : Week) where
+module _ (problem : Problem) where
   abbrev shift_items : ℕ → ℕ → List (Item Cell)
-  shift_items n s = run_items (shift_runs week n s)
+  shift_items n s = run_items (shift_runs problem n s)
 
-  pub sound-consecutive_assignments : IsNurseRuleSound week S2
+  pub sound-consecutive_assignments : IsNurseRuleSound problem S2 (consecutive_assignment_cost_of problem) assignment_runs_of (λ _ _. 0)
   sound-consecutive_assignments = record {
     items = λ n n_in.
-        AllByRecursion-append (IsItemSound week S2) (each_below week.shifts (shift_items n)) (run_items (work_runs week n))
-        (AllByRecursion-each_below (IsItemSound week S2) week.shifts (shift_items n) (λ s s_in.
-        sound-run_items week n (shift_runs week n s) (of_nurse-on week n n_in s s_in) (omega arith)))
-        (sound-run_items week n (work_runs week n) (of_nurse-work week n n_in) (omega arith));
+        AllByRecursion-append (IsItemSound problem S2) (concat_below problem.shifts (shift_items n)) (run_items (work_runs problem n))
+        (AllByRecursion-concat_below (IsItemSound problem S2) problem.shifts (shift_items n) (λ s s_in.
+        sound-run_items problem n (shift_runs problem n s) (of_nurse-on problem n n_in s s_in) (omega arith)))
+        (sound-run_items problem n (work_runs problem n) (of_nurse-work problem n n_in) (omega arith));
     charges = λ roster one n n_in.
         omega (
           arith,
-          sum_by-append (weighted roster) (each_below week.shifts (shift_items n)) (run_items (work_runs week n)),
-          sum_by-each-times (weighted roster) week.shifts shift_run_weight (shift_items n) (shift_run_cost week roster n) (λ s s_in.
-              weighted-on_runs week roster one n n_in S2 shift_run_weight (history_on week n s) (week.limits s) s s_in),
-          weighted-work_runs week roster one n n_in S2 work_run_weight (week.past n).work_run (week.contract n).work,
+          sum_by-append (weighted roster) (concat_below problem.shifts (shift_items n)) (run_items (work_runs problem n)),
+          sum_by-each-times (weighted roster) problem.shifts shift_run_weight (shift_items n) (shift_run_cost problem roster n) (λ s s_in.
+              weighted-on_runs problem roster one n n_in S2 shift_run_weight (history_on problem n s) (problem.limits s) s s_in),
+          weighted-work_runs problem roster one n n_in S2 work_run_weight (problem.past n).work_run (problem.contract n).work,
         );
     alike = λ one other same n n_in.
         rw (
-          sum_below-same week.shifts _ _ (λ s s_in.
-              run_cost-alike (is_on week one n s) (is_on week other n s)
-              (λ d d_in. on-alike week one other same n s d n_in s_in d_in) (history_on week n s) (week.limits s)),
-          run_cost-alike (works week one n) (works week other n) (λ d d_in. works-alike week one other same n d n_in d_in)
-              (week.past n).work_run (week.contract n).work,
+          sum_below-same problem.shifts _ _ (λ s s_in.
+              run_cost-alike (is_on problem one n s) (is_on problem other n s)
+              (λ d d_in. on-alike problem one other same n s d n_in s_in d_in) (history_on problem n s) (problem.limits s)),
+          run_cost-alike (works problem one n) (works problem other n) (λ d d_in. works-alike problem one other same n d n_in d_in)
+              (problem.past n).work_run (problem.contract n).work,
         ) refl;
+    small = λ limits n.
+        few-append (omega arith)
+        (few-concat_below max_shifts limits.shifts _ (λ s _.
+        small-runs (shift_runs problem n s) (λ d. omega (arith, length-on problem limits n s d)) (omega arith) (limits.limits s)))
+        (small-runs (work_runs problem n) (λ d. omega (arith, length-work problem limits n d)) (omega arith) (limits.work_limits n));
+    constant_small = λ limits n. omega arith;
+    cost_small = λ limits roster n.
+        omega (
+          arith,
+          sum_below-at_most problem.shifts max_shifts (7 * (1 + max_number)) (shift_run_cost problem roster n) limits.shifts (λ s.
+              omega (arith, limits.limits s, run_cost-le (is_on problem roster n s) (history_on problem n s) (problem.limits s))),
+          run_cost-le (works problem roster n) (problem.past n).work_run (problem.contract n).work,
+          limits.work_limits n,
+        );
   }
 
-  pub sound-consecutive_days_off : IsNurseRuleSound week S3
+  pub sound-consecutive_days_off : IsNurseRuleSound problem S3 (consecutive_day_off_cost_of problem) days_off_runs_of (λ _ _. 0)
   sound-consecutive_days_off = record {
-    items = λ n n_in. sound-run_items week n (off_runs week n) (of_nurse-work week n n_in) (omega arith);
+    items = λ n n_in. sound-run_items problem n (off_runs problem n) (of_nurse-work problem n n_in) (omega arith);
     charges = λ roster one n n_in.
-        omega (arith, weighted-off_runs week roster one n n_in S3 off_run_weight (week.past n).off_run (week.contract n).off);
+        omega (arith, weighted-off_runs problem roster one n n_in S3 off_run_weight (problem.past n).off_run (problem.contract n).off);
     alike = λ one other same n n_in.
         ap (λ cost. off_run_weight * cost)
-        (run_cost-alike (is_off week one n) (is_off week other n)
-        (λ d d_in. ap not (works-alike week one other same n d n_in d_in)) (week.past n).off_run (week.contract n).off);
+        (run_cost-alike (is_off problem one n) (is_off problem other n)
+        (λ d d_in. ap not (works-alike problem one other same n d n_in d_in)) (problem.past n).off_run (problem.contract n).off);
+    small = λ limits n. small-runs (off_runs problem n) (λ d. omega (arith, length-work problem limits n d)) (omega arith) (limits.off_limits n);
+    constant_small = λ limits n. omega arith;
+    cost_small = λ limits roster n.
+        omega (arith, run_cost-le (is_off problem roster n) (problem.past n).off_run (problem.contract n).off, limits.off_limits n);
   }

@@ -1,62 +1,80 @@
--- The items of the optimal numbers charge the nurses who are missing.
-use Rattle.rota_items.proofs.Common.Words.{◌≡◌, ℕ, ◌-◌, ◌*◌, Bool, false, refl, ap, arith, nat_lt, ints, AllByRecursion-each_below, AllByRecursion-only_if, nurses_at, KeepsMinimum, Roster, cell}
-use Rattle.rota_items.proofs.Common.Words.{Week, demand_cells, shortage, weighted_shortages, nurse_constant, S1, optimum_cost, optimum_weight, optimum_item, optimum_items, optimum_items_at}
+-- The items of the optimal numbers charge the missing nurses.
+use Rattle.rota_items.proofs.Common.Imports.{◌≡◌, ℕ, ◌-◌, ◌*◌, Bool, false, refl, ap, arith, nat_lt, ints, AllByRecursion-concat_below, AllByRecursion-singleton_if, nurses_at, KeepsMinimum, Roster, cell}
+use Rattle.rota_items.proofs.Common.Imports.{Problem, demand_cells, shortage, weighted_shortages, rules, max_number, max_shifts, max_skills, S1, optimum_cost, optimum_weight, optimum_item, optimum_items, optimum_items_at}
 use Rattle.rota_items.proofs.AlikeRosters.{nurses-alike}
-use Rattle.rota_items.proofs.Lists.{sum_by-only_if, sum_by-each-times, count_by-each, sum_below-same, sum_below-zero}
+use Rattle.rota_items.proofs.ItemLists.{none_of_nurses}
+use Rattle.rota_items.specs.RuleItems.{no_charge}
+use Rattle.rota_items.proofs.Lists.{few-concat_below, few-singleton_if, sum_by-singleton_if, sum_by-each-times, count_by-each, sum_below-same, sum_below-zero}
 use Rattle.rota_items.proofs.SmallSums.{positive_part-parts}
-use Rattle.rota_items.proofs.SoftRules.Sound.{IsItemSound, IsSoftRuleSound, weighted}
+use Rattle.rota_items.proofs.SoftRules.Sizes.{length-demand, sum-cells}
+use Rattle.rota_items.proofs.SoftRules.Sound.{IsItemSound, IsRuleSound, weighted}
 use Rattle.rota_items.proofs.SoundTerms.{sound-demand}
 use Rattle.rota_items.proofs.PatternItems.{value_of-sum}
 
-module _ (week : Week) where
+module _ (problem : Problem) where
   abbrev is_wanted : ℕ → ℕ → ℕ → Bool
-  is_wanted d s k = nat_lt (week.demand d s k).minimum (week.demand d s k).optimal
+  is_wanted d s k = nat_lt (problem.demand d s k).minimum (problem.demand d s k).optimal
 
   -- ---- the cost
 
   shortage-optimum_item : (roster : Roster) (d s k : ℕ) →
-      shortage roster (optimum_item week d s k) ≡ (week.demand d s k).optimal - nurses_at week roster d s k
+      shortage roster (optimum_item problem d s k) ≡ (problem.demand d s k).optimal - nurses_at problem roster d s k
   shortage-optimum_item roster d s k =
       omega (
         arith,
         ints,
         positive_part-parts,
-        value_of-sum roster false (demand_cells week d s k),
-        count_by-each roster week.nurses (λ n. cell n d s k),
+        value_of-sum roster false (demand_cells problem d s k),
+        count_by-each roster problem.nurses (λ n. cell n d s k),
       )
 
-  pub weighted-optimum_items : (roster : Roster) → KeepsMinimum week roster →
-      weighted_shortages roster (optimum_items week) ≡ optimum_cost week roster
+  pub weighted-optimum_items : (roster : Roster) → KeepsMinimum problem roster →
+      weighted_shortages roster (optimum_items problem) ≡ optimum_cost problem roster
   weighted-optimum_items roster met =
       sum_by-each-times (weighted roster) 7 optimum_weight _ _ (λ d d_in.
-      sum_by-each-times (weighted roster) week.shifts optimum_weight _ _ (λ s s_in.
-      sum_by-each-times (weighted roster) week.skills optimum_weight _ _ (λ k k_in.
+      sum_by-each-times (weighted roster) problem.shifts optimum_weight _ _ (λ s s_in.
+      sum_by-each-times (weighted roster) problem.skills optimum_weight _ _ (λ k k_in.
       grind (
         arith,
-        sum_by-only_if (weighted roster) (is_wanted d s k) (optimum_item week d s k),
+        sum_by-singleton_if (weighted roster) (is_wanted d s k) (optimum_item problem d s k),
         met d s k d_in s_in k_in,
         shortage-optimum_item roster d s k,
       ))))
 
   -- ---- the items
 
-  pub sound-optimal_coverage : IsSoftRuleSound week S1
+  pub sound-optimal_coverage : IsRuleSound problem S1 (optimum_cost problem) (record no_charge { day_items = optimum_items })
   sound-optimal_coverage = record {
     items =
-        AllByRecursion-each_below (IsItemSound week S1) 7 _ (λ d d_in.
-        AllByRecursion-each_below (IsItemSound week S1) week.shifts _ (λ s s_in.
-        AllByRecursion-each_below (IsItemSound week S1) week.skills (optimum_items_at week d s) (λ k k_in.
-        AllByRecursion-only_if (IsItemSound week S1) (is_wanted d s k) (optimum_item week d s k) (λ wanted. record {
+        rw (none_of_nurses problem (optimum_items problem))
+        (AllByRecursion-concat_below (IsItemSound problem S1) 7 _ (λ d d_in.
+        AllByRecursion-concat_below (IsItemSound problem S1) problem.shifts _ (λ s s_in.
+        AllByRecursion-concat_below (IsItemSound problem S1) problem.skills (optimum_items_at problem d s) (λ k k_in.
+        AllByRecursion-singleton_if (IsItemSound problem S1) (is_wanted d s k) (optimum_item problem d s k) (λ wanted. record {
           rule_is = refl;
-          terms = sound-demand week d s k d_in s_in k_in;
+          terms = sound-demand problem d s k d_in s_in k_in;
           weighs = omega arith;
           has_slack = grind arith;
           enough = λ roster keeps. omega (arith, shortage-optimum_item roster d s k, keeps.minimum d s k d_in s_in k_in);
-        }))));
+        })))));
     charges = λ roster keeps.
-        omega (arith, ints, weighted-optimum_items roster keeps.minimum, sum_below-zero week.nurses (nurse_constant week S1) (λ _ _. refl));
+        rw (none_of_nurses problem (optimum_items problem))
+        (omega (arith, ints, weighted-optimum_items roster keeps, sum_below-zero problem.nurses (λ _. 0) (λ _ _. refl)));
     alike = λ one other same.
         ap (λ sum. optimum_weight * sum)
-        (sum_below-same 7 _ _ (λ d d_in. sum_below-same week.shifts _ _ (λ s s_in. sum_below-same week.skills _ _ (λ k k_in.
-        ap (λ count. (week.demand d s k).optimal - count) (nurses-alike week one other same d s k d_in s_in k_in)))));
+        (sum_below-same 7 _ _ (λ d d_in. sum_below-same problem.shifts _ _ (λ s s_in. sum_below-same problem.skills _ _ (λ k k_in.
+        ap (λ count. (problem.demand d s k).optimal - count) (nurses-alike problem one other same d s k d_in s_in k_in)))));
+    small = λ limits.
+        rw (none_of_nurses problem (optimum_items problem))
+        (few-concat_below 7 (omega arith) _ (λ d _. few-concat_below max_shifts limits.shifts _ (λ s _.
+        few-concat_below max_skills limits.skills (optimum_items_at problem d s) (λ k _.
+        few-singleton_if _ (optimum_item problem d s k) (λ _.
+        let small = limits.optimal d s k in let few = length-demand problem limits d s k in search rules)))));
+    constant_small = λ limits n. omega arith;
+    cost_small = λ limits roster.
+        omega (
+          arith,
+          sum-cells problem limits max_number (λ d s k. (problem.demand d s k).optimal - nurses_at problem roster d s k)
+              (λ d s k. omega (arith, limits.optimal d s k)),
+        );
   }

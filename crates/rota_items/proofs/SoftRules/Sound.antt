@@ -1,67 +1,94 @@
--- What is to be shown of a soft rule and its items.
-use Rattle.rota_items.proofs.Common.Words.{◌≡◌, ℕ, ◌+◌, ◌*◌, ◌<◌, ◌≤◌, pos, AllByRecursion, arith, sum_below, each_below, KeepsCompetitionRules, KeepsOneCell, Roster, Week, Rule, Cell}
-use Rattle.rota_items.proofs.Common.Words.{Item, shortage, weighted_shortages, charged, constant_of_rule, items_of_rule, rule_cost, nurse_constant, nurse_items, S2, S3, S5, S6, S7}
-use Rattle.rota_items.proofs.Common.Words.{assignment_cost_of, complete_weekend_cost_of, consecutive_assignment_cost_of, consecutive_day_off_cost_of, worked_weekend_cost_of}
+-- The conditions on a soft rule and its items.
+use Rattle.rota_items.proofs.Common.Imports.{◌≡◌, ℕ, ◌+◌, ◌*◌, ◌<◌, ◌≤◌, pos, AllByRecursion, arith, sum_below, concat_below, KeepsCompetitionRules, KeepsOneCell, Roster, Problem, Rule, Cell}
+use Rattle.rota_items.proofs.Common.Imports.{Item, shortage, weighted_shortages, value_of, ints, ◌+ℤ◌, ◌++◌, List, max_nurses, AllByRecursion-concat_below}
+use Rattle.rota_items.proofs.Common.Imports.{IsWithinLimits, max_constant_of_nurse, max_cost, max_cost_of_nurse, max_items, max_items_of_nurse, max_slacks}
 use Rattle.rota_items.specs.AlikeRosters.{AreAlike}
+use Rattle.rota_items.specs.RuleItems.{Charge, no_charge}
+use Rattle.rota_items.specs.ModelCosts.{IsChargedOn}
 use Rattle.rota_items.proofs.SoundTerms.{AreSound}
-use Rattle.rota_items.proofs.Lists.{sum_by-each, sum_below-plus, sum_below-same, sum_below-zero}
+use Rattle.rota_items.proofs.SoftRules.Sizes.{IsItemSmall}
+use Rattle.rota_items.proofs.Lists.{AreFew, few-concat_below, sum_below-at_most, sum_by-each, sum_below-plus, sum_below-same}
 
 -- ---- of an item
 
--- what the item charges on a roster
+-- the charge of the item on a roster
 abbrev pub weighted : Roster → Item Cell → ℕ
 weighted roster item = item.weight * shortage roster item
 
--- the item charges the rule, its terms are sound, it has a weight and a slack, and its slacks make up for what it lacks
-pub record IsItemSound (week : Week) (rule : Rule) (item : Item Cell) : Type 0 where
+-- the item belongs to the rule, its terms are sound, it has a weight and a slack, and its slacks cover its shortage
+pub record IsItemSound (problem : Problem) (rule : Rule) (item : Item Cell) : Type 0 where
   pub rule_is : item.rule ≡ rule
-  pub terms : AreSound week item.terms
+  pub terms : AreSound problem item.terms
   pub weighs : 1 ≤ item.weight
   pub has_slack : 1 ≤ item.slacks
-  pub enough : (roster : Roster) → KeepsCompetitionRules week roster → shortage roster item ≤ item.slacks
+  pub enough : (roster : Roster) → KeepsCompetitionRules problem roster → shortage roster item ≤ item.slacks
 
 -- ---- of a rule
 
--- The rule's items are sound, and what they charge, with the rule's part of the constant and its terms on cells, is
--- the rule's cost. Rosters with the same cells in the week cost the same.
-pub record IsSoftRuleSound (week : Week) (rule : Rule) : Type 0 where
-  pub items : AllByRecursion (IsItemSound week rule) (items_of_rule week rule)
-  pub charges : (roster : Roster) → KeepsCompetitionRules week roster → charged week roster rule ≡ pos (rule_cost week roster rule)
-  pub alike : (one other : Roster) → AreAlike week one other → rule_cost week one rule ≡ rule_cost week other rule
+-- all items of a charge, and its constant
+abbrev pub items_in : Problem → Charge → List (Item Cell)
+items_in problem charge = charge.day_items problem ++ concat_below problem.nurses (charge.nurse_items problem)
 
--- what the rule costs at a nurse, if it is one that charges each
-abbrev pub nurse_cost : Week → Roster → Rule → ℕ → ℕ
-nurse_cost week roster S2 n = consecutive_assignment_cost_of week roster n
-nurse_cost week roster S3 n = consecutive_day_off_cost_of week roster n
-nurse_cost week roster S5 n = complete_weekend_cost_of week roster n
-nurse_cost week roster S6 n = assignment_cost_of week roster n
-nurse_cost week roster S7 n = worked_weekend_cost_of week roster n
-nurse_cost week roster _ n = 0
+abbrev pub constant_in : Problem → Charge → ℕ
+constant_in problem charge = sum_below problem.nurses (charge.nurse_constant problem)
 
--- the same at a nurse, of a rule that charges each
-pub record IsNurseRuleSound (week : Week) (rule : Rule) : Type 0 where
-  pub items : (n : ℕ) → n < week.nurses → AllByRecursion (IsItemSound week rule) (nurse_items week rule n)
-  pub charges : (roster : Roster) → KeepsOneCell week roster → (n : ℕ) → n < week.nurses →
-      weighted_shortages roster (nurse_items week rule n) + nurse_constant week rule n ≡ nurse_cost week roster rule n
-  pub alike : (one other : Roster) → AreAlike week one other → (n : ℕ) → n < week.nurses →
-      nurse_cost week one rule n ≡ nurse_cost week other rule n
+-- The rule's items are sound. Their charge, with the rule's constant and its terms on cells, is the rule's cost. Rosters with the same
+-- cells in the week cost the same. Within the limits all of these are small.
+pub record IsRuleSound (problem : Problem) (rule : Rule) (cost : Roster → ℕ) (charge : Charge) : Type 0 where
+  pub items : AllByRecursion (IsItemSound problem rule) (items_in problem charge)
+  pub charges : (roster : Roster) → IsChargedOn problem roster rule →
+      pos (weighted_shortages roster (items_in problem charge) + constant_in problem charge) +ℤ value_of roster (charge.cell_terms problem) ≡
+      pos (cost roster)
+  pub alike : (one other : Roster) → AreAlike problem one other → cost one ≡ cost other
+  pub small : IsWithinLimits problem → AreFew (IsItemSmall (max_slacks rule)) (max_items rule) (items_in problem charge)
+  pub constant_small : IsWithinLimits problem → (n : ℕ) → charge.nurse_constant problem n ≤ max_constant_of_nurse rule
+  pub cost_small : IsWithinLimits problem → (roster : Roster) → cost roster ≤ max_cost
 
-module _ (week : Week) (rule : Rule) (sound : IsNurseRuleSound week rule) (roster : Roster) (one : KeepsOneCell week roster) where
-  -- what the nurses' items and their parts of the constant charge is what the nurses cost
-  pub charges-nurses :
-      weighted_shortages roster (each_below week.nurses (nurse_items week rule)) + constant_of_rule week rule ≡
-      sum_below week.nurses (nurse_cost week roster rule)
-  charges-nurses =
-      omega (
-        arith,
-        sum_by-each (weighted roster) week.nurses (nurse_items week rule),
-        sum_below-plus week.nurses (λ n. weighted_shortages roster (nurse_items week rule n)) (nurse_constant week rule),
-        sum_below-same week.nurses _ _ (sound.charges roster one),
-      )
+-- ---- of a rule that charges each nurse, and nothing else
 
-  -- items alone, where the rule has no part of the constant
-  pub charges-items : ((n : ℕ) → nurse_constant week rule n ≡ 0) →
-      weighted_shortages roster (each_below week.nurses (nurse_items week rule)) ≡
-      sum_below week.nurses (nurse_cost week roster rule)
-  charges-items none =
-      omega (arith, charges-nurses, sum_below-zero week.nurses (nurse_constant week rule) (λ n _. none n))
+abbrev pub of_nurses : (Problem → ℕ → List (Item Cell)) → (Problem → ℕ → ℕ) → Charge
+of_nurses items constant = record no_charge { nurse_items = items; nurse_constant = constant }
+
+-- the same at a nurse
+pub record IsNurseRuleSound (problem : Problem) (rule : Rule) (cost : Roster → ℕ → ℕ) (items_of : Problem → ℕ → List (Item Cell))
+    (constant_of : Problem → ℕ → ℕ) : Type 0 where
+  pub items : (n : ℕ) → n < problem.nurses → AllByRecursion (IsItemSound problem rule) (items_of problem n)
+  pub charges : (roster : Roster) → KeepsOneCell problem roster → (n : ℕ) → n < problem.nurses →
+      weighted_shortages roster (items_of problem n) + constant_of problem n ≡ cost roster n
+  pub alike : (one other : Roster) → AreAlike problem one other → (n : ℕ) → n < problem.nurses → cost one n ≡ cost other n
+  pub small : IsWithinLimits problem → (n : ℕ) → AreFew (IsItemSmall (max_slacks rule)) (max_items_of_nurse rule) (items_of problem n)
+  pub constant_small : IsWithinLimits problem → (n : ℕ) → constant_of problem n ≤ max_constant_of_nurse rule
+  pub cost_small : IsWithinLimits problem → (roster : Roster) (n : ℕ) → cost roster n ≤ max_cost_of_nurse
+
+module _ {problem : Problem} {rule : Rule} {cost : Roster → ℕ → ℕ} {items : Problem → ℕ → List (Item Cell)} {constant : Problem → ℕ → ℕ}
+    (sound : IsNurseRuleSound problem rule cost items constant) where
+  module _ (roster : Roster) (one : KeepsOneCell problem roster) where
+    -- the nurses' items and constants charge the cost of the nurses
+    charges-nurses :
+        weighted_shortages roster (concat_below problem.nurses (items problem)) + sum_below problem.nurses (constant problem) ≡
+        sum_below problem.nurses (cost roster)
+    charges-nurses =
+        omega (
+          arith,
+          sum_by-each (weighted roster) problem.nurses (items problem),
+          sum_below-plus problem.nurses (λ n. weighted_shortages roster (items problem n)) (constant problem),
+          sum_below-same problem.nurses _ _ (sound.charges roster one),
+        )
+
+    charged-nurses :
+        pos (weighted_shortages roster (concat_below problem.nurses (items problem)) + sum_below problem.nurses (constant problem)) +ℤ pos 0 ≡
+        pos (sum_below problem.nurses (cost roster))
+    charged-nurses = omega (arith, ints, charges-nurses)
+
+  pub by_nurse : ((roster : Roster) → IsChargedOn problem roster rule → KeepsOneCell problem roster) →
+      max_items rule ≡ max_nurses * max_items_of_nurse rule →
+      IsRuleSound problem rule (λ roster. sum_below problem.nurses (cost roster)) (of_nurses items constant)
+  by_nurse one_cell maximum = record {
+    items = AllByRecursion-concat_below (IsItemSound problem rule) problem.nurses (items problem) sound.items;
+    charges = λ roster keeps. charged-nurses roster (one_cell roster keeps);
+    alike = λ one other same. sum_below-same problem.nurses _ _ (sound.alike one other same);
+    small = λ limits. rw maximum (few-concat_below max_nurses limits.nurses (items problem) (λ n _. sound.small limits n));
+    constant_small = sound.constant_small;
+    cost_small = λ limits roster.
+        omega (arith, sum_below-at_most problem.nurses max_nurses _ (cost roster) limits.nurses (sound.cost_small limits roster));
+  }

@@ -7,23 +7,23 @@ use crate::part::Part;
 use crate::takers::Taker;
 use std::convert::Infallible;
 
-/// The numbers of the first line of a model's text.
+/// The two numbers in the first line of a model's text.
 #[derive(Clone, Copy, PartialEq, Eq, Debug)]
 pub struct Counts {
     pub variables: u32,
     pub constraints: u32,
 }
 
-/// A taker that counts the rows other than the objective, and finds the greatest variable.
+/// A taker that counts the rows other than the objective, and finds the maximum variable.
 ///
-/// It never fails: a count that would not fit stays at the greatest number.
+/// It never fails: a count that would overflow stays at the maximum.
 #[derive(Debug, Drop)]
 pub struct Counter {
     pub counts: Counts,
 }
 
 impl Counter {
-    /// A counter that took nothing yet.
+    /// A counter that has taken nothing.
     pub fn new() -> Self
         ensures { result.counts ≡ no_counts }
     {

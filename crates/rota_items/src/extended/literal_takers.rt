@@ -1,12 +1,12 @@
-//! What takes the values of variables, one by one.
+//! Takers of the values of variables, one by one.
 ghost use Rattle.std.specs.Prelude.{◌≡◌, Bool, MatchResult};
 
-/// What takes the literals of an assignment, one at a time: of the variables 1, 2, .. in turn, each
-/// positive where its variable is true.
+/// A taker of the literals of an assignment, one at a time: the literals of the variables 1, 2, .. in order.
+/// A literal is positive if its variable is true.
 ///
-/// As a taker of rows does, it stands for a value, and a literal that it takes is a step of that value.
+/// Like a taker of rows it has an abstract value, and a literal that it takes is a step of that value.
 pub trait LiteralTaker {
-    /// Why a literal may be refused.
+    /// The reason why a literal may be refused.
     type Fault;
 
     ghost Value: { Type 0 };
@@ -17,7 +17,7 @@ pub trait LiteralTaker {
 
     ghost left: { Value → Bool → Self → Type 0 };
 
-    /// Takes the literal of the next variable. Only the taker answers an Err, and it ends a drive.
+    /// Takes the literal of the next variable. Only the taker returns an `Err`, which ends a drive.
     fn literal(&mut self, positive: bool) -> Result<(), Self::Fault>
         ensures { MatchResult result
             (λ _. value self.new ≡ step (value self.old) positive)

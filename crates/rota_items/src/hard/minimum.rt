@@ -1,19 +1,18 @@
-//! H2: the least number of nurses, where one is asked for.
-ghost use Rattle.rota_core.specs.InstanceTables.{week_of};
+//! H2: the minimum number of nurses, if it is above 0.
+ghost use Rattle.rota_core.specs.InstanceTables.{problem_of};
 ghost use Rattle.rota_items.specs.HardRows.{h2_rows};
-ghost use Rattle.rota_items.specs.RowTakes.{TakesRows};
+ghost use Rattle.rota_items.specs.Takes.{TakesRows};
 
 use crate::cell_sum::CellSum;
-use crate::days::DAYS;
 use crate::hard::row_takers::{HardRow, RowTaker};
-use crate::hard::row_walk::row_where;
-use rota_core::{Instance, Rule};
+use crate::hard::row_visits::emit_row_if;
+use rota_core::{DAYS, Instance, Rule};
 
-/// The least number of nurses, for each day, shift type and skill, where one is asked for.
-#[tactic(auto, using(crate::proofs::Taking::taking), unfolding(crate::specs::RowValues::numbered_rows))]
-pub fn walk<T: RowTaker>(instance: &Instance, taker: &mut T) -> Result<(), T::Fault>
-    ensures { let week = week_of instance.now in
-        TakesRows T.RowTaker week (h2_rows week) taker.old taker.new result }
+/// The minimum number of nurses, for each day, shift type and skill for which it is above 0.
+#[tactic(auto, using(crate::proofs::Taking::taking), unfolding(crate::specs::SoftItems::numbered_rows))]
+pub fn visit<T: RowTaker>(instance: &Instance, taker: &mut T) -> Result<(), T::Fault>
+    ensures { let problem = problem_of instance.now in
+        TakesRows T.RowTaker problem (h2_rows problem) taker.old taker.new result }
 {
     for day in 0..DAYS {
         for shift in 0..instance.shifts() {
@@ -24,7 +23,7 @@ pub fn walk<T: RowTaker>(instance: &Instance, taker: &mut T) -> Result<(), T::Fa
                     sum: CellSum::Demand { day, shift, skill },
                     degree: i64::from(minimum),
                 };
-                row_where(instance, taker, minimum > 0, row)?;
+                emit_row_if(instance, taker, minimum > 0, row)?;
             }
         }
     }

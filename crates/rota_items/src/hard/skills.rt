@@ -1,18 +1,18 @@
-//! H4: no cell that needs a skill that the nurse lacks.
-ghost use Rattle.rota_core.specs.InstanceTables.{week_of};
+//! H4: no cell that needs a skill that the nurse does not have.
+ghost use Rattle.rota_core.specs.InstanceTables.{problem_of};
 ghost use Rattle.rota_items.specs.HardRows.{h4_rows};
-ghost use Rattle.rota_items.specs.RowTakes.{TakesRows};
+ghost use Rattle.rota_items.specs.Takes.{TakesRows};
 
 use crate::cell_sum::CellSum;
 use crate::hard::row_takers::{HardRow, RowTaker};
-use crate::hard::row_walk::row_where;
+use crate::hard::row_visits::emit_row_if;
 use rota_core::{Instance, Rule};
 
-/// No cell of a nurse that needs a skill, for each nurse and skill that she lacks.
-#[tactic(auto, using(crate::proofs::Taking::taking), unfolding(crate::specs::RowValues::numbered_rows))]
-pub fn walk<T: RowTaker>(instance: &Instance, taker: &mut T) -> Result<(), T::Fault>
-    ensures { let week = week_of instance.now in
-        TakesRows T.RowTaker week (h4_rows week) taker.old taker.new result }
+/// No cell of a nurse that needs a skill, for each nurse and each skill that she does not have.
+#[tactic(auto, using(crate::proofs::Taking::taking), unfolding(crate::specs::SoftItems::numbered_rows))]
+pub fn visit<T: RowTaker>(instance: &Instance, taker: &mut T) -> Result<(), T::Fault>
+    ensures { let problem = problem_of instance.now in
+        TakesRows T.RowTaker problem (h4_rows problem) taker.old taker.new result }
 {
     for nurse in 0..instance.nurses() {
         for skill in 0..instance.skills() {
@@ -21,7 +21,7 @@ pub fn walk<T: RowTaker>(instance: &Instance, taker: &mut T) -> Result<(), T::Fa
                 sum: CellSum::Skill { nurse, skill },
                 degree: 0,
             };
-            row_where(instance, taker, !instance.has_skill(nurse, skill), row)?;
+            emit_row_if(instance, taker, !instance.has_skill(nurse, skill), row)?;
         }
     }
     Ok(())

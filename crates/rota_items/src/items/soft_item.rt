@@ -1,13 +1,13 @@
-//! The items of the soft rules as values: what a walk over them hands to a taker.
+//! The items of the soft rules as values, which a walk over them sends to a taker.
 ghost use Rattle.std.specs.Prelude.{◌≡◌, ◌+◌, ◌<◌};
-ghost use Rattle.rota_items.specs.ItemRows.{slacks_within};
-ghost use Rattle.rota_items.specs.Limits.{word_limit};
+ghost use Rattle.rota_items.specs.RowsOfItems.{slacks_within};
+ghost use Rattle.rota_items.specs.MachineBounds.{word_limit};
 
 use crate::cell_sum::{CellSum, DayProperty};
 use rota_core::{Rule, Span};
 
-/// An item: terms that with `slacks` slacks are to be at least the degree, where each slack costs the
-/// weight.
+/// An item: the sum of its terms and its `slacks` slacks must be at least the degree, and each true slack
+/// costs the weight.
 #[derive(Clone, Copy)]
 pub struct SoftItem {
     pub rule: Rule,
@@ -18,7 +18,7 @@ pub struct SoftItem {
 }
 
 impl SoftItem {
-    /// The item with as many of its slacks as there are numbers for, from the first on. A week's model
+    /// The item with those of its slacks, from the first on, for which there are numbers. The model of a week
     /// has numbers for all.
     pub fn within_numbers(self, first: u32) -> SoftItem
         ensures slacks_fit { first + result.slacks < word_limit }
@@ -31,8 +31,8 @@ impl SoftItem {
     }
 }
 
-/// What of a nurse's days is charged: the rule, the weight of a unit, and the property that the days of
-/// a pattern are to have.
+/// How a nurse's runs are charged: the rule, the weight of a unit, and the property that the days of a
+/// pattern must have.
 #[derive(Clone, Copy)]
 pub struct RunCharge {
     pub rule: Rule,
@@ -41,7 +41,7 @@ pub struct RunCharge {
     pub property: DayProperty,
 }
 
-/// A nurse's runs: how long a run the history left, and how long a run is to be.
+/// A nurse's runs: the length of the run that the history left, and the limits of a run's length.
 #[derive(Clone, Copy)]
 pub struct NurseRuns {
     pub charge: RunCharge,

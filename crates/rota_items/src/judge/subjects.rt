@@ -1,15 +1,15 @@
-//! What a judge evaluates.
+//! The subject that a judge evaluates.
 ghost use Rattle.std.specs.Prelude.{◌≡◌};
-ghost use Rattle.rota_items.specs.Judged.{subject_of};
-ghost use Rattle.rota_items.specs.Judging.{true_slacks};
+ghost use Rattle.rota_items.specs.JudgeSubject.{subject_of};
+ghost use Rattle.rota_items.specs.JudgeState.{true_slacks};
 
 use crate::judge::tallies::{RowSums, positive_part};
 use rota_core::{Bits, Roster};
 
-/// What a judge evaluates: the variables whose bit is true, or the extension of a roster.
+/// The subject that a judge evaluates: the variables whose bit is true, or the extension of a roster.
 ///
-/// Which slacks the extension has is known only when the row of their constraint is closed. Until then
-/// all of them count.
+/// The number of true slacks in an extension is known only when the row of their constraint is closed. Until
+/// then all of them count.
 #[derive(Clone, Copy)]
 pub enum Subject<'a> {
     Assigned(&'a Bits),
@@ -17,7 +17,7 @@ pub enum Subject<'a> {
 }
 
 impl<'a> Subject<'a> {
-    /// How many slacks of the row are true, where the other terms lack this much of the degree.
+    /// The number of true slacks of the row, if its other terms are this far below the degree.
     pub fn true_slacks(self, sums: RowSums, lacks: u64) -> u64
         ensures { result ≡ true_slacks (subject_of self.entry) sums lacks }
     {

@@ -1,16 +1,16 @@
-//! What a judge adds up, row by row.
+//! The sums that a judge keeps, row by row.
 ghost use Rattle.std.specs.Prelude.{◌≡◌, ◌<◌, if◌then◌else◌};
-ghost use Rattle.rota_items.specs.ModelWords.{positive_part};
-ghost use Rattle.rota_items.specs.Judged.{subject_of};
-ghost use Rattle.rota_items.specs.Judging.{closed, constraint_closed, lacking_in, no_sums, no_tally, objective_closed, plus, with_cost};
-ghost use Rattle.rota_items.specs.Limits.{signed_limit};
+ghost use Rattle.rota_items.specs.Rows.{positive_part};
+ghost use Rattle.rota_items.specs.JudgeSubject.{subject_of};
+ghost use Rattle.rota_items.specs.JudgeState.{closed, constraint_closed, lacking_in, no_sums, no_tally, objective_closed, saturating_sum, with_cost};
+ghost use Rattle.rota_items.specs.MachineBounds.{signed_limit};
 
 use crate::judge::subjects::Subject;
 use crate::part::Part;
-use crate::rules::soft_place;
+use crate::rules::soft_index;
 use rota_core::{Rule, SOFT_RULES};
 
-/// The sums of the terms of a row that count: those at slacks, and the others.
+/// The sums of the terms of a row that count: the sum of its slacks, and the sum of the other terms.
 #[derive(Clone, Copy, PartialEq, Eq, Debug)]
 pub struct RowSums {
     pub others: i64,
@@ -28,11 +28,11 @@ impl RowSums {
         }
     }
 
-    /// One term more, at a slack or not.
+    /// Adds a term, at a slack or not.
     pub fn add(&mut self, coefficient: i64, at_slack: bool)
         ensures { self.new ≡ (if at_slack
-            then record self.old { slacks = plus self.old.slacks coefficient }
-            else record self.old { others = plus self.old.others coefficient }) }
+            then record self.old { slacks = saturating_sum self.old.slacks coefficient }
+            else record self.old { others = saturating_sum self.old.others coefficient }) }
     {
         if at_slack {
             self.slacks = self.slacks.saturating_add(coefficient);
@@ -41,7 +41,7 @@ impl RowSums {
         }
     }
 
-    /// What the terms other than those at slacks lack of the degree.
+    /// The shortage of a row: how far its terms without slacks are below the degree.
     pub fn lacking(self, degree: i64) -> u64
         ensures { result ≡ lacking_in self degree }
     {
@@ -49,18 +49,18 @@ impl RowSums {
     }
 }
 
-/// What is known of the open row, and of the rows before it.
+/// The judge's knowledge of the open row, and of the rows before it.
 #[derive(Clone, Copy, PartialEq, Eq, Debug)]
 pub struct Tally {
     pub part: Part,
     pub sums: RowSums,
-    /// The rows that were closed, other than the objective.
+    /// The number of closed rows other than the objective.
     pub constraints: u32,
-    /// The first of them that is not satisfied: its number, and its rule.
+    /// The first constraint that is not satisfied: its number, and its rule.
     pub unmet: Option<(u32, Rule)>,
-    /// What the objective's row gives but for its slacks: requests, and the constant.
+    /// The value of the objective's row without its slacks: requests, and the constant.
     pub requests_and_constant: u64,
-    /// The weights of the slacks that are true.
+    /// The weights of the true slacks.
     pub slacks: u64,
     /// The weighted shortages of the soft rules.
     pub shortages: [u64; SOFT_RULES],
@@ -93,7 +93,7 @@ impl Tally {
         }
     }
 
-    // Its slacks are charged where their own rows are closed.
+    // The slacks of the objective are charged when their own rows are closed.
     fn close_objective(&mut self)
         ensures { self.new ≡ objective_closed self.old }
     {
@@ -101,8 +101,8 @@ impl Tally {
         self.requests_and_constant = self.requests_and_constant.saturating_add(value);
     }
 
-    // One constraint more, which may be the first that is unmet. What it lacks is charged to its rule,
-    // and what is true of its slacks to the objective.
+    // One more constraint, which may be the first unsatisfied one. Its shortage is charged to its rule, and
+    // its true slacks to the objective.
     fn close_constraint(&mut self, subject: Subject<'_>, rule: Rule, weight: u64, degree: i64)
         ensures { self.new ≡ constraint_closed (subject_of subject.entry) self.old rule weight degree }
     {
@@ -120,7 +120,7 @@ impl Tally {
     }
 }
 
-/// The number, or 0 where it is negative.
+/// The number, or 0 if it is negative.
 pub fn positive_part(number: i64) -> u64
     ensures value { result ≡ positive_part number }
     ensures small { result < signed_limit }
@@ -131,11 +131,11 @@ pub fn positive_part(number: i64) -> u64
     number as u64
 }
 
-/// Charges a soft rule this much more.
+/// Adds this cost to a soft rule.
 pub fn charge(costs: &mut [u64; SOFT_RULES], rule: Rule, more: u64)
     ensures { costs.new ≡ with_cost rule more costs.old }
 {
-    if let Some(place) = soft_place(rule) {
-        costs[place] = costs[place].saturating_add(more);
+    if let Some(index) = soft_index(rule) {
+        costs[index] = costs[index].saturating_add(more);
     }
 }

@@ -1,16 +1,17 @@
-//! What a judge answers.
+//! The verdict of a judge.
 
 use rota_core::{Rule, SOFT_RULES};
 
-/// What a judge found of an assignment to a model's variables.
+/// The judge's findings about an assignment to a model's variables.
 #[derive(Clone, Copy, PartialEq, Eq, Debug)]
 pub struct Verdict {
-    /// The first constraint that is not satisfied: its number, from 1 in the order of the model, and
-    /// the rule that it stands for.
+    /// The first constraint that is not satisfied: its number, from 1 in the order of the model, and its
+    /// rule.
     pub unmet: Option<(u32, Rule)>,
     /// The value of the objective.
     pub objective: u64,
-    /// What the soft rules are charged, in their order: the weighted shortages of the rule's constraints,
-    /// the weights of the requests that are not granted, and what only the history has made of the totals.
+    /// The costs of the soft rules, in their order: the weighted shortages of the rule's constraints, the
+    /// weights of the requests that are not granted, and the part of the totals that only the history has
+    /// caused.
     pub costs: [u64; SOFT_RULES],
 }

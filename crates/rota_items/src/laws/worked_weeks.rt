@@ -1,6 +1,6 @@
 //! Small weeks whose models and penalties are written out.
 ghost use Rattle.std.specs.Prelude.{◌≡◌, false, ◌||◌, ◌==◌, length};
-ghost use Rattle.rota_core.specs.Week.{no_past};
+ghost use Rattle.rota_core.specs.Problem.{no_past};
 ghost use Rattle.rota_items.specs.Penalty.{penalty};
 ghost use Rattle.rota_items.specs.RunItems.{patterns, windows};
 ghost use Rattle.rota_items.specs.WorkedWeeks.{CompleteWeekends, DaysOff, DemandNobodyCanMeet, FewerThanTheOptimum, HeldCells};
@@ -8,8 +8,8 @@ ghost use Rattle.rota_items.specs.WorkedWeeks.{RequestsOnOneCell, RunFarAboveThe
 ghost use Rattle.rota_items.specs.WorkedWeeks.{TotalReachedEarly, TotalsAboveInTheLastWeek};
 ghost use Rattle.rota_items.specs.WorkedWeeks.{limits_of, on_days, worked_days, working_week};
 
-/// The constraints and objectives of small weeks of one nurse: what each rule adds to a plain week's.
-#[tactic(auto, unfolding(rota_core::specs::Lists::each_below, rota_core::specs::Lists::only_if, rota_core::specs::Below::sum_below, rota_core::specs::Below::any_below, rota_core::specs::RosterCells::cells_of))]
+/// The constraints and objectives of small weeks of one nurse: the additions of each rule to a plain week.
+#[tactic(auto, unfolding(rota_core::specs::Lists::concat_below, rota_core::specs::Lists::singleton_if, rota_core::specs::SumsBelow::sum_below, rota_core::specs::SumsBelow::any_below, rota_core::specs::RosterCells::cells_of))]
 pub fn worked_weeks_have_their_models()
     ensures demand_nobody_can_meet { DemandNobodyCanMeet }
     ensures succession_after_the_history { SuccessionAfterTheHistory }
@@ -24,15 +24,15 @@ pub fn worked_weeks_have_their_models()
 {}
 
 /// The penalties of rosters of one nurse: a run that lies wholly in the history, and two runs below a minimum
-/// longer than the week, of which the one that is open on Sunday costs nothing.
-#[tactic(auto, unfolding(rota_core::specs::Below::sum_below, rota_core::specs::Below::any_below, crate::specs::Runs::run_over, crate::specs::Runs::run_under))]
+/// longer than the week. The one that is open on Sunday costs nothing.
+#[tactic(auto, unfolding(rota_core::specs::SumsBelow::sum_below, rota_core::specs::SumsBelow::any_below, crate::specs::Runs::run_over, crate::specs::Runs::run_under))]
 pub fn worked_rosters_have_their_penalties()
     ensures short_run_in_the_history { penalty (working_week (limits_of 3 9) (worked_days 1)) (on_days (λ d. false)) ≡ 60 }
     ensures minimum_longer_than_the_week { penalty (working_week (limits_of 9 9) no_past) (on_days (λ d. d == 0 || d == 6)) ≡ 240 }
 {}
 
 /// The numbers of windows and of patterns of some histories and limits.
-#[tactic(auto, unfolding(rota_core::specs::Lists::each_below, rota_core::specs::Lists::only_if))]
+#[tactic(auto, unfolding(rota_core::specs::Lists::concat_below, rota_core::specs::Lists::singleton_if))]
 pub fn worked_runs_have_their_patterns()
     ensures windows_in_a_long_run { length (windows 9 (limits_of 1 5)) ≡ 7 }
     ensures windows_in_the_week { length (windows 0 (limits_of 1 2)) ≡ 5 }

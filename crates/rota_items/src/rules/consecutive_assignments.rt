@@ -1,28 +1,27 @@
-//! S2, consecutive assignments: runs on a shift type and runs of working days that are too long or too
-//! short.
+//! S2, consecutive assignments: runs on a shift type and runs of working days that are too long or too short.
 ghost use Rattle.std.specs.Prelude.{◌≡◌, ◌<◌, ◌≤◌};
-ghost use Rattle.rota_core.specs.InstanceTables.{week_of};
-ghost use Rattle.rota_items.specs.ItemTakes.{TakesItems};
-ghost use Rattle.rota_items.specs.ItemValues.{IsChargeOf, runs_of};
+ghost use Rattle.rota_core.specs.InstanceTables.{problem_of};
+ghost use Rattle.rota_items.specs.Takes.{TakesItems};
+ghost use Rattle.rota_items.specs.SoftItems.{IsChargeOf, runs_of};
 ghost use Rattle.rota_items.specs.RunItems.{run_items};
 ghost use Rattle.rota_items.specs.rules.ConsecutiveAssignments.Items.{assignment_runs_of, shift_runs, work_runs};
 ghost use Rattle.rota_items.specs.rules.ConsecutiveAssignments.Cost.{history_on};
 
 use crate::cell_sum::DayProperty;
-use crate::items::item_takers::RunTaker;
+use crate::items::run_takers::RunTaker;
 use crate::items::soft_item::{NurseRuns, RunCharge};
 use rota_core::{Instance, Rule};
 
-// What a day costs that a run on a shift type is too long or too short.
+// The cost of each day too many or too few in a run on a shift type.
 const SHIFT_RUN_WEIGHT: u16 = 15;
 
-// What a day costs that a run of working days is.
+// The cost of each day too many or too few in a run of working days.
 const WORK_RUN_WEIGHT: u16 = 30;
 
-// How long a run on the shift type the days before Monday left.
+// The length of the run on the shift type that the days before Monday left.
 fn history_on(instance: &Instance, nurse: u16, shift: u8) -> u16
-    requires { nurse < (week_of instance.now).nurses }
-    ensures { result ≡ history_on (week_of instance.now) nurse shift }
+    requires { nurse < (problem_of instance.now).nurses }
+    ensures { result ≡ history_on (problem_of instance.now) nurse shift }
 {
     let past = instance.past(nurse);
     match past.last {
@@ -33,10 +32,10 @@ fn history_on(instance: &Instance, nurse: u16, shift: u8) -> u16
 
 // A nurse's runs on a shift type.
 fn shift_runs(instance: &Instance, nurse: u16, shift: u8) -> NurseRuns
-    requires nurse_in { nurse < (week_of instance.now).nurses }
-    requires shift_in { shift < (week_of instance.now).shifts }
-    ensures charge_in { IsChargeOf (week_of instance.now) result.charge }
-    ensures runs { let week = week_of instance.now in runs_of week result ≡ shift_runs week nurse shift }
+    requires nurse_in { nurse < (problem_of instance.now).nurses }
+    requires shift_in { shift < (problem_of instance.now).shifts }
+    ensures charge_in { IsChargeOf (problem_of instance.now) result.charge }
+    ensures runs { let problem = problem_of instance.now in runs_of problem result ≡ shift_runs problem nurse shift }
 {
     NurseRuns {
         charge: RunCharge {
@@ -52,9 +51,9 @@ fn shift_runs(instance: &Instance, nurse: u16, shift: u8) -> NurseRuns
 
 // A nurse's runs of working days.
 fn work_runs(instance: &Instance, nurse: u16) -> NurseRuns
-    requires { nurse < (week_of instance.now).nurses }
-    ensures charge_in { IsChargeOf (week_of instance.now) result.charge }
-    ensures runs { let week = week_of instance.now in runs_of week result ≡ work_runs week nurse }
+    requires { nurse < (problem_of instance.now).nurses }
+    ensures charge_in { IsChargeOf (problem_of instance.now) result.charge }
+    ensures runs { let problem = problem_of instance.now in runs_of problem result ≡ work_runs problem nurse }
 {
     NurseRuns {
         charge: RunCharge {
@@ -68,12 +67,12 @@ fn work_runs(instance: &Instance, nurse: u16) -> NurseRuns
     }
 }
 
-/// A nurse's runs on each shift type, then those of working days.
-#[tactic(auto, using(crate::proofs::Taking::taking), unfolding(crate::specs::ItemTaking::numbered_list))]
-pub fn walk<T: RunTaker>(instance: &Instance, taker: &mut T, nurse: u16) -> Result<(), T::Fault>
-    requires nurse_in { nurse < (week_of instance.now).nurses }
-    ensures { let week = week_of instance.now in
-        TakesItems T.ItemTaker week (assignment_runs_of week nurse) taker.old taker.new result }
+/// A nurse's runs on each shift type, then her runs of working days.
+#[tactic(auto, using(crate::proofs::Taking::taking), unfolding(crate::specs::SoftItems::numbered_list))]
+pub fn visit<T: RunTaker>(instance: &Instance, taker: &mut T, nurse: u16) -> Result<(), T::Fault>
+    requires nurse_in { nurse < (problem_of instance.now).nurses }
+    ensures { let problem = problem_of instance.now in
+        TakesItems T.ItemTaker problem (assignment_runs_of problem nurse) taker.old taker.new result }
 {
     for shift in 0..instance.shifts() {
         let runs = shift_runs(instance, nurse, shift);

@@ -1,24 +1,24 @@
 //! S3, consecutive days off: runs of days off that are too long or too short.
 ghost use Rattle.std.specs.Prelude.{◌≡◌, ◌<◌, ◌≤◌};
-ghost use Rattle.rota_core.specs.InstanceTables.{week_of};
-ghost use Rattle.rota_items.specs.ItemTakes.{TakesItems};
-ghost use Rattle.rota_items.specs.ItemValues.{IsChargeOf, runs_of};
+ghost use Rattle.rota_core.specs.InstanceTables.{problem_of};
+ghost use Rattle.rota_items.specs.Takes.{TakesItems};
+ghost use Rattle.rota_items.specs.SoftItems.{IsChargeOf, runs_of};
 ghost use Rattle.rota_items.specs.RunItems.{run_items};
 ghost use Rattle.rota_items.specs.rules.ConsecutiveDaysOff.Items.{off_runs};
 
 use crate::cell_sum::DayProperty;
-use crate::items::item_takers::RunTaker;
+use crate::items::run_takers::RunTaker;
 use crate::items::soft_item::{NurseRuns, RunCharge};
 use rota_core::{Instance, Rule};
 
-// What a day costs that a run is too long or too short.
+// The cost of each day too many or too few in a run of days off.
 const WEIGHT: u16 = 30;
 
 // A nurse's runs of days off.
 fn off_runs(instance: &Instance, nurse: u16) -> NurseRuns
-    requires { nurse < (week_of instance.now).nurses }
-    ensures charge_in { IsChargeOf (week_of instance.now) result.charge }
-    ensures runs { let week = week_of instance.now in runs_of week result ≡ off_runs week nurse }
+    requires { nurse < (problem_of instance.now).nurses }
+    ensures charge_in { IsChargeOf (problem_of instance.now) result.charge }
+    ensures runs { let problem = problem_of instance.now in runs_of problem result ≡ off_runs problem nurse }
 {
     NurseRuns {
         charge: RunCharge {
@@ -33,10 +33,10 @@ fn off_runs(instance: &Instance, nurse: u16) -> NurseRuns
 }
 
 /// A nurse's runs of days off.
-pub fn walk<T: RunTaker>(instance: &Instance, taker: &mut T, nurse: u16) -> Result<(), T::Fault>
-    requires nurse_in { nurse < (week_of instance.now).nurses }
-    ensures { let week = week_of instance.now in
-        TakesItems T.ItemTaker week (run_items (off_runs week nurse)) taker.old taker.new result }
+pub fn visit<T: RunTaker>(instance: &Instance, taker: &mut T, nurse: u16) -> Result<(), T::Fault>
+    requires nurse_in { nurse < (problem_of instance.now).nurses }
+    ensures { let problem = problem_of instance.now in
+        TakesItems T.ItemTaker problem (run_items (off_runs problem nurse)) taker.old taker.new result }
 {
     let runs = off_runs(instance, nurse);
     taker.runs(instance, runs)

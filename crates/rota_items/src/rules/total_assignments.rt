@@ -1,72 +1,70 @@
 //! S6, total assignments: assignments outside the limits of the nurse's total.
 ghost use Rattle.std.specs.Prelude.{◌≡◌, ◌<◌, ◌≤◌, ◌&&◌, nat_lt};
-ghost use Rattle.rota_core.specs.InstanceTables.{week_of};
-ghost use Rattle.rota_items.specs.CountedTotals.{greatest_totals_count, least_totals_count};
-ghost use Rattle.rota_items.specs.ItemTakes.{TakesItems};
+ghost use Rattle.rota_core.specs.InstanceTables.{problem_of};
+ghost use Rattle.rota_items.specs.CountedItems.{max_totals_count};
+ghost use Rattle.rota_items.specs.CountedTotals.{min_totals_count};
+ghost use Rattle.rota_items.specs.Takes.{TakesItems};
 ghost use Rattle.rota_items.specs.CellSums.{IsSumOf};
-ghost use Rattle.rota_items.specs.ItemValues.{item_of};
-ghost use Rattle.rota_items.specs.rules.TotalAssignments.Items.{assignment_constant_of, assignments_above, greatest_total_item, least_total_item, still_allowed, still_wanted, totals_of, wanted_beyond_days};
+ghost use Rattle.rota_items.specs.SoftItems.{item_of};
+ghost use Rattle.rota_items.specs.rules.TotalAssignments.Items.{assignment_constant_of, assignments_above, max_total_item, min_total_item, still_allowed, still_wanted, totals_of, wanted_beyond_days};
 
 use crate::cell_sum::CellSum;
-use crate::days::DAYS;
 use crate::items::item_takers::ItemTaker;
 use crate::items::soft_item::SoftItem;
-use crate::rules::counted_totals::{
-    excess_before_counts, greatest_totals_count, least_totals_count,
-};
-use crate::rules::item_walk::item_where;
+use crate::rules::counted_totals::{excess_before_counts, max_totals_count, min_totals_count};
+use crate::rules::item_visits::emit_item_if;
 use crate::sums::Sign;
-use rota_core::{Instance, Rule};
+use rota_core::{DAYS, Instance, Rule};
 
-// What an assignment below the least or above the greatest total costs.
-const WEIGHT: u32 = 20;
+// The cost of an assignment below the minimum or above the maximum total.
+const WEIGHT: u16 = 20;
 
-// The assignments that the nurse's least total still asks for.
+// The number of assignments that the nurse still needs for her minimum total.
 fn still_wanted(instance: &Instance, nurse: u16) -> u16
-    requires { nurse < (week_of instance.now).nurses }
-    ensures { result ≡ still_wanted (week_of instance.now) nurse }
+    requires { nurse < (problem_of instance.now).nurses }
+    ensures { result ≡ still_wanted (problem_of instance.now) nurse }
 {
-    let least = instance.contract(nurse).total.min;
-    least.saturating_sub(instance.past(nurse).assignments)
+    let minimum = instance.contract(nurse).total.min;
+    minimum.saturating_sub(instance.past(nurse).assignments)
 }
 
-// The assignments that the nurse's greatest total leaves room for.
+// The number of assignments that the nurse may still have below her maximum total.
 fn still_allowed(instance: &Instance, nurse: u16) -> u16
-    requires { nurse < (week_of instance.now).nurses }
-    ensures { result ≡ still_allowed (week_of instance.now) nurse }
+    requires { nurse < (problem_of instance.now).nurses }
+    ensures { result ≡ still_allowed (problem_of instance.now) nurse }
 {
-    let greatest = instance.contract(nurse).total.max;
-    greatest.saturating_sub(instance.past(nurse).assignments)
+    let maximum = instance.contract(nurse).total.max;
+    maximum.saturating_sub(instance.past(nurse).assignments)
 }
 
-// Whether the least total counts and asks for more.
+// Whether the minimum total counts and needs more assignments.
 fn asks_for_more(instance: &Instance, nurse: u16) -> bool
-    requires { nurse < (week_of instance.now).nurses }
-    ensures { let week = week_of instance.now in
-        result ≡ (least_totals_count week && nat_lt 0 (still_wanted week nurse)) }
+    requires { nurse < (problem_of instance.now).nurses }
+    ensures { let problem = problem_of instance.now in
+        result ≡ (min_totals_count problem && nat_lt 0 (still_wanted problem nurse)) }
 {
-    least_totals_count(instance) && 0 < still_wanted(instance, nurse)
+    min_totals_count(instance) && 0 < still_wanted(instance, nurse)
 }
 
-// Whether the greatest total counts and the week can exceed it.
+// Whether the maximum total counts and the week can exceed it.
 fn can_exceed(instance: &Instance, nurse: u16) -> bool
-    requires { nurse < (week_of instance.now).nurses }
-    ensures { let week = week_of instance.now in
-        result ≡ (greatest_totals_count week && nat_lt (still_allowed week nurse) 7) }
+    requires { nurse < (problem_of instance.now).nurses }
+    ensures { let problem = problem_of instance.now in
+        result ≡ (max_totals_count problem && nat_lt (still_allowed problem nurse) DAYS) }
 {
-    greatest_totals_count(instance) && still_allowed(instance, nurse) < u16::from(DAYS)
+    max_totals_count(instance) && still_allowed(instance, nurse) < u16::from(DAYS)
 }
 
-// The item of a nurse's least total: as many assignments as are wanted, and at most one a day.
-fn least_total(instance: &Instance, nurse: u16) -> SoftItem
-    requires nurse_in { nurse < (week_of instance.now).nurses }
-    ensures item { let week = week_of instance.now in item_of week result ≡ least_total_item week nurse }
-    ensures sum_in { IsSumOf (week_of instance.now) result.sum }
+// The item of a nurse's minimum total: the assignments that are still needed, at most one a day.
+fn min_total(instance: &Instance, nurse: u16) -> SoftItem
+    requires nurse_in { nurse < (problem_of instance.now).nurses }
+    ensures item { let problem = problem_of instance.now in item_of problem result ≡ min_total_item problem nurse }
+    ensures sum_in { IsSumOf (problem_of instance.now) result.sum }
 {
     let missing = still_wanted(instance, nurse).min(u16::from(DAYS));
     SoftItem {
         rule: Rule::S6,
-        weight: WEIGHT,
+        weight: u32::from(WEIGHT),
         slacks: u32::from(missing),
         sum: CellSum::Total {
             nurse,
@@ -76,16 +74,16 @@ fn least_total(instance: &Instance, nurse: u16) -> SoftItem
     }
 }
 
-// The item of a nurse's greatest total: no more assignments than are allowed.
-fn greatest_total(instance: &Instance, nurse: u16) -> SoftItem
-    requires nurse_in { nurse < (week_of instance.now).nurses }
-    ensures item { let week = week_of instance.now in item_of week result ≡ greatest_total_item week nurse }
-    ensures sum_in { IsSumOf (week_of instance.now) result.sum }
+// The item of a nurse's maximum total: no more assignments than are allowed.
+fn max_total(instance: &Instance, nurse: u16) -> SoftItem
+    requires nurse_in { nurse < (problem_of instance.now).nurses }
+    ensures item { let problem = problem_of instance.now in item_of problem result ≡ max_total_item problem nurse }
+    ensures sum_in { IsSumOf (problem_of instance.now) result.sum }
 {
     let room = still_allowed(instance, nurse);
     SoftItem {
         rule: Rule::S6,
-        weight: WEIGHT,
+        weight: u32::from(WEIGHT),
         slacks: u32::from(u16::from(DAYS).saturating_sub(room)),
         sum: CellSum::Total {
             nurse,
@@ -95,47 +93,47 @@ fn greatest_total(instance: &Instance, nurse: u16) -> SoftItem
     }
 }
 
-/// The item of a nurse's least total, where it counts and asks for more, and that of her greatest, where
-/// it counts and the week can exceed it.
-pub fn walk<T: ItemTaker>(instance: &Instance, taker: &mut T, nurse: u16) -> Result<(), T::Fault>
-    requires nurse_in { nurse < (week_of instance.now).nurses }
-    ensures { let week = week_of instance.now in
-        TakesItems T.ItemTaker week (totals_of week nurse) taker.old taker.new result }
+/// The item of a nurse's minimum total, if it counts and needs more assignments, and the item of her maximum,
+/// if it counts and the week can exceed it.
+pub fn visit<T: ItemTaker>(instance: &Instance, taker: &mut T, nurse: u16) -> Result<(), T::Fault>
+    requires nurse_in { nurse < (problem_of instance.now).nurses }
+    ensures { let problem = problem_of instance.now in
+        TakesItems T.ItemTaker problem (totals_of problem nurse) taker.old taker.new result }
 {
     let asks = asks_for_more(instance, nurse);
-    item_where(instance, taker, asks, least_total(instance, nurse))?;
+    emit_item_if(instance, taker, asks, min_total(instance, nurse))?;
     let exceeds = can_exceed(instance, nurse);
-    item_where(instance, taker, exceeds, greatest_total(instance, nurse))
+    emit_item_if(instance, taker, exceeds, max_total(instance, nurse))
 }
 
-// The nurse's assignments that are wanted beyond one for each day of the week.
+// The number of needed assignments beyond one for each day of the week.
 fn wanted_beyond_days(instance: &Instance, nurse: u16) -> u16
-    requires { nurse < (week_of instance.now).nurses }
-    ensures { result ≡ wanted_beyond_days (week_of instance.now) nurse }
+    requires { nurse < (problem_of instance.now).nurses }
+    ensures { result ≡ wanted_beyond_days (problem_of instance.now) nurse }
 {
-    if !least_totals_count(instance) {
+    if !min_totals_count(instance) {
         return 0;
     }
     still_wanted(instance, nurse).saturating_sub(u16::from(DAYS))
 }
 
-// The nurse's assignments that the history has above her greatest total.
+// The number of the nurse's assignments in the history above her maximum total.
 fn assignments_above(instance: &Instance, nurse: u16) -> u16
-    requires { nurse < (week_of instance.now).nurses }
-    ensures { result ≡ assignments_above (week_of instance.now) nurse }
+    requires { nurse < (problem_of instance.now).nurses }
+    ensures { result ≡ assignments_above (problem_of instance.now) nurse }
 {
     if !excess_before_counts(instance) {
         return 0;
     }
-    let greatest = instance.contract(nurse).total.max;
-    instance.past(nurse).assignments.saturating_sub(greatest)
+    let maximum = instance.contract(nurse).total.max;
+    instance.past(nurse).assignments.saturating_sub(maximum)
 }
 
-/// What no roster of the week can avoid of a nurse: assignments that are wanted beyond seven days, and,
-/// unless excess is charged early, those that the history has above the greatest total.
+/// The cost of a nurse that no roster of the week can avoid: needed assignments beyond seven days, and,
+/// unless excess is charged early, assignments in the history above the maximum total.
 pub fn constant(instance: &Instance, nurse: u16) -> u64
-    requires { nurse < (week_of instance.now).nurses }
-    ensures { result ≡ assignment_constant_of (week_of instance.now) nurse }
+    requires { nurse < (problem_of instance.now).nurses }
+    ensures { result ≡ assignment_constant_of (problem_of instance.now) nurse }
 {
     let wanted = u64::from(wanted_beyond_days(instance, nurse));
     u64::from(WEIGHT) * (wanted + u64::from(assignments_above(instance, nurse)))

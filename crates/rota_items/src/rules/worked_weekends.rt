@@ -1,37 +1,36 @@
-//! S7, worked weekends: those above the nurse's greatest number.
+//! S7, worked weekends: the weekends above the nurse's maximum.
 ghost use Rattle.std.specs.Prelude.{◌≡◌, ◌<◌, ◌≤◌, ◌&&◌, nat_le};
-ghost use Rattle.rota_core.specs.InstanceTables.{week_of};
-ghost use Rattle.rota_items.specs.CountedTotals.{greatest_totals_count};
-ghost use Rattle.rota_items.specs.ItemTakes.{TakesItems};
+ghost use Rattle.rota_core.specs.InstanceTables.{problem_of};
+ghost use Rattle.rota_items.specs.CountedItems.{max_totals_count};
+ghost use Rattle.rota_items.specs.Takes.{TakesItems};
 ghost use Rattle.rota_items.specs.rules.WorkedWeekends.Items.{weekend_constant_of, weekends_above, worked_weekends_of};
 
 use crate::cell_sum::DayProperty;
 use crate::items::item_takers::ItemTaker;
 use crate::items::soft_item::RunCharge;
-use crate::rules::counted_totals::{excess_before_counts, greatest_totals_count};
-use crate::rules::weekend_walk::walk_weekend;
+use crate::rules::counted_totals::{excess_before_counts, max_totals_count};
+use crate::rules::weekend_visits::visit_weekend;
 use rota_core::{Instance, Rule};
 
-// What a worked weekend above the greatest number costs.
+// The cost of a worked weekend above the maximum.
 const WEIGHT: u16 = 30;
 
-// Whether a weekend that the nurse works now is charged: the weekends before are as many as her
-// contract allows.
+// Whether a weekend that the nurse works now is charged: the number of weekends before is at least the
+// maximum of her contract.
 fn is_charged(instance: &Instance, nurse: u16) -> bool
-    requires { nurse < (week_of instance.now).nurses }
-    ensures { let week = week_of instance.now in
-        result ≡ (greatest_totals_count week && nat_le (week.contract nurse).weekends (week.past nurse).weekends) }
+    requires { nurse < (problem_of instance.now).nurses }
+    ensures { let problem = problem_of instance.now in
+        result ≡ (max_totals_count problem && nat_le (problem.contract nurse).weekends (problem.past nurse).weekends) }
 {
-    greatest_totals_count(instance)
-        && instance.contract(nurse).weekends <= instance.past(nurse).weekends
+    max_totals_count(instance) && instance.contract(nurse).weekends <= instance.past(nurse).weekends
 }
 
-/// Work on Saturday, and on Sunday without Saturday, where it is charged.
-#[tactic(auto, using(crate::proofs::Taking::taking), unfolding(crate::specs::ItemTaking::numbered_list))]
-pub fn walk<T: ItemTaker>(instance: &Instance, taker: &mut T, nurse: u16) -> Result<(), T::Fault>
-    requires nurse_in { nurse < (week_of instance.now).nurses }
-    ensures { let week = week_of instance.now in
-        TakesItems T.ItemTaker week (worked_weekends_of week nurse) taker.old taker.new result }
+/// Work on Saturday, and on Sunday without Saturday, if it is charged.
+#[tactic(auto, using(crate::proofs::Taking::taking), unfolding(crate::specs::SoftItems::numbered_list))]
+pub fn visit<T: ItemTaker>(instance: &Instance, taker: &mut T, nurse: u16) -> Result<(), T::Fault>
+    requires nurse_in { nurse < (problem_of instance.now).nurses }
+    ensures { let problem = problem_of instance.now in
+        TakesItems T.ItemTaker problem (worked_weekends_of problem nurse) taker.old taker.new result }
 {
     if !is_charged(instance, nurse) {
         return Ok(());
@@ -42,26 +41,26 @@ pub fn walk<T: ItemTaker>(instance: &Instance, taker: &mut T, nurse: u16) -> Res
         nurse,
         property: DayProperty::Work,
     };
-    walk_weekend(instance, taker, charge, false)
+    visit_weekend(instance, taker, charge, false)
 }
 
-// The nurse's weekends that the history has above her greatest number.
+// The number of the nurse's weekends in the history above her maximum.
 fn weekends_above(instance: &Instance, nurse: u16) -> u16
-    requires { nurse < (week_of instance.now).nurses }
-    ensures { result ≡ weekends_above (week_of instance.now) nurse }
+    requires { nurse < (problem_of instance.now).nurses }
+    ensures { result ≡ weekends_above (problem_of instance.now) nurse }
 {
     if !excess_before_counts(instance) {
         return 0;
     }
-    let greatest = instance.contract(nurse).weekends;
-    instance.past(nurse).weekends.saturating_sub(greatest)
+    let maximum = instance.contract(nurse).weekends;
+    instance.past(nurse).weekends.saturating_sub(maximum)
 }
 
-/// What no roster of the week can avoid of a nurse: the weekends that the history has above her greatest
-/// number, unless excess is charged early.
+/// The cost of a nurse that no roster of the week can avoid: the weekends in the history above her maximum,
+/// unless excess is charged early.
 pub fn constant(instance: &Instance, nurse: u16) -> u64
-    requires { nurse < (week_of instance.now).nurses }
-    ensures { result ≡ weekend_constant_of (week_of instance.now) nurse }
+    requires { nurse < (problem_of instance.now).nurses }
+    ensures { result ≡ weekend_constant_of (problem_of instance.now) nurse }
 {
     u64::from(WEIGHT) * u64::from(weekends_above(instance, nurse))
 }

@@ -1,28 +1,27 @@
 //! The patterns of days that charge a nurse's runs, as items.
 ghost use Rattle.std.specs.Prelude.{◌≡◌, ◌<◌, ◌≤◌, pos, ◌-ℤ◌, [], ◌∷◌, count_by};
-ghost use Rattle.rota_core.specs.Week.{Week};
+ghost use Rattle.rota_core.specs.Problem.{Problem};
 ghost use Rattle.rota_items.specs.CellSums.{AreInWeek, IsInWeek, days_of, is_plain_of, pattern_of, patterns_given};
-ghost use Rattle.rota_items.specs.ItemValues.{charged_items, item_of};
+ghost use Rattle.rota_items.specs.SoftItems.{charged_items, item_of};
 ghost use Rattle.rota_items.specs.RunItems.{closed_patterns_at, edge_patterns_on, windows_on};
 
 use crate::cell_sum::{CellSum, DayPattern, DayProperty};
 use crate::items::soft_item::{RunCharge, SoftItem};
-use rota_core::Span;
+use rota_core::{DAYS, Span};
 
-// How many of the pattern's days have a sum that must be 1, and not 0.
+// The number of the pattern's days whose sum must be 1, and not 0.
 fn plain_days(property: DayProperty, pattern: DayPattern) -> u8
     requires days_in { IsInWeek pattern }
-    ensures small { result ≤ 7 }
+    ensures small { result ≤ DAYS }
     ensures count { result ≡ count_by (λ day. is_plain_of property day.has) (days_of pattern) }
 {
     match property {
-        DayProperty::Shift(_) => pattern.end - pattern.first,
-        DayProperty::Work => pattern.end - pattern.first,
+        DayProperty::Shift(_) | DayProperty::Work => pattern.end - pattern.first,
         DayProperty::Off => u8::from(pattern.off_before) + u8::from(pattern.off_after),
     }
 }
 
-// The degree of a pattern's item: with all of its days as the pattern says one slack is missing.
+// The degree of a pattern's item. If all its days match the pattern, one slack is missing.
 fn pattern_degree(property: DayProperty, pattern: DayPattern) -> i64
     requires days_in { IsInWeek pattern }
     ensures { result ≡ pos 1 -ℤ pos (count_by (λ day. is_plain_of property day.has) (days_of pattern)) }
@@ -33,14 +32,14 @@ fn pattern_degree(property: DayProperty, pattern: DayPattern) -> i64
 /// The item that charges the pattern's days.
 pub fn pattern_item(charge: RunCharge, pattern: DayPattern) -> SoftItem
     requires days_in { IsInWeek pattern }
-    ensures item { (week : Week) → item_of week result ∷ [] ≡ charged_items week charge (pattern_of pattern ∷ []) }
-    ensures sum { result.sum ≡ CellSum.Days charge.nurse charge.property pattern }
+    ensures item { (problem : Problem) → item_of problem result ∷ [] ≡ charged_items problem charge (pattern_of pattern ∷ []) }
+    ensures sum { result.sum ≡ CellSum.PatternDays charge.nurse charge.property pattern }
 {
     SoftItem {
         rule: charge.rule,
         weight: u32::from(charge.weight) * u32::from(pattern.units),
         slacks: 1,
-        sum: CellSum::Days {
+        sum: CellSum::PatternDays {
             nurse: charge.nurse,
             property: charge.property,
             pattern,
@@ -49,11 +48,11 @@ pub fn pattern_item(charge: RunCharge, pattern: DayPattern) -> SoftItem
     }
 }
 
-/// The window of days that ends on a day, one longer than the greatest length, or cut at Monday, where
-/// a run can be too long there.
-#[tactic(auto, unfolding(rota_core::specs::Lists::only_if))]
+/// The window of days that ends on a day. It is one day longer than the maximum length, or starts on Monday,
+/// if a run can be too long there.
+#[tactic(auto, unfolding(rota_core::specs::Lists::singleton_if))]
 pub fn window_on(history: u16, limits: Span, day: u8) -> Option<DayPattern>
-    requires { day < 7 }
+    requires { day < DAYS }
     ensures days_in { AreInWeek result }
     ensures pattern { patterns_given result ≡ windows_on history limits day }
 {
@@ -71,11 +70,10 @@ pub fn window_on(history: u16, limits: Span, day: u8) -> Option<DayPattern>
     })
 }
 
-/// A run of `count` days that begins after Monday and ends before a day, where the least length is
-/// greater.
-#[tactic(auto, unfolding(rota_core::specs::Lists::only_if))]
+/// A run of `count` days that begins after Monday and ends before a day, if the minimum length is larger.
+#[tactic(auto, unfolding(rota_core::specs::Lists::singleton_if))]
 pub fn closed_before(minimum: u16, day: u8, count: u8) -> Option<DayPattern>
-    requires day_in { day < 7 }
+    requires day_in { day < DAYS }
     requires count_in { count < day }
     ensures days_in { AreInWeek result }
     ensures pattern { patterns_given result ≡ closed_patterns_at minimum day count }
@@ -92,10 +90,10 @@ pub fn closed_before(minimum: u16, day: u8, count: u8) -> Option<DayPattern>
     })
 }
 
-/// A run that fills the week up to a day, and ends before it, where the least length is greater.
-#[tactic(auto, unfolding(rota_core::specs::Lists::only_if))]
+/// A run from Monday up to a day, which ends before that day, if the minimum length is larger.
+#[tactic(auto, unfolding(rota_core::specs::Lists::singleton_if))]
 pub fn edge_before(history: u16, minimum: u16, day: u8) -> Option<DayPattern>
-    requires { day < 7 }
+    requires { day < DAYS }
     ensures days_in { AreInWeek result }
     ensures pattern { patterns_given result ≡ edge_patterns_on history minimum day }
 {

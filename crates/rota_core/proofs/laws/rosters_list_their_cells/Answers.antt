@@ -4,7 +4,7 @@ use Rattle.std.proofs.lemmas.Bool.{or_parts}
 use Rattle.rota_core.specs.Roster.{Has}
 use Rattle.rota_core.specs.RosterCells.{cells_of}
 use Rattle.rota_core.proofs.CellLists.{all-cells_of, at-cells_of, length-cells_of, rises-cells_of}
-use Rattle.rota_core.proofs.CellsByPlace.{cells_in-is}
+use Rattle.rota_core.proofs.CellsByIndex.{cells_in-is}
 use Rattle.rota_core.proofs.RosterCount.{count-cells_of}
 use Rattle.rota_core.proofs.laws.rosters_list_their_cells.Goals as goal
 

@@ -1,4 +1,4 @@
-use Rattle.rota_items.proofs.Common.{◌≡◌, ℕ, ◌+◌, ◌<◌, List, length, get_or, take, sum_by, arith, soft_rules, week_of, constant_of_rule}
+use Rattle.rota_items.proofs.Common.{◌≡◌, ℕ, ◌+◌, ◌<◌, List, length, get_or, take, sum_by, arith, soft_rules, problem_of, constant_of_rule}
 use Rattle.rota_items.proofs.RuleSizes.{few_constants}
 use Rattle.std.proofs.lemmas.List.Sums.{sum_by_more}
 use Rattle.rota_items.proofs.rules.constant.Goals as goal
@@ -10,7 +10,7 @@ sum-more g xs i other sum one below before here = omega (arith, before, here, su
 pub loop-rule-preserved : goal.loop-rule-preserved
 loop-rule-preserved c = record {
   number =
-      sum-more (constant_of_rule (week_of c.args.instance.now)) soft_rules _ _ _ _ (omega arith) c.loop-rule.invariant.number
+      sum-more (constant_of_rule (problem_of c.args.instance.now)) soft_rules _ _ _ _ (omega arith) c.loop-rule.invariant.number
       c.constant_of_rule-sum.ensures.sum;
   few = grind (arith, few_constants);
 }

@@ -1,17 +1,18 @@
--- S5, complete weekends: nurses with complete weekends who work on only one of its days.
+-- S5, complete weekends: nurses who must have complete weekends, but work on only one day of one.
 use Rattle.std.specs.Prelude.{◌&&◌, ◌||◌, if◌then◌else◌}
-use Rattle.rota_items.specs.Words.{ℕ, Bool, not, works, Roster, Week}
+use Rattle.rota_items.specs.Imports.{ℕ, Bool, not, works, Roster, Problem}
 
--- for each nurse's weekend
+-- the weight of each such weekend of a nurse
 abbrev pub complete_weekend_weight : ℕ
 complete_weekend_weight = 30
 
+-- whether exactly one of the two is true
 abbrev pub exactly_one : Bool → Bool → Bool
 exactly_one x y = (x && not y) || (not x && y)
 
 -- the cost of a nurse's weekend
-abbrev pub complete_weekend_cost_of : Week → Roster → ℕ → ℕ
-complete_weekend_cost_of week roster n =
-    (if (week.contract n).complete && exactly_one (works week roster n 5) (works week roster n 6)
+abbrev pub complete_weekend_cost_of : Problem → Roster → ℕ → ℕ
+complete_weekend_cost_of problem roster n =
+    (if (problem.contract n).complete && exactly_one (works problem roster n 5) (works problem roster n 6)
     then complete_weekend_weight
     else 0)

@@ -1,11 +1,12 @@
 -- How the model charges S5: the items of a nurse's weekend.
 use Rattle.std.specs.Prelude.{if◌then◌else◌}
-use Rattle.rota_items.specs.Words.{ℕ, true, List, [], S5, Cell, Week}
-use Rattle.rota_items.specs.ModelWords.{Item}
+use Rattle.rota_core.specs.declared.rule.Rule.TheVariants.{S5}
+use Rattle.rota_items.specs.Imports.{ℕ, true, List, [], Cell, Problem}
+use Rattle.rota_items.specs.Rows.{Item}
 use Rattle.rota_items.specs.RunItems.{weekend_items}
 use Rattle.rota_items.specs.rules.CompleteWeekends.Cost.{complete_weekend_weight}
 
--- where the nurse's contract asks for complete weekends
-abbrev pub complete_weekends_of : Week → ℕ → List (Item Cell)
-complete_weekends_of week n =
-    if (week.contract n).complete then weekend_items S5 complete_weekend_weight week n true else []
+-- the items of the nurse's weekend, if her contract asks for complete weekends
+abbrev pub complete_weekends_of : Problem → ℕ → List (Item Cell)
+complete_weekends_of problem n =
+    if (problem.contract n).complete then weekend_items S5 complete_weekend_weight problem n true else []

@@ -1,14 +1,19 @@
 -- How the model charges S3: the items of a nurse's runs of days off.
-use Rattle.rota_items.specs.Words.{ℕ, S3, Cell, Week}
-use Rattle.rota_items.specs.ModelWords.{work_cells}
-use Rattle.rota_items.specs.RunItems.{Runs, Absent}
+use Rattle.rota_core.specs.declared.rule.Rule.TheVariants.{S3}
+use Rattle.rota_items.specs.Imports.{ℕ, List, Cell, Problem}
+use Rattle.rota_items.specs.Rows.{work_cells, Item}
+use Rattle.rota_items.specs.RunItems.{Runs, Absent, run_items}
 use Rattle.rota_items.specs.rules.ConsecutiveDaysOff.Cost.{off_run_weight}
 
-abbrev pub off_runs : Week → ℕ → Runs Cell
-off_runs week n = record {
+abbrev pub off_runs : Problem → ℕ → Runs Cell
+off_runs problem n = record {
   rule = S3;
   weight = off_run_weight;
-  property = Absent (work_cells week n);
-  history = (week.past n).off_run;
-  limits = (week.contract n).off;
+  property = Absent (work_cells problem n);
+  history = (problem.past n).off_run;
+  limits = (problem.contract n).off;
 }
+
+-- the items of a nurse's runs
+abbrev pub days_off_runs_of : Problem → ℕ → List (Item Cell)
+days_off_runs_of problem n = run_items (off_runs problem n)

@@ -1,13 +1,14 @@
 -- S1, optimal coverage: nurses below the optimal number of a day's shift type and skill.
 use Rattle.std.specs.Prelude.{◌-◌, ◌*◌}
-use Rattle.rota_items.specs.Words.{ℕ, sum_below, nurses_at, Roster, Week}
+use Rattle.rota_items.specs.Imports.{DAYS, ℕ, sum_below, nurses_at, Roster, Problem}
 
--- for each nurse who is missing
+-- the weight of each missing nurse
 abbrev pub optimum_weight : ℕ
 optimum_weight = 30
 
-abbrev pub optimum_cost : Week → Roster → ℕ
-optimum_cost week roster =
+-- the cost of all missing nurses, for each day, shift type and skill
+abbrev pub optimum_cost : Problem → Roster → ℕ
+optimum_cost problem roster =
     optimum_weight *
-    sum_below 7 (λ d. sum_below week.shifts (λ s. sum_below week.skills (λ k.
-    (week.demand d s k).optimal - nurses_at week roster d s k)))
+    sum_below DAYS (λ d. sum_below problem.shifts (λ s. sum_below problem.skills (λ k.
+    (problem.demand d s k).optimal - nurses_at problem roster d s k)))

@@ -1,22 +1,25 @@
 -- How the model charges S1: an item for each day, shift type and skill.
 use Rattle.std.specs.Prelude.{◌-◌}
-use Rattle.rota_items.specs.Words.{ℕ, pos, nat_lt, List, S1, Cell, Week}
-use Rattle.rota_items.specs.ModelWords.{each_below, only_if, demand_cells, Item, times}
+use Rattle.rota_core.specs.Limits.{DAYS}
+use Rattle.rota_core.specs.declared.rule.Rule.TheVariants.{S1}
+use Rattle.rota_items.specs.Imports.{ℕ, pos, nat_lt, List, Cell, Problem}
+use Rattle.rota_items.specs.Rows.{concat_below, singleton_if, demand_cells, Item, times}
 use Rattle.rota_items.specs.rules.OptimalCoverage.Cost.{optimum_weight}
 
-abbrev pub optimum_item : Week → ℕ → ℕ → ℕ → Item Cell
-optimum_item week d s k = let demand = week.demand d s k in record {
+abbrev pub optimum_item : Problem → (day shift skill : ℕ) → Item Cell
+optimum_item problem d s k = let demand = problem.demand d s k in record {
   rule = S1;
   weight = optimum_weight;
   slacks = demand.optimal - demand.minimum;
-  terms = times (pos 1) (demand_cells week d s k);
+  terms = times (pos 1) (demand_cells problem d s k);
   degree = pos demand.optimal;
 }
 
--- where the optimal number is above the least
-abbrev pub optimum_items_at : Week → ℕ → ℕ → ℕ → List (Item Cell)
-optimum_items_at week d s k =
-    only_if (nat_lt (week.demand d s k).minimum (week.demand d s k).optimal) (optimum_item week d s k)
+-- the item of a demand, if the optimal number is above the minimum
+abbrev pub optimum_items_at : Problem → (day shift skill : ℕ) → List (Item Cell)
+optimum_items_at problem d s k =
+    singleton_if (nat_lt (problem.demand d s k).minimum (problem.demand d s k).optimal) (optimum_item problem d s k)
 
-abbrev pub optimum_items : Week → List (Item Cell)
-optimum_items week = each_below 7 (λ d. each_below week.shifts (λ s. each_below week.skills (optimum_items_at week d s)))
+abbrev pub optimum_items : Problem → List (Item Cell)
+optimum_items problem =
+    concat_below DAYS (λ d. concat_below problem.shifts (λ s. concat_below problem.skills (optimum_items_at problem d s)))

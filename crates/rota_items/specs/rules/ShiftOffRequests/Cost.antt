@@ -1,13 +1,14 @@
--- S4, requests: cells that request rows ask to be free of.
+-- S4, requests: cells that request rows ask to leave free.
 use Rattle.std.specs.Prelude.{◌*◌, if◌then◌else◌}
-use Rattle.rota_items.specs.Words.{ℕ, sum_below, Roster, cell, Week}
+use Rattle.rota_items.specs.Imports.{DAYS, ℕ, sum_below, Roster, cell, Problem}
 
--- for each cell and each request row that it matches
+-- the weight of each request row that a cell matches
 abbrev pub request_weight : ℕ
 request_weight = 10
 
-abbrev pub request_cost : Week → Roster → ℕ
-request_cost week roster =
+-- the cost of all cells of the roster that match request rows
+abbrev pub request_cost : Problem → Roster → ℕ
+request_cost problem roster =
     request_weight *
-    sum_below week.nurses (λ n. sum_below 7 (λ d. sum_below week.shifts (λ s. sum_below week.skills (λ k.
-    if roster (cell n d s k) then week.requests n d s else 0))))
+    sum_below problem.nurses (λ n. sum_below DAYS (λ d. sum_below problem.shifts (λ s. sum_below problem.skills (λ k.
+    if roster (cell n d s k) then problem.requests n d s else 0))))

@@ -1,30 +1,30 @@
 -- S6, total assignments: assignments outside the limits of the nurse's total.
 use Rattle.std.specs.Prelude.{◌+◌, ◌-◌, ◌*◌, if◌then◌else◌}
-use Rattle.rota_items.specs.Words.{ℕ, sum_below, count_below, Roster, cell, Week}
-use Rattle.rota_items.specs.CountedTotals.{charged_excess, least_totals_count}
+use Rattle.rota_items.specs.Imports.{DAYS, ℕ, sum_below, count_below, Roster, cell, Problem}
+use Rattle.rota_items.specs.CountedTotals.{charged_excess, min_totals_count}
 
--- for each assignment outside the limits
+-- the weight of each assignment outside the limits
 abbrev pub assignment_weight : ℕ
 assignment_weight = 20
 
 -- the number of the nurse's cells
-abbrev pub assignments_of : Week → Roster → ℕ → ℕ
-assignments_of week roster n =
-    sum_below 7 (λ d. sum_below week.shifts (λ s. count_below week.skills (λ k. roster (cell n d s k))))
+abbrev pub assignments_of : Problem → Roster → ℕ → ℕ
+assignments_of problem roster n =
+    sum_below DAYS (λ d. sum_below problem.shifts (λ s. count_below problem.skills (λ k. roster (cell n d s k))))
 
--- assignments below the least total
-abbrev pub below_least_total : Week → Roster → ℕ → ℕ
-below_least_total week roster n =
-    (if least_totals_count week
-    then (week.contract n).total.min - ((week.past n).assignments + assignments_of week roster n)
+-- the number of assignments below the minimum total, in the weeks in which it counts
+abbrev pub below_min_total : Problem → Roster → ℕ → ℕ
+below_min_total problem roster n =
+    (if min_totals_count problem
+    then (problem.contract n).total.min - ((problem.past n).assignments + assignments_of problem roster n)
     else 0)
 
--- those above the greatest total
-abbrev pub above_greatest_total : Week → Roster → ℕ → ℕ
-above_greatest_total week roster n =
-    charged_excess week (week.contract n).total.max (week.past n).assignments (assignments_of week roster n)
+-- the number of assignments above the maximum total for which the week pays
+abbrev pub above_max_total : Problem → Roster → ℕ → ℕ
+above_max_total problem roster n =
+    charged_excess problem (problem.contract n).total.max (problem.past n).assignments (assignments_of problem roster n)
 
 -- the cost of a nurse's total
-abbrev pub assignment_cost_of : Week → Roster → ℕ → ℕ
-assignment_cost_of week roster n =
-    assignment_weight * (below_least_total week roster n + above_greatest_total week roster n)
+abbrev pub assignment_cost_of : Problem → Roster → ℕ → ℕ
+assignment_cost_of problem roster n =
+    assignment_weight * (below_min_total problem roster n + above_max_total problem roster n)

@@ -1,21 +1,21 @@
--- S7, worked weekends: those above the nurse's greatest number.
+-- S7, worked weekends: the weekends above the nurse's maximum.
 use Rattle.std.specs.Prelude.{◌*◌, ◌||◌, if◌then◌else◌}
-use Rattle.rota_items.specs.Words.{ℕ, works, Roster, Week}
+use Rattle.rota_items.specs.Imports.{ℕ, works, Roster, Problem}
 use Rattle.rota_items.specs.CountedTotals.{charged_excess}
 
--- for each weekend above the greatest number
+-- the weight of each weekend above the maximum
 abbrev pub worked_weekend_weight : ℕ
 worked_weekend_weight = 30
 
--- 1 where the nurse works on a day of the weekend
-abbrev pub worked_weekend : Week → Roster → ℕ → ℕ
-worked_weekend week roster n = (if works week roster n 5 || works week roster n 6 then 1 else 0)
+-- 1 if the nurse works on a day of the weekend
+abbrev pub worked_weekend : Problem → Roster → ℕ → ℕ
+worked_weekend problem roster n = (if works problem roster n 5 || works problem roster n 6 then 1 else 0)
 
--- the worked weekends above the greatest number
-abbrev pub above_greatest_weekends : Week → Roster → ℕ → ℕ
-above_greatest_weekends week roster n =
-    charged_excess week (week.contract n).weekends (week.past n).weekends (worked_weekend week roster n)
+-- the number of worked weekends above the maximum for which the week pays
+abbrev pub above_max_weekends : Problem → Roster → ℕ → ℕ
+above_max_weekends problem roster n =
+    charged_excess problem (problem.contract n).weekends (problem.past n).weekends (worked_weekend problem roster n)
 
 -- the cost of a nurse's weekends
-abbrev pub worked_weekend_cost_of : Week → Roster → ℕ → ℕ
-worked_weekend_cost_of week roster n = worked_weekend_weight * above_greatest_weekends week roster n
+abbrev pub worked_weekend_cost_of : Problem → Roster → ℕ → ℕ
+worked_weekend_cost_of problem roster n = worked_weekend_weight * above_max_weekends problem roster n

@@ -1,22 +1,23 @@
--- How the model charges S7: the items of a nurse's weekend, and what no roster can avoid.
+-- How the model charges S7: the items of a nurse's weekend, and the cost that no roster can avoid.
 use Rattle.std.specs.Prelude.{◌-◌, ◌*◌, ◌&&◌, if◌then◌else◌}
-use Rattle.rota_items.specs.Words.{ℕ, nat_le, false, List, [], S7, Cell, Week}
-use Rattle.rota_items.specs.ModelWords.{Item}
-use Rattle.rota_items.specs.CountedTotals.{excess_before_counts, greatest_totals_count}
+use Rattle.rota_core.specs.declared.rule.Rule.TheVariants.{S7}
+use Rattle.rota_items.specs.Imports.{ℕ, nat_le, false, List, [], Cell, Problem}
+use Rattle.rota_items.specs.Rows.{Item}
+use Rattle.rota_items.specs.CountedItems.{excess_before_counts, max_totals_count}
 use Rattle.rota_items.specs.RunItems.{weekend_items}
 use Rattle.rota_items.specs.rules.WorkedWeekends.Cost.{worked_weekend_weight}
 
--- where the nurse's history leaves room for no weekend
-abbrev pub worked_weekends_of : Week → ℕ → List (Item Cell)
-worked_weekends_of week n =
-    if greatest_totals_count week && nat_le (week.contract n).weekends (week.past n).weekends
-    then weekend_items S7 worked_weekend_weight week n false
+-- the items of the nurse's weekend, if she has worked the maximum number of weekends before the week
+abbrev pub worked_weekends_of : Problem → ℕ → List (Item Cell)
+worked_weekends_of problem n =
+    if max_totals_count problem && nat_le (problem.contract n).weekends (problem.past n).weekends
+    then weekend_items S7 worked_weekend_weight problem n false
     else []
 
--- a nurse's weekends above the greatest number already
-abbrev pub weekends_above : Week → ℕ → ℕ
-weekends_above week n = (if excess_before_counts week then (week.past n).weekends - (week.contract n).weekends else 0)
+-- a nurse's weekends in the history above the maximum
+abbrev pub weekends_above : Problem → ℕ → ℕ
+weekends_above problem n = (if excess_before_counts problem then (problem.past n).weekends - (problem.contract n).weekends else 0)
 
--- what no roster can avoid, of a nurse
-abbrev pub weekend_constant_of : Week → ℕ → ℕ
-weekend_constant_of week n = worked_weekend_weight * weekends_above week n
+-- the cost of a nurse that no roster can avoid
+abbrev pub weekend_constant_of : Problem → ℕ → ℕ
+weekend_constant_of problem n = worked_weekend_weight * weekends_above problem n

@@ -1,6 +1,6 @@
 use Rattle.std.proofs.Common.{◌≡◌, rules}
 use Rattle.std.specs.Prelude.{sum}
-use Rattle.rota_core.specs.InstanceTables.{week_of}
+use Rattle.rota_core.specs.InstanceTables.{problem_of}
 use Rattle.rota_items.specs.Verdicts.{IsMet}
 use Rattle.rota_items.specs.Truths.{truth_of}
 use Rattle.rota_pb.specs.Decoded.{FindsRoster}
@@ -19,9 +19,9 @@ returns-clause-decoded c =
     let judges = rw c.of_bits.ensures at c.verdict_of-verdict.ensures.judges in
     let verdict = c.verdict_of-verdict.result in
     let finds : FindsRoster c.args.solved.status = search rules in
-    let met : IsMet (week_of c.args.instance.now) (truth_of c.args.solved.bits) verdict = search rules in
+    let met : IsMet (problem_of c.args.instance.now) (truth_of c.args.solved.bits) verdict = search rules in
     let total : c.sum-penalty.result ≡ sum verdict.costs = search rules in
-    let week = week_of c.args.instance.now in
-    is_decoded week (c.alike_rosters_cost_the_same.ensures week)
+    let problem = problem_of c.args.instance.now in
+    is_decoded problem (c.alike_rosters_cost_the_same.ensures problem)
     c.args.solved verdict c.of_bits-2.result _ finds met
     judges.objective c.of_bits-2.ensures.shape c.of_bits-2.ensures.cells total

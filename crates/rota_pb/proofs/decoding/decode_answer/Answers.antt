@@ -1,6 +1,6 @@
 use Rattle.std.proofs.Common.{refl}
-use Rattle.rota_pb.specs.Runs.{went_on}
-use Rattle.rota_pb.proofs.Runs.{stopped_by}
+use Rattle.rota_pb.specs.Steps.{went_on}
+use Rattle.rota_pb.proofs.Steps.{stopped_by}
 use Rattle.rota_pb.proofs.decoding.decode_answer.Goals as goal
 
 pub returns-in_err-solved : goal.returns-in_err-solved

@@ -1,10 +1,10 @@
 use Rattle.std.proofs.Common.{refl}
-use Rattle.rota_core.specs.InstanceTables.{week_of}
+use Rattle.rota_core.specs.InstanceTables.{problem_of}
 use Rattle.rota_items.specs.WeekModel.{model_of}
 use Rattle.opb_text.specs.ModelText.{opb_text}
 use Rattle.rota_pb.specs.Encoding.{EncodeOutcome}
-use Rattle.rota_pb.specs.Runs.{went_on}
-use Rattle.rota_pb.proofs.Runs.{stopped_by}
+use Rattle.rota_pb.specs.Steps.{went_on}
+use Rattle.rota_pb.proofs.Steps.{stopped_by}
 use Rattle.rota_pb.proofs.encoding.run_encode.Goals as goal
 
 pub returns-in_err-instance : goal.returns-in_err-instance
@@ -16,9 +16,9 @@ returns-in_err-instance g c = record {
 pub returns : goal.returns
 unfolding EncodeOutcome
 returns g c =
-    let week = week_of c.in_ok-instance.instance in
+    let problem = problem_of c.in_ok-instance.instance in
     record {
       outcome =
           went_on c.in_ok-instance.instance c.in_ok-instance.ensures
-          (went_on (opb_text (model_of week)) (c.model_text_means_the_rules.ensures week) c.encode.ensures);
+          (went_on (opb_text (model_of problem)) (c.model_text_means_the_rules.ensures problem) c.encode.ensures);
     }

@@ -1,5 +1,5 @@
 use Rattle.std.proofs.Common.{refl, rules}
-use Rattle.rota_pb.specs.Runs.{stopped, went_on}
+use Rattle.rota_pb.specs.Steps.{stopped, went_on}
 use Rattle.rota_pb.proofs.extending.extend.Goals as goal
 
 pub returns-in-Some : goal.returns-in-Some

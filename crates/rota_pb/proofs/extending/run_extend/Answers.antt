@@ -1,7 +1,7 @@
 use Rattle.std.proofs.Common.{refl}
 use Rattle.rota_pb.specs.Extending.{ExtendOutcome}
-use Rattle.rota_pb.specs.Runs.{went_on}
-use Rattle.rota_pb.proofs.Runs.{stopped_by}
+use Rattle.rota_pb.specs.Steps.{went_on}
+use Rattle.rota_pb.proofs.Steps.{stopped_by}
 use Rattle.rota_pb.proofs.extending.run_extend.Goals as goal
 
 pub returns-in_err-instance : goal.returns-in_err-instance

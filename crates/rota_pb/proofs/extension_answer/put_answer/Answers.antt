@@ -1,5 +1,5 @@
 use Rattle.std.proofs.Common.{ℕ, ◌++◌, sym, ap, ◌∙◌}
-use Rattle.rota_core.specs.InstanceTables.{week_of}
+use Rattle.rota_core.specs.InstanceTables.{problem_of}
 use Rattle.rota_core.specs.RosterTables.{set_of}
 use Rattle.rota_items.specs.ExtensionTruths.{extension_truths}
 use Rattle.opb_text.proofs.LogicWords.{finish_exit, puts_finish, puts_same, puts_stop, puts_then}
@@ -11,7 +11,7 @@ use Rattle.rota_pb.proofs.extension_answer.put_answer.Goals as goal
 pub returns-in_err-start : goal.returns-in_err-start
 unfolding extension_answer
 returns-in_err-start g c =
-    let truths = extension_truths (week_of c.args.instance.now) (set_of c.args.roster.now) in
+    let truths = extension_truths (problem_of c.args.instance.now) (set_of c.args.roster.now) in
     finish_exit _ c.from_residual.ensures.0
     (puts_same (sym (c.calls_write_the_answer.ensures c.args.objective truths))
     (puts_stop (end_text _) (puts_stop (literals_text 0 truths) c.in_err-start.ensures.takes)))
@@ -19,7 +19,7 @@ returns-in_err-start g c =
 pub returns-in_err-put_literals : goal.returns-in_err-put_literals
 unfolding extension_answer
 returns-in_err-put_literals g c =
-    let truths = extension_truths (week_of c.args.instance.now) (set_of c.args.roster.now) in
+    let truths = extension_truths (problem_of c.args.instance.now) (set_of c.args.roster.now) in
     finish_exit _ c.from_residual-in_err-put_literals.ensures.0
     (puts_same (sym (c.calls_write_the_answer.ensures c.args.objective truths))
     (puts_stop (end_text _) (puts_then c.in_ok-start.ensures.takes c.in_err-put_literals.ensures.takes)))
@@ -27,7 +27,7 @@ returns-in_err-put_literals g c =
 pub returns : goal.returns
 unfolding extension_answer
 returns g c =
-    let truths = extension_truths (week_of c.args.instance.now) (set_of c.args.roster.now) in
+    let truths = extension_truths (problem_of c.args.instance.now) (set_of c.args.roster.now) in
     puts_finish
     (sym (ap (λ (n : ℕ). (answer_head c.args.objective ++ literals_text 0 truths) ++ end_text n) c.in_ok-put_literals.ensures.literals ∙
     c.calls_write_the_answer.ensures c.args.objective truths))

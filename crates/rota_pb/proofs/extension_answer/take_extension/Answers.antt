@@ -1,53 +1,53 @@
 use Rattle.std.proofs.Common.{◌≡◌, ℕ, ◌+◌, ◌^◌, ◌<◌, length, sym, ap, ◌∙◌, arith}
 use Rattle.std.proofs.lemmas.Result.{MatchResult-weaker}
-use Rattle.rota_core.specs.InstanceTables.{week_of}
+use Rattle.rota_core.specs.InstanceTables.{problem_of}
 use Rattle.rota_core.specs.RosterTables.{set_of}
 use Rattle.rota_items.specs.ExtensionTruths.{extension_truths}
 use Rattle.opb_text.proofs.LogicWords.{puts_same}
 use Rattle.opb_text.proofs.TakenEvents.{events_put_text, took_events_keep}
-use Rattle.solver_text.specs.AnswerWriter.{literals_text, sink_of}
-use Rattle.rota_pb.specs.ExtensionAnswer.{Putting, answer_writer, literal_texts, putting_of}
+use Rattle.solver_text.specs.AnswerWriter.{literals_text, writer_sink}
+use Rattle.rota_pb.specs.ExtensionAnswer.{WriterState, answer_writer, literal_texts, writer_state_of}
 use Rattle.rota_pb.proofs.ExtensionAnswer.{literals-counted, literals-joined, sink-takes, writer-stays}
 use Rattle.rota_pb.proofs.extension_answer.take_extension.Goals as goal
 
 pub returns-clause-same_writer : goal.returns-clause-same_writer
 returns-clause-same_writer g c =
-    writer-stays c.args.answer.now c.drive_extension.new.taker (extension_truths (week_of c.args.instance.now) (set_of c.args.roster.now))
+    writer-stays c.args.answer.now c.drive_extension.new.taker (extension_truths (problem_of c.args.instance.now) (set_of c.args.roster.now))
     c.drive_extension.result c.drive_extension.ensures.takes
 
 pub returns-clause-takes : goal.returns-clause-takes
 returns-clause-takes g c =
-    let week = week_of c.args.instance.now in
-    let truths = extension_truths week (set_of c.args.roster.now) in
+    let problem = problem_of c.args.instance.now in
+    let truths = extension_truths problem (set_of c.args.roster.now) in
     let old = c.args.answer.now in
-    let few : (putting_of old).literals + length truths < 2 ^ 32 =
+    let few : (writer_state_of old).literals + length truths < 2 ^ 32 =
     omega (
       arith,
       c.requires.none,
-      c.extension_truths_are_those_of_the_variables.ensures.count week (set_of c.args.roster.now),
-      c.variables_are_few.ensures week (c.instances_are_within_limits.ensures c.args.instance.now c.drive_extension.ensures.limits),
+      c.extension_truths_are_those_of_the_variables.ensures.count problem (set_of c.args.roster.now),
+      c.variables_are_few.ensures problem (c.instances_are_within_limits.ensures c.args.instance.now c.drive_extension.ensures.limits),
     ) in
-    puts_same (sym (literals-joined (putting_of old) truths few ∙ ap (λ (n : ℕ). literals_text n truths) c.requires.none))
-    (events_put_text (λ answer. sink_of (answer_writer answer)) putting_of literal_texts
+    puts_same (sym (literals-joined (writer_state_of old) truths few ∙ ap (λ (n : ℕ). literals_text n truths) c.requires.none))
+    (events_put_text (λ answer. writer_sink (answer_writer answer)) writer_state_of literal_texts
     old c.drive_extension.new.taker truths c.drive_extension.result
     (sink-takes old c.drive_extension.new.taker truths c.drive_extension.result c.drive_extension.ensures.takes))
 
 pub returns-clause-literals : goal.returns-clause-literals
 returns-clause-literals g c =
-    let week = week_of c.args.instance.now in
-    let truths = extension_truths week (set_of c.args.roster.now) in
+    let problem = problem_of c.args.instance.now in
+    let truths = extension_truths problem (set_of c.args.roster.now) in
     let old = c.args.answer.now in
-    let few : (putting_of old).literals + length truths < 2 ^ 32 =
+    let few : (writer_state_of old).literals + length truths < 2 ^ 32 =
     omega (
       arith,
       c.requires.none,
-      c.extension_truths_are_those_of_the_variables.ensures.count week (set_of c.args.roster.now),
-      c.variables_are_few.ensures week (c.instances_are_within_limits.ensures c.args.instance.now c.drive_extension.ensures.limits),
+      c.extension_truths_are_those_of_the_variables.ensures.count problem (set_of c.args.roster.now),
+      c.variables_are_few.ensures problem (c.instances_are_within_limits.ensures c.args.instance.now c.drive_extension.ensures.limits),
     ) in
-    let all : (putting_of old).literals + length truths ≡ length truths = omega (arith, c.requires.none) in
+    let all : (writer_state_of old).literals + length truths ≡ length truths = omega (arith, c.requires.none) in
     MatchResult-weaker c.drive_extension.result
     (sink-takes old c.drive_extension.new.taker truths c.drive_extension.result c.drive_extension.ensures.takes)
     (λ u took.
-    ap (λ (p : Putting). p.literals) (took_events_keep (λ answer. sink_of (answer_writer answer)) putting_of literal_texts truths took) ∙
-    literals-counted (putting_of old) truths few ∙ all)
+    ap (λ (p : WriterState). p.literals) (took_events_keep (λ answer. writer_sink (answer_writer answer)) writer_state_of literal_texts truths took) ∙
+    literals-counted (writer_state_of old) truths few ∙ all)
     (λ fault refused. tt)

@@ -1,5 +1,5 @@
 use Rattle.std.proofs.Common.{ℕ, sym, ap, ◌∙◌, arith}
-use Rattle.rota_core.specs.InstanceTables.{week_of}
+use Rattle.rota_core.specs.InstanceTables.{problem_of}
 use Rattle.rota_items.specs.ExtensionTruths.{extension_truths}
 use Rattle.rota_items.specs.Penalty.{penalty}
 use Rattle.solver_text.specs.Answers.{outcome}
@@ -9,15 +9,15 @@ use Rattle.rota_pb.proofs.extension_laws.extension_is_read_back.Goals as goal
 pub returns : goal.returns
 unfolding extension_answer
 returns c tables roster valid keeps =
-    let week = week_of tables in
+    let problem = problem_of tables in
     let truths = c.extension_truths_are_those_of_the_variables.ensures in
     let limits = c.instances_are_within_limits.ensures tables valid in
     record {
       outcome =
-          ap (λ (n : ℕ). outcome n (extension_text week roster)) (sym (truths.count week roster)) ∙
-          c.written_answer_is_read.ensures (penalty week roster) (extension_truths week roster)
-          (omega (arith, c.penalty_is_small.ensures week roster limits))
-          (omega (arith, truths.count week roster, c.variables_are_few.ensures week limits));
-      truths = truths.values week roster;
-      same_roster = truths.same_roster week roster;
+          ap (λ (n : ℕ). outcome n (extension_text problem roster)) (sym (truths.count problem roster)) ∙
+          c.written_answer_is_read.ensures (penalty problem roster) (extension_truths problem roster)
+          (omega (arith, c.penalty_is_small.ensures problem roster limits))
+          (omega (arith, truths.count problem roster, c.variables_are_few.ensures problem limits));
+      truths = truths.values problem roster;
+      same_roster = truths.same_roster problem roster;
     }

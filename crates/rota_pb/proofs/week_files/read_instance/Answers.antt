@@ -1,6 +1,6 @@
 use Rattle.std.proofs.Common.{refl}
-use Rattle.rota_pb.specs.Runs.{left_out, taken, went_on}
-use Rattle.rota_pb.proofs.Runs.{stopped_by}
+use Rattle.rota_pb.specs.Steps.{left_out, taken, went_on}
+use Rattle.rota_pb.proofs.Steps.{stopped_by}
 use Rattle.rota_pb.proofs.week_files.read_instance.Goals as goal
 
 pub returns-in_err-instance : goal.returns-in_err-instance

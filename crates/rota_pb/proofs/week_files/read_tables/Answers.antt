@@ -1,6 +1,6 @@
 use Rattle.std.proofs.Common.{refl}
-use Rattle.rota_pb.specs.Runs.{went_on}
-use Rattle.rota_pb.proofs.Runs.{stopped_by}
+use Rattle.rota_pb.specs.Steps.{went_on}
+use Rattle.rota_pb.proofs.Steps.{stopped_by}
 use Rattle.rota_pb.proofs.week_files.read_tables.Goals as goal
 
 pub returns-in_err-scenario : goal.returns-in_err-scenario

@@ -8,13 +8,13 @@ use Rattle.rota_pb.proofs.week_files.read_week_from.Goals as goal
 pub returns-in_err-text-clause-reads : goal.returns-in_err-text-clause-reads
 returns-in_err-text-clause-reads g c =
     let p = err_from_is_err_and c.from_residual.result c.from_residual.ensures.1 in
-    let reader = reader_of g.S.Source c.args.source.now c.read_within.new.source in
+    let reader = reader_of g.S.Source c.args.source.now c.read_file.new.source in
     rw (p.1, p.2) (stops-check names.Week (week c.args.scenario.now) reader _ c.in_err-text.ensures.fault)
 
 pub returns-in_err-read_week-clause-reads : goal.returns-in_err-read_week-clause-reads
 returns-in_err-read_week-clause-reads g c =
     let p = err_from_is_err_and c.from_residual-in_err-read_week.result c.from_residual-in_err-read_week.ensures.1 in
-    let reader = reader_of g.S.Source c.args.source.now c.read_within.new.source in
+    let reader = reader_of g.S.Source c.args.source.now c.read_file.new.source in
     rw (p.1, p.2)
     (fails-check names.Week (week c.args.scenario.now) reader _ c.in_ok-text.ensures.read _
     (rw (← c.deref.ensures.value) c.in_err-read_week.ensures.fault))

@@ -1,7 +1,7 @@
 use Rattle.std.proofs.Common.{[], ◌∷◌, append_assoc, sym, ap, ◌∙◌}
 use Rattle.std.specs.List.{AllByRecursion}
 use Rattle.std.proofs.lemmas.List.{append-nil}
-use Rattle.rota_core.specs.InstanceTables.{week_of}
+use Rattle.rota_core.specs.InstanceTables.{problem_of}
 use Rattle.rota_core.specs.Roster.{Has, InWeek}
 use Rattle.rota_core.specs.RosterCells.{cells_of}
 use Rattle.rota_core.specs.RosterTables.{set_of}
@@ -16,18 +16,18 @@ pub loop-cell-init : goal.loop-cell-init
 loop-cell-init g c = record {
   puts = puts_nothing c.args.sink.now;
   left = c.into_iter-cell-iterator.ensures.into_iter_gives ∙ c.cells-cell-items.ensures ∙
-      (c.rosters_list_their_cells.ensures.tables (week_of c.args.instance.now) c.args.roster.now c.requires.shape).cells;
+      (c.rosters_list_their_cells.ensures.tables (problem_of c.args.instance.now) c.args.roster.now c.requires.shape).cells;
 }
 
 pub put_assignment-requires : goal.put_assignment-requires
 put_assignment-requires g c =
-    let week = week_of c.args.instance.now in
+    let problem = problem_of c.args.instance.now in
     let roster = set_of c.args.roster.now in
-    let all : AllByRecursion (InWeek week) (cells_of week roster) =
-    all-weaker (Has week roster) (InWeek week) (λ one has. has.in_week) (cells_of week roster)
-    (c.rosters_list_their_cells.ensures.cells week roster).theirs in
+    let all : AllByRecursion (InWeek problem) (cells_of problem roster) =
+    all-weaker (Has problem roster) (InWeek problem) (λ one has. has.in_week) (cells_of problem roster)
+    (c.rosters_list_their_cells.ensures.cells problem roster).theirs in
     let left = rw c.in-Some.ensures.steps at c.loop-cell.invariant.left in
-    record { in_week = (AllByRecursion-back (InWeek week) c.loop-cell.yielded (c.in-Some.cell ∷ c.next.new.self) (rw left all)).1.0 }
+    record { in_week = (AllByRecursion-back (InWeek problem) c.loop-cell.yielded (c.in-Some.cell ∷ c.next.new.self) (rw left all)).1.0 }
 
 pub returns-in_err-put_assignment : goal.returns-in_err-put_assignment
 returns-in_err-put_assignment g c =

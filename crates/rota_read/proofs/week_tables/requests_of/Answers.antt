@@ -1,6 +1,6 @@
 use Rattle.std.proofs.Common.{◌≡◌, ◌*◌, ◌≤◌, None, length, take, replicate, ap, ◌∙◌, refl, arith}
 use Rattle.std.proofs.lemmas.List.{length-take-le}
-use Rattle.rota_read.proofs.CountLemmas.{no_rows_counted, request_table-most, row_counted}
+use Rattle.rota_read.proofs.CountLemmas.{no_rows_counted, request_table-maximum, row_counted}
 use Rattle.rota_read.proofs.week_tables.requests_of.Goals as goal
 
 pub loop-row-init : goal.loop-row-init
@@ -13,7 +13,7 @@ pub count_row-requires-clause-small : goal.count_row-requires-clause-small
 count_row-requires-clause-small c = λ k d lt.
     let i = c.loop-row.row-index in
     let few : length (take i c.args.rows.now) ≤ i = omega (arith, length-take-le i c.args.rows.now) in
-    let e = request_table-most c.args.nurses c.args.shifts (take i c.args.rows.now) i few in
+    let e = request_table-maximum c.args.nurses c.args.shifts (take i c.args.rows.now) i few in
     let within = rw (← c.loop-row.invariant) at e in
     let one = within k d lt in
     omega arith

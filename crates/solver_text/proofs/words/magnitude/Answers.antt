@@ -50,4 +50,4 @@ returns c =
     ∙ sym
     (ap (λ (m : Option ℕ). option_map_or (λ n. Some (pos n)) m None)
     (magnitude_at digits c.loop-b.value decimals value
-    (omega (arith, some_bytes digits c.if-is_empty.false c.is_empty.ensures)) c.if-digits-gt-MOST_DIGITS.false))
+    (omega (arith, some_bytes digits c.if-is_empty.false c.is_empty.ensures)) c.if-digits-gt-MAX_DIGITS.false))

@@ -5,7 +5,7 @@ use Rattle.opb_text.specs.ModelText.{first_line}
 use Rattle.opb_text.proofs.LogicWords.{puts_exit, puts_same, puts_stop, puts_then}
 use Rattle.opb_text.proofs.opb_taker.OpbTaker.first_line.Goals as goal
 
--- the first number with what is before and behind it, and then the second
+-- the first number with the text before and after it, and then the second number
 parts : (variables constraints : ℕ) → first_line variables constraints ≡
     (codes "* #variable= " ++ numeral variables ++ codes " #constraint= ") ++ ([] ++ numeral constraints ++ codes "\n")
 parts variables constraints =

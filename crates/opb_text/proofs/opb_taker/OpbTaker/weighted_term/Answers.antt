@@ -17,7 +17,7 @@ plus : (z : ℤ) → pos 0 ≤ℤ z → coefficient_text z ≡ 43 ∷ numeral (n
 plus (pos n) positive = refl
 plus (negsuc n) positive = absurd (omega (arith, ints))
 
--- the sign and the digits with the letter behind them, and then the variable
+-- the sign and the digits with the letter after them, and then the variable
 parts : (g : Over) (c : After-unsigned_abs g) → term_text (c.args.coefficient, c.args.variable) ≡
     (c.if-coefficient-lt0.sign.now ++ numeral c.unsigned_abs.result ++ codes " x") ++ ([] ++ numeral c.args.variable ++ codes " ")
 parts g c =

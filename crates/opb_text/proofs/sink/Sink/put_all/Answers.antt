@@ -10,7 +10,7 @@ use Rattle.opb_text.specs.Pieces.{pieces_text, piece_text}
 use Rattle.opb_text.specs.declared.sink.Piece.{Piece}
 use Rattle.opb_text.proofs.sink.Sink.put_all.Goals as goal
 
--- the texts of the pieces before one, that of it, and those of the pieces behind it
+-- the texts of the pieces before one, its text, and the texts of the pieces after it
 split_at : (pieces : List Piece) (i : ℕ) (d : Piece) → i < length pieces →
     (pieces_text (take i pieces) ++ piece_text (get_or pieces i d)) ++ pieces_text (drop (i + 1) pieces) ≡ pieces_text pieces
 split_at pieces i d inside =
@@ -22,7 +22,7 @@ split_at pieces i d inside =
     ∙ ap pieces_text (take-append-drop (i + 1) pieces)
 
 module _ {W : Type 0} {target : Ghosts W} where
-  -- the pieces before one were put, and that failed to go in
+  -- the pieces before one were written, and this one could not be written
   piece_failed : {old middle new : Sink W target} {u : Unit {0}} {e f : PortFault} (pieces : List Piece) (i : ℕ) (d : Piece) → i < length pieces →
       PutsText old (Ok u) (pieces_text (take i pieces)) middle → PutsText middle (Err e) (piece_text (get_or pieces i d)) new →
       PutsText old (Err f) (pieces_text pieces) new
@@ -36,5 +36,5 @@ returns-then-self-clause-takes g c = puts_none c.args.self.now _ _ c.if-self.tru
 pub returns-in_err-put_piece-clause-takes : goal.returns-in_err-put_piece-clause-takes
 returns-in_err-put_piece-clause-takes g c =
     puts_exit _ c.from_residual.ensures.0
-    (piece_failed c.args.pieces.now c.loop-place.place _ (omega arith) c.loop-place.invariant
+    (piece_failed c.args.pieces.now c.loop-index.index _ (omega arith) c.loop-index.invariant
     (rw c.in_err-put_piece.was at c.put_piece.ensures))

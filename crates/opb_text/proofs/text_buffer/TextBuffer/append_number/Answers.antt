@@ -3,7 +3,7 @@ use Rattle.std.proofs.lemmas.List.{length-take-le}
 use Rattle.std.proofs.lemmas.Fmt.{length-decimal-le}
 use Rattle.rota_core.specs.Numeral.{numeral}
 use Rattle.opb_text.proofs.StdNumerals.{numeral_is}
-use Rattle.opb_text.proofs.Pieces.{digits_behind, front_of_refill}
+use Rattle.opb_text.proofs.Pieces.{digits_after, front_of_refill}
 use Rattle.opb_text.proofs.text_buffer.TextBuffer.append_number.Goals as goal
 
 pub overflow_add-end : goal.overflow_add-end
@@ -38,7 +38,7 @@ returns-clause-text c =
     let kept : length c.write_digits.new.buf ≡ length items = omega (arith, c.write_digits.auto.buf, full, c.self.invariant.1) in
     front_of_refill items c.write_digits.new.buf (start + c.count_digits.result) kept
     (omega (arith, c.count_digits.ensures, most, long, c.requires, c.self.invariant.1))
-    ∙ digits_behind bytes c.write_digits.new.buf (decimal c.from.result) c.write_digits.result (start + c.count_digits.result)
+    ∙ digits_after bytes c.write_digits.new.buf (decimal c.from.result) c.write_digits.result (start + c.count_digits.result)
     c.write_digits.ensures.start (omega (arith, at, within, full)) c.write_digits.ensures.written c.write_digits.ensures.before
     ∙ ap (λ (n : ℕ). take n bytes ++ decimal c.from.result) at
     ∙ ap (λ (m : ℕ). take start bytes ++ decimal m) c.from.ensures

@@ -9,10 +9,10 @@ index-requires c =
 
 pub returns-clause-falses : goal.returns-clause-falses
 returns-clause-falses c =
-    get_or-falses c.self.inside.words.items c.self.inside.len c.args.place c.index.result.now c.min.result c.args.self.now c.self.view_is
+    get_or-falses c.self.inside.words.items c.self.inside.len c.args.index c.index.result.now c.min.result c.args.self.now c.self.view_is
     c.requires (omega (arith, c.self.invariant)) c.index.ensures (omega arith) c.min.ensures
 
 pub returns-clause-none : goal.returns-clause-none
 returns-clause-none c =
-    get_or-no_falses c.self.inside.words.items c.self.inside.len c.args.place c.index.result.now c.min.result c.args.self.now c.self.view_is
+    get_or-no_falses c.self.inside.words.items c.self.inside.len c.args.index c.index.result.now c.min.result c.args.self.now c.self.view_is
     c.requires (omega (arith, c.self.invariant)) c.index.ensures (omega arith) c.min.ensures

@@ -14,9 +14,9 @@ pub returns : goal.returns
 returns c =
     let words = c.self.inside.words.items in
     let len = ap length (sym c.self.view_is) ∙ length-truths_of words c.self.inside.len in
-    let place_in : c.args.place < c.self.inside.len = omega (arith, len) in
-    let word_in : c.args.place / 64 < length words = omega (arith, len, c.self.invariant) in
-    let word = c.index-word.ensures ∙ get_or_default words (c.args.place / 64) c.index-word.result.now 0 word_in in
-    ap (λ bit. eqb bit 1) (shr_and_one c.index-word.result.now (c.args.place % 64) ∙ ap (λ w. bit_at w (c.args.place % 64)) word) ∙
-    sym (get_or-truths_of words c.self.inside.len c.args.place place_in) ∙
-    ap (λ truths. get_or truths c.args.place false) c.self.view_is
+    let index_in : c.args.index < c.self.inside.len = omega (arith, len) in
+    let word_in : c.args.index / 64 < length words = omega (arith, len, c.self.invariant) in
+    let word = c.index-word.ensures ∙ get_or_default words (c.args.index / 64) c.index-word.result.now 0 word_in in
+    ap (λ bit. eqb bit 1) (shr_and_one c.index-word.result.now (c.args.index % 64) ∙ ap (λ w. bit_at w (c.args.index % 64)) word) ∙
+    sym (get_or-truths_of words c.self.inside.len c.args.index index_in) ∙
+    ap (λ truths. get_or truths c.args.index false) c.self.view_is

@@ -13,12 +13,12 @@ pub returns : goal.returns
 returns c =
     let words = c.self.inside.words.items in
     let n = c.self.inside.len in
-    let place = c.args.place in
+    let index = c.args.index in
     let len = ap length (sym c.self.view_is) ∙ length-truths_of words n in
-    let place_in : place < n = omega (arith, len) in
-    let word_in : place / 64 < length words = omega (arith, len, c.self.invariant) in
+    let index_in : index < n = omega (arith, len) in
+    let word_in : index / 64 < length words = omega (arith, len, c.self.invariant) in
     let fits : n ≤ 64 * length words = omega (arith, c.self.invariant) in
-    let word = c.index_mut-word.ensures.value ∙ get_or_default words (place / 64) c.index_mut-word.result.now 0 word_in in
-    ap (λ w. truths_of (set words (place / 64) (with_bit w (place % 64))) n) word ∙
-    truths_of-with_bit words n place place_in fits ∙
-    ap (λ truths. set truths place true) c.self.view_is
+    let word = c.index_mut-word.ensures.value ∙ get_or_default words (index / 64) c.index_mut-word.result.now 0 word_in in
+    ap (λ w. truths_of (set words (index / 64) (with_bit w (index % 64))) n) word ∙
+    truths_of-with_bit words n index index_in fits ∙
+    ap (λ truths. set truths index true) c.self.view_is

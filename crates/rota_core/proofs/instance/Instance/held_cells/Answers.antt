@@ -1,6 +1,6 @@
 use Rattle.std.proofs.Common.{◌∙◌}
 use Rattle.std.proofs.lemmas.List.Elements.{All-same}
-use Rattle.rota_core.specs.InstanceTables.{week_of}
+use Rattle.rota_core.specs.InstanceTables.{problem_of}
 use Rattle.rota_core.specs.Roster.{InWeek}
 use Rattle.rota_core.proofs.HeldCells.{cells-held, cells-none_held, held-inside}
 use Rattle.rota_core.proofs.instance.Instance.held_cells.Goals as goal
@@ -10,7 +10,7 @@ returns-in-Some-clause-cells c = rw (← c.self.view_is) (c.cells.ensures ∙ ce
 
 pub returns-in-Some-clause-inside : goal.returns-in-Some-clause-inside
 returns-in-Some-clause-inside c =
-    All-same (InWeek (week_of c.args.self.now)) c.cells.result _ (returns-in-Some-clause-cells c)
+    All-same (InWeek (problem_of c.args.self.now)) c.cells.result _ (returns-in-Some-clause-cells c)
     (rw (← c.self.view_is) (held-inside _ c.self.invariant))
 
 pub returns-in-None-clause-cells : goal.returns-in-None-clause-cells

@@ -1,4 +1,4 @@
-use Rattle.rota_items.proofs.Common.{arith, week_of}
+use Rattle.rota_items.proofs.Common.{arith, problem_of}
 use Rattle.rota_items.proofs.SlackBound.{length-constraints}
 use Rattle.rota_items.proofs.counting.model_counts.counts.Goals as goal
 
@@ -6,7 +6,7 @@ pub returns-clause-constraints : goal.returns-clause-constraints
 returns-clause-constraints c =
     omega (
       arith,
-      length-constraints (week_of c.args.instance.now),
+      length-constraints (problem_of c.args.instance.now),
       c.count_rule_rows.ensures.number,
       c.count_soft_items-soft.ensures.items,
     )

@@ -1,15 +1,15 @@
-use Rattle.rota_items.proofs.Common.{exits, week_of}
+use Rattle.rota_items.proofs.Common.{exits, problem_of}
 use Rattle.rota_core.specs.RosterTables.{set_of}
 use Rattle.rota_items.proofs.ExtensionTruths.{truths-parts}
 use Rattle.rota_items.proofs.Taking.{Refused-before, Takes-then}
 use Rattle.rota_items.proofs.extended.extension.drive_extension.Goals as goal
 
-pub returns-in_err-give_assigned-clause-takes : goal.returns-in_err-give_assigned-clause-takes
-returns-in_err-give_assigned-clause-takes g c =
+pub returns-in_err-emit_assigned-clause-takes : goal.returns-in_err-emit_assigned-clause-takes
+returns-in_err-emit_assigned-clause-takes g c =
     exits _ _ _ _ c.from_residual.ensures.0
-    (rw (← truths-parts (week_of c.args.instance.now) (set_of c.args.roster.now)) (Refused-before _ _ _ _ c.in_err-give_assigned.ensures.takes))
+    (rw (← truths-parts (problem_of c.args.instance.now) (set_of c.args.roster.now)) (Refused-before _ _ _ _ c.in_err-emit_assigned.ensures.takes))
 
 pub returns-clause-takes : goal.returns-clause-takes
 returns-clause-takes g c =
-    rw (← truths-parts (week_of c.args.instance.now) (set_of c.args.roster.now))
-    (Takes-then _ _ _ _ _ _ c.in_ok-give_assigned.ensures.takes c.give_slack_values.ensures)
+    rw (← truths-parts (problem_of c.args.instance.now) (set_of c.args.roster.now))
+    (Takes-then _ _ _ _ _ _ c.in_ok-emit_assigned.ensures.takes c.emit_slack_values.ensures)

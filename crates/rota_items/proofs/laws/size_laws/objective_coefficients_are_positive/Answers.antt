@@ -1,4 +1,4 @@
-use Rattle.rota_items.proofs.Common.Words.{All-from_recursion, objective_terms}
+use Rattle.rota_items.proofs.Common.Imports.{All-from_recursion, objective_terms}
 use Rattle.rota_items.proofs.ObjectiveBound.{coefficients-positive}
 use Rattle.rota_items.proofs.laws.size_laws.objective_coefficients_are_positive.Goals as goal
 

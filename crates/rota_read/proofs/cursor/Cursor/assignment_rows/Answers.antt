@@ -1,7 +1,7 @@
 use Rattle.std.proofs.Common.{◌≡◌, ℕ, ◌-◌, List, [], ◌∷◌, ◌++◌, ap, arith}
 use Rattle.rota_core.specs.declared.values.Cell.{Cell}
 use Rattle.rota_read.specs.Layout.{repeat}
-use Rattle.rota_read.specs.Reading.{read}
+use Rattle.rota_read.specs.Reading.{read_layout}
 use Rattle.rota_read.specs.SolutionLayout.{assignment_row}
 use Rattle.rota_read.proofs.RowSteps.{row_steps}
 use Rattle.rota_read.proofs.cursor.Cursor.assignment_rows.Goals as goal
@@ -11,7 +11,7 @@ loop-init c =
     let all : c.args.count - 0 ≡ c.args.count = omega arith in (
       [],
       record { shape = c.in_ok-roster.ensures.shape; set = λ one _. c.in_ok-roster.ensures.empty one },
-      ap (λ (n : ℕ). read (repeat n (assignment_row c.args.instance.now.scenario) []) c.args.self.now) all,
+      ap (λ (n : ℕ). read_layout (repeat n (assignment_row c.args.instance.now.scenario) []) c.args.self.now) all,
     )
 
 pub returns-in_err-assignment_row : goal.returns-in_err-assignment_row

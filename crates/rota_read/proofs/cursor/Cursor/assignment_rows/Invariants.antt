@@ -1,13 +1,13 @@
 use Rattle.std.proofs.Common.{◌≡◌, ◌-◌, List, []}
 use Rattle.rota_core.specs.declared.values.Cell.{Cell}
-use Rattle.rota_core.specs.InstanceTables.{week_of}
+use Rattle.rota_core.specs.InstanceTables.{problem_of}
 use Rattle.rota_read.specs.Layout.{repeat}
-use Rattle.rota_read.specs.Reading.{read}
+use Rattle.rota_read.specs.Reading.{read_layout}
 use Rattle.rota_read.specs.SolutionLayout.{assignment_row, HasCells}
 use Rattle.rota_read.proofs.cursor.Cursor.assignment_rows.Given as goal
 
 abbrev pub invariant-loop : goal.invariant-loop
 invariant-loop l =
-    (rows : List Cell) × HasCells (week_of l.instance) l.roster rows
-    × (read (repeat (l.count - l.counter) (assignment_row l.instance.scenario) rows) l.self ≡
-    read (repeat l.count (assignment_row l.instance.scenario) []) l.fn.self)
+    (rows : List Cell) × HasCells (problem_of l.instance) l.roster rows
+    × (read_layout (repeat (l.count - l.counter) (assignment_row l.instance.scenario) rows) l.self ≡
+    read_layout (repeat l.count (assignment_row l.instance.scenario) []) l.fn.self)

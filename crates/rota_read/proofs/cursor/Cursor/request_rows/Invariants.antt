@@ -1,7 +1,7 @@
 use Rattle.std.proofs.Common.{◌≡◌, ◌-◌, [], length}
 use Rattle.std.specs.List.{All}
 use Rattle.rota_read.specs.Layout.{repeat}
-use Rattle.rota_read.specs.Reading.{read}
+use Rattle.rota_read.specs.Reading.{read_layout}
 use Rattle.rota_read.specs.WeekLayout.{request_row}
 use Rattle.rota_read.specs.WeekRows.{IsRequest}
 use Rattle.rota_read.proofs.cursor.Cursor.request_rows.Given as goal
@@ -9,8 +9,8 @@ use Rattle.rota_read.proofs.cursor.Cursor.request_rows.Given as goal
 abbrev pub invariant-loop : goal.invariant-loop
 invariant-loop l = record {
   read :
-      read (repeat (l.count - l.counter) (request_row l.scenario) l.rows.items) l.self ≡
-      read (repeat l.count (request_row l.scenario) []) l.fn.self;
+      read_layout (repeat (l.count - l.counter) (request_row l.scenario) l.rows.items) l.self ≡
+      read_layout (repeat l.count (request_row l.scenario) []) l.fn.self;
   within : All (IsRequest (length l.scenario.nurses) (length l.scenario.shifts)) l.rows.items;
   count : length l.rows.items ≡ l.counter;
 }

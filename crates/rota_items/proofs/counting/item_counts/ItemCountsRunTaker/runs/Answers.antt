@@ -1,4 +1,4 @@
-use Rattle.rota_items.proofs.Common.{◌≡◌, ◌∙◌, ◌+◌, sym, arith, rules, week_of, runs_of, ItemNumbers, sum_within}
+use Rattle.rota_items.proofs.Common.{◌≡◌, ◌∙◌, ◌+◌, sym, arith, rules, problem_of, runs_of, ItemNumbers, sum_within}
 use Rattle.rota_items.proofs.EachPattern.{few-run_patterns}
 use Rattle.rota_items.proofs.ItemCounting.{counted-runs}
 use Rattle.rota_items.proofs.counting.item_counts.ItemCountsRunTaker.runs.Goals as goal
@@ -10,7 +10,7 @@ overflow_add-items c =
 
 pub returns : goal.returns
 returns c =
-    let week = week_of c.args._instance.now in
+    let problem = problem_of c.args._instance.now in
     let runs = c.args.runs in
     let now : ItemNumbers = record { items = c.args.self.now.items; slacks = c.args.self.now.slacks } in
     let n = c.windows_of.result + c.patterns_of.result in
@@ -18,6 +18,6 @@ returns c =
     let slacks_are : c.saturating_add-self-2.result ≡ sum_within now.slacks n = search rules in
     record {
       value_is = (λ i. record { items = items_are i; slacks = slacks_are i }) ∙
-          sym (counted-runs week (runs_of week runs) now n (record { items = search rules; slacks = search rules })
+          sym (counted-runs problem (runs_of problem runs) now n (record { items = search rules; slacks = search rules })
           (omega (arith, c.windows_of.ensures, c.patterns_of.ensures)));
     }

@@ -1,13 +1,77 @@
-use Rattle.rota_items.proofs.Common.{w64, rules, to_z-of_z, refl, MatchResult-from_err}
+use Rattle.rota_items.proofs.Common.{w64, rules, ap, both, go_on, numbers_join, refl, row-is, row_refused, row_taken, row_unclosed, row_unstarted, stop, to_z-of_z}
+use Rattle.rota_items.proofs.Common.{cell_term_events, ◌+◌, MatchResult-from_err}
+use Rattle.rota_items.proofs.ItemRows.{row_handed}
 use Rattle.rota_items.proofs.items.item_rows.ItemRowsItemTaker.item.Goals as goal
 
-pub returns-in_err-give_row : goal.returns-in_err-give_row
-returns-in_err-give_row g c =
-    let exact = to_z-of_z w64 c.args.item.degree (search rules) in
+pub returns-in_err-start_row : goal.returns-in_err-start_row
+returns-in_err-start_row g c =
+    let item = c.within_numbers-item.ensures.item in
     MatchResult-from_err _ _ _ c.from_residual.ensures.0
-    (λ _. record {
-      same_taker = refl;
-      old = c.args.self.now.taker.now;
-      old_is = refl;
-      refused = rw (c.from.ensures, c.within_numbers-item.ensures.item, exact) at c.in_err-give_row.ensures;
-    })
+    (λ _. (
+      refl,
+      record {
+        old = c.args.self.now.taker.now;
+        old_is = refl;
+        refused = row_unstarted g.T.Taker (row-is _) _ _ (rw (c.from.ensures, item) at c.in_err-start_row.ensures);
+      },
+    ))
+
+pub returns-in_err-emit_sum : goal.returns-in_err-emit_sum
+unfolding cell_term_events
+returns-in_err-emit_sum g c =
+    let item = c.within_numbers-item.ensures.item in
+    MatchResult-from_err _ _ _ c.from_residual-in_err-emit_sum.ensures.0
+    (λ _. (
+      refl,
+      record {
+        old = c.args.self.now.taker.now;
+        old_is = refl;
+        refused =
+            row_refused g.T.Taker (row-is _) _ _ (rw (c.from.ensures, item) at c.in_ok-start_row.ensures) _
+            (stop numbers_join _ _ _ _ (rw item at c.in_err-emit_sum.ensures));
+      },
+    ))
+
+pub returns-in_err-emit_range : goal.returns-in_err-emit_range
+unfolding cell_term_events
+returns-in_err-emit_range g c =
+    let item = c.within_numbers-item.ensures.item in
+    MatchResult-from_err _ _ _ c.from_residual-in_err-emit_range.ensures.0
+    (λ _. (
+      refl,
+      record {
+        old = c.args.self.now.taker.now;
+        old_is = refl;
+        refused =
+            row_refused g.T.Taker (row-is _) _ _ (rw (c.from.ensures, item) at c.in_ok-start_row.ensures) _
+            (go_on numbers_join _ _ _ _ _ (rw item at c.in_ok-emit_sum.ensures) (rw item at c.in_err-emit_range.ensures));
+      },
+    ))
+
+pub returns-in_err-close_row : goal.returns-in_err-close_row
+unfolding cell_term_events
+returns-in_err-close_row g c =
+    let item = c.within_numbers-item.ensures.item in
+    let exact = to_z-of_z w64 c.args.item.degree (search rules) in
+    MatchResult-from_err _ _ _ c.from_residual-in_err-close_row.ensures.0
+    (λ _. (
+      refl,
+      record {
+        old = c.args.self.now.taker.now;
+        old_is = refl;
+        refused =
+            row_unclosed g.T.Taker (row-is _) _ _ (rw (c.from.ensures, item) at c.in_ok-start_row.ensures) _ _
+            (both numbers_join _ _ _ _ _ (rw item at c.in_ok-emit_sum.ensures) (rw item at c.in_ok-emit_range.ensures))
+            (rw (item, exact) at c.in_err-close_row.ensures);
+      },
+    ))
+
+pub returns : goal.returns
+unfolding cell_term_events
+returns g c =
+    let item = c.within_numbers-item.ensures.item in
+    let exact = to_z-of_z w64 c.args.item.degree (search rules) in
+    row_handed g.T.Taker _ _ _ _ refl _ (ap (λ n. c.args.self.now.next + n) (ap (λ i. i.slacks) item))
+    (row_taken g.T.Taker (row-is _) _ _ (rw (c.from.ensures, item) at c.in_ok-start_row.ensures) _ _
+    (both numbers_join _ _ _ _ _ (rw item at c.in_ok-emit_sum.ensures) (rw item at c.in_ok-emit_range.ensures))
+    (rw (item, exact) at c.in_ok-close_row.ensures))

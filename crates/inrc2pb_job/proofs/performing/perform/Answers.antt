@@ -1,8 +1,0 @@
-use Rattle.std.proofs.Common.{refl}
-use Rattle.inrc2pb_job.proofs.performing.perform.Goals as goal
-
-pub returns-in-Decode : goal.returns-in-Decode
-returns-in-Decode g c = rw c.in-Decode.is c.decode.ensures
-
-pub returns-in-Extend : goal.returns-in-Extend
-returns-in-Extend g c = rw c.in-Extend.is (rw c.as_str.ensures.value at c.extend.ensures, refl, refl)

@@ -1,0 +1,38 @@
+-- The inputs of a job, open.
+use Rattle.std.specs.Prelude.{⊤, false, [], Option, Some, None, option_map, string_bytes}
+use Rattle.rota_core.specs.declared.ports.Source.{Ghosts}
+use Rattle.rota_pb.specs.RunPorts.{WeekReaders, reader_of, week_readers}
+use Rattle.inrc2pb_job.specs.Jobs.{IsChoiceOf}
+use Rattle.inrc2pb_job.specs.Paths.{IsNew, Path, FileAt}
+use Rattle.inrc2pb_job.specs.declared.fix_file.FixFile.{FixFile}
+use Rattle.inrc2pb_job.specs.declared.fix_file.FixFile.TheVariants.{Named, Absent}
+use Rattle.inrc2pb_job.specs.declared.job.Inputs.{Inputs}
+use Rattle.inrc2pb_job.specs.declared.open_files.OpenInputs.{OpenInputs}
+
+-- the port of the file of the held cells: the port of the file that is named for them, or of a file without bytes
+abbrev pub fix_port : {F : Type 0} → Ghosts F → Ghosts (FixFile F)
+fix_port port = record {
+  left = elim [ Named file ↦ port.left file | Absent ended ↦ Some [] ];
+  has_failed = elim [ Named file ↦ port.has_failed file | Absent ended ↦ false ];
+  has_ended = elim [ Named file ↦ port.has_ended file | Absent ended ↦ ended ];
+}
+
+-- the file of the held cells is new, if one is named for them
+abbrev pub IsFixOpen : {F : Type 0} → Ghosts F → (Path → FileAt) → Option Path → FixFile F → Type 0
+IsFixOpen port at (Some path) (Named file) = IsNew port (at path) file
+IsFixOpen port at (Some path) (Absent ended) = ⊥
+IsFixOpen port at None (Named file) = ⊥
+IsFixOpen port at None (Absent ended) = ⊤
+
+-- each input is open at its own path, and the choices of the run are the choices of the inputs
+pub record AreOpen {F : Type 0} (port : Ghosts F) (at : Path → FileAt) (inputs : Inputs) (opened : OpenInputs F) : Type 0 where
+  pub choice : IsChoiceOf inputs opened.choice
+  pub scenario : IsNew port (at (string_bytes inputs.sce)) opened.sce
+  pub history : IsNew port (at (string_bytes inputs.his)) opened.his
+  pub week : IsNew port (at (string_bytes inputs.week)) opened.week
+  pub fix : IsFixOpen port at (option_map string_bytes inputs.fix) opened.fix
+
+-- the readers of the inputs that are `old` before a run and `new` after it
+abbrev pub readers_of : {F : Type 0} → Ghosts F → OpenInputs F → OpenInputs F → WeekReaders
+readers_of port old new = week_readers (reader_of port old.sce new.sce) (reader_of port old.his new.his)
+    (reader_of port old.week new.week) (reader_of (fix_port port) old.fix new.fix)

@@ -1,0 +1,43 @@
+-- The contents of a path, and the paths that were asked for.
+use Rattle.std.specs.Prelude.{◌≡◌, ℕ, List, ◌++◌, false, Option, Some, option_map, ⊤}
+use Rattle.rota_core.specs.declared.ports.Source.{Ghosts}
+
+abbrev pub Path : Type 0
+Path = List ℕ
+
+-- the contents of a path: they are unknown, or no file opens there, or there is a file with these bytes
+pub data FileAt : Type 0 where
+  unknown : FileAt
+  nothing : FileAt
+  file_of : List ℕ → FileAt
+
+-- a file opens there
+abbrev pub MayOpen : FileAt → Type 0
+MayOpen unknown = ⊤
+MayOpen nothing = ⊥
+MayOpen (file_of bytes) = ⊤
+
+-- no file opens there
+abbrev pub MayRefuse : FileAt → Type 0
+MayRefuse unknown = ⊤
+MayRefuse nothing = ⊤
+MayRefuse (file_of bytes) = ⊥
+
+-- the open file has the contents of the path
+abbrev pub HasContent : {F : Type 0} → Ghosts F → FileAt → F → Type 0
+HasContent port unknown file = ⊤
+HasContent port nothing file = ⊥
+HasContent port (file_of bytes) file = port.left file ≡ Some bytes
+
+-- and nothing has been read from it
+pub record IsNew {F : Type 0} (port : Ghosts F) (content : FileAt) (file : F) : Type 0 where
+  pub given : HasContent port content file
+  pub sound : port.has_failed file ≡ false
+  pub unended : port.has_ended file ≡ false
+
+-- the paths that were asked for, if they are known
+abbrev pub PathLog : Type 0
+PathLog = Option (List Path)
+
+abbrev pub with_paths : PathLog → List Path → PathLog
+with_paths log paths = option_map (λ (before : List Path). before ++ paths) log

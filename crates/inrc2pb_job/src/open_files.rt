@@ -1,0 +1,90 @@
+//! The inputs of a job, open.
+ghost use Rattle.std.specs.Prelude.{◌≡◌, [], ◌∷◌, IfErr, IfOk, option_map, string_bytes};
+ghost use Rattle.inrc2pb_job.specs.Jobs.{paths_of, week_paths};
+ghost use Rattle.inrc2pb_job.specs.OpenInputs.{AreOpen, IsFixOpen};
+ghost use Rattle.inrc2pb_job.specs.OpenCalls.{OpensAll, StopsOpening};
+ghost use Rattle.inrc2pb_job.specs.Paths.{IsNew};
+ghost use Rattle.rota_pb.specs.declared.fault.Fault.TheVariants.{Read as ReadFailed};
+
+use crate::fix_file::FixFile;
+use crate::job::Inputs;
+use crate::paths::Opens;
+use rota_pb::{Choice, Fault};
+
+/// The inputs of every job, open, and the choices for its run.
+pub struct OpenInputs<F> {
+    pub choice: Choice,
+    pub sce: F,
+    pub his: F,
+    pub week: F,
+    pub fix: FixFile<F>,
+}
+
+impl<F: Drop> Drop for OpenInputs<F> {
+    fn drop(self) {
+        let OpenInputs {
+            choice: _,
+            sce: _,
+            his: _,
+            week: _,
+            fix: _,
+        } = self;
+    }
+}
+
+/// Opens the inputs, in the order in which they are checked.
+///
+/// # Errors
+/// `Read` if an input does not open.
+pub fn open_inputs<O: Opens>(files: &mut O, inputs: &Inputs) -> Result<OpenInputs<O::File>, Fault>
+    ensures open { IfOk result (AreOpen O.File.Source (O.at files.old) inputs.now) }
+    ensures all { IfOk result (λ _. OpensAll (O.at files.old) (week_paths inputs.now)
+        (O.log files.old) (O.log files.new)) }
+    ensures fault { IfErr result (λ fault. fault ≡ ReadFailed) }
+    ensures stops { IfErr result (λ _. StopsOpening (O.at files.old) (week_paths inputs.now)
+        (O.log files.old) (O.log files.new)) }
+    ensures same { O.at files.new ≡ O.at files.old }
+{
+    Ok(OpenInputs {
+        choice: inputs.choice(),
+        sce: open(files, inputs.sce.as_str())?,
+        his: open(files, inputs.his.as_str())?,
+        week: open(files, inputs.week.as_str())?,
+        fix: open_fix(files, &inputs.fix)?,
+    })
+}
+
+/// Opens an input.
+///
+/// # Errors
+/// `Read` if the input does not open.
+pub fn open<O: Opens>(files: &mut O, path: &str) -> Result<O::File, Fault>
+    ensures open { IfOk result (IsNew O.File.Source (O.at files.old path.now)) }
+    ensures all { IfOk result (λ _. OpensAll (O.at files.old) (path.now ∷ [])
+        (O.log files.old) (O.log files.new)) }
+    ensures fault { IfErr result (λ fault. fault ≡ ReadFailed) }
+    ensures stops { IfErr result (λ _. StopsOpening (O.at files.old) (path.now ∷ [])
+        (O.log files.old) (O.log files.new)) }
+    ensures same { O.at files.new ≡ O.at files.old }
+{
+    match files.open(path) {
+        Ok(file) => Ok(file),
+        Err(_) => Err(Fault::Read),
+    }
+}
+
+fn open_fix<O: Opens>(files: &mut O, path: &Option<String>) -> Result<FixFile<O::File>, Fault>
+    ensures open { IfOk result (IsFixOpen O.File.Source (O.at files.old)
+        (option_map string_bytes path.now)) }
+    ensures all { IfOk result (λ _. OpensAll (O.at files.old)
+        (paths_of (option_map string_bytes path.now)) (O.log files.old) (O.log files.new)) }
+    ensures fault { IfErr result (λ fault. fault ≡ ReadFailed) }
+    ensures stops { IfErr result (λ _. StopsOpening (O.at files.old)
+        (paths_of (option_map string_bytes path.now)) (O.log files.old) (O.log files.new)) }
+    ensures same { O.at files.new ≡ O.at files.old }
+{
+    match path {
+        Some(path) => Ok(FixFile::Named(open(files, path.as_str())?)),
+        None => Ok(FixFile::Absent(false)),
+    }
+}

@@ -1,0 +1,28 @@
+//! Files that are opened by their paths, and outputs that have a path.
+ghost use Rattle.std.specs.Prelude.{◌≡◌, List, [], ◌∷◌, Option, IfErr, IfOk};
+ghost use Rattle.inrc2pb_job.specs.Paths.{PathLog, IsNew, MayRefuse, Path, FileAt, with_paths};
+
+use rota_core::{PortFault, Source};
+
+/// Opens files by their paths.
+pub trait Opens {
+    type File: Source + Drop;
+
+    // the contents of a path, if they are known
+    ghost at: { Self → Path → FileAt };
+
+    // the paths that were asked for, one after the other, if they are known
+    ghost log: { Self → PathLog };
+
+    /// Opens the file at the path. Nothing has been read from it.
+    fn open(&mut self, path: &str) -> Result<Self::File, PortFault>
+        ensures opened { IfOk result (IsNew Self.File.Source (at self.old path.now)) }
+        ensures refused { IfErr result (λ _. MayRefuse (at self.old path.now)) }
+        ensures log { log self.new ≡ with_paths (log self.old) (path.now ∷ []) }
+        ensures same { at self.new ≡ at self.old };
+}
+
+/// An output that knows its place: the path of its file, or `None` if it is a stream.
+pub trait HasPath {
+    ghost path: { Self → Option Path };
+}

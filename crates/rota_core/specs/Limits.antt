@@ -1,0 +1,38 @@
+-- The limits of the files' numbers. The constants of `src/limits.rt` have the same values.
+use Rattle.std.specs.Prelude.{ℕ, ◌≤◌}
+
+-- from 1 to most
+abbrev pub Within : ℕ → ℕ → Type 0
+Within maximum n = (1 ≤ n) × (n ≤ maximum)
+
+-- the days of a week, Monday to Sunday
+abbrev pub DAYS : ℕ
+DAYS = 7
+
+-- the maximum number of nurses in a scenario
+abbrev pub max_nurses : ℕ
+max_nurses = 1000
+
+-- the maximum number of shift types in a scenario
+abbrev pub max_shifts : ℕ
+max_shifts = 16
+
+-- the maximum number of skills in a scenario
+abbrev pub max_skills : ℕ
+max_skills = 16
+
+-- the maximum number of contracts in a scenario
+abbrev pub max_contracts : ℕ
+max_contracts = 64
+
+-- the maximum number of weeks that a scenario spans
+abbrev pub max_weeks : ℕ
+max_weeks = 52
+
+-- the maximum of every other number in a file
+abbrev pub max_number : ℕ
+max_number = 9999
+
+-- the maximum number of bytes in a file
+abbrev pub max_file_len : ℕ
+max_file_len = 4194304

@@ -1,0 +1,47 @@
+-- The week as the rules see it. Days are 0 (Monday) to 6 (Sunday).
+use Rattle.std.specs.Prelude.{ℕ, Bool, false, None}
+use Rattle.rota_core.specs.declared.values.Span.{Span}
+use Rattle.rota_core.specs.declared.values.Cell.{Cell}
+use Rattle.rota_core.specs.declared.values.Contract.{Contract}
+use Rattle.rota_core.specs.declared.values.Demand.{Demand}
+use Rattle.rota_core.specs.declared.values.Past.{Past}
+
+-- The data of one week on which the rules depend.
+pub record Problem : Type 0 where
+  pub nurses : ℕ
+  pub shifts : ℕ
+  pub skills : ℕ
+  pub is_last : Bool
+  -- the excess of a total is charged in each week, not only in the last
+  pub is_early : Bool
+  -- by nurse and skill
+  pub has_skill : ℕ → ℕ → Bool
+  -- by day, shift type and skill
+  pub demand : (day shift skill : ℕ) → Demand
+  -- the second shift type may not follow the first on the next day
+  pub is_forbidden : ℕ → ℕ → Bool
+  -- by shift type
+  pub limits : ℕ → Span
+  -- by nurse
+  pub contract : ℕ → Contract
+  pub past : ℕ → Past
+  -- the number of request rows that ask for a nurse's day off, from its shift type or from any
+  pub requests : (nurse day shift : ℕ) → ℕ
+  -- the cell is held: each roster must contain it
+  pub is_held : Cell → Bool
+
+-- a minimum and a maximum of 0
+abbrev pub no_span : Span
+no_span = record { min = 0; max = 0 }
+
+-- a contract of zeros, without complete weekends
+abbrev pub no_contract : Contract
+no_contract = record { total = no_span; work = no_span; off = no_span; weekends = 0; complete = false }
+
+-- a demand of zero nurses
+abbrev pub no_demand : Demand
+no_demand = record { minimum = 0; optimal = 0 }
+
+-- the history of a nurse who has never worked
+abbrev pub no_past : Past
+no_past = record { assignments = 0; weekends = 0; last = None; shift_run = 0; work_run = 0; off_run = 0 }

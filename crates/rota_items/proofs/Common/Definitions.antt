@@ -1,0 +1,52 @@
+-- Definitions that only proofs cite: the lists that takers took, the items of a day's patterns, and bounds.
+use Rattle.std.specs.Prelude.{ℕ, ◌+◌, ◌*◌, ◌^◌, Bool, List}
+use Rattle.rota_core.specs.declared.rule.Rule.{Rule}
+use Rattle.rota_core.specs.declared.rule.Rule.TheVariants.{S1}
+use Rattle.rota_core.specs.declared.values.Cell.{Cell}
+use Rattle.rota_core.specs.Problem.{Problem}
+use Rattle.rota_items.specs.Bounds.{max_cost_of_nurse, max_terms, max_weight}
+use Rattle.rota_items.specs.SoftItems.{numbered_list, numbered_rows}
+use Rattle.rota_core.specs.Limits.{DAYS, max_number, max_nurses}
+use Rattle.rota_items.specs.Rows.{Item, LinearRow}
+use Rattle.rota_items.specs.RunItems.{Runs, closed_patterns_at, edge_patterns_on, pattern_items}
+use Rattle.rota_items.specs.Takes.{TookAll}
+use Rattle.rota_items.specs.declared.extended.literal_takers.LiteralTaker as literal_taker
+use Rattle.rota_items.specs.declared.hard.row_takers.RowTaker as row_taker
+use Rattle.rota_items.specs.declared.items.item_takers.ItemTaker as item_taker
+
+-- ---- takers
+
+abbrev pub TookRows : {S F : Type 0} → row_taker.Ghosts S F → Problem → List (LinearRow Cell) → S → S → Type 0
+TookRows T problem rows old new = TookAll T.value T.step T.left (numbered_rows problem rows) old new
+
+abbrev pub TookItems : {S F : Type 0} → item_taker.Ghosts S F → Problem → List (Item Cell) → S → S → Type 0
+TookItems T problem items old new = TookAll T.value T.step T.left (numbered_list problem items) old new
+
+abbrev pub TookLiterals : {S F : Type 0} → literal_taker.Ghosts S F → List Bool → S → S → Type 0
+TookLiterals T truths old new = TookAll T.value T.step T.left truths old new
+
+-- ---- the items of a closed pattern, and of the edge pattern
+
+abbrev pub closed_items_at : {X : Type 0} → Runs X → ℕ → ℕ → List (Item X)
+closed_items_at runs d count = pattern_items runs (closed_patterns_at runs.limits.min d count)
+
+abbrev pub edge_items_on : {X : Type 0} → Runs X → ℕ → List (Item X)
+edge_items_on runs d = pattern_items runs (edge_patterns_on runs.history runs.limits.min d)
+
+-- ---- bounds
+
+-- the maximum number of slacks of each item of a rule
+abbrev pub max_slacks : Rule → ℕ
+max_slacks S1 = max_number
+max_slacks _ = DAYS
+
+-- the maximum charge of an item, on a roster that keeps no rule
+abbrev pub max_charge : ℕ
+max_charge = max_weight * (1 + max_terms)
+
+abbrev pub max_cost : ℕ
+max_cost = max_nurses * max_cost_of_nurse
+
+-- half the limit of a signed sum of 64 bits
+abbrev pub half_limit : ℕ
+half_limit = 2 ^ 62

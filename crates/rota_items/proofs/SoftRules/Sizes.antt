@@ -1,0 +1,89 @@
+-- The size of items, sums of cells and costs in a week within the limits.
+use Rattle.rota_items.proofs.Common.Imports.{ℕ, ◌+◌, ◌*◌, ◌≤◌, Bool, List, [], ◌∷◌, length, arith, if◌then◌else◌, ints, mul-le, Problem, ℤ, pos, negsuc, flat_map, sum_below, count_by-le-length, sum_by-le-sum_by}
+use Rattle.rota_items.proofs.Common.Imports.{Rule, Cell, Item, positive_part, Property, Runs, Pattern, pattern_item, run_items, work_cells, IsWithinLimits, max_unit_weight, max_run_items, max_weight, max_number}
+use Rattle.rota_items.proofs.Common.Imports.{max_nurses, max_shifts, max_skills, length-append, length-map, day_terms, is_plain, variables_on, PatternDay, Term, times, nurse_cells, on_cells, demand_cells, max_terms}
+use Rattle.rota_items.proofs.Common.Imports.{max_cells_of_day, Span, is_over, missing_on, run_cost, run_over, run_under, week_days}
+use Rattle.rota_items.proofs.EachPattern.{each-run_item, run_counting}
+use Rattle.rota_items.proofs.Lists.{AreFew, length-at_most, sum_below-at_most}
+use Rattle.rota_items.proofs.SmallSums.{positive_part-parts}
+
+-- an item with few slacks and terms, and with a small total weight of its slacks and of its degree
+pub record IsItemSmall (maximum : ℕ) (item : Item Cell) : Type 0 where
+  pub slacks : item.slacks ≤ maximum
+  pub all_slacks : item.weight * item.slacks ≤ max_weight
+  pub terms : length item.terms ≤ max_terms
+  pub degree : item.weight * positive_part item.degree ≤ max_weight
+
+-- ---- patterns
+
+module _ (property : Property Cell) (few : (d : ℕ) → length (variables_on property d) ≤ max_cells_of_day) where
+  length-days : (days : List PatternDay) → length (flat_map (day_terms property) days) ≤ length days * max_cells_of_day
+  length-days [] = omega arith
+  length-days (day ∷ days) =
+      omega (
+        arith,
+        length-append (day_terms property day) (flat_map (day_terms property) days),
+        length-map {B = Term Cell} (variables_on property day.day) (λ c. (if is_plain property day then negsuc 0 else pos 1, c)),
+        few day.day,
+        length-days days,
+      )
+
+  pub small-pattern : (rule : Rule) (weight : ℕ) (pattern : Pattern) → weight ≤ max_unit_weight → pattern.units ≤ max_number → length pattern.days ≤ 7 →
+      IsItemSmall 7 (pattern_item rule weight property pattern)
+  small-pattern rule weight pattern light small short =
+      let item : Item Cell = pattern_item rule weight property pattern in
+      let maximum : item.weight ≤ max_weight = mul-le weight pattern.units max_unit_weight max_number light small in record {
+        slacks = omega arith;
+        all_slacks = omega (arith, maximum);
+        terms = omega (arith, length-days pattern.days);
+        degree = omega (arith, mul-le item.weight (positive_part item.degree) max_weight 1 maximum (omega (arith, ints, positive_part-parts item.degree)));
+      }
+
+pub small-runs : (runs : Runs Cell) → ((d : ℕ) → length (variables_on runs.property d) ≤ max_cells_of_day) → runs.weight ≤ max_unit_weight →
+    runs.limits.min ≤ max_number → AreFew (IsItemSmall 7) max_run_items (run_items runs)
+small-runs runs few light small = record {
+  each =
+      each-run_item runs (IsItemSmall 7) (λ pattern is.
+      small-pattern runs.property few runs.rule runs.weight pattern light (omega (arith, is.few, small)) (omega (arith, is.follows.in_week)));
+  few = grind (arith, run_counting);
+}
+
+-- ---- the cost of runs
+
+-- on each day of the week at most one day too many, and at most the minimum missing
+pub run_cost-le : (has : ℕ → Bool) (history : ℕ) (limits : Span) → run_cost has history limits ≤ 7 * (1 + limits.min)
+unfolding run_over run_under
+run_cost-le has history limits =
+    omega (
+      arith,
+      count_by-le-length (is_over has history limits.max) week_days,
+      sum_by-le-sum_by (missing_on has history limits.min) (λ _. limits.min) week_days
+          (λ d. grind arith),
+    )
+
+module _ (problem : Problem) (limits : IsWithinLimits problem) where
+  -- ---- sums of cells
+
+  pub length-on : (n s d : ℕ) → length (on_cells problem n s d) ≤ max_skills * 1
+  length-on n s d = length-at_most {m = 1} max_skills limits.skills _ (λ k. omega arith)
+
+  pub length-work : (n d : ℕ) → length (work_cells problem n d) ≤ max_shifts * (max_skills * 1)
+  length-work n d = length-at_most max_shifts limits.shifts _ (λ s. length-on n s d)
+
+  pub length-total : (c : ℤ) (n : ℕ) → length (times c (nurse_cells problem n)) ≤ max_terms
+  length-total c n =
+      let few : length (nurse_cells problem n) ≤ 7 * (max_shifts * (max_skills * 1)) = length-at_most 7 (omega arith) _ (length-work n) in
+      omega (arith, length-map {B = Term Cell} (nurse_cells problem n) (λ cell. (c, cell)))
+
+  pub length-demand : (d s k : ℕ) → length (times (pos 1) (demand_cells problem d s k)) ≤ max_terms
+  length-demand d s k =
+      let few : length (demand_cells problem d s k) ≤ max_nurses * 1 = length-at_most {m = 1} max_nurses limits.nurses _ (λ n. omega arith) in
+      omega (arith, length-map {B = Term Cell} (demand_cells problem d s k) (λ cell. (pos 1, cell)))
+
+  -- a number for each shift type and skill of each day
+  pub sum-cells : (m : ℕ) (f : ℕ → ℕ → ℕ → ℕ) → ((d s k : ℕ) → f d s k ≤ m) →
+      sum_below 7 (λ d. sum_below problem.shifts (λ s. sum_below problem.skills (f d s))) ≤ 7 * (max_shifts * (max_skills * m))
+  sum-cells m f small =
+      sum_below-at_most 7 7 _ _ (omega arith) (λ d.
+      sum_below-at_most problem.shifts max_shifts _ _ limits.shifts (λ s.
+      sum_below-at_most problem.skills max_skills m (f d s) limits.skills (small d s)))

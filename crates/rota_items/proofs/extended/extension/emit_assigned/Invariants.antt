@@ -1,0 +1,10 @@
+use Rattle.rota_items.proofs.Common.{problem_of}
+use Rattle.rota_core.specs.RosterTables.{set_of}
+use Rattle.rota_items.specs.ExtensionTruths.{truths_to}
+use Rattle.rota_items.proofs.Common.Definitions.{TookLiterals}
+use Rattle.rota_items.specs.WeekModel.{assignment_of}
+use Rattle.rota_items.proofs.extended.extension.emit_assigned.Given as goal
+
+abbrev pub invariant-loop-index : goal.invariant-loop-index
+invariant-loop-index g l =
+    TookLiterals g.T.LiteralTaker (truths_to l.index (assignment_of (problem_of l.fn.instance) (set_of l.fn.roster))) l.fn.taker l.taker

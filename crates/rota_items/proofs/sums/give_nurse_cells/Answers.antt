@@ -1,8 +1,0 @@
-use Rattle.rota_items.proofs.Common.{w64, rules, to_z-of_z, week_of, coefficient_of, nurse_cells-range}
-use Rattle.rota_items.proofs.sums.give_nurse_cells.Goals as goal
-
-pub returns : goal.returns
-returns g c =
-    let given = rw (to_z-of_z w64 c.coefficient.result (search rules), c.coefficient.ensures) at c.give_range.ensures in
-    rw (nurse_cells-range (week_of c.args.instance.now) (coefficient_of c.args.sign) c.args.nurse)
-    (rw (c.first_var_on-first.ensures.number, c.from.ensures, c.shifts.ensures.count, c.from-2.ensures, c.skills.ensures.count) at given)

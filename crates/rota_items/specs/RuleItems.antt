@@ -1,0 +1,72 @@
+-- The charges of the model for the soft rules: items, costs that no roster can avoid, and terms on cells.
+use Rattle.rota_items.specs.Imports.{ℕ, List, [], flat_map, sum_by, Rule, Cell, Problem, sum_below, soft_rules}
+use Rattle.std.specs.Prelude.{◌++◌, Option, Some, None}
+use Rattle.rota_core.specs.declared.rule.Rule.TheVariants.{S1, S2, S3, S4, S5, S6, S7}
+use Rattle.rota_items.specs.Rows.{concat_below, Item, Term}
+use Rattle.rota_items.specs.rules.CompleteWeekends.Items.{complete_weekends_of}
+use Rattle.rota_items.specs.rules.ConsecutiveAssignments.Items.{assignment_runs_of}
+use Rattle.rota_items.specs.rules.ConsecutiveDaysOff.Items.{days_off_runs_of}
+use Rattle.rota_items.specs.rules.TotalAssignments.Items.{assignment_constant_of, totals_of}
+use Rattle.rota_items.specs.rules.WorkedWeekends.Items.{weekend_constant_of, worked_weekends_of}
+use Rattle.rota_items.specs.rules.OptimalCoverage.Items.{optimum_items}
+use Rattle.rota_items.specs.rules.ShiftOffRequests.Terms.{request_terms}
+
+-- the parts that the model charges for a rule
+pub record Charge : Type 0 where
+  -- items of the days' demands, and items of each nurse: their shortages are charged
+  pub day_items : Problem → List (Item Cell)
+  pub nurse_items : Problem → ℕ → List (Item Cell)
+  -- the cost of each nurse that no roster of the week can avoid, because of the history
+  pub nurse_constant : Problem → ℕ → ℕ
+  -- the objective's terms on cells
+  pub cell_terms : Problem → List (Term Cell)
+
+abbrev pub no_charge : Charge
+no_charge = record {
+  day_items = λ problem. [];
+  nurse_items = λ problem n. [];
+  nurse_constant = λ problem n. 0;
+  cell_terms = λ problem. [];
+}
+
+-- the soft rules, each with its charge; no other rule has one
+abbrev pub charge_of : Rule → Option Charge
+charge_of S1 = Some (record no_charge { day_items = optimum_items })
+charge_of S2 = Some (record no_charge { nurse_items = assignment_runs_of })
+charge_of S3 = Some (record no_charge { nurse_items = days_off_runs_of })
+charge_of S4 = Some (record no_charge { cell_terms = request_terms })
+charge_of S5 = Some (record no_charge { nurse_items = complete_weekends_of })
+charge_of S6 = Some (record no_charge { nurse_items = totals_of; nurse_constant = assignment_constant_of })
+charge_of S7 = Some (record no_charge { nurse_items = worked_weekends_of; nurse_constant = weekend_constant_of })
+charge_of _ = None
+
+abbrev pub or_no_charge : Option Charge → Charge
+or_no_charge None = no_charge
+or_no_charge (Some charge) = charge
+
+abbrev pub charge_or_none : Rule → Charge
+charge_or_none rule = or_no_charge (charge_of rule)
+
+abbrev pub nurse_items : Problem → Rule → ℕ → List (Item Cell)
+nurse_items problem rule = (charge_or_none rule).nurse_items problem
+
+abbrev pub nurse_constant : Problem → Rule → ℕ → ℕ
+nurse_constant problem rule = (charge_or_none rule).nurse_constant problem
+
+abbrev pub items_of_rule : Problem → Rule → List (Item Cell)
+items_of_rule problem rule = (charge_or_none rule).day_items problem ++ concat_below problem.nurses (nurse_items problem rule)
+
+abbrev pub constant_of_rule : Problem → Rule → ℕ
+constant_of_rule problem rule = sum_below problem.nurses (nurse_constant problem rule)
+
+abbrev pub cell_terms_of_rule : Problem → Rule → List (Term Cell)
+cell_terms_of_rule problem rule = (charge_or_none rule).cell_terms problem
+
+abbrev pub soft_items : Problem → List (Item Cell)
+soft_items problem = flat_map (items_of_rule problem) soft_rules
+
+abbrev pub constant : Problem → ℕ
+constant problem = sum_by (constant_of_rule problem) soft_rules
+
+abbrev pub cell_terms : Problem → List (Term Cell)
+cell_terms problem = flat_map (cell_terms_of_rule problem) soft_rules
