@@ -136,7 +136,8 @@ def bench_worst(program, room):
 
 
 def bench_growth(program, room, drawn):
-    """Nanoseconds a term of the model, and a byte of the files, for more and more nurses; the program's start is taken off."""
+    """Nanoseconds a term of the model, and a byte of the files, for more and more nurses, without the program's start. Where
+    reading takes less than a tenth of the start, the picture has no value for a byte."""
     start = least_seconds([program, "--version"], SHORT_RUNS)
     print(f"a start of the program: {start * 1000:.1f} ms", flush=True)
     print(f"{'nurses':>7}{'terms':>12}{'ns a term':>12}{'bytes read':>12}{'ns a byte':>12}")
@@ -150,12 +151,13 @@ def bench_growth(program, room, drawn):
         encoding = least_seconds([program, "encode", *inputs(folder)], SHORT_RUNS)
         reading = least_seconds([program, "encode", *inputs(folder, "late")], SHORT_RUNS, status=1)
         a_term.append(max(0.0, encoding - reading) / terms * 1e9)
-        a_byte.append(max(0.0, reading - start) / read * 1e9)
-        print(f"{nurses:>7}{terms:>12}{a_term[-1]:>12.2f}{read:>12}{a_byte[-1]:>12.2f}", flush=True)
+        a_byte.append((reading - start) / read * 1e9 if reading > 1.1 * start else None)
+        shown = "-" if a_byte[-1] is None else f"{a_byte[-1]:.2f}"
+        print(f"{nurses:>7}{terms:>12}{a_term[-1]:>12.2f}{read:>12}{shown:>12}", flush=True)
     if drawn:
         lines = {"a term written": a_term, "a byte read": a_byte}
         with open(drawn, "w") as file:
-            file.write(picture.picture("nanoseconds", "nurses", lines, list(weeks.GROWTH)))
+            file.write(picture.picture("nanoseconds", "nurses in the week", lines, list(weeks.GROWTH)))
 
 
 def main():

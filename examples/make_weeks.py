@@ -1,12 +1,12 @@
 #!/usr/bin/env python3
-"""Makes the example weeks n030w4 and n008w4 anew: always the same files, below the folder that is named.
+"""Makes the example weeks `thirty`, `month` and `eight`: always the same files, in the folder that is named.
 
 usage: make_weeks.py FOLDER
 
-`n030w4` is the last of four weeks of a ward with 30 nurses, four shift types and four skills. `n008w4` is the second
-of four weeks of eight nurses, and no roster meets it: two nurses have the skill HeadNurse, and it is asked for on
-Wednesday night and, on Thursday, early and late. Who worked the night may not work early or late on the day after.
-Needs Python 3.8 or later.
+`thirty` is the last of four weeks of a ward with 30 nurses, four shift types and four skills. `month` has all four weeks
+of the same ward. `eight` is the second of four weeks of eight nurses, and no roster meets it: two nurses have the skill
+HeadNurse, and it is asked for on Wednesday night and, on Thursday, early and late. Nobody may work early or late on the
+day after a night. Needs Python 3.8 or later.
 """
 
 import os
@@ -93,24 +93,37 @@ def requests(nurses, count, numbers):
 
 
 def write(folder, name, number, files):
-    os.makedirs(f"{folder}/{name}", exist_ok=True)
     names = [f"Sc-{name}.txt", f"H0-{name}-{number}.txt", f"WD-{name}-{number}.txt"]
-    for file_name, lines in zip(names, files):
-        with open(f"{folder}/{name}/{file_name}", "w") as file:
+    write_files(f"{folder}/{name}", dict(zip(names, files)))
+
+
+def write_files(folder, files):
+    os.makedirs(folder, exist_ok=True)
+    for name, lines in files.items():
+        with open(f"{folder}/{name}", "w") as file:
             file.writelines(f"{line}\n" for line in lines)
 
 
-def ward(folder):
-    """30 nurses in the last of four weeks."""
-    name, numbers = "n030w4", Numbers(30)
+def thirty_nurses():
     mixes = [["HeadNurse", "Nurse"], ["Nurse"], ["Nurse", "Caretaker"], ["Caretaker"], ["Caretaker", "Trainee"]]
     contracts = ["FullTime", "FullTime", "PartTime", "HalfTime"]
-    nurses = [(NAMES[n], contracts[n % 4], mixes[n % 5]) for n in range(30)]
+    return [(NAMES[n], contracts[n % 4], mixes[n % 5]) for n in range(30)]
+
+
+def demands_of_ward(numbers):
+    """One nurse and one caretaker on each shift, two nurses early on weekdays, and some places for which more are best."""
     demands = {}
     for shift in SHIFTS:
         for skill, least in zip(SKILLS, (0, 1, 1, 0)):
             pairs = [(least + (day < 5 and skill == "Nurse" and shift == "Early"), 0) for day in range(7)]
             demands[shift, skill] = [(low, low + (numbers.below(3) > 0)) for low, _ in pairs]
+    return demands
+
+
+def ward(folder):
+    """30 nurses in the last of four weeks."""
+    name, numbers, nurses = "thirty", Numbers(30), thirty_nurses()
+    demands = demands_of_ward(numbers)
     write(folder, name, 3, [
         scenario(name, nurses),
         history(name, 3, nurses, numbers),
@@ -118,9 +131,17 @@ def ward(folder):
     ])  # fmt: skip
 
 
+def month(folder):
+    """30 nurses in all four weeks of a period."""
+    name, numbers, nurses = "month", Numbers(4), thirty_nurses()
+    weeks = {f"week-{number}.txt": week(name, demands_of_ward(numbers), requests(nurses, 25, numbers)) for number in range(4)}
+    past = [f"HISTORY\n0 {name}\n\nNURSE_HISTORY", *(f"{nurse} 0 0 None 0 0 {1 + numbers.below(3)}" for nurse, _, _ in nurses)]
+    write_files(f"{folder}/{name}", {"ward.txt": scenario(name, nurses), "history-0.txt": past, **weeks})
+
+
 def short_of_heads(folder):
     """Eight nurses, two of them head nurses, in the second of four weeks."""
-    name, numbers = "n008w4", Numbers(8)
+    name, numbers = "eight", Numbers(8)
     mixes = [["HeadNurse", "Nurse"], ["Nurse", "Caretaker"], ["Nurse"], ["Caretaker", "Trainee"]]
     contracts = ["FullTime", "PartTime", "FullTime"]
     nurses = [(NAMES[n], contracts[n % 3], mixes[n % 4]) for n in range(8)]
@@ -141,6 +162,7 @@ def main():
     if len(sys.argv) != 2:
         sys.exit(__doc__)
     ward(sys.argv[1])
+    month(sys.argv[1])
     short_of_heads(sys.argv[1])
 
 

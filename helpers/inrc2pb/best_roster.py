@@ -1,0 +1,120 @@
+"""The best roster of a search, shared by its workers: only rosters that `decode` accepted get in."""
+
+import threading
+import time
+from dataclasses import dataclass
+from pathlib import Path
+from typing import Callable, Optional
+
+from .files import Scenario, Solution, read_solution, write_solution
+from .neighborhoods import Neighborhood
+from .program import ProgramFault, Report, WeekFiles, decode, extend, penalty_of
+
+# How often a result is compared anew because another worker was faster.
+_TRIES = 5
+
+
+@dataclass(frozen=True)
+class Snapshot:
+    """A roster with its penalty. `version` counts the rosters of the search; 0 is none."""
+
+    version: int = 0
+    penalty: Optional[int] = None
+    roster: Optional[Solution] = None
+
+
+Announce = Callable[[int, str], None]
+
+
+class BestRoster:
+    """Keeps the best roster, in memory and in the file `solution`, which always has a whole roster."""
+
+    def __init__(self, files: WeekFiles, solution: Path, announce: Announce) -> None:
+        self._files = files
+        self._solution = solution
+        self._announce = announce
+        self._lock = threading.Lock()
+        self._best = Snapshot()
+        self.improved_at = time.monotonic()
+        self.bound: Optional[int] = None
+        self.bound_by = ""
+        self.proved_by = ""
+
+    def now(self) -> Snapshot:
+        """The best roster until now."""
+        return self._best
+
+    def offer(self, found: Snapshot, seen: Snapshot, freed: Optional[Neighborhood], folder: Path, finder: str) -> None:
+        """Keeps the roster `found`, which came from `seen`, or its merger with the best one, if it costs less than the best.
+
+        At the same cost it is kept if no other worker has found one since, so that the search moves on.
+        """
+        for _ in range(_TRIES):
+            now, better, name = self._best, found, finder
+            if freed and now.version != seen.version and found.penalty < seen.penalty:
+                merged = self._merged(found, now, freed, folder)
+                if merged and merged.penalty < found.penalty:
+                    better, name = merged, f"{finder}, merged"
+            if now.penalty is not None and better.penalty > now.penalty:
+                return
+            if better.penalty == now.penalty and now.version != seen.version:
+                return
+            if self._keep(better, now, name):
+                return
+
+    def _merged(self, found: Snapshot, now: Snapshot, freed: Neighborhood, folder: Path) -> Optional[Snapshot]:
+        """The best roster with the freed assignments of the one found, if it keeps the hard rules."""
+        rows = [row for row in now.roster.assignments if not freed.frees(row)]
+        rows += [row for row in found.roster.assignments if freed.frees(row)]
+        roster = Solution(now.roster.week, now.roster.scenario, tuple(rows))
+        path = folder / "merged.txt"
+        write_solution(path, roster)
+        try:
+            return Snapshot(0, penalty_of(self._files, path), roster)
+        except ProgramFault as fault:
+            if fault.status != 6:
+                raise
+            return None
+
+    def _keep(self, better: Snapshot, now: Snapshot, finder: str) -> bool:
+        """Keeps the roster if `now` is still the best one."""
+        with self._lock:
+            if self._best.version != now.version:
+                return False
+            less = now.penalty is None or better.penalty < now.penalty
+            if less:
+                write_solution(self._solution, better.roster)
+                self.improved_at = time.monotonic()
+            self._best = Snapshot(now.version + 1, better.penalty, better.roster)
+            if less:
+                self._announce(better.penalty, finder)
+        return True
+
+    def raise_bound(self, bound: int, solver: str) -> None:
+        """A solver proved that no roster costs less than this."""
+        with self._lock:
+            if self.bound is None or bound > self.bound:
+                self.bound, self.bound_by = bound, solver
+
+    def prove(self, penalty: int, solver: str) -> None:
+        """A solver proved that no roster costs less than this one."""
+        self.raise_bound(penalty, solver)
+        self.proved_by = solver
+
+    def is_proved(self) -> bool:
+        """Whether the best roster costs no more than the lower bound."""
+        return self.bound is not None and self._best.penalty is not None and self._best.penalty <= self.bound
+
+    def report(self) -> Report:
+        """The report of the roster in the file; its status is OPTIMUM FOUND if a solver proved it."""
+        answer, report = extend(self._files, self._solution)
+        if self.is_proved():
+            return decode(self._files, answer.replace("s SATISFIABLE", "s OPTIMUM FOUND", 1))
+        assert report is not None
+        return report
+
+
+def read_start(files: WeekFiles, start: Path, scenario: Scenario) -> Snapshot:
+    """The roster with which a search begins. One that breaks a hard rule is a ProgramFault."""
+    roster = read_solution(start, scenario)
+    return Snapshot(0, penalty_of(files, start), roster)

@@ -1,0 +1,213 @@
+"""Checks the files of a week: names the first mistake of each file and how to correct it, and warns of odd values."""
+
+import argparse
+import re
+import tempfile
+from pathlib import Path
+from typing import Callable, Iterator, List, Optional, Tuple
+
+from .command import Misuse, add_week_options, parser, run, week_files
+from .constraint import block_of, blocks, named_row, row_of
+from .files import Assignment, FileFault, History, Limits, Scenario, Solution, Week, WeekData
+from .files import check_week_number, read_history, read_scenario, read_solution, read_week
+from .program import NO_PROGRAM, ProgramFault, encode
+from .slots import quoted, text_of
+
+COUNTED = re.compile(r"\s*(SKILLS|SHIFT_TYPES|CONTRACTS|NURSES|SHIFT_OFF_REQUESTS|ASSIGNMENTS)\s*=\s*(\d+)\s*$")
+HEADING = re.compile(
+    r"\s*(SCENARIO|WEEKS|SKILLS|SHIFT_TYPES|FORBIDDEN_SHIFT_TYPES_SUCCESSIONS|CONTRACTS|NURSES|HISTORY|NURSE_HISTORY"
+    r"|WEEK_DATA|REQUIREMENTS|SHIFT_OFF_REQUESTS|SOLUTION|ASSIGNMENTS)\b"
+)
+
+
+def count_hint(path: Path, line: int) -> str:
+    """The last list up to this line that has another number of lines than it announces, in words; else nothing."""
+    try:
+        lines = text_of(path).split("\n")
+    except FileFault:
+        return ""
+    hint = ""
+    for at, text in enumerate(lines[:line]):
+        heading = COUNTED.match(text)
+        if heading:
+            rows = 0
+            for below in lines[at + 1 :]:
+                if HEADING.match(below):
+                    break
+                rows += bool(below.strip())
+            if rows != int(heading.group(2)):
+                hint = f"; '{text.strip()}' on line {at + 1} announces {heading.group(2)}, and {rows} lines follow it"
+    return hint
+
+
+def missing_lines_hint(path: Path, scenario: Scenario) -> str:
+    """The nurses without a line in a history, in words; else nothing."""
+    try:
+        listed = {line.split()[0] for line in text_of(path).split("\n") if line.strip()}
+    except FileFault:
+        return ""
+    missing = [nurse for nurse in scenario.nurses if nurse not in listed]
+    return f"; no line begins with {quoted(missing)}" if missing else ""
+
+
+def scenario_warnings(scenario: Scenario) -> Iterator[str]:
+    """Warnings about a scenario."""
+
+    def reversed_limits(what: str, limits: Limits) -> Iterator[str]:
+        if limits.minimum > limits.maximum:
+            yield f"{what}: the minimum of ({limits.minimum},{limits.maximum}) is above its maximum"
+
+    for shift in scenario.shift_types.values():
+        yield from reversed_limits(f"shift type {shift.name}", shift.consecutive)
+    for contract in scenario.contracts.values():
+        for what, limits in (("assignments", contract.assignments), ("working days", contract.working_days), ("days off", contract.days_off)):
+            yield from reversed_limits(f"contract {contract.name}, {what}", limits)
+    for nurse in scenario.nurses.values():
+        if not nurse.skills:
+            yield f"{nurse.name} has no skill, so nobody can plan her"
+
+
+def history_warnings(history: History) -> Iterator[str]:
+    """Warnings about a history."""
+    for past in history.nurses.values():
+        if past.last_shift is None and (past.consecutive_shifts or past.working_days):
+            yield f"{past.nurse} was off on Sunday (None), but has consecutive shifts or working days"
+        if past.last_shift is not None and past.days_off:
+            yield f"{past.nurse} worked on Sunday ({past.last_shift}), but has {past.days_off} days off in a row"
+        if past.last_shift is not None and not 1 <= past.consecutive_shifts <= past.working_days:
+            yield f"{past.nurse} worked on Sunday ({past.last_shift}): her consecutive shifts should be from 1 to her working days"
+
+
+def week_warnings(scenario: Scenario, data: WeekData) -> Iterator[str]:
+    """Warnings about a week's requirements."""
+    have = {skill: sum(skill in nurse.skills for nurse in scenario.nurses.values()) for skill in scenario.skills}
+    for place, required in data.requirements.items():
+        row = f"{place.shift} {place.skill}, day {place.day + 1}"
+        if required.minimum > have[place.skill]:
+            yield f"{row}: at least {required.minimum} are needed, and {have[place.skill]} nurses have the skill: no roster can meet it"
+        elif 0 < required.optimal < required.minimum:
+            yield f"{row}: ({required.minimum},{required.optimal}) has a minimum above the optimal number"
+
+
+class Check:
+    """A check of a week's files. It prints what it finds, and counts the mistakes."""
+
+    def __init__(self, given: argparse.Namespace) -> None:
+        self.given = given
+        self.mistakes = 0
+
+    def reads(self, path: Path, reader: Callable[[], object], hint: Callable[[FileFault], str] = lambda fault: "") -> Optional[object]:
+        """The reader's value of the file, or None after a mistake."""
+        try:
+            return reader()
+        except FileFault as fault:
+            self.mistakes += 1
+            print(f"{fault}{count_hint(path, fault.line)}{hint(fault)}")
+        except OSError as fault:
+            self.mistakes += 1
+            print(f"{path}: {fault.strerror}: look at its name and folder")
+        return None
+
+    def warns(self, path: Path, warnings: Iterator[str]) -> None:
+        """Prints the warnings about a file without a mistake."""
+        for warning in warnings:
+            print(f"{path}: warning: {warning}")
+
+    def name(self, path: Path, name: str, scenario: Scenario) -> Iterator[str]:
+        """A warning if the file is of another ward."""
+        if name != scenario.name:
+            yield f"it is of '{name}', and the scenario is '{scenario.name}'"
+
+    def solution(self, path: Path, scenario: Scenario, history: Optional[History]) -> Optional[Solution]:
+        """Checks a fix file or a roster."""
+        solution = self.reads(path, lambda: read_solution(path, scenario))
+        if not isinstance(solution, Solution):
+            return None
+        self.warns(path, self.name(path, solution.scenario, scenario))
+        if history and solution.week != history.week:
+            self.warns(path, iter([f"it is of week {solution.week}, and the history is of week {history.week}"]))
+        return solution
+
+    def history(self, scenario: Scenario) -> Optional[History]:
+        """Checks the history."""
+        path = self.given.his
+
+        def read() -> History:
+            history = read_history(path, scenario)
+            check_week_number(path, history, scenario)
+            return history
+
+        history = self.reads(path, read, lambda fault: missing_lines_hint(path, scenario))
+        if not isinstance(history, History):
+            return None
+        self.warns(path, self.name(path, history.scenario, scenario))
+        self.warns(path, history_warnings(history))
+        return history
+
+    def all_files(self) -> Tuple[Optional[Week], List[Assignment]]:
+        """Checks each file that is given: the week, if its three files have no mistake, and the held assignments."""
+        given = self.given
+        scenario = self.reads(given.sce, lambda: read_scenario(given.sce))
+        if not isinstance(scenario, Scenario):
+            if given.his or given.week or given.fix or given.roster:
+                print("The other files are checked when this one has no mistake.")
+            return None, []
+        self.warns(given.sce, scenario_warnings(scenario))
+        history = self.history(scenario) if given.his else None
+        data = self.reads(given.week, lambda: read_week(given.week, scenario)) if given.week else None
+        if isinstance(data, WeekData):
+            self.warns(given.week, self.name(given.week, data.name, scenario))
+            self.warns(given.week, week_warnings(scenario, data))
+        fix = self.solution(given.fix, scenario, history) if given.fix else None
+        for roster in given.roster:
+            self.solution(roster, scenario, history)
+        week = Week(scenario, history, data) if history and isinstance(data, WeekData) else None
+        return week, list(fix.assignments) if fix else []
+
+
+def _explain(number: int, week: Week, held: List[Assignment], given: argparse.Namespace) -> None:
+    """Prints where constraint `number` is in the model, its rule, and its row with names."""
+    block = block_of(number, week, held, given.early)
+    if block is None or number < 1:
+        count = sum(block.size for block in blocks(week, held, given.early))
+        raise Misuse(f"there is no constraint {number}: the model of this week has {count}, with the same --fix and --early")
+    with tempfile.TemporaryDirectory() as folder:
+        model = Path(folder, "week.opb")
+        encode(week_files(given), model)
+        line, row = row_of(number, model)
+    print(f"constraint {number}, line {line} of the model: {block.rule}: {block.origin}")
+    print(row)
+    print(named_row(row, week))
+
+
+def main() -> Optional[int]:
+    words = parser(
+        "Checks the files of a week: names the first mistake in each file and how to correct it, and prints warnings.",
+        "Ends with status 1 if a file has a mistake; a warning is none.",
+    )
+    add_week_options(words, required=False)
+    words.add_argument("--roster", metavar="FILE", type=Path, action="append", default=[], help="a roster of the week, as a solution file")
+    words.add_argument("--constraint", metavar="N", type=int, help="print the constraint N of the week's model, and its rule")
+    given = words.parse_args()
+    if not given.sce:
+        raise Misuse("no scenario is given: give --sce FILE, and the files to check")
+    if given.constraint is not None and not (given.his and given.week):
+        raise Misuse("--constraint needs the whole week: give --sce, --his and --week")
+    check = Check(given)
+    week, held = check.all_files()
+    if not check.mistakes and week and given.constraint is not None:
+        _explain(given.constraint, week, held, given)
+    elif not check.mistakes and week:
+        try:
+            encode(week_files(given), Path("/dev/null"))
+        except ProgramFault as fault:
+            if fault.status != NO_PROGRAM:
+                check.mistakes += 1
+                print(fault)
+    if not check.mistakes and given.constraint is None:
+        print("No mistake found.")
+    return 1 if check.mistakes else 0
+
+
+if __name__ == "__main__":
+    run(main)

@@ -1,0 +1,111 @@
+"""The common part of the helpers' command lines: the options of a week's files, and faults in one line."""
+
+import argparse
+import errno
+import os
+import sys
+from pathlib import Path
+from typing import Callable, Optional
+
+from .program import ProgramFault, WeekFiles
+from .slots import FileFault
+
+# Advice after a fault of the operating system, by its number.
+_ADVICE = {
+    "ENOENT": "look at its name and folder",
+    "EACCES": "you may not read or write it: look at its rights and those of its folder, or choose another folder",
+    "EPERM": "you may not read or write it: look at its rights and those of its folder, or choose another folder",
+    "EROFS": "choose another folder",
+    "EISDIR": "this is a folder: name a file in it",
+    "ENOTDIR": "a part of its path is no folder",
+    "ENOSPC": "the disk is full: free some space, or choose another folder (TMPDIR has the temporary files)",
+    "EDQUOT": "your quota is used up: free some space, or choose another folder",
+}
+
+# Advice after a fault of `inrc2pb`, by a part of its line.
+_PROGRAM_ADVICE = (
+    ("write failed", "look at the folder's name and rights and at the free space (TMPDIR has the temporary files)"),
+    ("read failed", "look at the file's name, folder and rights"),
+    ("out of memory", "end other programs"),
+    ("UNSATISFIABLE", "the minimum numbers cannot all be met; docs/your_ward.md shows how to find out why"),
+    ("UNKNOWN", "give the solver more time"),
+    ("answer: ", "look at what the solver prints, or use another solver"),
+    ("is not satisfied", "the solver's answer does not fit this week: use another solver"),
+    (" line ", "inrc2pb-check names the word and how to correct it"),
+)
+
+
+class Misuse(Exception):
+    """Something that the user has to change, in one line."""
+
+
+def parser(description: str, epilog: Optional[str] = None) -> argparse.ArgumentParser:
+    """A parser whose help keeps the lines of its description."""
+    return argparse.ArgumentParser(description=description, epilog=epilog, formatter_class=argparse.RawDescriptionHelpFormatter)
+
+
+def add_week_options(words: argparse.ArgumentParser, required: bool = True) -> None:
+    """The options that name a week's files, as `inrc2pb` has them."""
+    words.add_argument("--sce", metavar="FILE", type=Path, required=required, help="the scenario")
+    words.add_argument("--his", metavar="FILE", type=Path, required=required, help="the history with which the week begins")
+    words.add_argument("--week", metavar="FILE", type=Path, required=required, help="the week's requirements and requests")
+    words.add_argument("--fix", metavar="FILE", type=Path, help="assignments to keep, as a solution file")
+    words.add_argument("--early", action="store_true", help="charge excess assignments and weekends as soon as they occur")
+
+
+def add_solver_options(words: argparse.ArgumentParser) -> None:
+    """The options that say which solvers are used, and how many at once."""
+    solvers = "clasp, cbc, or a command that reads an OPB file; may be repeated (default: clasp and cbc, if installed)"
+    words.add_argument("--solver", metavar="SOLVER", action="append", default=[], help=solvers)
+    words.add_argument("--jobs", metavar="N", type=int, default=os.cpu_count() or 1, help="solvers at once (default: the processors)")
+
+
+def week_files(given: argparse.Namespace) -> WeekFiles:
+    """The files that the options of `add_week_options` name."""
+    return WeekFiles(given.sce, given.his, given.week, given.fix, given.early)
+
+
+def fault_line(fault: BaseException) -> str:
+    """A fault in one line that says what to do."""
+    if isinstance(fault, OSError):
+        advice = _ADVICE.get(errno.errorcode.get(fault.errno or 0, ""), "")
+        named = f"{fault.filename}: " if fault.filename is not None else ""
+        return f"{named}{fault.strerror or fault}" + (f": {advice}" if advice else "")
+    if isinstance(fault, ProgramFault):
+        advice = next((f": {advice}" for part, advice in _PROGRAM_ADVICE if part in fault.message), "")
+        return f"{fault.message}{advice}".replace("\n", " ")
+    return str(fault).replace("\n", " ")
+
+
+def run(main: Callable[[], Optional[int]]) -> None:
+    """Runs a helper and exits: faults are one line on standard error, with status 1 or the program's own."""
+    name = os.path.basename(sys.argv[0])
+    sys.stdout.reconfigure(encoding="utf-8", errors="surrogateescape")  # type: ignore[union-attr]
+    sys.stderr.reconfigure(encoding="utf-8", errors="backslashreplace")  # type: ignore[union-attr]
+    try:
+        status = main() or 0
+        sys.stdout.flush()
+    except BrokenPipeError:
+        os.dup2(os.open(os.devnull, os.O_WRONLY), 1)
+        status = 141
+    except KeyboardInterrupt:
+        status = 130
+    except ProgramFault as fault:
+        print(f"{name}: {fault_line(fault)}", file=sys.stderr)
+        status = fault.status if 0 < fault.status < 256 else 1
+    except (FileFault, Misuse, OSError) as fault:
+        print(f"{name}: {fault_line(fault)}", file=sys.stderr)
+        status = 3 if isinstance(fault, OSError) else 1
+        _drop_output()
+    except MemoryError:
+        print(f"{name}: out of memory", file=sys.stderr)
+        status = 4
+    sys.exit(status)
+
+
+def _drop_output() -> None:
+    """Output that cannot be written is not tried again when Python exits."""
+    try:
+        sys.stdout.flush()
+    except OSError:
+        os.dup2(os.open(os.devnull, os.O_WRONLY), 1)

@@ -1,0 +1,266 @@
+"""The files of a week: one reader and one writer of scenario, history, week data and solution files.
+
+The readers accept exactly the files that `inrc2pb` accepts, and report a fault on the same line; docs/formats.md has the
+layouts. The values that they return are those of `records`. A `text` is what the file holds, if it was read already.
+"""
+
+import os
+import tempfile
+from pathlib import Path
+from typing import Dict, Iterable, Optional, Tuple
+
+from .records import ANY, DAYS, NONE, Assignment, Contract, History, Nurse, NurseHistory, Place, Request
+from .records import Requirement, Scenario, ShiftType, Solution, Week, WeekData
+from .slots import FileFault, Limits, PathLike, Slots, Token
+
+__all__ = [
+    "ANY", "Assignment", "Contract", "DAYS", "FileFault", "History", "Limits", "NONE", "Nurse", "NurseHistory", "Place",
+    "Request", "Requirement", "Scenario", "ShiftType", "Solution", "Week", "WeekData", "check_week_number", "history_text",
+    "read_files", "read_history", "read_scenario", "read_solution", "read_week", "scenario_text", "solution_text",
+    "week_text", "write_history", "write_solution", "write_text",
+]  # fmt: skip
+
+
+def read_scenario(path: PathLike, text: Optional[str] = None) -> Scenario:
+    """Reads a scenario."""
+    slots = Slots(path, text)
+    slots.words("SCENARIO", "=")
+    name = slots.any_word("the scenario's name").text
+    slots.words("WEEKS", "=")
+    weeks = slots.number("the number of weeks", 1, 52)
+    slots.words("SKILLS", "=")
+    skills: Dict[str, None] = {}
+    for _ in range(slots.number("the number of skills", 1, 16)):
+        skills[slots.new_name("skill", skills)] = None
+    shift_types = _shift_types(slots)
+    contracts = _contracts(slots)
+    slots.words("NURSES", "=")
+    nurses: Dict[str, Nurse] = {}
+    for _ in range(slots.number("the number of nurses", 1, 1000)):
+        nurse = slots.new_name("nurse", nurses)
+        contract = slots.known_name("contract", contracts, "CONTRACTS").text
+        count = slots.number(f"the number of skills of {nurse}", 0, len(skills))
+        nurses[nurse] = Nurse(nurse, contract, _names_once(slots, count, "skill", tuple(skills), "SKILLS"))
+    slots.end("nurse")
+    return Scenario(name, weeks, tuple(skills), shift_types, contracts, nurses)
+
+
+def _shift_types(slots: Slots) -> Dict[str, ShiftType]:
+    slots.words("SHIFT_TYPES", "=")
+    limits: Dict[str, Limits] = {}
+    for _ in range(slots.number("the number of shift types", 1, 16)):
+        shift = slots.new_name("shift type", [*limits, NONE, ANY])
+        limits[shift] = slots.pair(f"consecutive {shift} shifts")
+    slots.words("FORBIDDEN_SHIFT_TYPES_SUCCESSIONS")
+    after: Dict[str, Tuple[str, ...]] = {}
+    for _ in limits:
+        token = slots.known_name("shift type", limits, "SHIFT_TYPES")
+        _only_once(slots, token, after, f"the successions of '{token.text}' are")
+        count = slots.number(f"the number of shift types that may not follow {token.text}", 0, len(limits))
+        after[token.text] = _names_once(slots, count, "shift type", limits, "SHIFT_TYPES")
+    return {shift: ShiftType(shift, limits[shift], after[shift]) for shift in limits}
+
+
+def _contracts(slots: Slots) -> Dict[str, Contract]:
+    slots.words("CONTRACTS", "=")
+    contracts: Dict[str, Contract] = {}
+    for _ in range(slots.number("the number of contracts", 1, 64)):
+        name = slots.new_name("contract", contracts)
+        contracts[name] = Contract(
+            name,
+            slots.pair(f"assignments of {name}"),
+            slots.pair(f"working days of {name}"),
+            slots.pair(f"days off of {name}"),
+            slots.number(f"the maximum of weekends of {name}"),
+            slots.number(f"complete weekends of {name}", 0, 1) == 1,
+        )
+    return contracts
+
+
+def _names_once(slots: Slots, count: int, kind: str, names: Iterable[str], source: str) -> Tuple[str, ...]:
+    known, found = list(names), []
+    for _ in range(count):
+        token = slots.known_name(kind, known, source)
+        _only_once(slots, token, found, f"the {kind} '{token.text}' is")
+        found.append(token.text)
+    return tuple(found)
+
+
+def _only_once(slots: Slots, token: Token, taken: Iterable[object], what: str, key: object = None) -> None:
+    if (token.text if key is None else key) in taken:
+        slots.fault(token, "repeated", f"{what} listed twice: remove one")
+
+
+def read_history(path: PathLike, scenario: Scenario, text: Optional[str] = None) -> History:
+    """Reads a history of this scenario. The week's number is compared with WEEKS by `check_week_number`."""
+    slots = Slots(path, text)
+    slots.words("HISTORY")
+    week = slots.number("the week's number")
+    name = slots.any_word("the scenario's name").text
+    slots.words("NURSE_HISTORY")
+    nurses: Dict[str, NurseHistory] = {}
+    for _ in scenario.nurses:
+        token = slots.known_name("nurse", scenario.nurses, "NURSES")
+        _only_once(slots, token, nurses, f"the history of '{token.text}' is")
+        assignments = slots.number(f"the assignments of {token.text}")
+        weekends = slots.number(f"the weekends of {token.text}")
+        last = slots.known_name("shift type", scenario.shift_types, "SHIFT_TYPES", (NONE,)).text
+        runs = [slots.number(f"the consecutive {what} of {token.text}") for what in ("assignments to one shift type", "working days", "days off")]
+        nurses[token.text] = NurseHistory(token.text, assignments, weekends, None if last == NONE else last, *runs)
+    slots.end("nurse's history")
+    return History(week, name, nurses)
+
+
+def check_week_number(path: PathLike, history: History, scenario: Scenario) -> None:
+    """The history's week has to be one of the scenario's weeks."""
+    if history.week >= scenario.weeks:
+        message = f"week {history.week} is not below WEEKS = {scenario.weeks}: the period is over, begin a new one with --new-period"
+        raise FileFault(path, 0, message, "week not below WEEKS")
+
+
+def read_week(path: PathLike, scenario: Scenario, text: Optional[str] = None) -> WeekData:
+    """Reads the week data of this scenario."""
+    slots = Slots(path, text)
+    slots.words("WEEK_DATA")
+    name = slots.any_word("the scenario's name").text
+    slots.words("REQUIREMENTS")
+    requirements: Dict[Place, Requirement] = {}
+    ending = "SHIFT_OFF_REQUESTS"
+    while True:
+        token = slots.known_name("shift type", scenario.shift_types, "SHIFT_TYPES", (ending,))
+        if token.text == ending:
+            break
+        skill = slots.known_name("skill", scenario.skills, "SKILLS")
+        _only_once(slots, skill, requirements, f"the row {token.text} {skill.text} is", Place(0, token.text, skill.text))
+        for day, named in enumerate(DAYS):
+            pair = slots.pair(f"{token.text} {skill.text} on {named}")
+            requirements[Place(day, token.text, skill.text)] = Requirement(*pair)
+    slots.words("=")
+    requests = []
+    for _ in range(slots.number("the number of requests")):
+        nurse = slots.known_name("nurse", scenario.nurses, "NURSES").text
+        shift = slots.known_name("shift type", scenario.shift_types, "SHIFT_TYPES", (ANY,)).text
+        requests.append(Request(nurse, None if shift == ANY else shift, _day(slots)))
+    slots.end("request")
+    return WeekData(name, requirements, tuple(requests))
+
+
+def read_files(scenario: PathLike, history: PathLike, week: PathLike) -> Week:
+    """Reads the three files of a week, and checks that its number is below WEEKS."""
+    ward = read_scenario(scenario)
+    past = read_history(history, ward)
+    data = read_week(week, ward)
+    check_week_number(history, past, ward)
+    return Week(ward, past, data)
+
+
+def _day(slots: Slots) -> int:
+    return DAYS.index(slots.known_name("day", DAYS, "the week").text)
+
+
+def read_solution(path: PathLike, scenario: Optional[Scenario] = None, text: Optional[str] = None) -> Solution:
+    """Reads a solution or fix file; with a scenario each name has to be one of its names."""
+    slots = Slots(path, text)
+    slots.words("SOLUTION")
+    week = slots.number("the week's number")
+    name = slots.any_word("the scenario's name").text
+    slots.words("ASSIGNMENTS", "=")
+    found: Dict[Assignment, None] = {}
+    for _ in range(slots.number("the number of assignments")):
+        nurse = slots.known_name("nurse", scenario.nurses, "NURSES") if scenario else slots.any_word("a nurse")
+        day = _day(slots)
+        shift = slots.known_name("shift type", scenario.shift_types, "SHIFT_TYPES") if scenario else slots.any_word("a shift type")
+        skill = slots.known_name("skill", scenario.skills, "SKILLS") if scenario else slots.any_word("a skill")
+        row = Assignment(nurse.text, day, shift.text, skill.text)
+        _only_once(slots, skill, found, f"the row '{row.row()}' is", row)
+        found[row] = None
+    slots.end("assignment")
+    return Solution(week, name, tuple(found))
+
+
+def _row(*words: object) -> str:
+    return " ".join(f"({word.minimum},{word.maximum})" if isinstance(word, Limits) else str(word) for word in words)
+
+
+def scenario_text(scenario: Scenario) -> str:
+    """The text of a scenario file."""
+    types, contracts, nurses = scenario.shift_types.values(), scenario.contracts.values(), scenario.nurses.values()
+    lines = [f"SCENARIO = {scenario.name}", "", f"WEEKS = {scenario.weeks}"]
+    lines += ["", f"SKILLS = {len(scenario.skills)}", *scenario.skills]
+    lines += ["", f"SHIFT_TYPES = {len(types)}", *(_row(shift.name, shift.consecutive) for shift in types)]
+    lines += ["", "FORBIDDEN_SHIFT_TYPES_SUCCESSIONS"]
+    lines += [_row(shift.name, len(shift.forbidden_next), *shift.forbidden_next) for shift in types]
+    lines += ["", f"CONTRACTS = {len(contracts)}"]
+    lines += [
+        _row(of.name, of.assignments, of.working_days, of.days_off, of.max_weekends, int(of.complete_weekends)) for of in contracts
+    ]
+    lines += ["", f"NURSES = {len(nurses)}", *(_row(nurse.name, nurse.contract, len(nurse.skills), *nurse.skills) for nurse in nurses)]
+    return "\n".join(lines) + "\n"
+
+
+def week_text(data: WeekData) -> str:
+    """The text of a week's file."""
+    lines = ["WEEK_DATA", data.name, "", "REQUIREMENTS"]
+    for shift, skill in dict.fromkeys((place.shift, place.skill) for place in data.requirements):
+        pairs = [data.requirements.get(Place(day, shift, skill), Requirement(0, 0)) for day in range(len(DAYS))]
+        lines.append(_row(shift, skill, *(Limits(of.minimum, of.optimal) for of in pairs)))
+    lines += ["", f"SHIFT_OFF_REQUESTS = {len(data.requests)}"]
+    lines += [_row(request.nurse, request.shift or ANY, DAYS[request.day]) for request in data.requests]
+    return "\n".join(lines) + "\n"
+
+
+def solution_text(solution: Solution) -> str:
+    """The text of a solution or fix file."""
+    rows = "".join(f"{assignment.row()}\n" for assignment in solution.assignments)
+    return f"SOLUTION\n{solution.week} {solution.scenario}\n\nASSIGNMENTS = {len(solution.assignments)}\n{rows}"
+
+
+def history_text(history: History) -> str:
+    """The text of a history file."""
+    rows = "".join(
+        f"{past.nurse} {past.assignments} {past.weekends} {past.last_shift or NONE} "
+        f"{past.consecutive_shifts} {past.working_days} {past.days_off}\n"
+        for past in history.nurses.values()
+    )
+    return f"HISTORY\n{history.week} {history.scenario}\n\nNURSE_HISTORY\n{rows}"
+
+
+def write_text(path: PathLike, text: str) -> None:
+    """Writes a text to a file, with the bytes that its reader found. A file that exists is replaced only by a whole text."""
+    target, data = Path(path), text.encode("utf-8", errors="surrogateescape")
+    try:
+        if (target.exists() and not target.is_file()) or target.is_symlink() or not os.access(target.parent, os.W_OK):
+            target.write_bytes(data)
+        else:
+            _replace(target, data)
+    except OSError as fault:
+        fault.filename = str(target)
+        raise
+
+
+def _replace(target: Path, data: bytes) -> None:
+    handle, name = tempfile.mkstemp(prefix=f".{target.name}.", dir=target.parent)
+    try:
+        with os.fdopen(handle, "wb") as file:
+            file.write(data)
+        os.chmod(name, target.stat().st_mode & 0o777 if target.exists() else 0o666 & ~_umask())
+        os.replace(name, target)
+    except BaseException:
+        os.unlink(name)
+        raise
+
+
+def _umask() -> int:
+    mask = os.umask(0)
+    os.umask(mask)
+    return mask
+
+
+def write_solution(path: PathLike, solution: Solution) -> None:
+    """Writes a solution or fix file."""
+    write_text(path, solution_text(solution))
+
+
+def write_history(path: PathLike, history: History) -> None:
+    """Writes a history file."""
+    write_text(path, history_text(history))

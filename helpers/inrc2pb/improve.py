@@ -1,0 +1,180 @@
+"""Finds a good roster for a week, or improves one, with the solvers that are installed."""
+
+import argparse
+import contextlib
+import os
+import shutil
+import signal
+import sys
+import tempfile
+import threading
+import time
+from pathlib import Path
+from typing import Iterator, List, Optional, Sequence, TextIO
+
+from .best_roster import BestRoster, Snapshot, read_start
+from .command import Misuse, add_week_options, parser, week_files
+from .files import read_files, read_solution
+from .program import ProgramFault, Report, WeekFiles
+from .search import Search
+from .solvers import find_solver, installed_solvers
+
+
+class Progress:
+    """Prints each improvement: on one line that changes on a terminal, else on a line of its own."""
+
+    def __init__(self, target: Optional[TextIO]) -> None:
+        self._target = target
+        self._began = time.monotonic()
+        self._updates = target is not None and target.isatty()
+        self._width = 0
+
+    def improved(self, penalty: int, finder: str) -> None:
+        """A roster of this penalty was found."""
+        text = f"{time.monotonic() - self._began:7.1f} s  penalty {penalty}  ({finder})"
+        if self._updates:
+            self._put("\r" + text.ljust(self._width))
+            self._width = len(text)
+        else:
+            self._put(f"{text}\n")
+
+    def warn(self, text: str) -> None:
+        """Something that the user should know."""
+        self.finish()
+        self._put(f"{os.path.basename(sys.argv[0])}: {text}\n")
+
+    def finish(self) -> None:
+        """Ends the line that changes."""
+        if self._width:
+            self._put("\n")
+            self._width = 0
+
+    def _put(self, text: str) -> None:
+        if self._target is not None:
+            with contextlib.suppress(OSError, ValueError):
+                self._target.write(text)
+                self._target.flush()
+
+
+class Outcome:
+    """The result of a search: the report of the best roster, the lower bound if any, and how the search ended."""
+
+    def __init__(self, best: BestRoster, stopped: bool) -> None:
+        self.report = best.report()
+        self.bound = best.bound
+        self.bound_by = best.bound_by
+        self.proved = best.is_proved()
+        self.stopped = stopped
+
+    def lines(self) -> List[str]:
+        """What a user reads after the report."""
+        if self.bound is None:
+            return ["no lower bound"]
+        if self.proved:
+            return [f"lower bound {self.bound} ({self.bound_by})", "no roster costs less"]
+        gap = self.report.penalty - self.bound
+        share = f", {100 * gap / self.report.penalty:.1f} %" if self.report.penalty else ""
+        return [f"lower bound {self.bound} ({self.bound_by}): the gap is {gap}{share}"]
+
+
+def improve(files: WeekFiles, start: Optional[Path], solution: Path, seconds: float, seed: int, jobs: int, solvers: Sequence[str]) -> Report:
+    """Searches for these seconds, writes the best roster to `solution` and returns its report.
+
+    `start` is the roster to begin with, if any; `solvers` has names (clasp, cbc) or commands, and none means those that
+    are installed. Ctrl-C or TERM end the search: the roster is written, then KeyboardInterrupt is raised.
+    """
+    outcome = search(files, start, solution, seconds, seed, jobs, solvers, Progress(None))
+    if outcome.stopped:
+        raise KeyboardInterrupt
+    return outcome.report
+
+
+def search(
+    files: WeekFiles, start: Optional[Path], solution: Path, seconds: float, seed: int, jobs: int, solvers: Sequence[str], progress: Progress
+) -> Outcome:
+    """As `improve`, with its progress printed, and more in its result. A signal ends the search early and is no fault."""
+    solution = Path(solution).absolute()
+    found = [find_solver(name) for name in solvers or installed_solvers()]
+    week = read_files(files.scenario, files.history, files.week)
+    fixed = read_solution(files.fix, week.scenario).assignments if files.fix else ()
+    _check_folder(solution)
+    best = BestRoster(files, solution, progress.improved)
+    running = Search(files, week, fixed, best, found, seconds, progress.warn)
+    folder = Path(tempfile.mkdtemp(prefix="inrc2pb-improve-"))
+    try:
+        if start:
+            best.offer(read_start(files, start, week.scenario), Snapshot(), None, folder, "the given roster")
+        with _signals(running) as caught:
+            running.run(folder, seed, jobs)
+    finally:
+        progress.finish()
+        shutil.rmtree(folder, ignore_errors=True)
+    if not best.now().version:
+        advice = "stopped before the first roster" if caught else f"no roster was found in {seconds:.0f} s: give it more with --time"
+        raise ProgramFault(5, advice)
+    return Outcome(best, bool(caught))
+
+
+def _check_folder(solution: Path) -> None:
+    """The roster's folder must be writable, before the search begins."""
+    try:
+        handle, name = tempfile.mkstemp(prefix=f".{solution.name}.", dir=solution.parent)
+    except OSError as fault:
+        fault.filename = str(solution)
+        raise
+    os.close(handle)
+    os.unlink(name)
+
+
+@contextlib.contextmanager
+def _signals(running: Search) -> Iterator[List[int]]:
+    """Ends the search on Ctrl-C or TERM; the list has the signals that came."""
+    caught: List[int] = []
+
+    def stop(number: int, _frame: object) -> None:
+        caught.append(number)
+        threading.Thread(target=running.stop, daemon=True).start()
+
+    if threading.current_thread() is not threading.main_thread():
+        yield caught
+        return
+    before = {number: signal.signal(number, stop) for number in (signal.SIGINT, signal.SIGTERM, signal.SIGHUP)}
+    try:
+        yield caught
+    finally:
+        for number, handler in before.items():
+            signal.signal(number, handler)
+
+
+def _arguments() -> argparse.ArgumentParser:
+    words = parser(
+        "Finds a good roster for a week, or improves one. Solvers search neighborhoods of the best roster, several at once, and\n"
+        "`inrc2pb decode` checks each roster. Ctrl-C ends the search and keeps the best roster. Improvements are printed on\n"
+        "standard error, the report on standard output."
+    )
+    add_week_options(words)
+    words.add_argument("--sol", metavar="FILE", type=Path, required=True, help="the roster to write; it always has the best one")
+    words.add_argument("--from", dest="start", metavar="FILE", type=Path, help="the roster to begin with (default: none)")
+    words.add_argument("--time", metavar="SECONDS", type=float, default=120.0, help="seconds to search (default: %(default).0f)")
+    words.add_argument("--seed", metavar="N", type=int, default=1, help="seed of the random choices (default: %(default)s)")
+    words.add_argument("--jobs", metavar="N", type=int, default=os.cpu_count() or 1, help="solvers at once (default: the processors)")
+    words.add_argument(
+        "--solver",
+        metavar="SOLVER",
+        action="append",
+        default=[],
+        help="clasp, cbc, or a command that reads an OPB model and prints an answer, with {} for the model's path; "
+        "more than one are used in turn (default: those of clasp and cbc that are installed)",
+    )
+    return words
+
+
+def main(words: Optional[List[str]] = None) -> None:
+    """The command `inrc2pb-improve`."""
+    given = _arguments().parse_args(words)
+    if given.jobs < 1 or given.time <= 0:
+        raise Misuse("--jobs and --time have to be above 0")
+    outcome = search(week_files(given), given.start, given.sol, given.time, given.seed, given.jobs, given.solver, Progress(sys.stderr))
+    print(outcome.report.text, end="")
+    for line in outcome.lines():
+        print(line)

@@ -1,0 +1,166 @@
+"""Converts an OPB model to an LP file, the format that MIP solvers read.
+
+The model is read and written in pieces, so that a model of any length needs little memory. Constraint N of the model is
+the row `cN` of the LP file.
+"""
+
+import argparse
+import contextlib
+import functools
+import math
+import re
+import sys
+from dataclasses import dataclass
+from pathlib import Path
+from typing import Iterator, List, Optional, TextIO, Tuple
+
+from .command import Misuse, parser
+from .mip_solution import STATUSES, read_answer
+
+# A term has at most 22 characters: a sign, 10 digits, a blank, `x` and 8 digits, and a blank. A line may have 560.
+TERMS_PER_LINE = 16
+CHUNK = 1 << 18
+_HEADER = re.compile(r"\* #variable= ([0-9]+) #constraint= ([0-9]+)\s*")
+_TERMS = re.compile(r"(?:\s*[+-][0-9]+\s+x[1-9][0-9]*)*\s*")
+_DEGREE = re.compile(r"\s*([+-]?[0-9]+)\s*")
+
+
+class ModelFault(Misuse):
+    """A text that is not a model as `inrc2pb encode` writes it."""
+
+
+@dataclass(frozen=True)
+class ModelSize:
+    """The size of a model. `step` divides each value of the objective; it is 0 if the model has no objective."""
+
+    variables: int
+    constraints: int
+    step: int
+
+
+def write_linear_program(opb: TextIO, lp: TextIO) -> ModelSize:
+    """Writes the model in the file `opb` to the file `lp`."""
+    header = opb.readline()
+    match = _HEADER.fullmatch(header)
+    if not match:
+        raise ModelFault("the model does not begin with `* #variable= V #constraint= C`: give a file that `inrc2pb encode` wrote")
+    variables, constraints = int(match.group(1)), int(match.group(2))
+    lp.write("Minimize\n obj:")
+    step, found = _write_statements(opb, lp)
+    if found != constraints:
+        raise ModelFault(f"the model has {found} constraints and announces {constraints}: it is cut, so encode the week again")
+    _write_binaries(variables, lp)
+    return ModelSize(variables, constraints, step)
+
+
+def _write_statements(opb: TextIO, lp: TextIO) -> Tuple[int, int]:
+    """Writes the objective and the constraints; returns the objective's step, and the number of constraints."""
+    step = number = 0
+    in_objective = False
+    for text, ends in _pieces(opb):
+        start = text.lstrip()
+        if number == 0 and not in_objective and start.startswith("min:"):
+            in_objective, text = True, start[len("min:") :]
+        if in_objective:
+            words = _terms(text)
+            step = functools.reduce(math.gcd, map(int, set(words[::2])), step)
+            lp.writelines(f" {line}\n" for line in _lines(words))
+            if ends:
+                in_objective, number = False, 1
+                lp.write("Subject To\n")
+            continue
+        if number == 0:
+            number = 1
+            lp.write(" 0 x1\nSubject To\n")
+        _write_constraint(number, text, lp)
+        number += 1
+    return step, max(0, number - 1)
+
+
+def _pieces(opb: TextIO) -> Iterator[Tuple[str, bool]]:
+    """The statements in pieces: each with whether its statement ends there. A piece ends between two terms.
+
+    Only the objective comes in pieces: a constraint is short.
+    """
+    rest = ""
+    long = False
+    for chunk in iter(lambda: opb.read(CHUNK), ""):
+        *whole, rest = (rest + chunk).split(";")
+        for statement in whole:
+            yield statement, True
+            long = False
+        cut = max(rest.rfind("+"), rest.rfind("-"))
+        if cut > 0 and (long or rest.lstrip().startswith("min:")):
+            yield rest[:cut], False
+            rest, long = rest[cut:], True
+    if rest.strip():
+        raise ModelFault("the model ends in the middle of a statement: it is cut, so encode the week again")
+
+
+def _terms(text: str) -> List[str]:
+    """The words of the terms: coefficients and variables in turn."""
+    if not _TERMS.fullmatch(text):
+        raise ModelFault(f"no linear terms as `inrc2pb encode` writes them: {' '.join(text.split())[:60]}")
+    return text.split()
+
+
+def _lines(words: List[str]) -> List[str]:
+    """The terms, some on each line."""
+    return [" ".join(words[at : at + 2 * TERMS_PER_LINE]) for at in range(0, len(words), 2 * TERMS_PER_LINE)]
+
+
+def _write_constraint(number: int, text: str, lp: TextIO) -> None:
+    terms, _, degree = text.partition(">=")
+    match = _DEGREE.fullmatch(degree)
+    if not match:
+        raise ModelFault(f"constraint {number} has no `>=` with a degree: give a model that `inrc2pb encode` wrote")
+    # A row without terms is legal in OPB, but not in an LP file.
+    lines = "\n ".join(_lines(_terms(terms))) or "0 x1"
+    lp.write(f" c{number}: {lines} >= {match.group(1)}\n")
+
+
+def _write_binaries(variables: int, lp: TextIO) -> None:
+    lp.write("Binary\n")
+    for first in range(1, variables + 1, TERMS_PER_LINE):
+        lp.write("".join(f" x{number}" for number in range(first, min(first + TERMS_PER_LINE, variables + 1))) + "\n")
+    lp.write("End\n")
+
+
+def convert(model: Path, lp: Path) -> ModelSize:
+    """Converts the file `model` to the file `lp`."""
+    with open(model, encoding="ascii", errors="replace") as opb, open(lp, "w", encoding="ascii") as target:
+        return write_linear_program(opb, target)
+
+
+def _arguments() -> argparse.ArgumentParser:
+    words = parser(
+        "Lets a MIP solver solve a model: converts the OPB model to an LP file, and the solver's solution file to an answer.",
+        "inrc2pb encode $WEEK | inrc2pb-lp model > week.lp\n"
+        "cbc week.lp sec 60 timem elapsed solve solution week.sol\n"
+        "inrc2pb-lp answer week.sol | inrc2pb decode $WEEK --sol roster.txt",
+    )
+    commands = words.add_subparsers(dest="command", metavar="COMMAND", required=True)
+    model = commands.add_parser("model", help="convert an OPB model to an LP file")
+    model.add_argument("opb", metavar="MODEL", nargs="?", type=Path, help="the model that `inrc2pb encode` wrote (default: standard input)")
+    model.add_argument("--lp", metavar="FILE", type=Path, help="the LP file to write (default: standard output)")
+    answer = commands.add_parser("answer", help="convert a solution file to an answer, for `inrc2pb decode`")
+    answer.add_argument("solution", metavar="SOLUTION", type=Path, help="a solution file of cbc, glpsol (-o), HiGHS, SCIP, Gurobi or toulbar2 (-w)")
+    answer.add_argument(
+        "--status",
+        choices=sorted(STATUSES),
+        help="how the solver ended, if its file does not say (Gurobi, toulbar2; default: stopped)",
+    )
+    return words
+
+
+def main(words: Optional[List[str]] = None) -> None:
+    """The command `inrc2pb-lp`."""
+    given = _arguments().parse_args(words)
+    if given.command == "answer":
+        with open(given.solution, encoding="utf-8", errors="replace") as solution:
+            read_answer(solution, given.status).write(sys.stdout)
+        return
+    with contextlib.ExitStack() as open_files:
+        opb = open_files.enter_context(open(given.opb, encoding="ascii", errors="replace")) if given.opb else sys.stdin
+        lp = open_files.enter_context(open(given.lp, "w", encoding="ascii")) if given.lp else sys.stdout
+        write_linear_program(opb, lp)

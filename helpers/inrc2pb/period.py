@@ -1,0 +1,190 @@
+"""Plans the weeks of a period one after another, and reports what they cost together."""
+
+import argparse
+import errno
+import os
+import sys
+import tempfile
+from dataclasses import dataclass, replace
+from pathlib import Path
+from typing import Callable, Dict, List, Optional, Sequence
+
+from .command import Misuse, add_solver_options, fault_line, parser, run
+from .files import History, Scenario, Week, check_week_number, read_history, read_scenario, read_solution, read_week
+from .files import scenario_text, history_text, write_history, write_text
+from .improve import Progress, search
+from .next_history import next_history
+from .processes import Processes
+from .program import SOFT_RULES, ProgramFault, Report, WeekFiles, decode, encode, extend
+from .shared_totals import shared_week
+from .solvers import Task, find_solver, installed_solvers
+
+# Plans a week: writes its roster to the file, and returns whether the user stopped it.
+Plan = Callable[[WeekFiles, Path], bool]
+
+
+@dataclass(frozen=True)
+class PeriodFiles:
+    """The files of a period: the weeks' files in their order, and the fix file of some weeks, by number."""
+
+    scenario: Path
+    history: Path
+    weeks: Sequence[Path]
+    fixes: Dict[int, Path]
+    early: bool = False
+    share: bool = False
+
+
+def plan_once(solver_name: str, seconds: float) -> Plan:
+    """Lets a solver solve the whole week once."""
+    solver = find_solver(solver_name).whole()[0]
+
+    def plan(files: WeekFiles, solution: Path) -> bool:
+        with tempfile.TemporaryDirectory() as folder:
+            model = Path(folder, "week.opb")
+            encode(files, model)
+            processes = Processes()
+            try:
+                outcome = solver.solve(Task(model, seconds, Path(folder)), processes)
+            finally:
+                processes.stop()
+        if outcome.fault:
+            raise Misuse(f"the solver {solver.name} has no answer: {outcome.fault}; try its command by hand")
+        decode(files, outcome.answer, solution)
+        return False
+
+    return plan
+
+
+def plan_by_improving(solvers: Sequence[str], seconds: float, seed: int, jobs: int) -> Plan:
+    """Looks for a roster and improves it."""
+
+    def plan(files: WeekFiles, solution: Path) -> bool:
+        return search(files, None, solution, seconds, seed, jobs, solvers, Progress(sys.stderr)).stopped
+
+    return plan
+
+
+class Period:
+    """A period that is planned: its reports by week, in order."""
+
+    def __init__(self, files: PeriodFiles, plan: Plan, folder: Path) -> None:
+        self.files, self.plan, self.folder = files, plan, folder
+        self.scenario: Scenario = read_scenario(files.scenario)
+        self.history: History = read_history(files.history, self.scenario)
+        self.history_file = files.history
+        self.reports: Dict[int, Report] = {}
+        check_week_number(files.history, self.history, self.scenario)
+        self.first = self.history.week
+        if len(files.weeks) > self.scenario.weeks - self.first:
+            raise Misuse(
+                f"{len(files.weeks)} weeks are given, and {self.scenario.weeks - self.first} are left from week {self.first} "
+                f"of {self.scenario.weeks}: give the files of these weeks only"
+            )
+        numbers = range(self.first, self.first + len(files.weeks))
+        for number, path in files.fixes.items():
+            if number not in numbers:
+                raise Misuse(f"--fix {number}={path}: week {number} is not planned, the weeks are {numbers[0]} to {numbers[-1]}")
+            read_solution(path, self.scenario)
+        for path in files.weeks:
+            read_week(path, self.scenario)
+        folder.mkdir(parents=True, exist_ok=True)
+        if not os.access(folder, os.W_OK):
+            raise PermissionError(errno.EACCES, os.strerror(errno.EACCES), str(folder))
+
+    def run(self) -> None:
+        """Plans all weeks. After a fault the weeks before it have their files and reports."""
+        for at, path in enumerate(self.files.weeks):
+            number = self.first + at
+            files = WeekFiles(self.files.scenario, self.history_file, path, self.files.fixes.get(number), self.files.early)
+            roster = self.folder / f"roster-{number}.txt"
+            shared = self.files.share and number + 1 < self.scenario.weeks
+            print(f"week {number}" + (", penalties with its share of the totals" if shared else ""), file=sys.stderr, flush=True)
+            try:
+                stopped = self.plan_week(files, roster)
+                _, report = extend(files, roster)
+            except (Misuse, ProgramFault) as fault:
+                raise Misuse(f"week {number}: {fault_line(fault)}") from fault
+            assert report is not None
+            self.reports[number] = report
+            print(f"week {number}: penalty {report.penalty}, {roster}", flush=True)
+            if number + 1 < self.scenario.weeks:
+                rows = read_solution(roster, self.scenario).assignments
+                self.history = next_history(self.scenario, self.history, rows)
+                self.history_file = self.folder / f"history-{number + 1}.txt"
+                write_history(self.history_file, self.history)
+            if stopped:
+                raise KeyboardInterrupt
+
+    def plan_week(self, files: WeekFiles, roster: Path) -> bool:
+        """Plans a week, if asked for with its share of the totals; whether the user stopped it."""
+        if not self.files.share:
+            return self.plan(files, roster)
+        real = Week(self.scenario, self.history, read_week(files.week, self.scenario))
+        week = shared_week(real)
+        if week is real and not real.is_last:
+            print("the nurses have too many different shares: this week is planned without them", file=sys.stderr)
+        with tempfile.TemporaryDirectory() as folder:
+            scenario, history = Path(folder, "scenario.txt"), Path(folder, "history.txt")
+            write_text(scenario, scenario_text(week.scenario))
+            write_text(history, history_text(week.history))
+            return self.plan(replace(files, scenario=scenario, history=history), roster)
+
+    def table(self) -> List[str]:
+        """The penalty and the costs of each week, and their sums."""
+        rows = [[f"week {number}", report.penalty, *report.by_rule.values()] for number, report in self.reports.items()]
+        sums = [sum(int(row[at]) for row in rows) for at in range(1, 2 + len(SOFT_RULES))]
+        lines = [["", "penalty", *SOFT_RULES], *rows, ["period", *sums]]
+        return ["".join(f"{cell:{'<8' if at == 0 else '>8' if at == 1 else '>6'}}" for at, cell in enumerate(line)).rstrip() for line in lines]
+
+
+def _fixes(texts: Sequence[str]) -> Dict[int, Path]:
+    fixes: Dict[int, Path] = {}
+    for text in texts:
+        number, equals, path = text.partition("=")
+        if not equals or not number.isdigit() or not path:
+            raise Misuse(f"--fix {text}: give the week's number and its file, such as 0=promised.txt")
+        fixes[int(number)] = Path(path)
+    return fixes
+
+
+def _words() -> argparse.ArgumentParser:
+    words = parser(
+        "Plans the weeks of a period one after another, and reports what they cost together.",
+        "The folder gets roster-N.txt of each week N and history-N.txt of each next one. --early and --share are heuristics:\n"
+        "a week is planned before the next ones are known. The report has what each roster costs by the real files.",
+    )
+    words.add_argument("--sce", metavar="FILE", type=Path, required=True, help="the scenario")
+    words.add_argument("--his", metavar="FILE", type=Path, required=True, help="the history with which the first of these weeks begins")
+    words.add_argument("--week", metavar="FILE", type=Path, action="append", required=True, help="a week's file; give one for each week, in order")
+    words.add_argument("--out", metavar="FOLDER", type=Path, required=True, help="the folder for rosters and histories")
+    words.add_argument("--fix", metavar="N=FILE", action="append", default=[], help="the assignments to keep in week N")
+    totals = words.add_mutually_exclusive_group()
+    totals.add_argument("--early", action="store_true", help="charge excess assignments and weekends as soon as they occur")
+    totals.add_argument("--share", action="store_true", help="plan each week with its share of the totals that are left")
+    words.add_argument("--time", metavar="SECONDS", type=float, default=60, help="seconds for each week (default: 60)")
+    add_solver_options(words)
+    words.add_argument("--once", action="store_true", help="let the first solver solve each week once, without improving its roster")
+    words.add_argument("--seed", metavar="N", type=int, default=1, help="the seed of the search (default: 1)")
+    return words
+
+
+def main() -> Optional[int]:
+    given = _words().parse_args()
+    if given.time <= 0 or given.jobs < 1:
+        raise Misuse("--time has to be above 0, and --jobs at least 1")
+    solvers = given.solver or list(installed_solvers())
+    plan = plan_once(solvers[0], given.time) if given.once else plan_by_improving(solvers, given.time, given.seed, given.jobs)
+    files = PeriodFiles(given.sce, given.his, given.week, _fixes(given.fix), given.early, given.share)
+    period = Period(files, plan, given.out)
+    try:
+        period.run()
+    finally:
+        if period.reports:
+            print("\n".join(["", *period.table()]))
+            sys.stdout.flush()
+    return 0
+
+
+if __name__ == "__main__":
+    run(main)

@@ -1,0 +1,109 @@
+"""Child processes that run for a limited time. Each is a group of its own, and is ended as a group."""
+
+import os
+import select
+import signal
+import subprocess
+import threading
+import time
+from dataclasses import dataclass
+from pathlib import Path
+from typing import Callable, List, Optional, Sequence, Set, Tuple
+
+# Seconds that a process has to print its answer after it was asked to end.
+GRACE = 2.0
+MAX_OUTPUT = 1 << 28
+
+
+@dataclass(frozen=True)
+class Ended:
+    """How a process ended: its exit status, its output, and whether it was ended because its time was over."""
+
+    status: int
+    output: str
+    timed_out: bool
+
+
+class Processes:
+    """The child processes of a search. After `stop` none is left, and none starts."""
+
+    def __init__(self) -> None:
+        self._lock = threading.Lock()
+        self._running: Set["subprocess.Popen[bytes]"] = set()
+        self._stopped = False
+
+    def run(
+        self,
+        words: Sequence[str],
+        seconds: float,
+        folder: Path,
+        ending: int = signal.SIGTERM,
+        hear: Optional[Callable[[bytes], None]] = None,
+    ) -> Ended:
+        """Runs a command for at most these seconds. `hear` gets its output while it comes."""
+        with self._lock:
+            if self._stopped:
+                return Ended(-signal.SIGKILL, "", True)
+            process = subprocess.Popen(
+                list(words), cwd=str(folder), stdin=subprocess.DEVNULL, stdout=subprocess.PIPE, stderr=subprocess.DEVNULL, start_new_session=True
+            )
+            self._running.add(process)
+        try:
+            output, timed_out = _output_of(process, seconds, ending, hear)
+        finally:
+            with self._lock:
+                self._running.discard(process)
+            if process.stdout:
+                process.stdout.close()
+            _wait_without_reaping(process, 0.5)
+            _signal_group(process, signal.SIGKILL)
+            status = process.wait()
+        return Ended(status, output.decode("utf-8", errors="replace"), timed_out)
+
+    def stop(self) -> None:
+        """Ends all processes, permanently."""
+        with self._lock:
+            self._stopped = True
+            for process in self._running:
+                _signal_group(process, signal.SIGKILL)
+
+
+def _wait_without_reaping(process: "subprocess.Popen[bytes]", seconds: float) -> None:
+    """Waits until the process has ended, for at most these seconds. Its number stays its own, so its group can be ended."""
+    limit = time.monotonic() + seconds
+    while os.waitid(os.P_PID, process.pid, os.WEXITED | os.WNOHANG | os.WNOWAIT) is None and time.monotonic() < limit:
+        time.sleep(0.005)
+
+
+def _signal_group(process: "subprocess.Popen[bytes]", number: int) -> None:
+    try:
+        os.killpg(process.pid, number)
+    except (ProcessLookupError, PermissionError):
+        pass
+
+
+def _output_of(
+    process: "subprocess.Popen[bytes]", seconds: float, ending: int, hear: Optional[Callable[[bytes], None]]
+) -> Tuple[bytes, bool]:
+    """The output until its end; at the limit the process is asked to end, and after the grace it is killed."""
+    assert process.stdout is not None
+    parts: List[bytes] = []
+    size, timed_out = 0, False
+    limit = time.monotonic() + seconds
+    while True:
+        ready, _, _ = select.select([process.stdout], [], [], max(0.0, limit - time.monotonic()))
+        if ready:
+            data = os.read(process.stdout.fileno(), 1 << 16)
+            if not data:
+                return b"".join(parts), timed_out
+            size += len(data)
+            parts.append(data)
+            if hear:
+                hear(data)
+        if time.monotonic() >= limit or size > MAX_OUTPUT:
+            if timed_out or size > MAX_OUTPUT:
+                _signal_group(process, signal.SIGKILL)
+                return b"".join(parts) if size <= MAX_OUTPUT else b"", True
+            timed_out = True
+            limit = time.monotonic() + GRACE
+            _signal_group(process, ending)

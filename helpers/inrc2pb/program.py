@@ -1,0 +1,134 @@
+"""The program `inrc2pb` as functions: `encode`, `decode` and `extend` run it and return values."""
+
+import os
+import shutil
+import signal
+import subprocess
+import sys
+from dataclasses import dataclass
+from pathlib import Path
+from typing import Dict, List, Optional, Tuple
+
+SOFT_RULES = ("S1", "S2", "S3", "S4", "S5", "S6", "S7")
+NO_PROGRAM = 127
+
+
+class ProgramFault(Exception):
+    """A run of `inrc2pb` that failed: its exit status, and the fault line that it printed."""
+
+    def __init__(self, status: int, message: str) -> None:
+        super().__init__(status, message)
+        self.status = status
+        self.message = message
+
+    def __str__(self) -> str:
+        return self.message
+
+
+@dataclass(frozen=True)
+class WeekFiles:
+    """The files of a week, and the options that each command needs alike."""
+
+    scenario: Path
+    history: Path
+    week: Path
+    fix: Optional[Path] = None
+    early: bool = False
+
+    def options(self) -> List[str]:
+        """The files as options of `inrc2pb`."""
+        words = ["--sce", str(self.scenario), "--his", str(self.history), "--week", str(self.week)]
+        return words + (["--fix", str(self.fix)] if self.fix else []) + (["--early"] if self.early else [])
+
+
+@dataclass(frozen=True)
+class Report:
+    """The report of `decode`: `by_rule` has the cost of each soft rule, `text` is the report as it was printed."""
+
+    status: str
+    objective: int
+    penalty: int
+    by_rule: Dict[str, int]
+    text: str
+
+    @property
+    def optimal(self) -> bool:
+        """Whether the answer claims that no roster costs less."""
+        return self.status == "OPTIMUM FOUND"
+
+
+def find_program() -> Path:
+    """`$INRC2PB`; else `inrc2pb` next to the running helper, in PATH, or in `out` of a clone."""
+    named = os.environ.get("INRC2PB")
+    if named:
+        found = shutil.which(named)
+        if not found:
+            raise ProgramFault(NO_PROGRAM, f"there is no program {named}: correct or unset the variable INRC2PB")
+        return Path(found).absolute()
+    helper = Path(sys.argv[0] or ".")
+    in_path = shutil.which("inrc2pb")
+    places = [helper.parent / "inrc2pb", helper.resolve().parent / "inrc2pb", *([Path(in_path)] if in_path else [])]
+    for place in [*places, Path(__file__).resolve().parents[2] / "out" / "inrc2pb"]:
+        if place.is_file() and os.access(place, os.X_OK):
+            return place.absolute()
+    raise ProgramFault(NO_PROGRAM, "there is no inrc2pb: run `make` in its folder, install it, or name it in the variable INRC2PB")
+
+
+def run_program(*words: str, given: str = "") -> str:
+    """Runs `inrc2pb` on these words and this standard input, and returns its standard output.
+
+    It runs in a session of its own, so that Ctrl-C ends the helper and not a check that it has begun.
+    """
+    program = str(find_program())
+    try:
+        ran = subprocess.run(
+            [program, *words],
+            input=given.encode("utf-8", errors="surrogateescape"),
+            stdout=subprocess.PIPE,
+            stderr=subprocess.PIPE,
+            start_new_session=True,
+        )
+    except OSError as fault:
+        raise ProgramFault(NO_PROGRAM, f"{program} does not run: {fault.strerror}") from fault
+    if ran.returncode:
+        raise ProgramFault(ran.returncode, _fault_line(ran.returncode, ran.stderr))
+    return ran.stdout.decode("utf-8", errors="surrogateescape")
+
+
+def _fault_line(status: int, said: bytes) -> str:
+    lines = said.decode("utf-8", errors="replace").strip().splitlines()
+    if status < 0:
+        return f"inrc2pb: ended by {signal.Signals(-status).name}"
+    return lines[0] if lines else f"inrc2pb: ended with status {status}"
+
+
+def encode(files: WeekFiles, model: Path) -> None:
+    """Writes the model of the week to the file `model`."""
+    run_program("encode", *files.options(), "--opb", str(model))
+
+
+def decode(files: WeekFiles, answer: str, solution: Optional[Path] = None) -> Report:
+    """Checks a solver's answer, writes its roster to the file `solution`, and returns the report.
+
+    An answer that is no roster of this week is a ProgramFault, and then `solution` is left as it was.
+    """
+    return report_of(run_program("decode", *files.options(), "--sol", str(solution or os.devnull), given=answer))
+
+
+def extend(files: WeekFiles, roster: Path, with_report: bool = True) -> Tuple[str, Optional[Report]]:
+    """The answer whose roster this is, and its report; a roster that breaks a hard rule is a ProgramFault."""
+    answer = run_program("extend", *files.options(), "--from", str(roster))
+    return answer, decode(files, answer) if with_report else None
+
+
+def penalty_of(files: WeekFiles, roster: Path) -> int:
+    """The penalty of a roster, by `extend`."""
+    answer, _ = extend(files, roster, with_report=False)
+    return int(answer.split("\n", 1)[0].split()[1])
+
+
+def report_of(text: str) -> Report:
+    """The report of this text."""
+    values = dict(line.split(" ", 1) for line in text.splitlines())
+    by_rule = {rule: int(values[rule]) for rule in SOFT_RULES}
+    return Report(values["status"], int(values["objective"]), int(values["penalty"]), by_rule, text)

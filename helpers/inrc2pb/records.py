@@ -1,0 +1,147 @@
+"""A scenario, a history, a week and a roster as values. Days are numbers from 0 (Monday); `DAYS` has their names."""
+
+from dataclasses import dataclass
+from typing import Dict, NamedTuple, Optional, Tuple
+
+from .slots import Limits
+
+DAYS = ("Mon", "Tue", "Wed", "Thu", "Fri", "Sat", "Sun")
+NONE, ANY = "None", "Any"
+
+
+@dataclass(frozen=True)
+class ShiftType:
+    """A shift type, the limits of its consecutive assignments, and the ones that may not follow it."""
+
+    name: str
+    consecutive: Limits
+    forbidden_next: Tuple[str, ...]
+
+
+@dataclass(frozen=True)
+class Contract:
+    """The limits of a contract; assignments and weekends are those of the whole period."""
+
+    name: str
+    assignments: Limits
+    working_days: Limits
+    days_off: Limits
+    max_weekends: int
+    complete_weekends: bool
+
+
+@dataclass(frozen=True)
+class Nurse:
+    """A nurse, the name of her contract, and her skills."""
+
+    name: str
+    contract: str
+    skills: Tuple[str, ...]
+
+
+@dataclass(frozen=True)
+class Scenario:
+    """A ward. The dictionaries have the order of the file."""
+
+    name: str
+    weeks: int
+    skills: Tuple[str, ...]
+    shift_types: Dict[str, ShiftType]
+    contracts: Dict[str, Contract]
+    nurses: Dict[str, Nurse]
+
+    def contract_of(self, nurse: str) -> Contract:
+        """The contract of the nurse with this name."""
+        return self.contracts[self.nurses[nurse].contract]
+
+
+@dataclass(frozen=True)
+class NurseHistory:
+    """A nurse's past before the week; `last_shift` is None if she was off on the last Sunday."""
+
+    nurse: str
+    assignments: int
+    weekends: int
+    last_shift: Optional[str]
+    consecutive_shifts: int
+    working_days: int
+    days_off: int
+
+
+@dataclass(frozen=True)
+class History:
+    """The number of the week that comes now (0 is the first), and each nurse's history in the order of the file."""
+
+    week: int
+    scenario: str
+    nurses: Dict[str, NurseHistory]
+
+
+class Place(NamedTuple):
+    """A day, shift type and skill, for which a number of nurses is needed."""
+
+    day: int
+    shift: str
+    skill: str
+
+
+@dataclass(frozen=True)
+class Requirement:
+    """How many nurses a place needs at least, and how many are best."""
+
+    minimum: int
+    optimal: int
+
+
+@dataclass(frozen=True)
+class Request:
+    """A nurse's request not to work on a day; `shift` is None if it is for any shift type."""
+
+    nurse: str
+    shift: Optional[str]
+    day: int
+
+
+@dataclass(frozen=True)
+class WeekData:
+    """The requirements that the week's file lists, and its requests."""
+
+    name: str
+    requirements: Dict[Place, Requirement]
+    requests: Tuple[Request, ...]
+
+
+class Assignment(NamedTuple):
+    """A nurse who has a shift with a skill on a day."""
+
+    nurse: str
+    day: int
+    shift: str
+    skill: str
+
+    def row(self) -> str:
+        """The assignment as a row of a solution file."""
+        return f"{self.nurse} {DAYS[self.day]} {self.shift} {self.skill}"
+
+
+@dataclass(frozen=True)
+class Solution:
+    """A solution or fix file: its week number, the scenario's name, and its rows in order."""
+
+    week: int
+    scenario: str
+    assignments: Tuple[Assignment, ...]
+
+
+@dataclass(frozen=True)
+class Week:
+    """The three files of a week."""
+
+    scenario: Scenario
+    history: History
+    data: WeekData
+
+    @property
+    def is_last(self) -> bool:
+        """Whether the week is the last of its period."""
+        return self.history.week + 1 == self.scenario.weeks

@@ -1,0 +1,109 @@
+"""A roster as a picture (SVG), for light and dark pages."""
+
+import textwrap
+from html import escape
+from typing import Iterator, List, Sequence
+
+from .files import DAYS
+from .roster_text import COLORS, cuts, ink_on
+from .roster_view import HELD, Cell, RosterView, costs_text
+
+STYLE = """<style>
+.page { fill: #ffffff } .ink { fill: #1a1a1a } .weekend { fill: #eeeeee } .off { fill: none; stroke: #dddddd }
+.frame { stroke: #1a1a1a; stroke-width: 2 }
+@media (prefers-color-scheme: dark) {
+.page { fill: #14171c } .ink { fill: #e8e8e8 } .weekend { fill: #272c35 } .off { stroke: #474e5a } .frame { stroke: #e8e8e8 }
+}
+</style>"""
+LEFT, HIGH, COST_WIDTH = 130, 26, 230
+WEEKEND_GAP, WEEK_GAP = 12, 18
+
+
+class Picture:
+    """The places of a picture's columns and rows."""
+
+    def __init__(self, view: RosterView) -> None:
+        self.view = view
+        self.single = len(view.weeks) == 1
+        self.wide = 86 if self.single else 34
+        self.short = cuts(view.shifts, 6 if self.single else 3)
+        self.top = 60 if self.single else 80
+        week = 7 * self.wide + WEEKEND_GAP
+        self.starts = [LEFT + at * (week + WEEK_GAP) for at in range(len(view.weeks))]
+        self.right = self.starts[-1] + week + (COST_WIDTH if view.has_costs else 10)
+        self.bottom = self.top + len(view.nurses) * HIGH
+        self.under = self.bottom + 24 + 20 * ((len(view.shifts) + 7) // 8)
+        self.below = [part for line in view.legend() + view.missing() for part in textwrap.wrap(line, self.right // 7, subsequent_indent="    ")]
+
+    def left(self, week: int, day: int) -> int:
+        """Where the column of a day begins."""
+        return self.starts[week] + day * self.wide + (WEEKEND_GAP if day > 4 else 0)
+
+    def lines(self) -> Iterator[str]:
+        """The lines of the SVG file."""
+        end = self.under + 18 * len(self.below) + (6 if self.below else 0)
+        yield (
+            f'<svg xmlns="http://www.w3.org/2000/svg" width="{self.right}" height="{end}" '
+            f'viewBox="0 0 {self.right} {end}" font-family="sans-serif" font-size="12">'
+        )
+        yield STYLE
+        yield f'<rect class="page" width="{self.right}" height="{end}"/>'
+        yield f'<text class="ink" x="10" y="22" font-size="15" font-weight="bold">{escape(self.view.title)}</text>'
+        for at, week in enumerate(self.view.weeks):
+            yield from self.week_head(at, week.number)
+        for row, nurse in enumerate(self.view.nurses):
+            yield from self.row(nurse, self.top + row * HIGH)
+        for at, shift in enumerate(self.view.shifts):
+            x, y = 10 + at % 8 * 90, self.bottom + 18 + at // 8 * 20
+            yield _place(x, y, 14, 14, at, False)
+            yield f'<text class="ink" x="{x + 20}" y="{y + 12}">{escape(shift[:9])}</text>'
+        for at, line in enumerate(self.below):
+            yield f'<text class="ink" x="10" y="{self.under + 10 + 18 * at}" xml:space="preserve">{escape(line)}</text>'
+        yield "</svg>"
+
+    def week_head(self, week: int, number: int) -> Iterator[str]:
+        """The weekend's ground and the names of the days."""
+        ground = self.left(week, 5) - 6
+        yield f'<rect class="weekend" x="{ground}" y="{self.top - 26}" width="{2 * self.wide + 8}" height="{self.bottom - self.top + 30}"/>'
+        if not self.single:
+            yield f'<text class="ink" x="{self.starts[week]}" y="{self.top - 32}" font-weight="bold">week {number}</text>'
+        for day, name in enumerate(DAYS):
+            yield f'<text class="ink" x="{self.left(week, day) + self.wide // 2}" y="{self.top - 10}" text-anchor="middle">{name}</text>'
+
+    def row(self, nurse: str, y: int) -> Iterator[str]:
+        """A nurse's name, her cells and, if it is known, what she costs."""
+        yield f'<text class="ink" x="10" y="{y + 17}">{escape(nurse[:16])}</text>'
+        for week in range(len(self.view.weeks)):
+            for day in range(7):
+                yield from self.cells(self.view.cells(week, nurse, day), self.left(week, day), y)
+        if self.view.has_costs:
+            costs = self.view.costs_of(nurse)
+            x = self.left(len(self.view.weeks) - 1, 6) + self.wide + 10
+            yield f'<text class="ink" x="{x}" y="{y + 15}">{sum(costs.values())}{f" ({costs_text(costs)})" if costs else ""}</text>'
+
+    def cells(self, cells: Sequence[Cell], x: int, y: int) -> Iterator[str]:
+        """The cells of one nurse and day."""
+        width, height = self.wide - 4, HIGH - 4
+        if not cells:
+            yield f'<rect class="off" x="{x}" y="{y}" width="{width}" height="{height}"/>'
+        for at, cell in enumerate(cells):
+            part, number = width / len(cells), self.view.shifts.index(cell.shift)
+            skill = f" {cell.skill[:5]}" if self.single else ""
+            text = escape(f"{self.short[cell.shift]}{skill}{cell.marks}")
+            yield _place(x + at * part, y, part, height, number, HELD in cell.marks)
+            yield (
+                f'<text x="{x + (at + 0.5) * part:g}" y="{y + 15}" font-size="{11 if self.single else 10}" text-anchor="middle" '
+                f'fill="{ink_on(COLORS[number % len(COLORS)])}">{text}<title>{escape(cell.shift)} {escape(cell.skill)}</title></text>'
+            )
+
+
+def _place(x: float, y: int, width: float, height: int, number: int, framed: bool) -> str:
+    """A place in the color of the shift type with this number."""
+    frame = ' class="frame"' if framed else ' stroke="#000000" stroke-dasharray="3"' if number >= len(COLORS) else ""
+    color = COLORS[number % len(COLORS)]
+    return f'<rect{frame} x="{x:g}" y="{y}" width="{width:g}" height="{height}" rx="3" fill="{color}"/>'
+
+
+def picture(view: RosterView) -> List[str]:
+    """The lines of a roster's picture."""
+    return list(Picture(view).lines())

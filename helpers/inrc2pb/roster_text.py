@@ -1,0 +1,100 @@
+"""A roster as a table of text, and as rows of a spreadsheet."""
+
+from typing import Dict, Iterator, List, Sequence
+
+from .files import DAYS
+from .roster_view import Cell, RosterView, costs_text
+
+# Colors that color-blind eyes tell apart (Okabe and Ito), and their numbers in a terminal. Shift types from the ninth on
+# have them again, in a frame.
+COLORS = ("#e69f00", "#56b4e9", "#0072b2", "#009e73", "#f0e442", "#cc79a7", "#d55e00", "#999999")
+TERMINAL_COLORS = (214, 74, 25, 36, 227, 175, 166, 246)
+
+
+def ink_on(color: str) -> str:
+    """Black or white, whichever has the greater contrast with the color (by its luminance, as WCAG defines it)."""
+    parts = [int(color[at : at + 2], 16) / 255 for at in (1, 3, 5)]
+    red, green, blue = (part / 12.92 if part <= 0.04045 else ((part + 0.055) / 1.055) ** 2.4 for part in parts)
+    return "#000000" if 0.2126 * red + 0.7152 * green + 0.0722 * blue > 0.179 else "#ffffff"
+
+
+def cuts(names: Sequence[str], least: int) -> Dict[str, str]:
+    """Each name cut to the same length: the shortest, from `least` on, at which all of them differ."""
+    length = least
+    while len({name[:length] for name in names}) < len(set(names)):
+        length += 1
+    return {name: name[:length] for name in names}
+
+
+def in_color(text: str, number: int) -> str:
+    """A cell's text on the color of its shift type."""
+    color = number % len(COLORS)
+    ink = 16 if ink_on(COLORS[color]) == "#000000" else 231
+    return f"\x1b[38;5;{ink};48;5;{TERMINAL_COLORS[color]}m{text}\x1b[0m"
+
+
+def _with_weekend_apart(cells: Sequence[str], gap: str) -> str:
+    return gap.join(cells[:5]) + f"{gap}|{gap}" + gap.join(cells[5:])
+
+
+class TextTable:
+    """The table of a roster. Several weeks stand next to one another, with shift types only, as short as they differ."""
+
+    def __init__(self, view: RosterView, colored: bool = False) -> None:
+        self.view, self.colored = view, colored
+        self.single = len(view.weeks) == 1
+        self.nurses = cuts(view.nurses, 12)
+        self.shifts = cuts(view.shifts, 5 if self.single else 1)
+        self.skills = cuts(view.skills, 2)
+        self.gap = "  " if self.single else " "
+        cells = [self.text(view.cells(week, nurse, day)) for week in range(len(view.weeks)) for nurse in view.nurses for day in range(7)]
+        self.width = max([3 if self.single else 2, *map(len, cells)])
+        self.first = max([len(name) for name in self.nurses.values()], default=0)
+
+    def text(self, cells: Sequence[Cell]) -> str:
+        """The text of the cells of one nurse and day."""
+        skills = [f" {self.skills[cell.skill]}" if self.single else "" for cell in cells]
+        return "+".join(f"{self.shifts[cell.shift]}{skill}{cell.marks}" for cell, skill in zip(cells, skills)) or "."
+
+    def shown(self, cells: Sequence[Cell]) -> str:
+        """The same in its column."""
+        padded = f"{self.text(cells):{self.width}}"
+        return in_color(padded, self.view.shifts.index(cells[0].shift)) if self.colored and cells else padded
+
+    def head(self) -> List[str]:
+        """The title, and the names of the columns."""
+        days = _with_weekend_apart([f"{day[: self.width]:{self.width}}" for day in DAYS], self.gap)
+        between = "  ||  "
+        lines = [self.view.title, ""]
+        if not self.single:
+            numbers = between.join(f"{f'week {week.number}':{len(days)}}" for week in self.view.weeks)
+            lines.append(f"{'':{self.first}}  {numbers}".rstrip())
+        named = between.join([days] * len(self.view.weeks))
+        return [*lines, f"{'':{self.first}}  {named}{'  cost' if self.view.has_costs else ''}".rstrip()]
+
+    def lines(self) -> List[str]:
+        """The whole table."""
+        view, lines = self.view, self.head()
+        for nurse, name in self.nurses.items():
+            weeks = [
+                _with_weekend_apart([self.shown(view.cells(week, nurse, day)) for day in range(7)], self.gap) for week in range(len(view.weeks))
+            ]
+            costs = view.costs_of(nurse)
+            cost = f"  {sum(costs.values()):4}  {costs_text(costs)}" if view.has_costs else ""
+            lines.append(f"{name:{self.first}}  {'  ||  '.join(weeks)}{cost}".rstrip())
+        names = (self.shifts, self.skills) if self.single else (self.shifts,)
+        cut = [f"{short} = {name}" for shortened in names for name, short in shortened.items() if short != name]
+        below = ["  ".join(cut)] * bool(cut) + view.legend() + view.missing()
+        return lines + [""] * bool(below) + below
+
+
+def spreadsheet(view: RosterView) -> Iterator[List[object]]:
+    """Rows of a spreadsheet: nurses by days, then the cost and the rules that charge it."""
+    single = len(view.weeks) == 1
+    days = [day if single else f"week {week.number} {day}" for week in view.weeks for day in DAYS]
+    yield ["nurse", *days, *["cost", "rules"] * view.has_costs]
+    for nurse in view.nurses:
+        of_days = [view.cells(week, nurse, day) for week in range(len(view.weeks)) for day in range(7)]
+        shown = [" + ".join(" ".join([cell.shift, cell.skill, *cell.marks]) for cell in cells) for cells in of_days]
+        costs = view.costs_of(nurse)
+        yield [nurse, *shown, *([sum(costs.values()), costs_text(costs)] if view.has_costs else [])]

@@ -1,0 +1,226 @@
+"""Searches for a good roster: several workers solve neighborhoods of the best one, each with all else held."""
+
+import itertools
+import random
+import threading
+import time
+from collections import Counter
+from dataclasses import replace
+from pathlib import Path
+from typing import Callable, List, Optional, Sequence, Tuple
+
+from .best_roster import BestRoster, Snapshot
+from .command import Misuse
+from .files import Assignment, Solution, Week, read_solution, write_solution
+from .neighborhoods import Neighborhoods
+from .processes import Processes
+from .program import ProgramFault, WeekFiles, decode, encode
+from .rules import nurse_costs
+from .solvers import Outcome, Solver, Task
+
+# The statuses with which `decode` ends: no roster in the answer, a fault in its text, or an unsatisfied constraint.
+_NO_ROSTER = 5
+_REJECTED = (1, 6)
+MAX_FAULTS = 3
+FIRST_SECONDS = 3.0
+# After so many seconds without a better roster a neighborhood has twice the time, so that larger ones are proved; then more.
+STALL_SECONDS = 20.0
+MAX_PATIENCE = 3.0
+# The share of the time for a proof of the whole week, if its worker has to search too.
+PROOF_SHARE = 0.2
+# The same with three workers or more: cbc has no roster to show until it ends, and the others improve the one that it finds.
+LONG_PROOF_SHARE = 0.7
+
+Warn = Callable[[str], None]
+
+
+class Search:
+    """A search over one week. `run` ends when the time is over, the roster is proved optimal, or `stop` was called."""
+
+    def __init__(
+        self, files: WeekFiles, week: Week, fixed: Sequence[Assignment], best: BestRoster, solvers: Sequence[Solver], seconds: float, warn: Warn
+    ) -> None:
+        self._files = files
+        self._best = best
+        self._solvers = list(solvers)
+        self._limit = time.monotonic() + seconds
+        self._seconds = seconds
+        self._warn = warn
+        self._week = week
+        self._neighborhoods = Neighborhoods(list(week.scenario.nurses))
+        self._fixed = frozenset(fixed)
+        self._processes = Processes()
+        self._ended = threading.Event()
+        self._faults: "Counter[str]" = Counter()
+        self._lock = threading.Lock()
+        self._failure: Optional[BaseException] = None
+
+    def stop(self) -> None:
+        """Ends the search now: from a signal handler too."""
+        self._ended.set()
+        self._processes.stop()
+
+    def run(self, folder: Path, seed: int, jobs: int) -> None:
+        """Searches with this many workers at once; their files are in the folder."""
+        threads = []
+        for number in range(jobs):
+            room = folder / str(number)
+            room.mkdir()
+            words = (number, jobs, random.Random(seed * 1000 + number), room)
+            threads.append(threading.Thread(target=self._work, args=words, daemon=True))
+        for thread in threads:
+            thread.start()
+        while any(thread.is_alive() for thread in threads):
+            if time.monotonic() >= self._limit:
+                self.stop()
+            self._ended.wait(0.1)
+            if self._ended.is_set():
+                time.sleep(0.02)
+        if self._failure:
+            raise self._failure
+
+    def _work(self, number: int, jobs: int, chance: random.Random, folder: Path) -> None:
+        """One worker. A fault ends the search; after `stop` faults mean nothing."""
+        try:
+            self._first(number, jobs, folder)
+            while not self._ended.is_set():
+                self._step(chance, folder)
+        except BaseException as fault:  # noqa: B902
+            with self._lock:
+                if not self._ended.is_set() and not self._failure:
+                    self._failure = fault
+            self.stop()
+
+    def _left(self) -> float:
+        return self._limit - time.monotonic()
+
+    def _first(self, number: int, jobs: int, folder: Path) -> None:
+        """Solves the whole week: one worker until there is a roster, one or two more for a proof. The others wait for a roster."""
+        proof = self._proof(number, jobs)
+        if proof:
+            self._whole(proof[0], min(proof[1], self._left() - min(3.0, self._seconds / 10)), folder)
+        elif number > 1:
+            while not self._ended.is_set() and not self._best.now().version:
+                time.sleep(0.05)
+        commands = itertools.cycle(command for solver in self._solvers for command in solver.whole())
+        seconds = min(FIRST_SECONDS, self._seconds / 6)
+        while not self._ended.is_set() and not self._best.now().version:
+            self._whole(next(commands), min(seconds, self._left()), folder)
+            seconds *= 1.5
+        if jobs == 1 and not self._ended.is_set():
+            self._whole(self._solvers[-1].whole()[-1], self._seconds * PROOF_SHARE, folder)
+
+    def _proof(self, number: int, jobs: int) -> Optional[Tuple[Solver, float]]:
+        """The solver with which this worker begins, to prove a bound or a small week, and its time."""
+        last = self._solvers[-1].whole()[-1]
+        if number == 0 and jobs > 1:
+            return last, self._seconds * (LONG_PROOF_SHARE if jobs > 2 and last.name == "cbc" else PROOF_SHARE)
+        if number == 2 and len(self._solvers) > 1:
+            return self._solvers[0].whole()[-1], min(FIRST_SECONDS * 3, self._seconds * PROOF_SHARE)
+        return None
+
+    def _whole(self, solver: Solver, seconds: float, folder: Path) -> None:
+        """Solves the whole week with one solver."""
+        seen = self._best.now()
+        model = folder / "model.opb"
+        encode(self._files, model)
+        task = Task(model, seconds, folder, seen.penalty)
+        outcome = solver.solve(task, self._processes, lambda bound: self._bound(bound, solver.name))
+        found = self._decoded(outcome, self._files, solver, folder, seen)
+        if found:
+            self._best.offer(found[0], seen, None, folder, f"{solver.name}, the whole week")
+            if found[1]:
+                self._prove(found[0].penalty, solver)
+
+    def _bound(self, bound: int, solver: str) -> None:
+        # A solver that cuts off rosters above the best one may report a bound above it.
+        known = self._best.now().penalty
+        self._best.raise_bound(bound if known is None else min(bound, known), solver)
+        if self._best.is_proved():
+            self.stop()
+
+    def _prove(self, penalty: int, solver: Solver) -> None:
+        self._best.prove(penalty, solver.name)
+        self.stop()
+
+    def _step(self, chance: random.Random, folder: Path) -> None:
+        """Solves one neighborhood of the best roster."""
+        seen = self._best.now()
+        solvers = {solver.name: solver for solver in self._usable()}
+        costs = {nurse: sum(by_rule.values()) for nurse, by_rule in nurse_costs(self._week, seen.roster.assignments, self._files.early).items()}
+        name, freed = self._neighborhoods.choose(list(solvers), costs, chance)
+        solver = solvers[name]
+        files = self._held(seen.roster, [row for row in seen.roster.assignments if not freed.frees(row)], folder)
+        began = time.monotonic()
+        model = folder / "model.opb"
+        encode(files, model)
+        patience = solver.patience * min(MAX_PATIENCE, 1 + (began - self._best.improved_at) / STALL_SECONDS)
+        task = Task(model, min(patience, self._left()), folder, seen.penalty)
+        outcome = solver.solve(task, self._processes)
+        found = self._decoded(outcome, files, solver, folder, seen)
+        if self._ended.is_set():
+            return
+        proved = found is not None and found[1]
+        gain = seen.penalty - found[0].penalty if found else 0
+        self._neighborhoods.learn(solver.name, freed, proved, gain, time.monotonic() - began, patience)
+        if found:
+            self._best.offer(found[0], seen, freed, folder, f"{solver.name}, {freed}")
+            if proved and self._neighborhoods.is_whole(freed):
+                self._prove(found[0].penalty, solver)
+        if self._best.is_proved():
+            self.stop()
+
+    def _held(self, roster: Solution, rows: List[Assignment], folder: Path) -> WeekFiles:
+        """The week's files with these rows held, and the user's own."""
+        path = folder / "held.txt"
+        held = dict.fromkeys([*rows, *(row for row in roster.assignments if row in self._fixed)])
+        write_solution(path, Solution(roster.week, roster.scenario, tuple(held)))
+        return replace(self._files, fix=path)
+
+    def _usable(self) -> List[Solver]:
+        with self._lock:
+            return list(self._solvers)
+
+    def _decoded(self, outcome: Outcome, files: WeekFiles, solver: Solver, folder: Path, seen: Snapshot) -> Optional[Tuple[Snapshot, bool]]:
+        """The roster of an answer that `decode` accepts, and whether the solver proved it optimal for its model."""
+        if self._ended.is_set() and not outcome.answer:
+            return None
+        if outcome.fault:
+            self._blame(solver, outcome.fault)
+            return None
+        path = folder / "found.txt"
+        try:
+            report = decode(files, outcome.answer, path)
+        except ProgramFault as fault:
+            self._judge(fault, solver, seen, files)
+            return None
+        with self._lock:
+            self._faults[solver.name] = 0
+        return Snapshot(0, report.penalty, read_solution(path)), report.optimal
+
+    def _judge(self, fault: ProgramFault, solver: Solver, seen: Snapshot, files: WeekFiles) -> None:
+        """Reports an answer that `decode` did not accept; one without a roster is no fault, but for a wrong proof."""
+        if fault.status in _REJECTED:
+            self._blame(solver, f"its answer was rejected: {fault.message}")
+        elif fault.status != _NO_ROSTER:
+            raise fault
+        elif "UNSATISFIABLE" in fault.message and seen.version:
+            self._blame(solver, "it found no roster where there is one")
+        elif "UNSATISFIABLE" in fault.message and not self._best.now().version:
+            raise ProgramFault(_NO_ROSTER, f"no roster keeps the hard rules, says {solver.name}: docs/your_ward.md shows how to find out why")
+
+    def _blame(self, solver: Solver, message: str) -> None:
+        """Reports a fault of a solver; after some in a row the solver is not used any more."""
+        with self._lock:
+            if self._ended.is_set() or solver.name not in [one.name for one in self._solvers]:
+                return
+            self._faults[solver.name] += 1
+            count = self._faults[solver.name]
+            if count == 1:
+                self._warn(f"{solver.name}: {message}: skipped")
+            if count < MAX_FAULTS:
+                return
+            self._solvers = [one for one in self._solvers if one.name != solver.name]
+            if not self._solvers:
+                raise Misuse(f"{solver.name}: {message}, {count} times: correct its command, or choose another solver with --solver")
+            self._warn(f"{solver.name}: not used any more, after {count} faults in a row")

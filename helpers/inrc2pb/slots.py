@@ -1,0 +1,171 @@
+"""The tokens of a file, taken one after another, with faults that name the word and say how to fix it."""
+
+import difflib
+import re
+from pathlib import Path
+from typing import Collection, Iterable, List, NamedTuple, NoReturn, Optional, Tuple, Union
+
+MAX_FILE_LEN = 4_194_304
+MAX_NUMBER = 9999
+SIGNS = "(),="
+_TOKEN = re.compile(r"[(),=]|[^ \t\n\r(),=]+")
+_COMMENT_STARTS = ("#", "//", ";", "%", "/*", "<!--", "--")
+
+PathLike = Union[str, Path]
+
+
+class FileFault(Exception):
+    """A file that is not as docs/formats.md says: its path, the line (0 is the whole file), and what to change.
+
+    `fault` is the text with which `inrc2pb` reports the same fault, such as `unknown name`.
+    """
+
+    def __init__(self, path: PathLike, line: int, message: str, fault: str = "") -> None:
+        super().__init__(path, line, message, fault)
+        self.path = Path(path)
+        self.line = line
+        self.message = message
+        self.fault = fault
+
+    def __str__(self) -> str:
+        where = f"{self.path} line {self.line}" if self.line else f"{self.path}"
+        return f"{where}: {self.message}"
+
+
+class Limits(NamedTuple):
+    """A minimum and a maximum."""
+
+    minimum: int
+    maximum: int
+
+
+class Token(NamedTuple):
+    """A word or sign, and its line."""
+
+    text: str
+    line: int
+
+
+def text_of(path: PathLike) -> str:
+    """The text of a file; bytes that are not UTF-8 survive as surrogates, and `bytes_of` turns them back."""
+    data = Path(path).read_bytes()
+    if len(data) > MAX_FILE_LEN:
+        message = f"the file has {len(data)} bytes, more than {MAX_FILE_LEN}"
+        raise FileFault(path, 0, message, "out of limits")
+    if data[:2] in (b"\xff\xfe", b"\xfe\xff") or (b"\0" in data[:2] and data[:1] != b"\n"):
+        raise FileFault(path, 1, "this is UTF-16 text: save the file as UTF-8", "another word expected")
+    if data[:3] == b"\xef\xbb\xbf":
+        message = "the file begins with a byte order mark (BOM): save it as UTF-8 without one"
+        raise FileFault(path, 1, message, "another word expected")
+    return data.decode("utf-8", errors="surrogateescape")
+
+
+def tokens_of(text: str) -> List[Token]:
+    """The words and signs of a text with their lines; blanks are space, tab, LF and CR."""
+    found = []
+    for number, line in enumerate(text.split("\n"), 1):
+        found += [Token(token, number) for token in _TOKEN.findall(line)]
+    return found
+
+
+def quoted(names: Iterable[str], limit: int = 12) -> str:
+    """The names in a sentence, the first ones if there are many."""
+    words = list(names)
+    more = f", .. ({len(words)} in all)" if len(words) > limit else ""
+    return ", ".join(words[:limit]) + more if words else "none"
+
+
+def closest(word: str, names: Iterable[str]) -> Optional[str]:
+    """The name that the word most likely means, also if only its case differs."""
+    words = list(names)
+    low = word.lower()
+    same = [name for name in words if name.lower() == low]
+    longer = [name for name in words if len(name) > 2 and low.startswith(name.lower()) or len(low) > 2 and name.lower().startswith(low)]
+    return next(iter(same or difflib.get_close_matches(word, words, 1) or longer), None)
+
+
+class Slots:
+    """The tokens of a file. Each method takes the next ones, or raises the fault that `inrc2pb` would report."""
+
+    def __init__(self, path: PathLike, text: Optional[str] = None) -> None:
+        self.path = Path(path)
+        self.tokens = tokens_of(text_of(path) if text is None else text)
+        self.at = 0
+
+    def fault(self, token: Token, fault: str, message: str) -> NoReturn:
+        """Raises a fault at this token."""
+        if token.text.startswith(_COMMENT_STARTS):
+            message = f"'{token.text}' looks like a comment: the files have none, so remove it"
+        raise FileFault(self.path, token.line, message, fault)
+
+    def next(self, wanted: str) -> Token:
+        """The next token, of any kind."""
+        if self.at == len(self.tokens):
+            line = self.tokens[-1].line if self.tokens else 1
+            raise FileFault(self.path, line, f"the file ends where {wanted} should come", "end of file")
+        self.at += 1
+        return self.tokens[self.at - 1]
+
+    def ends(self) -> bool:
+        """Whether no token is left."""
+        return self.at == len(self.tokens)
+
+    def end(self, after: str) -> None:
+        """No token may be left."""
+        if not self.ends():
+            token = self.tokens[self.at]
+            message = f"'{token.text}' comes after the last {after}: remove it, or correct the number of lines announced"
+            self.fault(token, "text after the end", message)
+
+    def words(self, *wanted: str) -> None:
+        """Exactly these words and signs."""
+        for word in wanted:
+            token = self.next(f"'{word}'")
+            if token.text != word:
+                self.fault(token, "another word expected", f"'{token.text}' where '{word}' should be")
+
+    def any_word(self, what: str) -> Token:
+        """A word that no list restricts."""
+        token = self.next(what)
+        if token.text in SIGNS:
+            self.fault(token, "another word expected", f"'{token.text}' where {what} should be")
+        return token
+
+    def number(self, what: str, least: int = 0, most: int = MAX_NUMBER) -> int:
+        """A number in decimal digits within its limits."""
+        token = self.next(what)
+        if not re.fullmatch("[0-9]+", token.text):
+            self.fault(token, "number expected", f"'{token.text}' where {what} should be, a number")
+        digits = token.text.lstrip("0") or "0"
+        if len(digits) > 9 or not least <= int(digits) <= most:
+            self.fault(token, "out of limits", f"{what} is {token.text[:20]}: it has to be from {least} to {most}")
+        return int(digits)
+
+    def pair(self, what: str) -> Limits:
+        """`(minimum,maximum)`."""
+        self.words("(")
+        minimum = self.number(f"the minimum of {what}")
+        self.words(",")
+        maximum = self.number(f"the maximum of {what}")
+        self.words(")")
+        return Limits(minimum, maximum)
+
+    def new_name(self, kind: str, taken: Collection[str]) -> str:
+        """A name that is not in the list yet."""
+        token = self.any_word(f"the name of a {kind}")
+        if token.text in taken:
+            self.fault(token, "repeated", f"the {kind} '{token.text}' is there already: use another name")
+        return token.text
+
+    def known_name(self, kind: str, names: Collection[str], source: str, others: Tuple[str, ...] = ()) -> Token:
+        """A name of this list, or one of the other words that may be in its place."""
+        token = self.any_word(f"a {kind}")
+        if token.text not in names and token.text not in others:
+            self.unknown(token, kind, [*names, *others], source)
+        return token
+
+    def unknown(self, token: Token, kind: str, names: Collection[str], source: str) -> NoReturn:
+        """Raises the fault of a name that is not in its list, with the closest one that is."""
+        meant = closest(token.text, names)
+        message = f"'{token.text}' is no {kind} of {source}: " + (f"did you mean '{meant}'?" if meant else f"it has {quoted(names)}")
+        self.fault(token, "unknown name", message)

@@ -1,0 +1,60 @@
+"""Shows rosters as a table of nurses by days, as a picture, or as a spreadsheet."""
+
+import argparse
+import csv
+import io
+import os
+import sys
+from pathlib import Path
+from typing import Optional
+
+from .command import parser, run
+from .roster_picture import picture
+from .roster_text import TextTable, spreadsheet
+from .roster_view import HELD, REFUSED, RosterFiles, RosterView, read_view
+
+
+def _words() -> argparse.ArgumentParser:
+    words = parser(
+        "Shows rosters as a table of nurses by days.",
+        "With --sce, --his and --week the table has what each nurse costs, by rule, and the places that are short of nurses.\n"
+        "For several weeks give their rosters in order, with one --week for each; the first week's --his is enough.\n"
+        "In a terminal each shift type has a color, unless NO_COLOR is set.",
+    )
+    words.add_argument("roster", nargs="+", type=Path, help="a solution file, as `inrc2pb decode` writes it; one for each week")
+    words.add_argument("--sce", metavar="FILE", type=Path, help="the scenario: nurses and colors have its order")
+    words.add_argument("--his", metavar="FILE", type=Path, action="append", default=[], help="the history; needs --sce and --week")
+    words.add_argument("--week", metavar="FILE", type=Path, action="append", default=[],
+                       help=f"the week's requirements and requests: a cell that should be free has a {REFUSED}")  # fmt: skip
+    words.add_argument("--fix", metavar="FILE", type=Path, action="append", default=[],
+                       help=f"assignments that are held: their cells have a {HELD}")  # fmt: skip
+    words.add_argument("--early", action="store_true", help="count costs as inrc2pb does with --early")
+    form = words.add_mutually_exclusive_group()
+    form.add_argument("--svg", action="store_true", help="write a picture (SVG)")
+    form.add_argument("--csv", action="store_true", help="write rows for a spreadsheet (CSV), without the lines below the table")
+    return words
+
+
+def _wants_color() -> bool:
+    return sys.stdout.isatty() and not os.environ.get("NO_COLOR") and os.environ.get("TERM") != "dumb"
+
+
+def csv_text(view: RosterView) -> str:
+    """The rows of `spreadsheet` as text."""
+    text = io.StringIO()
+    csv.writer(text, lineterminator="\n").writerows(spreadsheet(view))
+    return text.getvalue()
+
+
+def main() -> Optional[int]:
+    given = _words().parse_args()
+    view = read_view(RosterFiles(given.roster, given.sce, given.his, given.week, given.fix, given.early))
+    if given.csv:
+        print(csv_text(view), end="")
+    else:
+        print("\n".join(picture(view) if given.svg else TextTable(view, _wants_color()).lines()))
+    return 0
+
+
+if __name__ == "__main__":
+    run(main)

@@ -1,0 +1,131 @@
+"""Tests of the readers and writers of files, and of `inrc2pb-check`."""
+
+import unittest
+
+from ward import HISTORY, ROSTER, SCENARIO, WARD, WEEK, WEEK_FILES, WEEK_OPTIONS, HelperTest, files, run
+
+from inrc2pb import constraint, program
+
+
+class RoundTrips(HelperTest):
+    def test_each_file_is_written_as_it_was_read(self):
+        ward = files.read_scenario(SCENARIO)
+        self.assertEqual(files.read_scenario("sce", files.scenario_text(ward)), ward)
+        history = files.read_history(HISTORY, ward)
+        self.assertEqual(files.history_text(history), HISTORY.read_text())
+        week = files.read_week(WEEK, ward)
+        self.assertEqual(files.read_week("week", ward, files.week_text(week)), week)
+        self.assertEqual(files.solution_text(files.read_solution(ROSTER, ward)), ROSTER.read_text())
+
+    def test_bytes_that_are_no_text_are_kept(self):
+        raw = ROSTER.read_bytes().replace(b"Amara", b"Am\xffra")
+        path, copy = self.folder / "roster.txt", self.folder / "copy.txt"
+        path.write_bytes(raw)
+        files.write_solution(copy, files.read_solution(path))
+        self.assertEqual(copy.read_bytes(), raw)
+
+    def test_a_file_is_replaced_as_a_whole(self):
+        target = self.folder / "roster.txt"
+        target.write_text("old")
+        with self.assertRaises(OSError):
+            files.write_text(self.folder / "missing" / "roster.txt", "new")
+        files.write_text(target, "new")
+        self.assertEqual((target.read_text(), [path.name for path in self.folder.iterdir()]), ("new", ["roster.txt"]))
+
+    def test_a_full_disk_is_a_fault(self):
+        with self.assertRaises(OSError) as caught:
+            files.write_text("/dev/full", "new")
+        self.assertEqual(caught.exception.filename, "/dev/full")
+
+
+# A file of the ward, a change, the file's option, the line of the fault, and a part of its message.
+MISTAKES = [
+    (SCENARIO, "Chen Full", "Chen Ful", "--sce", 26, "'Ful' is no contract of CONTRACTS: did you mean 'Full'?"),
+    (SCENARIO, "Chen Full 1 Nurse", "Chen Full 1 nurse", "--sce", 26, "'nurse' is no skill of SKILLS: did you mean 'Nurse'?"),
+    (SCENARIO, "NURSES = 7", "NURSES = 8", "--sce", 30, "'NURSES = 8' on line 23 announces 8, and 7 lines follow it"),
+    (SCENARIO, "NURSES = 7", "NURSES = 6", "--sce", 30, "'NURSES = 6' on line 23 announces 6, and 7 lines follow it"),
+    (SCENARIO, "SKILLS = 2", "SKILLS = 3", "--sce", 9, "'SKILLS = 3' on line 5 announces 3, and 2 lines follow it"),
+    (SCENARIO, "(2,5)", "(2-5)", "--sce", 10, "'2-5' where the minimum of consecutive Day shifts should be, a number"),
+    (SCENARIO, "SKILLS", "# the skills\nSKILLS", "--sce", 5, "looks like a comment: the files have none, so remove it"),
+    (SCENARIO, "WEEKS = 4", "WEEKS = 53", "--sce", 3, "the number of weeks is 53: it has to be from 1 to 52"),
+    (SCENARIO, "Chen", "Bruno", "--sce", 26, "the nurse 'Bruno' is there already: use another name"),
+    (HISTORY, "Grace", "Gracy", "--his", 11, "'Gracy' is no nurse of NURSES: did you mean 'Grace'?; no line begins with Grace"),
+    (HISTORY, "0 ward", "4 ward", "--his", 0, "week 4 is not below WEEKS = 4: the period is over"),
+    (WEEK, "Dilek Any Fri", "Dilek Any Friday", "--week", 12, "'Friday' is no day of the week: did you mean 'Fri'?"),
+    (WEEK, "Chen Any", "Chen Noon", "--week", 11, "'Noon' is no shift type of SHIFT_TYPES: it has Day, Late, Night, Any"),
+    (ROSTER, "ASSIGNMENTS = 33", "ASSIGNMENTS = 32", "--roster", 37, "announces 32, and 33 lines follow it"),
+    (ROSTER, "Amara Mon Day Charge", "Amara Mon Day Charg", "--roster", 5, "did you mean 'Charge'?"),
+]
+
+
+class Mistakes(HelperTest):
+    def test_each_mistake_is_named_with_its_line(self):
+        for path, old, new, option, line, message in MISTAKES:
+            with self.subTest(message):
+                changed = self.changed(path, old, new)
+                words = {"--sce": SCENARIO, "--his": HISTORY, "--week": WEEK, **{option: changed}}
+                status, printed, said = run("check", *(word for pair in words.items() for word in pair))
+                self.assertEqual((status, said), (1, ""))
+                where = f"{changed} line {line}: " if line else f"{changed}: "
+                self.assertTrue(printed.startswith(where), printed)
+                self.assertIn(message, printed.splitlines()[0])
+
+    def test_other_encodings(self):
+        text = SCENARIO.read_text()
+        path = self.folder / "ward.txt"
+        for encoding, message in (("utf-8-sig", "begins with a byte order mark (BOM)"), ("utf-16", "UTF-16"), ("utf-16-le", "UTF-16")):
+            path.write_text(text, encoding=encoding)
+            status, printed, _ = run("check", "--sce", path)
+            self.assertEqual((status, message in printed), (1, True), printed)
+
+    def test_good_files(self):
+        self.assertEqual(run("check", *WEEK_OPTIONS, "--roster", ROSTER), (0, "No mistake found.\n", ""))
+
+    def test_warnings_are_no_mistakes(self):
+        ward = self.changed(SCENARIO, "Day (2,5)", "Day (5,2)", "ward.txt")
+        week = self.changed(WEEK, "Day Charge (1,1)", "Day Charge (5,5)", "week.txt")
+        history = self.changed(HISTORY, "Bruno 0 0 None 0 0 2", "Bruno 0 0 None 0 1 2", "history.txt")
+        status, printed, _ = run("check", "--sce", ward, "--his", history, "--week", week)
+        self.assertEqual(status, 0)
+        for part in ("the minimum of (5,2) is above its maximum", "at least 5 are needed, and", "Bruno was off on Sunday"):
+            self.assertIn(part, printed)
+
+    def test_a_file_that_is_missing(self):
+        missing = self.folder / "ward.txt"
+        status, printed, _ = run("check", "--sce", missing)
+        self.assertEqual((status, printed), (1, f"{missing}: No such file or directory: look at its name and folder\n"))
+
+
+class Constraints(HelperTest):
+    def test_the_blocks_are_the_model(self):
+        model = self.folder / "week.opb"
+        program.encode(WEEK_FILES, model)
+        week = files.read_files(SCENARIO, HISTORY, WEEK)
+        count = int(model.read_text().split("\n", 1)[0].split()[-1])
+        self.assertEqual(sum(block.size for block in constraint.blocks(week)), count)
+
+    def test_a_constraint_has_its_line_rule_and_names(self):
+        status, printed, said = run("check", *WEEK_OPTIONS, "--constraint", 60)
+        lines = printed.splitlines()
+        self.assertEqual((status, said, lines[0]), (0, "", "constraint 60, line 62 of the model: H2: Wed Day Nurse needs at least 1"))
+        self.assertIn("+1 [Amara Wed Day Nurse]", lines[2])
+
+    def test_a_number_that_the_model_has_not(self):
+        _, _, said = run("check", *WEEK_OPTIONS, "--constraint", 99999)
+        self.assertIn("there is no constraint 99999", said)
+
+
+class LastWeek(HelperTest):
+    def test_the_last_week_of_thirty_nurses(self):
+        thirty = WARD.parent / "thirty"
+        names = [thirty / name for name in ("Sc-thirty.txt", "H0-thirty-3.txt", "WD-thirty-3.txt")]
+        week, model = files.read_files(*names), self.folder / "week.opb"
+        for early in (False, True):
+            program.encode(program.WeekFiles(*names, early=early), model)
+            with open(model) as lines:
+                count = int(lines.readline().split()[-1])
+            self.assertEqual(sum(block.size for block in constraint.blocks(week, (), early)), count)
+
+
+if __name__ == "__main__":
+    unittest.main()

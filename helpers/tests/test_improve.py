@@ -1,0 +1,225 @@
+"""Tests of `inrc2pb-improve`: searches, solvers that fail, bad input, and a stop."""
+
+import os
+import random
+import re
+import shutil
+import signal
+import subprocess
+import sys
+import time
+import unittest
+from pathlib import Path
+
+from ward import HELPERS, ROOT, ROSTER, SCENARIO, WEEK_FILES, WEEK_OPTIONS, HelperTest, files, program, run
+
+from inrc2pb.best_roster import BestRoster, Snapshot
+from inrc2pb.improve import improve
+from inrc2pb.neighborhoods import Neighborhood, Neighborhoods
+from inrc2pb.processes import Processes
+from inrc2pb.solvers import Cbc, Task, find_solver
+
+FAKE = Path(__file__).resolve().parent / "fake_solver.py"
+THIRTY = ROOT / "examples" / "thirty"
+THIRTY_FILES = program.WeekFiles(THIRTY / "Sc-thirty.txt", THIRTY / "H0-thirty-3.txt", THIRTY / "WD-thirty-3.txt")
+HAS_CLASP, HAS_CBC = (shutil.which(name) is not None for name in ("clasp", "cbc"))
+
+
+def fake(how):
+    """The command of a fake solver."""
+    return f"{sys.executable} {FAKE} {how}"
+
+
+class Searches(HelperTest):
+    @unittest.skipUnless(HAS_CLASP, "needs clasp")
+    def test_a_small_week_is_proved(self):
+        target = self.folder / "best.txt"
+        status, report, progress = run("improve", *WEEK_OPTIONS, "--sol", target, "--time", 100, "--jobs", 2, "--seed", 7)
+        self.assertEqual(status, 0)
+        self.assertIn("status OPTIMUM FOUND\nobjective 20\npenalty 20\n", report)
+        self.assertIn("no roster costs less\n", report)
+        self.assertIn("penalty 20", progress)
+        self.assertEqual(program.penalty_of(WEEK_FILES, target), 20)
+
+    @unittest.skipUnless(HAS_CLASP, "needs clasp")
+    def test_it_improves_a_roster_and_never_makes_it_worse(self):
+        target = self.folder / "best.txt"
+        answer = subprocess.run(
+            ["clasp", "--time-limit=2", str(self.model(THIRTY_FILES))], stdout=subprocess.PIPE, stderr=subprocess.DEVNULL).stdout
+        start = self.folder / "start.txt"
+        before = program.decode(THIRTY_FILES, answer.decode(), start).penalty
+        found = improve(THIRTY_FILES, start, target, 6, 3, 2, ["clasp"])
+        self.assertLessEqual(found.penalty, before)
+        self.assertEqual(program.penalty_of(THIRTY_FILES, target), found.penalty)
+
+    def model(self, week):
+        path = self.folder / "week.opb"
+        program.encode(week, path)
+        return path
+
+    @unittest.skipUnless(HAS_CLASP, "needs clasp")
+    def test_held_rows_and_early_stay(self):
+        promised = self.folder / "promised.txt"
+        rows = [files.Assignment("Grace", 5, "Day", "Nurse")]
+        files.write_solution(promised, files.Solution(0, "ward", tuple(rows)))
+        target = self.folder / "best.txt"
+        status, report, _ = run("improve", *WEEK_OPTIONS, "--fix", promised, "--early", "--sol", target, "--time", 10, "--jobs", 2)
+        self.assertEqual(status, 0)
+        self.assertIn("Grace Sat Day Nurse\n", target.read_text())
+        held = program.WeekFiles(*WEEK_FILES.options()[1::2], promised, True)
+        self.assertIn(f"penalty {program.penalty_of(held, target)}\n", report)
+
+    @unittest.skipUnless(HAS_CBC, "needs cbc")
+    def test_bounds_of_cbc_are_multiples_of_the_step(self):
+        bounds = []
+        model = self.model(WEEK_FILES)
+        outcome = Cbc().solve(Task(model, 10, self.folder), Processes(), bounds.append)
+        if outcome.answer != "s UNKNOWN\n":
+            self.assertGreaterEqual(program.decode(WEEK_FILES, outcome.answer).penalty, 20)
+        self.assertTrue(bounds and all(bound % 5 == 0 and bound <= 20 for bound in bounds), bounds)
+
+
+class BadSolvers(HelperTest):
+    def improve(self, *words):
+        return run("improve", *WEEK_OPTIONS, "--sol", self.folder / "best.txt", "--time", 60, "--jobs", 2, *words)
+
+    def test_a_solver_that_fails_is_reported_and_not_used_any_more(self):
+        rows = {
+            "crash": "printed no answer and was ended by SIGSEGV",
+            "silent": "printed no answer and ended with status 0",
+            "nonsense": "printed no answer and ended with status 1",
+            "rejected": "answer was rejected",
+            "liar": "found no roster where there is one",
+        }
+        for how, says in rows.items():
+            with self.subTest(how=how):
+                shutil.copy(ROSTER, self.folder / "best.txt")
+                status, report, faults = self.improve("--solver", fake(how), "--from", ROSTER)
+                self.assertEqual((status, report), (1, ""))
+                self.assertIn(says, faults)
+                self.assertIn("choose another solver with --solver", faults.splitlines()[-1])
+                self.assertEqual(program.penalty_of(WEEK_FILES, self.folder / "best.txt"), program.penalty_of(WEEK_FILES, ROSTER))
+
+    @unittest.skipUnless(HAS_CLASP, "needs clasp")
+    def test_the_others_go_on(self):
+        status, report, faults = self.improve("--solver", fake("rejected"), "--solver", "clasp", "--time", 10)
+        self.assertEqual(status, 0, faults)
+        self.assertRegex(report, "penalty [0-9]+\n")
+        self.assertIn("rejected", faults)
+
+    def test_a_solver_that_does_not_end_is_ended(self):
+        for how in ("deaf", "flood"):
+            with self.subTest(how=how):
+                began = time.monotonic()
+                status, _, faults = run("improve", *WEEK_OPTIONS, "--sol", self.folder / "new.txt", "--time", 2, "--jobs", 1, "--solver", fake(how))
+                self.assertEqual(status, 5)
+                self.assertIn("give it more with --time", faults)
+                self.assertLess(time.monotonic() - began, 60)
+                self.assertFalse((self.folder / "new.txt").exists())
+
+    def test_a_missing_solver(self):
+        status, _, faults = self.improve("--solver", "no_such_solver")
+        self.assertEqual(status, 1)
+        self.assertIn("there is no solver no_such_solver", faults)
+        self.assertEqual(faults.count("\n"), 1)
+
+
+class BadInput(HelperTest):
+    def assert_refused(self, status, says, *words):
+        ran = run("improve", "--time", 3, *words)
+        self.assertEqual((ran[0], ran[1]), (status, ""), ran[2])
+        self.assertIn(says, ran[2])
+        self.assertEqual(ran[2].count("\n"), 1, ran[2])
+
+    @unittest.skipUnless(HAS_CLASP, "needs clasp")
+    def test_one_line(self):
+        target = ("--sol", self.folder / "best.txt")
+        two = self.changed(ROSTER, "Amara Mon Day Charge", "Amara Tue Late Charge")
+        self.assert_refused(6, "roster breaks", *WEEK_OPTIONS, *target, "--from", two)
+        self.assert_refused(3, "missing.txt", *WEEK_OPTIONS, *target, "--from", self.folder / "missing.txt")
+        self.assert_refused(3, "no_folder", *WEEK_OPTIONS, "--sol", self.folder / "no_folder" / "best.txt")
+        broken = self.changed(SCENARIO, "Chen Full", "Chen Ful", "broken.txt")
+        self.assert_refused(1, "line 26", "--sce", broken, *WEEK_OPTIONS[2:], *target)
+        self.assertFalse((self.folder / "best.txt").exists())
+
+    @unittest.skipUnless(HAS_CLASP and os.getuid() == 0 and Path("/dev/full").exists(), "needs clasp")
+    def test_a_week_that_no_roster_meets(self):
+        eight = ROOT / "examples" / "eight"
+        words = ("--sce", eight / "Sc-eight.txt", "--his", eight / "H0-eight-1.txt", "--week", eight / "WD-eight-1.txt")
+        self.assert_refused(5, "no roster keeps the hard rules", *words, "--sol", self.folder / "best.txt")
+
+
+class Stops(HelperTest):
+    @unittest.skipUnless(HAS_CLASP, "needs clasp")
+    def test_the_best_roster_is_reported(self):
+        for number in (signal.SIGINT, signal.SIGTERM):
+            target = self.folder / f"{number}.txt"
+            words = [*THIRTY_FILES.options(), "--sol", target, "--time", "60", "--jobs", "1", "--solver", "clasp"]
+            search = subprocess.Popen(
+                [sys.executable, str(HELPERS / "inrc2pb-improve"), *map(str, words)], stdout=subprocess.PIPE, stderr=subprocess.PIPE)
+            line = search.stderr.readline()
+            self.assertIn(b"penalty", line)
+            search.send_signal(number)
+            began = time.monotonic()
+            report, _ = search.communicate(timeout=120)
+            self.assertLess(time.monotonic() - began, 60)
+            self.assertEqual(search.returncode, 0)
+            penalty = int(re.search(r"^penalty (\d+)$", report.decode(), re.MULTILINE).group(1))
+            self.assertEqual(program.penalty_of(THIRTY_FILES, target), penalty)
+
+
+class Parts(HelperTest):
+    def choices(self, chosen, count=60):
+        """Some neighborhoods."""
+        chance, costs = random.Random(1), {f"n{n}": n for n in range(30)}
+        return [chosen.choose(["clasp"], costs, chance)[1] for _ in range(count)]
+
+    def test_sizes_follow_the_time(self):
+        chosen = Neighborhoods([f"n{n}" for n in range(30)])
+        first = self.choices(chosen)
+        self.assertEqual({freed.kind for freed in first}, {"nurses", "days", "both"})
+        for freed in first * 3:
+            chosen.learn("clasp", freed, True, 0, 0.1, 6.0)
+        self.assertTrue(all(chosen.is_whole(freed) for freed in self.choices(chosen) if freed.kind != "both"))
+        for freed in first * 4:
+            chosen.learn("clasp", freed, False, 0, 9.0, 6.0)
+        self.assertTrue(all(len(freed.nurses) <= 3 for freed in self.choices(chosen) if freed.kind == "nurses"))
+
+    def test_a_pair_that_gains_is_chosen_more_often(self):
+        chosen = Neighborhoods([f"n{n}" for n in range(30)])
+        freed = Neighborhood("both", frozenset(), frozenset())
+        before = sum(one.kind == "both" for one in self.choices(chosen))
+        for _ in range(5):
+            chosen.learn("clasp", freed, True, 50, 1.0, 6.0)
+        self.assertGreater(sum(one.kind == "both" for one in self.choices(chosen)), before)
+
+    def test_two_improvements_are_merged_if_the_roster_costs_less(self):
+        kept = []
+        best = BestRoster(WEEK_FILES, self.folder / "best.txt", lambda penalty, finder: kept.append(penalty))
+        roster = files.read_solution(ROSTER)
+        best.offer(Snapshot(0, 20, roster), Snapshot(), None, self.folder, "a test")
+        seen = Snapshot(0, 30, roster)
+        freed = Neighborhood("nurses", frozenset(["Amara"]), frozenset(range(7)))
+        best.offer(Snapshot(0, 25, roster), seen, freed, self.folder, "a test")
+        self.assertEqual(kept, [20])
+        self.assertFalse(best.is_proved())
+        best.raise_bound(20, "a test")
+        self.assertTrue(best.is_proved())
+        self.assertTrue(best.report().optimal)
+
+    def test_solvers_are_commands(self):
+        solver = find_solver(f"{sys.executable} -c 'print(1)' {{}} x")
+        self.assertEqual(solver.command(Path("week.opb"), 5)[1:], ["-c", "print(1)", "week.opb", "x"])
+
+    def test_groups_end(self):
+        processes = Processes()
+        began = time.monotonic()
+        ended = processes.run(["bash", "-c", "sleep 60 & sleep 60"], 0.3, self.folder)
+        self.assertTrue(ended.timed_out)
+        self.assertLess(time.monotonic() - began, 30)
+        processes.stop()
+        self.assertTrue(processes.run(["sleep", "60"], 60, self.folder).timed_out)
+
+
+if __name__ == "__main__":
+    unittest.main()

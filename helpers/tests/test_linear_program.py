@@ -1,0 +1,174 @@
+"""Tests of `inrc2pb-lp`: models as LP files, and the solution files of MIP solvers as answers."""
+
+import io
+import shutil
+import subprocess
+import sys
+import tempfile
+import unittest
+from pathlib import Path
+
+HERE = Path(__file__).resolve().parent
+sys.path.insert(0, str(HERE.parent))
+
+from inrc2pb.linear_program import ModelFault, ModelSize, convert, write_linear_program  # noqa: E402
+from inrc2pb.mip_solution import SolutionFault, read_answer  # noqa: E402
+
+SOLUTIONS = HERE / "data" / "solutions"
+COMMAND = HERE.parent / "inrc2pb-lp"
+MAX_LINE = 560
+
+STATUS_OF = {"optimal": "OPTIMUM FOUND", "stopped": "SATISFIABLE", "none": "UNKNOWN", "infeasible": "UNSATISFIABLE"}
+BEST = "o 15\nv x1 x3\n"
+
+
+def answer_of(text, ended=None):
+    """The answer in the text of a solution file."""
+    target = io.StringIO()
+    read_answer(io.StringIO(text), ended).write(target)
+    return target.getvalue()
+
+
+def lp_of(text):
+    """The LP file of a model, and its size."""
+    target = io.StringIO()
+    size = write_linear_program(io.StringIO(text), target)
+    return target.getvalue(), size
+
+
+class LinearPrograms(unittest.TestCase):
+    def test_small_model(self):
+        text, size = lp_of((SOLUTIONS / "model.opb").read_text())
+        self.assertEqual(size, ModelSize(3, 3, 5))
+        self.assertEqual(
+            text,
+            "Minimize\n obj: +10 x1 +20 x2 +5 x3\nSubject To\n c1: +1 x1 +1 x2 >= 1\n c2: +1 x2 +1 x3 >= 1\n"
+            " c3: -1 x1 -1 x2 -1 x3 >= -2\nBinary\n x1 x2 x3\nEnd\n",
+        )
+
+    def test_without_an_objective(self):
+        text, size = lp_of("* #variable= 1 #constraint= 1\n+1 x1 >= 1 ;\n")
+        self.assertEqual(size, ModelSize(1, 1, 0))
+        self.assertIn(" obj: 0 x1\nSubject To\n c1: +1 x1 >= 1\n", text)
+
+    def test_long_statements_come_in_pieces(self):
+        count = 60_000
+        objective = "".join(f" +{7 * (1 + n % 5)} x{n}" for n in range(1, count + 1))
+        row = " ".join(f"+1 x{n}" for n in range(1, count + 1))
+        text, size = lp_of(f"* #variable= {count} #constraint= 2\nmin:{objective} ;\n{row} >= 1 ;\n-1 x1 >= -1 ;\n")
+        self.assertEqual(size, ModelSize(count, 2, 7))
+        self.assertLessEqual(max(map(len, text.split("\n"))), MAX_LINE)
+        words = text.split()
+        self.assertEqual(" ".join(words[words.index("obj:") + 1 : words.index("Subject")]), objective.strip())
+        self.assertEqual(" ".join(words[words.index("c1:") + 1 : words.index("c2:")]), f"{row} >= 1")
+
+    def test_longest_terms_fit_a_line(self):
+        terms = " ".join(["+699790000 x20250209"] * 100)
+        text, _ = lp_of(f"* #variable= 20250209 #constraint= 1\nmin: {terms} ;\n{terms} >= -10000 ;\n".replace("20250209 #", "20 #"))
+        self.assertLessEqual(max(map(len, text.split("\n"))), MAX_LINE)
+
+    def test_faults(self):
+        rows = {
+            "": "does not begin",
+            "* #variable= 1\n": "does not begin",
+            "* #variable= 1 #constraint= 1\n+1 x1 >= 1": "middle of a statement",
+            "* #variable= 1 #constraint= 2\n+1 x1 >= 1 ;\n": "announces 2",
+            "* #variable= 1 #constraint= 1\n+1 x1 = 1 ;\n": "no `>=`",
+            "* #variable= 1 #constraint= 1\n+1 ~x1 >= 1 ;\n": "no linear terms",
+            "* #variable= 1 #constraint= 1\nmin: +1 x1 x2 ;\n+1 x1 >= 1 ;\n": "no linear terms",
+        }
+        for model, says in rows.items():
+            with self.subTest(model=model), self.assertRaisesRegex(ModelFault, says):
+                lp_of(model)
+
+
+class Solutions(unittest.TestCase):
+    def test_stored_files(self):
+        for path in sorted(SOLUTIONS.glob("*-*.sol")):
+            with self.subTest(file=path.name):
+                status = STATUS_OF[path.stem.split("-")[1]]
+                found = BEST if status in ("OPTIMUM FOUND", "SATISFIABLE") else ""
+                self.assertEqual(answer_of(path.read_text()), f"s {status}\n{found}")
+
+    def test_lists_do_not_say_how_the_solver_ended(self):
+        gurobi, toulbar2 = ((SOLUTIONS / name).read_text() for name in ("gurobi.sol", "toulbar2.sol"))
+        self.assertEqual(answer_of(gurobi), f"s SATISFIABLE\n{BEST}")
+        self.assertEqual(answer_of(gurobi, "optimal"), f"s OPTIMUM FOUND\n{BEST}")
+        self.assertEqual(answer_of(toulbar2, "optimal"), "s OPTIMUM FOUND\nv x1 x3\n")
+        self.assertEqual(answer_of("x1=0 x3=1\nx1=1 x3=1\n"), "s SATISFIABLE\nv x1 x3\n")
+        self.assertEqual(answer_of("x1 1\nx2 0\n"), "s SATISFIABLE\nv x1\n")
+        self.assertEqual(answer_of(""), "s UNKNOWN\n")
+        self.assertEqual(answer_of("", "infeasible"), "s UNSATISFIABLE\n")
+
+    def test_a_gap_is_no_proof(self):
+        text = "Optimal (within gap tolerance) - objective value 15.00000000\n 0 x1 1 10\n"
+        self.assertEqual(answer_of(text), "s SATISFIABLE\no 15\nv x1\n")
+
+    def test_values_are_integers_but_for_a_millionth(self):
+        for value in ("1.0000009", "0.9999991", "1e0", "+1"):
+            self.assertEqual(answer_of(f"x1 1\nx2 {value}\n"), "s SATISFIABLE\nv x1 x2\n")
+        for value in ("0.0000009", "-0.0000009", "-0", "1e-9"):
+            self.assertEqual(answer_of(f"x1 1\nx2 {value}\n"), "s SATISFIABLE\nv x1\n")
+        for value in ("1.0000011", "0.9999989", "0.0000011", "0.5", "2", "-1", "nan", "inf", "v1"):
+            with self.subTest(value=value), self.assertRaisesRegex(SolutionFault, "line 2"):
+                answer_of(f"x1 1\nx2 {value}\n")
+
+    def test_faults(self):
+        rows = {
+            "hello\n": "no known solution file",
+            "c Problem:\nj 1 1\n": "glpsol -o",
+            "x1 1\ny2 1\n": "line 2: 'y2'",
+            "x1 1\nx2\n": "line 2 has no value",
+            "x1 0\n": "no variable that is 1",
+            "Optimal - objective value 0\n": "no variable that is 1",
+            "Problem:\nStatus:     OPTIMAL\n": "with integers",
+        }
+        for text, says in rows.items():
+            with self.subTest(text=text), self.assertRaisesRegex(SolutionFault, says):
+                answer_of(text)
+
+
+class InstalledSolvers(unittest.TestCase):
+    SOLVERS = {
+        "cbc": ["cbc", "{lp}", "solve", "solution", "{sol}"],
+        "glpsol": ["glpsol", "--lp", "{lp}", "-o", "{sol}"],
+        "highs": ["highs", "{lp}", "--solution_file", "{sol}"],
+    }
+
+    def test_optimum(self):
+        for name, command in self.SOLVERS.items():
+            if not shutil.which(name):
+                continue
+            with self.subTest(solver=name), tempfile.TemporaryDirectory() as folder:
+                lp, sol = Path(folder, "model.lp"), Path(folder, "model.sol")
+                convert(SOLUTIONS / "model.opb", lp)
+                words = [word.format(lp=lp, sol=sol) for word in command]
+                subprocess.run(words, stdout=subprocess.DEVNULL, check=True, timeout=600)
+                self.assertEqual(answer_of(sol.read_text()), f"s OPTIMUM FOUND\n{BEST}")
+
+
+class Command(unittest.TestCase):
+    def run_it(self, *words, given=""):
+        return subprocess.run([str(COMMAND), *map(str, words)], input=given, stdout=subprocess.PIPE, stderr=subprocess.PIPE, text=True)
+
+    def test_both_directions(self):
+        model = (SOLUTIONS / "model.opb").read_text()
+        ran = self.run_it("model", given=model)
+        self.assertEqual((ran.returncode, ran.stdout), (0, lp_of(model)[0]))
+        with tempfile.TemporaryDirectory() as folder:
+            lp = Path(folder, "model.lp")
+            self.assertEqual(self.run_it("model", SOLUTIONS / "model.opb", "--lp", lp).returncode, 0)
+            self.assertEqual(lp.read_text(), ran.stdout)
+        ran = self.run_it("answer", SOLUTIONS / "cbc-optimal.sol")
+        self.assertEqual((ran.returncode, ran.stdout), (0, f"s OPTIMUM FOUND\n{BEST}"))
+
+    def test_faults_are_one_line(self):
+        for words in (("answer", "missing.sol"), ("model", "missing.opb"), ("answer", SOLUTIONS / "model.opb")):
+            with self.subTest(words=words):
+                ran = self.run_it(*words)
+                self.assertNotEqual(ran.returncode, 0)
+                self.assertEqual((ran.stdout, ran.stderr.count("\n")), ("", 1))
+
+
+if __name__ == "__main__":
+    unittest.main()

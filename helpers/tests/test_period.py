@@ -1,0 +1,141 @@
+"""Tests of `inrc2pb-period` and `inrc2pb-simulate`."""
+
+import os
+import shutil
+import unittest
+from dataclasses import replace
+
+from ward import HISTORY, ROOT, SCENARIO, WARD, WEEK, WEEK_OPTIONS, HelperTest, files, program, run
+
+from inrc2pb.shared_totals import shared_week
+
+MONTH = ROOT / "examples" / "month"
+WARD_OPTIONS = ("--sce", SCENARIO, "--his", HISTORY, "--week", WEEK, "--week", WARD / "week-1.txt")
+MONTH_OPTIONS = ("--sce", MONTH / "ward.txt", "--his", MONTH / "history-0.txt")
+MONTH_WEEKS = [word for number in range(4) for word in ("--week", MONTH / f"week-{number}.txt")]
+# A solver that prints what is not an answer, one that crashes, and one whose answer `decode` rejects.
+BAD_SOLVERS = ["echo nonsense", "false", "sh -c 'echo s SATISFIABLE'", "sh -c 'kill -9 $$'"]
+
+
+class Shares(unittest.TestCase):
+    def setUp(self):
+        self.week = files.read_files(SCENARIO, HISTORY, WEEK)
+
+    def test_each_nurse_has_her_part_of_the_totals(self):
+        ward, history, week = self.week.scenario, self.week.history, self.week.data
+        nurses = {**history.nurses, "Amara": replace(history.nurses["Amara"], assignments=5, weekends=1)}
+        shared = shared_week(files.Week(ward, replace(history, week=1, nurses=nurses), week))
+        self.assertTrue(shared.is_last)
+        # (17,21) with 5 shifts and 3 weeks to plan: 12 are missing and 16 left. Her part of 2 weekends is 1 in 2 of 4 weeks.
+        # Each second nurse begins at half a weekend or above.
+        contract = shared.scenario.contract_of("Amara")
+        self.assertEqual((contract.assignments, contract.max_weekends), (files.Limits(4, 6), 0))
+        self.assertEqual(shared.scenario.contract_of("Bruno").max_weekends, 1)
+        self.assertEqual(contract.working_days, ward.contracts["Full"].working_days)
+        self.assertEqual({past.assignments for past in shared.history.nurses.values()}, {0})
+        self.assertEqual(files.read_scenario("sce", files.scenario_text(shared.scenario)), shared.scenario)
+
+    def test_the_last_week_is_itself(self):
+        last = replace(self.week, history=replace(self.week.history, week=3))
+        self.assertIs(shared_week(last), last)
+
+
+class PeriodTest(HelperTest):
+    def assert_period(self, printed, options, count, early=False):
+        """The report has what `extend` reports for each week, and the sums."""
+        table = [line.split() for line in printed.split("\n\n")[-1].splitlines()]
+        self.assertEqual(table[0], ["penalty", *program.SOFT_RULES])
+        given = dict(zip(("--sce", "--his"), (options[1], options[3])))
+        weeks = [path for word, path in zip(options, options[1:]) if word == "--week"]
+        rows = []
+        for number in range(count):
+            history = self.folder / f"history-{number}.txt" if number else given["--his"]
+            week = program.WeekFiles(given["--sce"], history, weeks[number], early=early)
+            _, report = program.extend(week, self.folder / f"roster-{number}.txt")
+            rows.append([report.penalty, *report.by_rule.values()])
+            self.assertEqual(table[1 + number], ["week", str(number), *map(str, rows[-1])])
+        self.assertEqual(table[1 + count], ["period", *(str(sum(column)) for column in zip(*rows))])
+
+
+@unittest.skipUnless(shutil.which("clasp"), "clasp is not installed")
+class Periods(PeriodTest):
+    def test_the_ward(self):
+        for totals in ([], ["--early"], ["--share"]):
+            with self.subTest(totals):
+                status, printed, said = run("period", *WARD_OPTIONS, *totals, "--out", self.folder, "--time", 2, "--solver", "clasp", "--jobs", 2)
+                self.assertEqual(status, 0, said)
+                self.assert_period(printed, WARD_OPTIONS, 2, "--early" in totals)
+
+    def test_thirty_nurses_in_four_weeks(self):
+        status, printed, said = run("period", *MONTH_OPTIONS, *MONTH_WEEKS, "--early", "--out", self.folder, "--time", 3, "--once", "--solver", "clasp")
+        self.assertEqual(status, 0, said)
+        self.assert_period(printed, (*MONTH_OPTIONS, *MONTH_WEEKS), 4, True)
+        table = ("--sce", MONTH / "ward.txt", "--his", MONTH / "history-0.txt", *MONTH_WEEKS, "--early")
+        shown = run("table", *table, *(self.folder / f"roster-{number}.txt" for number in range(4)))
+        self.assertEqual((shown[0], shown[2]), (0, ""))
+        self.assertIn("weeks 0 to 3", shown[1])
+
+    def test_held_shifts_of_a_week(self):
+        held = self.folder / "held.txt"
+        held.write_text("SOLUTION 1 ward ASSIGNMENTS = 1 Grace Sat Day Nurse\n")
+        status, _, said = run("period", *WARD_OPTIONS, "--fix", f"1={held}", "--out", self.folder, "--time", 5, "--once", "--solver", "clasp")
+        self.assertEqual(status, 0, said)
+        self.assertIn("Grace Sat Day Nurse\n", (self.folder / "roster-1.txt").read_text())
+
+
+class PeriodFaults(HelperTest):
+    def period(self, *words):
+        return run("period", *words, "--out", self.folder, "--time", 1)
+
+    def test_a_solver_without_an_answer(self):
+        for solver in BAD_SOLVERS:
+            status, printed, said = self.period(*WARD_OPTIONS, "--once", "--solver", solver)
+            self.assertNotEqual(status, 0)
+            self.assertEqual((said.count("\n"), said.startswith("week 0\ninrc2pb-period: week 0: "), printed), (2, True, ""), said)
+        self.assertEqual(list(self.folder.iterdir()), [])
+
+    def test_a_solver_that_is_missing(self):
+        _, _, said = self.period(*WARD_OPTIONS, "--once", "--solver", "nosolver")
+        self.assertIn("there is no solver nosolver", said)
+
+    @unittest.skipIf(os.geteuid() == 0, "root may write everywhere")
+    def test_a_folder_without_write_permission(self):
+        self.folder.chmod(0o555)
+        self.assert_fault(self.period(*WARD_OPTIONS, "--once", "--solver", "false"), (
+            f"inrc2pb-period: {self.folder}: Permission denied: you may not read or write it: "
+            "look at its rights and those of its folder, or choose another folder"), 3)
+
+    def test_a_week_without_a_roster(self):
+        eight = ROOT / "examples" / "eight"
+        words = ("--sce", eight / "Sc-eight.txt", "--his", eight / "H0-eight-1.txt", "--week", eight / "WD-eight-1.txt")
+        status, printed, said = self.period(*words, "--once", "--solver", "sh -c 'echo s UNSATISFIABLE'")
+        self.assertEqual((status, printed), (1, ""))
+        self.assertIn("week 1: inrc2pb: solver found no roster: UNSATISFIABLE: the minimum numbers cannot all be met", said)
+
+    def test_files_that_do_not_fit(self):
+        _, _, said = self.period("--sce", SCENARIO, "--his", HISTORY, *(["--week", WEEK] * 5))
+        self.assertIn("5 weeks are given, and 4 are left from week 0 of 4", said)
+        _, _, said = self.period("--sce", SCENARIO, "--his", HISTORY, "--week", WEEK, "--fix", "3=held.txt")
+        self.assertIn("week 3 is not planned", said)
+        _, _, said = self.period("--sce", SCENARIO, "--his", HISTORY, "--week", WEEK, "--fix", "held.txt")
+        self.assertIn("give the week's number and its file, such as 0=promised.txt", said)
+        wrong = self.changed(WEEK, "Chen Any", "Chan Any")
+        _, _, said = self.period("--sce", SCENARIO, "--his", HISTORY, "--week", wrong)
+        self.assertIn("'Chan' is no nurse of NURSES: did you mean 'Chen'?", said)
+
+
+@unittest.skipUnless(shutil.which("clasp"), "clasp is not installed")
+class Simulation(HelperTest):
+    def test_the_command_line_of_the_competition(self):
+        solution, custom = self.folder / "solution.txt", self.folder / "custom.txt"
+        words = ("--sol", solution, "--cusOut", custom, "--rand", 7, "--timeout", 20)
+        status, printed, said = run("simulate", *WEEK_OPTIONS, *words, "--solver", "clasp")
+        self.assertEqual(status, 0, said)
+        self.assertIn("penalty 20\n", printed)
+        self.assertEqual(custom.read_text(), "1\n")
+        files_of_week = program.WeekFiles(SCENARIO, HISTORY, WEEK, early=True)
+        self.assertEqual(program.penalty_of(files_of_week, solution), 20)
+
+
+if __name__ == "__main__":
+    unittest.main()

@@ -1,0 +1,84 @@
+"""Tests of `inrc2pb-keep` and of tables of several weeks."""
+
+import csv
+import io
+import subprocess
+import unittest
+import xml.dom.minidom
+
+from ward import HELPERS, HISTORY, ROSTER, SCENARIO, WARD, WEEK, WEEK_OPTIONS, HelperTest, files, run
+
+TWO_WEEKS = ("--sce", SCENARIO, "--his", HISTORY, "--week", WEEK, "--week", WARD / "week-1.txt", ROSTER, ROSTER)
+
+
+class Keep(HelperTest):
+    def rows(self, *words):
+        status, printed, said = run("keep", *words, ROSTER)
+        self.assertEqual((status, said), (0, ""))
+        kept = files.read_solution("kept", None, printed)
+        self.assertIn(f"ASSIGNMENTS = {len(kept.assignments)}\n", printed)
+        return set(kept.assignments)
+
+    def test_days_and_nurses(self):
+        every = set(files.read_solution(ROSTER).assignments)
+        self.assertEqual(self.rows("--keep", "Mon,Tue"), {row for row in every if row.day < 2})
+        self.assertEqual(self.rows("--nurses", "Chen,Ewa"), {row for row in every if row.nurse in ("Chen", "Ewa")})
+        both = {row for row in every if row.nurse == "Chen" and row.day == 2}
+        self.assertEqual(self.rows("--nurses", "Chen", "--keep", "Wed"), both)
+        self.assertEqual(self.rows("--nurses", "Chen", "--keep", "Wed", "--others"), every - both)
+
+    def test_the_rows_fit_the_program(self):
+        kept = self.folder / "kept.txt"
+        self.assertEqual(run("keep", "--keep", "Mon", ROSTER, "--out", kept), (0, "", ""))
+        self.assertEqual(run("check", *WEEK_OPTIONS, "--fix", kept, "--roster", ROSTER)[0], 0)
+
+    def test_faults(self):
+        self.assert_fault(run("keep", "--keep", "Mon,Tues", ROSTER), "inrc2pb-keep: --keep Mon,Tues: 'Tues' is no day: did you mean Tue?")
+        line = f"inrc2pb-keep: --nurses Chan: 'Chan' is no nurse of {ROSTER}: did you mean Chen?"
+        self.assert_fault(run("keep", "--nurses", "Chan", ROSTER), line)
+        self.assert_fault(run("keep", ROSTER), "inrc2pb-keep: nothing says which rows to keep: give --keep Mon,Tue or --nurses NAME,NAME")
+
+
+class Tables(HelperTest):
+    def test_two_weeks(self):
+        status, printed, said = run("table", *TWO_WEEKS)
+        self.assertEqual((status, said), (0, ""))
+        self.assertIn("ward, weeks 0 to 1: 66 assignments\n", printed)
+        self.assertIn("D = Day  L = Late  N = Night\n", printed)
+        self.assertIn("week 1: cost: of the nurses 100", printed)
+
+    def test_a_spreadsheet_has_no_lines_of_prose(self):
+        for words, columns in (((*WEEK_OPTIONS, ROSTER), 10), (TWO_WEEKS, 17)):
+            status, printed, _ = run("table", "--csv", *words)
+            rows = list(csv.reader(io.StringIO(printed)))
+            self.assertEqual((status, len(rows), {len(row) for row in rows}), (0, 8, {columns}))
+
+    def test_the_picture_names_missing_nurses(self):
+        roster = self.changed(ROSTER, "Amara Mon Day Charge\n", "").read_text().replace("= 33", "= 32")
+        path = self.folder / "less.txt"
+        path.write_text(roster)
+        status, printed, _ = run("table", *WEEK_OPTIONS, "--svg", path)
+        self.assertEqual(status, 0)
+        self.assertIn("missing on Mon: Day Charge (0 of 1, at least 1)", printed)
+        xml.dom.minidom.parseString(printed)
+
+    def test_colors_have_the_order_of_the_scenario(self):
+        pictures = [run("table", "--svg", *words)[1] for words in (TWO_WEEKS, ("--sce", SCENARIO, ROSTER))]
+        for picture in pictures:
+            at = [picture.rindex(f">{shift}</text>") for shift in ("Day", "Late", "Night")]
+            self.assertEqual(at, sorted(at))
+            xml.dom.minidom.parseString(picture)
+
+    def test_a_full_disk(self):
+        with open("/dev/full", "w") as full:
+            ran = subprocess.run([str(HELPERS / "inrc2pb-table"), str(ROSTER)], stdout=full, stderr=subprocess.PIPE)
+        line = b"inrc2pb-table: No space left on device: the disk is full: "
+        self.assertEqual((ran.returncode, ran.stderr[: len(line)], ran.stderr.count(b"\n")), (3, line, 1))
+
+    def test_numbers_of_files(self):
+        _, _, said = run("table", "--sce", SCENARIO, "--week", WEEK, ROSTER, ROSTER)
+        self.assertEqual(said, "inrc2pb-table: --week is given 1 times for 2 rosters: give it once for each, in their order\n")
+
+
+if __name__ == "__main__":
+    unittest.main()

@@ -1,0 +1,48 @@
+"""The example ward, and runs of the helpers, for the tests of this folder."""
+
+import os
+import subprocess
+import sys
+import tempfile
+import unittest
+from pathlib import Path
+
+ROOT = Path(__file__).resolve().parents[2]
+HELPERS = ROOT / "helpers"
+sys.path.insert(0, str(HELPERS))
+
+from inrc2pb import files, program  # noqa: E402
+
+WARD = ROOT / "examples" / "ward"
+SCENARIO, HISTORY, WEEK, ROSTER = (WARD / name for name in ("ward.txt", "history-0.txt", "week-0.txt", "roster-0.txt"))
+WEEK_OPTIONS = ("--sce", SCENARIO, "--his", HISTORY, "--week", WEEK)
+WEEK_FILES = program.WeekFiles(SCENARIO, HISTORY, WEEK)
+
+
+def run(helper, *words, environment=None):
+    """Runs a helper; its status, standard output and standard error."""
+    ran = subprocess.run(
+        [sys.executable, str(HELPERS / f"inrc2pb-{helper}"), *map(str, words)],
+        stdout=subprocess.PIPE, stderr=subprocess.PIPE, env={**os.environ, **(environment or {})}, timeout=600)
+    return ran.returncode, ran.stdout.decode(), ran.stderr.decode()
+
+
+class HelperTest(unittest.TestCase):
+    """A test with a folder of its own."""
+
+    def setUp(self):
+        folder = tempfile.TemporaryDirectory()
+        self.addCleanup(folder.cleanup)
+        self.folder = Path(folder.name)
+
+    def changed(self, path, old, new, name="changed.txt"):
+        """The file with another text, in the test's folder."""
+        text = path.read_text()
+        self.assertIn(old, text)
+        target = self.folder / name
+        target.write_text(text.replace(old, new, 1))
+        return target
+
+    def assert_fault(self, ran, line, status=1):
+        """The run printed this line on standard error and nothing else."""
+        self.assertEqual(ran, (status, "", line + "\n"))
