@@ -1,33 +1,19 @@
 # Builds, tries, tests, measures and installs the program. It needs Rattle's command `rt`.
 
 PREFIX ?= /usr/local
+PROGRAM ?= out/inrc2pb
+WHO_FITS ?= out/who_fits
 SHARE = $(DESTDIR)$(PREFIX)/share
 
-.PHONY: all build who_fits try example tour solvers test programs bench fuzz install uninstall clean
+.PHONY: all build who_fits try example tour solvers test programs bench fuzz dist deb install uninstall clean
 
 all: build who_fits
 
-# What the program stands on, from below: each crate is proved when those that it uses are, so that `rt` need not read the
-# sources of all of them once before it proves the first. Beside the longest way from rota_core to the program two crates are
-# proved with one job: the readers, in a copy, since `rt` lets one command at a time into a crate that two stand on, and the
-# command line. A crate's parts wait for one another, so that more jobs take more than they give: each crate has as many as
-# still pay. `rt run` leaves the program in its crate.
-READERS = out/readers
+# Proves the crates in the order of crates.txt, then the program. build.sh gives the schedule, its reason and its gain.
 build:
-	cd crates/rota_core && rt lib --jobs 3
-	rm -rf $(READERS) && mkdir -p $(READERS)/crates
-	grep -E '^rota_(core|read):' crates.txt > $(READERS)/crates.txt
-	cp HANDLES $(READERS) && cp -Rl crates/rota_core crates/rota_read $(READERS)/crates
-	(cd $(READERS)/crates/rota_read && rt lib --jobs 1) & (cd crates/rota_items && rt lib --jobs 3) && \
-	    (cd crates/opb_text && rt lib --jobs 2) && (cd crates/solver_text && rt lib --jobs 2) && wait $$!
-	rm -rf crates/rota_read/out && mv $(READERS)/crates/rota_read/out crates/rota_read && rm -rf $(READERS)
-	(cd crates/inrc2pb_command && rt lib --jobs 1) & (cd crates/rota_pb && rt lib --jobs 3) && \
-	    (cd crates/inrc2pb_job && rt lib --jobs 1) && wait $$!
-	cd crates/inrc2pb && rt run --jobs 2 -- --version
-	mkdir -p out
-	cp crates/inrc2pb/out/inrc2pb out
+	./build.sh
 
-# Which nurses could fill each place of a week: docs/your_ward.md shows what it is for.
+# Lists the nurses who could fill each place of a week: docs/your_ward.md shows its use.
 who_fits:
 	cd crates/who_fits && rt run -- data/scenario.txt data/history.txt data/week.txt > /dev/null
 	mkdir -p out
@@ -45,16 +31,16 @@ example: build
 tour: build
 	examples/tour.sh
 
-# Installs three solvers from Debian, as root, and runs every example week through each of them.
+# Installs solvers from Debian, as root, lets each of them solve some weeks, and writes docs/solvers.md anew: takes hours.
 solvers: build
-	$(if $(filter 0,$(shell id -u)),,sudo )apt-get install -y clasp minisat+ sat4j
-	examples/solvers.sh
+	$(if $(filter 0,$(shell id -u)),,sudo )apt-get install -y clasp coinor-cbc glpk-utils minisat+ sat4j toulbar2
+	python3 bench/solvers.py
 
 test:
 	.ci/run
 
-# What the scripts of tests/ run, without the gate: the program by LLVM and by Rattle's own compiler, and what looks into the
-# libraries.
+# Builds the programs for the scripts of tests/, without the gate: the program by LLVM and by Rattle's own compiler, and the
+# programs that look into the libraries.
 programs: all
 	cd crates/inrc2pb && rt run --backend rattle -- --version && mv out/inrc2pb out/inrc2pb.by-rattle
 	cp out/inrc2pb crates/inrc2pb/out/inrc2pb
@@ -72,29 +58,48 @@ SECONDS ?= 60
 fuzz: build
 	python3 tests/fuzz.py --seconds $(SECONDS) $(if $(SEED),--seed $(SEED))
 
+# An archive for any Linux on x86-64, and a package for Debian and Ubuntu: out/inrc2pb-VERSION-x86_64-linux.tar.gz and
+# out/inrc2pb_VERSION_amd64.deb. Both contain the files of `install`, and PROVED: the commit, and the gate's result.
+dist: all
+	package/archive.sh out
+
+deb: all
+	package/deb.sh out
+
 # Where the parts go. Completions for bash, zsh and fish are written by docs/completions/write.py.
 BIN = $(DESTDIR)$(PREFIX)/bin
 PAGES = $(SHARE)/doc/inrc2pb
-COMPLETIONS = "$(SHARE)/bash-completion/completions" "$(SHARE)/zsh/site-functions" "$(SHARE)/fish/vendor_completions.d"
+ZSH = $(SHARE)/zsh/site-functions
+HELPERS = $(wildcard helpers/inrc2pb-*)
+MODULES = $(wildcard helpers/inrc2pb/*.py)
+COMPLETIONS = "$(SHARE)/bash-completion/completions" "$(ZSH)" "$(SHARE)/fish/vendor_completions.d"
 
-# Installs what was built, and builds nothing, so that it can run as another user.
+# Installs the built programs, and builds nothing, so it can run as another user.
 install:
-	@test -x out/inrc2pb || { echo "There is no out/inrc2pb yet: 'make' proves and builds it."; exit 1; }
+	@test -x "$(PROGRAM)" || { echo "There is no $(PROGRAM) yet: 'make' proves and builds it."; exit 1; }
 	mkdir -p "$(BIN)" "$(SHARE)/man/man1" "$(PAGES)/docs" "$(PAGES)/bench" $(COMPLETIONS)
-	install -m 755 out/inrc2pb "$(BIN)/inrc2pb"
-	install -m 644 docs/inrc2pb.1 "$(SHARE)/man/man1/inrc2pb.1"
+	install -m 755 "$(PROGRAM)" "$(BIN)/inrc2pb"
+	test ! -x "$(WHO_FITS)" || install -m 755 "$(WHO_FITS)" "$(BIN)/who_fits"
+	$(if $(HELPERS),install -m 755 $(HELPERS) "$(BIN)")
+	$(if $(MODULES),mkdir -p "$(SHARE)/inrc2pb/inrc2pb" && install -m 644 $(MODULES) "$(SHARE)/inrc2pb/inrc2pb")
+	install -m 644 docs/*.1 "$(SHARE)/man/man1"
+	for helper in $(notdir $(HELPERS)); do echo '.so man1/inrc2pb-helpers.1' > "$(SHARE)/man/man1/$$helper.1"; done
 	install -m 644 docs/completions/inrc2pb.bash "$(SHARE)/bash-completion/completions/inrc2pb"
-	install -m 644 docs/completions/_inrc2pb "$(SHARE)/zsh/site-functions/_inrc2pb"
+	install -m 644 docs/completions/_inrc2pb "$(ZSH)/_inrc2pb"
 	install -m 644 docs/completions/inrc2pb.fish "$(SHARE)/fish/vendor_completions.d/inrc2pb.fish"
 	install -m 644 README.md CHANGELOG.md CONTRIBUTING.md "$(PAGES)"
 	install -m 644 docs/*.md docs/*.svg "$(PAGES)/docs"
 	install -m 644 bench/README.md bench/*.svg "$(PAGES)/bench"
+	cp -R examples "$(PAGES)"
+	find "$(PAGES)/examples" -name __pycache__ -prune -exec rm -r {} +
+	chmod -R u=rwX,go=rX "$(PAGES)/examples"
 
-# Takes away what `install` put there, with the same PREFIX, and no folder but that of the pages.
+# Removes the files of `install`, with the same PREFIX, and no folders except its own.
 uninstall:
-	rm -f "$(BIN)/inrc2pb" "$(SHARE)/man/man1/inrc2pb.1" "$(SHARE)/bash-completion/completions/inrc2pb" \
-	    "$(SHARE)/zsh/site-functions/_inrc2pb" "$(SHARE)/fish/vendor_completions.d/inrc2pb.fish"
-	rm -rf "$(PAGES)"
+	rm -f "$(BIN)/inrc2pb" "$(BIN)/who_fits" $(patsubst docs/%,"$(SHARE)/man/man1/%",$(wildcard docs/*.1)) \
+	    "$(SHARE)/bash-completion/completions/inrc2pb" "$(ZSH)/_inrc2pb" "$(SHARE)/fish/vendor_completions.d/inrc2pb.fish"
+	rm -f $(patsubst helpers/%,"$(BIN)/%",$(HELPERS)) $(patsubst helpers/%,"$(SHARE)/man/man1/%.1",$(HELPERS))
+	rm -rf "$(PAGES)" "$(SHARE)/inrc2pb"
 
 clean:
 	rm -rf out crates/*/out

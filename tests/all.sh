@@ -1,5 +1,5 @@
 #!/usr/bin/env bash
-# Runs the scripts of this folder, and tells what each took.
+# Runs the scripts of this folder, and prints the seconds that each took.
 #
 #   tests/all.sh [llvm | rattle | PROGRAM]
 #
@@ -8,5 +8,5 @@ cd "$(dirname "$0")/.." || exit 2
 . tests/parts.sh
 
 all_scripts "$@"
-tell_parts
+print_parts
 [ $failed = 0 ]

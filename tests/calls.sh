@@ -1,7 +1,9 @@
 #!/usr/bin/env bash
 # Has each call told by which the program opens, reads and writes. Each file is opened once, for one use, in the order of
 # the checks, and read to its end and no further; an output is opened at its first write, and gets a write for each full
-# buffer and one for the rest; after a call that failed none goes to the same file.
+# buffer and one for the rest; after a call that failed none goes to the same file. Then lets each of these calls fail in turn,
+# as one that a signal interrupts (EINTR) and as a broken device (EIO): the program tries none again, and the run ends as a
+# failed read or write. Rattle's library itself repeats an open and the text of help or a fault that a signal interrupts.
 #
 #   tests/calls.sh [llvm | rattle | PROGRAM]
 #
@@ -14,13 +16,18 @@ kit_clang() { echo "$(dirname "$(realpath "$(command -v rt)")")/../toolchain/bin
 cp examples/n005w4/*.txt examples/n005w4/week0.opb examples/n005w4/answers/sat4j.txt "$room"
 five=(--sce Sc-n005w4.txt --his H0-n005w4-0.txt --week WD-n005w4-0.txt)
 
-# calls WHAT STATUS WORD..: runs the program, and keeps its calls.
+# makes_calls WORD..: runs the program, and keeps its calls. Its status goes to $ended.
+makes_calls() {
+    (cd "$room" && LD_PRELOAD=$room/told.so exec "$program" "$@" < "$in" > "$out" 2> "$err" 9> calls)
+    ended=$?
+}
+
+# calls WHAT STATUS WORD..: a case in which the program makes its calls and ends with this status.
 calls() {
     local ended
     begins_case "$1"
-    (cd "$room" && LD_PRELOAD=$room/told.so exec "$program" "${@:3}" < "$in" > "$out" 2> "$err" 9> calls)
-    ended=$?
-    [ $ended = "$2" ] || complain "status $ended, not $2"
+    makes_calls "${@:3}"
+    [ "$ended" = "$2" ] || complain "status $ended, not $2"
 }
 
 # opens FILE..: they are opened to be read.
@@ -105,8 +112,71 @@ fails() {
     are
 }
 
+# ends_at CALL STATUS: this call of a run failed. The run made the calls of the file `wanted`, of which it is the last, and
+# reported the failure; where the report failed, it ends with the status that it has anyway.
+ends_at() {
+    local status=3 fault='read failed'
+    case $1 in
+        'write errors '*) status=$2 fault='' ;;
+        write* | open*' write') fault='write failed' ;;
+    esac
+    [ "$ended" = "$status" ] || complain "status $ended, not $status"
+    if [ -n "$fault" ]; then
+        echo "write errors $((${#fault} + 10))" >> "$room/wanted"
+        line fault "inrc2pb: $fault"
+        holds err fault
+    fi
+}
+
+# is_repeated CASE CALL: Rattle's library makes this call again when a signal interrupts it.
+is_repeated() {
+    case $2 in
+        open* | 'write errors '*) return 0 ;;
+        *) [ "$1" = help ] ;;
+    esac
+}
+
+# refuses_each ERROR NUMBER CASE STATUS WORD..: runs the program, and then once for each of its calls, with that call refused
+# for this error, whose number is NUMBER.
+refuses_each() {
+    local error=$1 whole at call kind ended
+    local -A made=()
+    calls "$3" "$4" "${@:5}"
+    mapfile -t whole < "$room/calls"
+    for at in "${!whole[@]}"; do
+        call=${whole[at]}
+        kind=${call%% *}
+        made[$kind]=$((${made[$kind]:-0} + 1))
+        begins_case "$3: $error at $kind ${made[$kind]}: ${call#* }"
+        printf '%s\n' "${whole[@]:0:at}" "${call% *} refused" > "$room/wanted"
+        rm -f "$room/made"
+        FAILS="$kind ${made[$kind]}" ERRNO=$2 makes_calls "${@:5}"
+        if [ "$error" = EINTR ] && is_repeated "$3" "$call"; then
+            printf '%s\n' "${whole[@]:at}" >> "$room/wanted"
+            [ "$ended" = "$4" ] || complain "status $ended, not $4"
+        else
+            ends_at "$call" "$4"
+        fi
+        cmp -s "$room/calls" "$room/wanted" || complain "other calls: $(diff "$room/calls" "$room/wanted" | head -n 5)"
+    done
+}
+
+refuses_calls() {
+    rm -f "$room/made"
+    refuses_each "$@" 'a model to a file' 0 encode "${five[@]}" --opb made
+    refuses_each "$@" 'a model to standard output' 0 encode "${five[@]}"
+    in=$room/sat4j.txt refuses_each "$@" 'an answer on standard input' 0 decode "${five[@]}" --sol made
+    refuses_each "$@" 'an answer in a file' 0 decode "${five[@]}" --answer sat4j.txt --sol made
+    refuses_each "$@" 'a roster, and cells that are held' 0 extend "${five[@]}" --fix roster --from again
+    refuses_each "$@" 'a history with a fault' 1 encode --sce Sc-n005w4.txt --his WD-n005w4-0.txt --week WD-n005w4-0.txt
+    refuses_each "$@" help 0 --help
+    refuses_each "$@" 'words that are refused' 2 encode
+}
+
 does_jobs
 fails
+refuses_calls EINTR 4
+refuses_calls EIO 5
 calls 'help' 0 --help
 echo 'write output' > "$room/wanted"
 are

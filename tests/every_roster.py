@@ -1,5 +1,5 @@
 #!/usr/bin/env python3
-"""Weeks so small that every roster can be tried: the models of `encode`, and answers to them, beside tests/rules.py.
+"""Weeks so small that every roster can be tried: the models of `encode`, and answers to them, beside helpers/inrc2pb/rules.py.
 
 usage: every_roster.py PROGRAM [--weeks N] [--seed N]
 
@@ -22,8 +22,8 @@ import subprocess
 import sys
 import tempfile
 
-from random_weeks import any_cell, cells_of, files_of, legal_roster, random_week, solution_text
-from rules import costs, first_broken
+from drafts import costs, files_of, rows, rules, solution_text, week_of
+from random_weeks import any_cell, cells_of, legal_roster, random_week
 from runs import Runs, Wrong, report_text
 
 # Nurses, shift types and skills of the weeks, in turn: 7 cells, and now and then 14.
@@ -137,10 +137,11 @@ def random_answer(chance, model, cells, kept):
 
 def penalties(model, week, held, early):
     """The penalty of each set of cells that keeps the hard rules, as it is compared with the least objective of all sets."""
-    cells, found = cells_of(week), {}
+    cells, value, held_rows, found = rows(cells_of(week)), week_of(week), rows(held), {}
     for bits in range(1 << len(cells)):
         roster = [cell for at, cell in enumerate(cells) if bits >> at & 1]
-        penalty = None if first_broken(week, roster, held) else sum(costs(week, roster, early))
+        broken = rules.first_broken(value, roster, held_rows)
+        penalty = None if broken else sum(rules.costs(value, roster, early).values())
         if model.least(bits) != penalty:
             raise Wrong("least objective", f"{model.least(bits)} is not {penalty} for {roster}")
         if penalty is not None:

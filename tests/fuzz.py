@@ -8,11 +8,12 @@ cases. Half of the weeks are tried as they were made, with several rosters: test
 compared. In the others, and in the files of examples/, bytes are cut, doubled and swapped, words and numbers
 exchanged, lines moved. What is checked of each run then:
 
-- its status is one of the list in docs/formats.md, and not that of out of memory or a failed read or write;
+- its status is one of the list in docs/answers.md, and not that of out of memory or a failed read or write;
 - where it is not 0, standard error is one line of the stated form, standard output is empty, and no file is made;
 - the counts of a model's first line are those of its lines;
 - an answer in pieces ends as the whole answer does;
-- a roster of files that are read is judged as tests/rules.py does.
+- a roster of files that are read is judged as helpers/inrc2pb/rules.py does;
+- a fault of a file is the one that the library `helpers/inrc2pb` reports, in the same file and line.
 
 A case that fails is made smaller as long as it fails in the same way, and kept in a folder of its own under
 fuzz-failures/, with the command that shows it.
@@ -29,9 +30,8 @@ import tempfile
 import time
 
 from random_rosters import check_roster
-from random_weeks import (
-    ROOT, any_cell, example_files, files_of, legal_roster, random_cases, random_roster, random_week, read, solution_text)
-from rules import read_week
+from drafts import ROOT, FileFault, files, files_of, read_week, solution_text
+from random_weeks import any_cell, example_files, legal_roster, random_cases, random_roster, random_week, read
 from runs import FILES, Runs, Wrong
 from shrink import shrunk
 
@@ -171,9 +171,25 @@ def cut(text, cuts):
     return [text[a:b] for a, b in zip([0, *places], [*places, len(text)])]
 
 
+def library_fault(case):
+    """The fault of the library for the files of the case, as the program's line, or an empty text."""
+    try:
+        ward = files.read_scenario("scenario", case["sce"])
+        history = files.read_history("history", ward, case["his"])
+        files.read_week("week", ward, case["week"])
+        files.check_week_number("history", history, ward)
+        if "fix" in case:
+            files.read_solution("fix", ward, case["fix"])
+    except FileFault as fault:
+        return f"inrc2pb: {fault.path}{f' line {fault.line}' if fault.line else ''}: {fault.fault}\n"
+    return ""
+
+
 def check_changed(runs, case):
     runs.put(case)
     status, out, err = runs.run("encode")
+    if err != library_fault(case):
+        raise Wrong("the library's fault", f"{library_fault(case)!r} is not {err!r}")
     if status:
         check_fault(status, out, err)
     else:
@@ -199,8 +215,8 @@ def failure(check, runs, case):
         check(runs, case)
     except Wrong as wrong:
         return wrong
-    except (IndexError, KeyError, ValueError) as error:
-        return Wrong("files that tests/rules.py does not read", repr(error))
+    except (FileFault, IndexError, KeyError, ValueError) as error:
+        return Wrong("files that the library does not read", repr(error))
     return None
 
 

@@ -1,6 +1,6 @@
 #!/usr/bin/env bash
 # Runs the program at great sizes: a week of as many nurses as there may be, rosters and requests of as many rows as a file may
-# have, names of a million bytes, long command lines. None of them is out of memory.
+# have, names of more than a mebibyte, long command lines. None of them is out of memory.
 #
 #   tests/great_sizes.sh [llvm | rattle | PROGRAM]
 #
@@ -83,10 +83,10 @@ most_requests() {
         END { exit terms != 16 * (1000 + 429) || sum != 16 * 10 * 9999 }' || complain 'other terms, or another sum'
 }
 
-# A nurse and a scenario with names of a million bytes.
+# A nurse and a scenario with names of more than a mebibyte.
 long_names() {
     local name
-    name=$(head -c 1000000 /dev/zero | tr '\0' n)
+    name=$(head -c 1100000 /dev/zero | tr '\0' n)
     printf '%s\n' "s/Ann/$name/" > "$room/longer"
     for file in scenario.txt history.txt; do sed -f "$room/longer" "$room/$file" > "$room/long_$file"; done
     solution long_roster "$name Mon Day Nurse"

@@ -1,7 +1,8 @@
 #!/usr/bin/env bash
 # Runs the program on the week with the longest model that we know of (`greatest` of bench/weeks.py), and on a week of the
 # same size that has a roster. Each run has 32 MB of memory, the model has 2.1 GB. The numbers of variables and constraints
-# are counted by hand from docs/model.md, and the roster's costs by tests/rules.py.
+# are counted by hand from docs/model.md, and the roster's costs by helpers/inrc2pb/rules.py. That the model is counted by arithmetic, and
+# not by going through it, shows in the time until the first write.
 #
 #   tests/longest_model.sh [llvm | rattle | PROGRAM]
 #
@@ -30,6 +31,28 @@ has_model() {
     [ ! -s "$err" ] || complain "$(cat "$err")"
 }
 
+# milliseconds WORDS..: the processor time of a run of the program in the room, the least of three.
+milliseconds() {
+    local TIMEFORMAT=%U
+    rm -f "$room/times"
+    for _ in 1 2 3; do
+        { time in_room "$@"; } 2>> "$room/times"
+    done
+    tr -d . < "$room/times" | sort -n | sed -n '1s/^0*\([0-9]\)/\1/p'
+}
+in_room() { (cd "$room" && "$program" "$@" > /dev/null 2> /dev/null); }
+
+# A run to a full device ends at its first full buffer: it has read the week and counted the model. To drive a `Counter` would take
+# a fourteenth of the time of the whole text, and to count by arithmetic takes a hundredth.
+counts_without_a_drive() {
+    local counted written
+    begins_case 'the model is counted without going through it'
+    counted=$(milliseconds encode "${longest[@]}" --opb /dev/full)
+    written=$(milliseconds encode "${longest[@]}")
+    [ $((counted * 30)) -lt "$written" ] || complain "$counted ms, of $written ms for the whole text"
+}
+counts_without_a_drive
+
 # The nurses of two blocks work every other day, each at the places of her block.
 staff() {
     awk 'BEGIN {
@@ -53,7 +76,7 @@ in_little_memory extend "${staffed[@]}" --from roster 2> "$err" |
     in_little_memory decode "${staffed[@]}" --sol solution > "$out" 2>> "$err"
 [ ! -s "$err" ] || complain "$(cat "$err")"
 holds solution roster
-(cd "$room" && "$OLDPWD/tests/rules.py" "${staffed[@]}" roster) > "$room/costs"
+(cd "$room" && PYTHONPATH=$OLDPWD/helpers python3 -m inrc2pb.rules "${staffed[@]}" roster) > "$room/costs"
 penalty=$(sed -n 's/^penalty //p' "$room/costs")
 {
     printf 'status SATISFIABLE\nobjective %s\n' "$penalty"

@@ -1,5 +1,5 @@
 #!/usr/bin/env bash
-# The manual page, the completions and the program's help name the same commands and options.
+# The manual page, the completions and the program's help name the same commands and options, in the same words.
 #
 #   tests/manual.sh [llvm | rattle | PROGRAM]
 #
@@ -25,6 +25,26 @@ synopsis() {
 # The options that the manual page explains.
 explained() { sed -n '/^\.Sh OPTIONS/,/^\.Sh FILES/s/^\.It Fl \(. , \)\{0,1\}-/--/p' docs/inrc2pb.1; }
 
+# texts_of_help [COMMAND]: a line `OPTION TEXT` for each option in its help, without the default.
+texts_of_help() {
+    "$program" "$@" --help | sed -nE 's/^ *(-[a-zA-Z], )?--([a-z]+)( <FILE>)?  +([^[]*[^[ ]).*/\2 \4/p' | sort
+}
+
+# texts_of_completion COMMAND: the same of the completion for zsh.
+texts_of_completion() {
+    sed -n "/^ *$1)\$/,/;;/p" docs/completions/_inrc2pb | sed -nE "s/^ *'--([a-z]+)\[(.*)\](:.*)?'.*/\1 \2/p" | sed "s/'\\\\''/'/g" | sort
+}
+
+# texts_of_manual OPTION..: the same of the first sentence of each of these options in the manual page.
+texts_of_manual() {
+    awk -v options=" $* " '
+        /^\.Sh/ { inside = $2 == "OPTIONS" }
+        inside && /^\.It Fl/ { name = $0; sub(/.* -/, "", name); sub(/ .*/, "", name); text = name; next }
+        inside && name != "" { text = text " " $0 }
+        inside && name != "" && /\.$/ { sub(/\.$/, "", text); if (index(options, " " name " ")) print text; name = "" }
+    ' docs/inrc2pb.1 | sort
+}
+
 # complete WORD..: what the completion offers for the last of these words.
 complete_words() {
     COMP_WORDS=("$@")
@@ -40,13 +60,21 @@ is() {
 }
 
 names_the_same() {
-    local command shown all='--version '
+    local command shown about all='--version '
     for command in encode decode extend; do
         shown=$("$program" $command --help | grep '^ *-' | options)
         all+=$shown
         is "synopsis of $command" "$(synopsis $command | options)" "${shown/--help /}"
         is "completion of $command" "$(complete_words inrc2pb $command --)" "$shown"
+        is "words of the completion of $command" "$(texts_of_completion $command)" "$(texts_of_help $command)"
+        # shellcheck disable=SC2086  # Each option is a word.
+        is "words of the manual page on $command" "$(texts_of_manual ${shown//--/})" "$(texts_of_help $command)"
+        begins_case "what the completions say of $command"
+        about=$("$program" $command --help | head -n 1 | sed "s/'/'\\\\''/")
+        grep -qF "'${command}[$about]'" docs/completions/_inrc2pb || complain 'zsh: another text'
+        grep -qF -- "-a $command -d '$about'" docs/completions/inrc2pb.fish || complain 'fish: another text'
     done
+    is 'words of the manual page on the program itself' "$(texts_of_manual help version)" "$(texts_of_help)"
     is 'options explained' "$(explained | options)" "$(tr ' ' '\n' <<< "$all" | sort -u | sed '/^$/d' | tr '\n' ' ')"
     shown=$("$program" --help | sed -n 's/^  \([a-z]*\)  [A-Z].*/\1/p' | sort | tr '\n' ' ')
     is 'commands completed' "$(complete_words inrc2pb '')" "--help --version $shown"

@@ -1,5 +1,5 @@
 #!/usr/bin/env python3
-"""Tests examples/next_history.py.
+"""Tests helpers/inrc2pb-next.
 
 usage: next_history.py PROGRAM [--seed N] [--weeks N]
 
@@ -69,7 +69,7 @@ class Room:
         return self.folder / name
 
     def next_history(self, *options):
-        return run(ROOT / "examples/next_history.py", *options, self / "sce", self / "his", self / "sol")
+        return run(ROOT / "helpers/inrc2pb-next", *options, self / "sce", self / "his", self / "sol")
 
 
 def trailing(days, has, before):
@@ -163,17 +163,17 @@ def four_weeks(chance, room, program):
 
 MISFITS = {
     "another week": (0, [], 1, "not of week 0"),
-    "a nurse without a history": (0, [("Eve", "Mon", "Early")], 0, "Eve has no history"),
-    "an unknown shift type": (0, [("Ann", "Mon", "Noon")], 0, "Noon is no shift type"),
-    "two places on a day": (0, [("Ann", "Mon", "Early"), ("Ann", "Mon", "Late")], 0, "two places on Mon"),
-    "an unknown day": (0, [("Ann", "Montag", "Early")], 0, "a file is not one of a week"),
+    "an unknown nurse": (0, [("Eve", "Mon", "Early")], 0, "'Eve' is no nurse of NURSES"),
+    "an unknown shift type": (0, [("Ann", "Mon", "Noon")], 0, "'Noon' is no shift type of SHIFT_TYPES"),
+    "two assignments on a day": (0, [("Ann", "Mon", "Early"), ("Ann", "Mon", "Late")], 0, "two assignments on this day"),
+    "an unknown day": (0, [("Ann", "Montag", "Early")], 0, "did you mean 'Mon'?"),
     "the last week": (3, [], 3, "is the last of 4"),
 }
 
 
 def misfits(room):
-    ran = run(ROOT / "examples/next_history.py", room / "sce", room / "his", room / "unwritten")
-    if ran.returncode != 1 or "unwritten: No such file" not in ran.stderr or "Traceback" in ran.stderr:
+    ran = run(ROOT / "helpers/inrc2pb-next", room / "sce", room / "his", room / "unwritten")
+    if ran.returncode != 3 or "unwritten: No such file" not in ran.stderr or "Traceback" in ran.stderr:
         yield f"a file that is not there: status {ran.returncode}, {ran.stderr}"
     for what, (number, cells, solved, told) in MISFITS.items():
         room.write("his", history_text(number, [[nurse, 0, 0, "None", 0, 0, 0] for nurse in NURSES]))

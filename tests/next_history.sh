@@ -1,5 +1,5 @@
 #!/usr/bin/env bash
-# Tests examples/next_history.py on weeks at random, and on files that do not fit: tests/next_history.py says how.
+# Tests helpers/inrc2pb-next on weeks at random, and on files that do not fit: tests/next_history.py says how.
 #
 #   tests/next_history.sh [llvm | rattle | PROGRAM]
 #

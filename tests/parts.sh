@@ -1,48 +1,74 @@
 # shellcheck shell=bash
-# Parts of a long run, with what they took and how many of their cases passed. To be sourced.
-# The point of a fraction is a point, whatever the language is.
+# Runs scripts in parallel, and counts their seconds and cases. To be sourced.
+# The decimal point is a point in any language.
 export LC_NUMERIC=C
 parts=$(mktemp -d) || exit 2
 trap 'rm -rf "$parts"' EXIT
 passed=0
 failed=0
 
-# part NAME WALL PROCESSOR [PASSED FAILED]: adds a row to the table, in seconds.
-part() {
-    printf '%-28s %8.1f %12.1f %8s %7s\n' "$@" >> "$parts/table"
-    passed=$((passed + ${4:-0}))
-    failed=$((failed + ${5:-0}))
+# The number of scripts or proofs at a time: the number of processors, at most four, since a proof takes up to 3 GB.
+lanes=$(nproc)
+lanes=$((lanes < 4 ? lanes : 4))
+
+# Scripts that check pages, packages and helpers: their result does not depend on the compiler.
+of_pages=' helpers.sh improve.sh install.sh next_history.sh package.sh pages.sh reading.sh repository.sh roster_table.sh tour.sh verdict.sh '
+
+# count CASES FAILED
+count() {
+    passed=$((passed + $1 - $2))
+    failed=$((failed + $2))
 }
 
-# script FILE [WORD]: runs it, times it, and adds its row. It fails where it does not come to its end.
+# count_line STATUS LINE: adds the counts of a command's last line, `N passed, M failed`; a status other than 0 is a failure
+# even if the line counts none.
+count_line() {
+    local counts=(0 0)
+    [[ $2 != [0-9]*' passed, '[0-9]*' failed'* ]] || read -r -a counts <<< "${2//[!0-9 ]/}"
+    [ "$1" = 0 ] || [ "${counts[1]}" -gt 0 ] || counts[1]=1
+    count $((counts[0] + counts[1])) "${counts[1]}"
+}
+
+# script ROW FILE [WORD]: runs the script, prints its output, and writes its row of the table to the file ROW. A script that
+# does not reach its end fails.
 script() {
-    local wall processor cases bad status TIMEFORMAT='%R %U %S'
-    rm -f "$parts/tally"
-    { time TALLY=$parts/tally "$@" 2>&3; } 3>&2 2> "$parts/time"
+    local row=$1 wall processor cases bad status TIMEFORMAT='%R %U %S'
+    shift
+    { time TALLY=$row.tally "$@" > "$row.out" 2>&1; } 2> "$row.time"
     status=$?
-    read -r wall processor < <(awk '{ print $1, $2 + $3 }' "$parts/time")
-    read -r cases bad 2> /dev/null < "$parts/tally" || { cases=0 bad=$((status != 0)); }
+    cat "$row.out"
+    read -r wall processor < <(tail -n 1 "$row.time" | awk '{ print $1, $2 + $3 }')
+    read -r cases bad 2> /dev/null < "$row.tally" || { cases=0 bad=$((status != 0)); }
     [ "$bad" -le "$cases" ] || cases=$bad
-    part "$(basename "$1")${2:+ $2}" "$wall" "$processor" $((cases - bad)) "$bad"
+    printf '%-28s %8.1f %12.1f %8s %7s\n' "$1${2:+ $2}" "$wall" "$processor" $((cases - bad)) "$bad" > "$row"
 }
 
-# What tests pages and examples: it says nothing of a compiler.
-of_pages=' documents.sh next_history.sh reading.sh roster_table.sh tour.sh '
-
-# all_scripts [llvm | rattle | PROGRAM]: each script of this folder that may be started, but the one that starts them all; for
-# `rattle` without those of pages.
+# all_scripts [llvm | rattle | PROGRAM]..: each script of this folder that may be started, except the one that starts them all,
+# with each of these words; for `rattle` without those of pages.
 all_scripts() {
-    local file
-    for file in tests/*.sh; do
-        if [ ! -x "$file" ] || [ "$file" = tests/all.sh ]; then continue; fi
-        [ "${1:-}" != rattle ] || [[ $of_pages != *" ${file#tests/} "* ]] || continue
-        script "$file" "$@"
+    local file word number=100 row good bad
+    [ $# -gt 0 ] || set -- llvm
+    for word; do
+        for file in tests/*.sh; do
+            if [ ! -x "$file" ] || [ "$file" = tests/all.sh ]; then continue; fi
+            [ "$word" != rattle ] || [[ $of_pages != *" ${file#tests/} "* ]] || continue
+            number=$((number + 1))
+            while [ "$(jobs -rp | wc -l)" -ge "$lanes" ]; do wait -n; done
+            script "$parts/$number" "$file" "$word" &
+        done
+    done
+    wait
+    for row in "$parts"/[0-9][0-9][0-9]; do
+        read -r good bad < <(awk '{ print $(NF - 1), $NF }' "$row")
+        count $((good + bad)) "$bad"
     done
 }
 
+count_of_all() { echo "$passed passed, $failed failed"; }
+
 # Prints the table, and in the last line how many cases passed and failed.
-tell_parts() {
-    printf '\n%-28s %8s %12s %8s %7s\n' part 'wall s' 'processor s' passed failed
-    cat "$parts/table"
-    echo "$passed passed, $failed failed"
+print_parts() {
+    printf '\n%-28s %8s %12s %8s %7s\n' script 'wall s' 'processor s' passed failed
+    ! ls "$parts"/101 > /dev/null 2>&1 || cat "$parts"/[0-9][0-9][0-9]
+    count_of_all
 }

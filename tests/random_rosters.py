@@ -1,5 +1,5 @@
 #!/usr/bin/env python3
-"""Weeks, rosters and held cells made at random: the program beside tests/rules.py, which is written from docs/rules.md.
+"""Weeks, rosters and held cells made at random: the program beside helpers/inrc2pb/rules.py, which is written from docs/rules.md.
 
 usage: random_rosters.py PROGRAM [--weeks N] [--seed N]
 
@@ -16,8 +16,8 @@ import re
 import sys
 import tempfile
 
-from random_weeks import random_cases, solution_text
-from rules import costs, counts, first_broken, read_roster, read_week, shifts_by_day
+from drafts import costs, first_broken, read_roster, read_week, rows, rules, solution_text, week_of
+from random_weeks import random_cases
 from runs import Runs, Wrong, report_text
 
 COLUMNS = ["", "early", "fix", "fix early"]
@@ -54,8 +54,8 @@ def check_roster(runs, case):
     status, report, err, solution = runs.decode()
     same("decode of what extend wrote", (status, err), (0, ""))
     nurses = list(week.nurses)
-    rows = sorted(roster, key=lambda cell: (nurses.index(cell[0]), cell[1]))
-    same("roster of decode", solution, solution_text(week, rows))
+    sorted_cells = sorted(roster, key=lambda cell: (nurses.index(cell[0]), cell[1]))
+    same("roster of decode", solution, solution_text(week, sorted_cells))
     return same("report", report, report_text(penalty, cost, last=penalty))
 
 
@@ -64,7 +64,7 @@ def check_roster(runs, case):
 
 def hard_class(week, roster, held):
     """The first broken rule, and in which of its ways it is broken."""
-    broken, shifts = first_broken(week, roster, held), shifts_by_day(roster)
+    broken, shifts = first_broken(week, roster, held), rules.shifts_by_day(rows(roster))
     if broken == "H1":
         return "H1 two shift types" if any(len(set(on)) > 1 for on in shifts.values()) else "H1 two skills"
     if broken == "H3":
@@ -82,7 +82,7 @@ def hard_class(week, roster, held):
 def counted_classes(week, roster, early):
     """What the soft rules counted, and what they did not."""
     found = collections.Counter()
-    for rule, what, count, _ in counts(week, roster, early):
+    for rule, what, count, _ in rules.counts(week_of(week), rows(roster), early):
         found[rule, what] += count
     when = ", last week" if week.number + 1 == week.weeks else ", before"
     for (rule, what), count in found.items():

@@ -1,70 +1,17 @@
-"""Weeks, rosters and held cells made at random, as tests/rules.py reads them, and the files that say them."""
+"""Drafts of weeks, rosters and held cells made at random, and the cases of files that they give."""
 
 import glob
-import os
 import random
 import re
 from types import SimpleNamespace
 
-from rules import DAYS, first_broken, read_week
+from drafts import ROOT, files_of, first_broken, read_week, solution_text
 
-ROOT = os.path.dirname(os.path.dirname(os.path.abspath(__file__)))
-EXAMPLES = [("n005w4", "examples/n005w4/answers/clasp.txt"), ("n030w4", "tests/n030w4_clasp_early.txt")]
+EXAMPLES = [("n005w4", "examples/n005w4/answers/clasp.txt"), ("thirty", "tests/thirty_clasp_early.txt")]
 ROSTERS_OF_A_WEEK = 8
 
 
 # ---- files
-
-
-def pairs(*of):
-    return " ".join(f"({least},{most})" for least, most in of)
-
-
-def counted(heading, rows):
-    return [f"{heading} = {len(rows)}", *rows]
-
-
-def names(of):
-    return " ".join([str(len(of)), *of])
-
-
-def scenario_text(week):
-    after = {before: [t for t in week.shifts if (before, t) in week.forbidden] for before in week.shifts}
-    return lines_text([
-        f"SCENARIO = {week.name}", f"WEEKS = {week.weeks}",
-        *counted("SKILLS", week.skills),
-        *counted("SHIFT_TYPES", [f"{shift} {pairs(limits)}" for shift, limits in week.shifts.items()]),
-        "FORBIDDEN_SHIFT_TYPES_SUCCESSIONS", *(f"{before} {names(after[before])}" for before in week.shifts),
-        *counted("CONTRACTS", [
-            f"{name} {pairs(of.total, of.work, of.off)} {of.weekends} {of.complete}" for name, of in week.contracts.items()]),
-        *counted("NURSES", [f"{nurse} {of.contract} {names(of.skills)}" for nurse, of in week.nurses.items()])])
-
-
-def history_text(week):
-    return lines_text(["HISTORY", f"{week.number} {week.name}", "NURSE_HISTORY", *(
-        f"{nurse} {of.assignments} {of.weekends} {of.last} {of.same} {of.work} {of.off}"
-        for nurse, of in week.history.items())])
-
-
-def week_text(week):
-    rows = dict.fromkeys((shift, skill) for _, shift, skill in week.required)
-    return lines_text([
-        "WEEK_DATA", week.name, "REQUIREMENTS",
-        *(f"{shift} {skill} {pairs(*(week.required.get((day, shift, skill), (0, 0)) for day in range(7)))}" for shift, skill in rows),
-        *counted("SHIFT_OFF_REQUESTS", [f"{nurse} {shift} {DAYS[day]}" for nurse, shift, day in week.requests])])
-
-
-def solution_text(week, cells):
-    return lines_text(["SOLUTION", f"{week.number} {week.name}", "", *counted("ASSIGNMENTS", [
-        f"{nurse} {DAYS[day]} {shift} {skill}" for nurse, day, shift, skill in cells])])
-
-
-def lines_text(lines):
-    return "".join(f"{line}\n" for line in lines)
-
-
-def files_of(week):
-    return {"sce": scenario_text(week), "his": history_text(week), "week": week_text(week)}
 
 
 def read(path):

@@ -1,5 +1,5 @@
 #!/usr/bin/env bash
-# The program beside tests/rules.py, which was written from docs/rules.md alone: on weeks, rosters and held cells made at
+# The program beside helpers/inrc2pb/rules.py, which was written from docs/rules.md alone: on weeks, rosters and held cells made at
 # random, and on every roster of weeks so small that all can be tried. Then the first cases of `make fuzz`.
 #
 #   tests/random_weeks.sh [llvm | rattle | PROGRAM]

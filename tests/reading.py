@@ -3,31 +3,53 @@
 
 usage: reading.py [--fix]
 
-A contract cites definitions, and these rest on others: the lists are what is reached so through the imports of specs/.
-Each list begins with the definitions that its contracts cite; the first one stops at what says the exact text, with
-which the second begins. A file comes after those that it rests on. With --fix the counts on the page are put right.
+A contract cites definitions, and these rest on others: a list has the files that are reached through the imports of
+specs/. The first list begins with the meaning of a model and the text of one, each other list with the definitions that
+its contracts cite. A file is in one list only, and comes after the files that it rests on. No other file defines a name
+of the lists. The page gives the lines of each file, and those of its definitions: without imports, comments and blank
+lines. In the first two lists each definition has a comment above it. With --fix the counts on the page are put right.
 """
 
+import argparse
 import re
 import sys
 from pathlib import Path
+from typing import Dict, Iterable, Iterator, List, NamedTuple, Set, Tuple
 
 ROOT = Path(__file__).resolve().parent.parent
 CRATES = ROOT / "crates"
 PAGE = ROOT / "docs" / "reading.md"
 EXACT = CRATES / "rota_pb/specs/ExactModel.antt"
-# Each list: the words of its heading, the calls whose contracts it begins with, and where it stops.
+ENCODE = ("rota_pb/src/encoding.rt", "run_encode")
+DECODE = ("rota_pb/src/decoding.rt", "run_decode")
+EXTEND = ("rota_pb/src/extending.rt", "run_extend")
+
+
+class FileList(NamedTuple):
+    """A list of the page: words of its heading, the files and the calls that it begins with, and where it stops."""
+
+    heading: str
+    files: List[str]
+    calls: List[Tuple[str, str]]
+    stops: Set[Path]
+    has_comments: bool
+
+
 LISTS = [
-    ("The meaning", [("rota_pb/src/encoding.rt", "run_encode")], {EXACT}),
-    ("The exact text", [("rota_pb/src/encoding.rt", "run_encode")], set()),
-    ("Decode and extend", [("rota_pb/src/decoding.rt", "run_decode"), ("rota_pb/src/extending.rt", "run_extend")], set()),
+    FileList("The meaning of a model", ["rota_pb/specs/Meaning.antt", "opb_text/specs/ModelText.antt"], [], set(), True),
+    FileList("The files and the run", [], [ENCODE], {EXACT}, True),
+    FileList("The exact text", [], [ENCODE], set(), False),
+    FileList("Decode and extend", [], [DECODE, EXTEND], set(), False),
 ]
 USE = re.compile(r"(?m)^ *(?:pub )?(?:ghost )?use Rattle\.(\w+)\.specs\.([\w.]+?)(?:\.\{([^}]*)\})?(?: as \w+)?;?$")
-ROW = re.compile(r"(?m)^\| `([\w/]+\.antt)` \| (\d+) \|")
-TOTAL = re.compile(r"(\d+) files, ([\d,]+) lines")
+ROW = re.compile(r"(?m)^\| `([\w/]+\.antt)` \| (\d+) \| (\d+) \|")
+TOTAL = re.compile(r"(\d+) files, ([\d,]+) lines, ([\d,]+) of definitions")
+NO_DEFINITION = re.compile(r" *(--|(pub )?use |$)")
+DEFINITION = re.compile(r"(?:abbrev |unfoldable )?pub (?!use )(?:record |data )?(\S+)")
+NAME = re.compile(r"(?m)^ *(?:pub )?(?:abbrev|unfoldable|opaque|lemma|record|data) (?:pub )?([^\s:(){}]+)")
 
 
-def imports(text):
+def imports(text: str) -> Iterator[Tuple[Path, Set[str]]]:
     """The files of specs/ that a text imports, each with the names that it takes."""
     for crate, module, names in USE.findall(text):
         file = CRATES / crate / "specs" / (module.replace(".", "/") + ".antt")
@@ -35,17 +57,20 @@ def imports(text):
             yield file, {name.split(" as ")[-1].strip() for name in names.split(",")}
 
 
-def cited(source, call):
+def cited(source: str, call: str) -> List[Path]:
     """The files that the contract of a call cites: those of the names in it."""
     text = (CRATES / source).read_text(encoding="utf-8")
-    contract = re.search(rf"(?ms)^pub fn {call}\b.*?^\{{$", text).group()
-    words = set(re.findall(r"\w+", contract))
+    found = re.search(rf"(?ms)^pub fn {call}\b.*?^\{{$", text)
+    if not found:
+        sys.exit(f"FAILED: {source} has no function {call}")
+    words = set(re.findall(r"\w+", found.group()))
     return [file for file, names in imports(text) if names & words]
 
 
-def reached(files, stops):
-    """What is reached from these files, which are among it; nothing is reached from where it stops, and those are not."""
-    found, todo = [], list(files)
+def reached(files: Iterable[Path], stops: Set[Path]) -> List[Path]:
+    """The files that are reached from these, with these, but none that is reached only through a stop."""
+    found: List[Path] = []
+    todo = list(files)
     while todo:
         file = todo.pop()
         if file not in found and file not in stops:
@@ -54,16 +79,30 @@ def reached(files, stops):
     return found
 
 
-def lines(file):
-    return len(file.read_text(encoding="utf-8").splitlines())
+def read_lines(file: Path) -> List[str]:
+    """The lines of a file."""
+    return file.read_text(encoding="utf-8").splitlines()
 
 
-def name(file):
+def counts(file: Path) -> Tuple[int, int]:
+    """The number of lines of a file, and of those of its definitions."""
+    lines = read_lines(file)
+    return len(lines), sum(not NO_DEFINITION.match(line) for line in lines)
+
+
+def total(files: Iterable[Path]) -> str:
+    """The counts of a list, as the page gives them."""
+    pairs = [counts(file) for file in files]
+    return f"{len(pairs)} files, {sum(p[0] for p in pairs):,} lines, {sum(p[1] for p in pairs):,} of definitions"
+
+
+def name(file: Path) -> str:
+    """The path of a file below crates/."""
     return str(file.relative_to(CRATES))
 
 
-def section(page, heading):
-    """The text below a heading that begins with these words, and where it begins."""
+def section(page: str, heading: str) -> Tuple[int, int]:
+    """Where the text below a heading with these words begins and ends."""
     begin = re.search(rf"(?m)^## .*{heading}.*$", page)
     if not begin:
         sys.exit(f"FAILED: docs/reading.md has no heading with the words '{heading}'")
@@ -71,53 +110,82 @@ def section(page, heading):
     return begin.end(), end if end >= 0 else len(page)
 
 
-def compare(page, heading, wanted, before):
-    """What is wrong with a list of the page."""
+def compare(page: str, heading: str, wanted: List[Path], before: List[Path]) -> Iterator[str]:
+    """The faults of a list of the page."""
     first, last = section(page, heading)
-    listed = [(CRATES / file, int(count)) for file, count in ROW.findall(page[first:last])]
-    files = [file for file, _ in listed]
+    rows = ROW.findall(page[first:last])
+    files = [CRATES / row[0] for row in rows]
     for file in sorted(set(wanted) - set(files)):
-        yield f"{name(file)} ({lines(file)} lines) is missing in the list '{heading}'"
+        yield f"{name(file)} {counts(file)} is missing in the list '{heading}'"
     for file in files:
         if file not in wanted:
-            yield f"{name(file)} is too many in the list '{heading}'"
-    for place, (file, count) in enumerate(listed):
+            yield f"{name(file)} does not belong in the list '{heading}'"
+    for index, (file, row) in enumerate(zip(files, rows)):
         if file not in wanted:
             continue
-        if count != lines(file):
-            yield f"{name(file)} has {lines(file)} lines, and not {count}"
-        known = set(files[:place]) | set(before)
+        if counts(file) != (int(row[1]), int(row[2])):
+            yield f"{name(file)} has {counts(file)} lines, and not {row[1]} and {row[2]}"
+        known = set(files[:index]) | set(before)
         for other, _ in imports(file.read_text(encoding="utf-8")):
             if other in wanted and other not in known:
                 yield f"{name(file)} comes before {name(other)}, on which it rests"
-    total = f"{len(wanted)} files, {sum(map(lines, wanted)):,} lines"
-    if total not in page[first:last]:
-        yield f"the list '{heading}' has {total}"
+    if total(wanted) not in page[first:last]:
+        yield f"the list '{heading}' has {total(wanted)}"
 
 
-def fixed(page, heading, wanted):
+def uncommented(file: Path) -> Iterator[str]:
+    """The public definitions of a file that have no comment above them."""
+    before = ""
+    for line in read_lines(file):
+        found = DEFINITION.match(line)
+        if found and not before.startswith("--"):
+            yield f"{name(file)} has no comment above {found.group(1)}"
+        if not line.startswith("infix"):
+            before = line
+
+
+def defined_twice(files: Iterable[Path]) -> Iterator[str]:
+    """The names of these files that another file of specs/ defines too."""
+    owners: Dict[str, List[Path]] = {}
+    for file in sorted(CRATES.glob("*/specs/**/*.antt")):
+        for word in set(NAME.findall(file.read_text(encoding="utf-8"))):
+            owners.setdefault(word, []).append(file)
+    for word, found in sorted(owners.items()):
+        if len(found) > 1 and set(found) & set(files):
+            yield f"{word} is defined in {' and in '.join(map(name, found))}"
+
+
+def fixed(page: str, heading: str, wanted: List[Path]) -> str:
     """The page with the right counts in a list."""
     first, last = section(page, heading)
-    text = ROW.sub(lambda row: f"| `{row.group(1)}` | {lines(CRATES / row.group(1))} |", page[first:last])
-    text = TOTAL.sub(f"{len(wanted)} files, {sum(map(lines, wanted)):,} lines", text, count=1)
+    text = ROW.sub(lambda row: "| `{}` | {} | {} |".format(row.group(1), *counts(CRATES / row.group(1))), page[first:last])
+    text = TOTAL.sub(total(wanted), text, count=1)
     return page[:first] + text + page[last:]
 
 
-def main():
+def main() -> int:
+    """Compares, or with --fix puts the counts right and then compares; the exit status is 1 if something is wrong."""
+    parser = argparse.ArgumentParser(description=(__doc__ or "").split("\n")[0])
+    parser.add_argument("--fix", action="store_true", help="put the counts on the page right")
+    fix = parser.parse_args().fix
     page = PAGE.read_text(encoding="utf-8")
-    before, wrong = [], []
-    for heading, calls, stops in LISTS:
-        starts = [file for source, call in calls for file in cited(source, call)]
-        wanted = [file for file in reached(starts, stops) if file not in before]
-        if "--fix" in sys.argv[1:]:
-            page = fixed(page, heading, wanted)
-        wrong += compare(page, heading, wanted, before)
+    before: List[Path] = []
+    wrong: List[str] = []
+    for one in LISTS:
+        starts = [CRATES / file for file in one.files] + [file for source, call in one.calls for file in cited(source, call)]
+        wanted = [file for file in reached(starts, one.stops) if file not in before]
+        if fix:
+            page = fixed(page, one.heading, wanted)
+        wrong += compare(page, one.heading, wanted, before)
+        if one.has_comments:
+            wrong += [line for file in wanted for line in uncommented(file)]
         before += wanted
-    if "--fix" in sys.argv[1:]:
+    wrong += defined_twice(before)
+    if fix:
         PAGE.write_text(page, encoding="utf-8")
     for line in wrong:
         print("FAILED:", line)
-    print(f"{len(before)} files of definitions, {sum(map(lines, before)):,} lines, {len(wrong)} failed")
+    print(f"{total(before)}, {len(wrong)} failed")
     return 1 if wrong else 0
 
 

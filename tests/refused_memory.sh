@@ -1,6 +1,6 @@
 #!/usr/bin/env bash
 # Refuses each allocation in turn, up to the first run that meets no refusal, of the program and of the tests of refused
-# memory.
+# memory. Each run, refused or whole, frees every block that it allocated.
 #
 #   tests/refused_memory.sh [llvm | rattle | PROGRAM]
 #
@@ -24,12 +24,16 @@ kit_clang() { echo "$(dirname "$(realpath "$(command -v rt)")")/../toolchain/bin
 line out_of_memory 'inrc2pb: out of memory'
 refusals=0
 went_on=0
+runs=0
 
-# refuse NUMBER COMMAND WORD..: runs it in the room with the allocation of this number refused. Its status goes to $ended.
+# refuse NUMBER COMMAND WORD..: runs it in the room with the allocation of this number refused. Its status goes to $ended,
+# and the number of blocks that it never freed to $live.
 refuse() {
     rm -f "$room/made"
-    (cd "$room" && REFUSED=$1 LD_PRELOAD=$room/refuse.so exec "${@:2}" < /dev/null > out 2> err 9> refused)
+    (cd "$room" && REFUSED=$1 LD_PRELOAD=$room/refuse.so exec "${@:2}" < /dev/null > out 2> err 8> live 9> refused)
     ended=$?
+    read -r live < "$room/live" || live=unknown
+    runs=$((runs + 1))
 }
 
 # sweep IS_RIGHT COMMAND WORD..: refuses each allocation of the command in turn. IS_RIGHT says of each run whether it ended
@@ -42,9 +46,11 @@ sweep() {
         [ -s "$room/refused" ] || break
         refusals=$((refusals + 1))
         $is_right refused || complain "allocation $number refused: status $ended: $(cat "$room/out" "$room/err" | head -c 200)"
+        [ "$live" = 0 ] || complain "allocation $number refused: blocks that were never freed: $live"
     done
     [ $number -gt 1 ] || complain 'no allocation at all'
     $is_right whole || complain "without a refusal: status $ended: $(cat "$room/out" "$room/err" | head -c 200)"
+    [ "$live" = 0 ] || complain "without a refusal: blocks that were never freed: $live"
 }
 
 # Of the program: a refused run is for memory, or like the run with ample memory.
@@ -119,6 +125,7 @@ five=(--sce Sc-n005w4.txt --his H0-n005w4-0.txt --week WD-n005w4-0.txt)
 closed_week=(--sce closed.txt --his history.txt --week week.txt)
 printf '%s\r\n' 'c hello' 'd 1 2' 'o 5' 's OPTIMUM FOUND' 'v x1 -x2' 'v -x3 x1 -x4' 'v -x5 -x6 x8 ' > "$room/answer.txt"
 report answer_report 'OPTIMUM FOUND' last=5
+head -n 10 "$room/scenario.txt" > "$room/cut_scenario.txt"
 printf '%s\n' 'o 15' 's SATISFIABLE' 'v x1 -x2 -x3 -x4 -x5 -x6 -x7 x8 x9 -x10' 'v -x11 -x12 -x13 -x14 -x15' > "$room/monday_answer"
 
 # Two refusals alone go on in a whole run: those of the lists of words that `main` makes. Each refusal in `job`, a reader or
@@ -136,6 +143,25 @@ sweep_program 'a roster of one nurse' 2 0 monday_answer nothing extend "${closed
 sweep_program 'an answer' 2 0 text text decode "${five[@]}" --answer sat4j.txt --sol made
 cp "$room/ample_made" "$room/roster"
 sweep_program 'a roster' 2 0 text nothing extend "${five[@]}" --from roster
+
+# Runs with a fault, at each point where the program holds other tables.
+line held_unknown 'SOLUTION 0 s1 ASSIGNMENTS = 1 Bob Mon Day Nurse'
+printf '%s\n' 's SATISFIABLE' 'v x8 x1 -x1' > "$room/both_values"
+printf '%s\n' 's UNSATISFIABLE' > "$room/no_roster"
+printf '%s\n' 's SATISFIABLE' 'v x1' > "$room/unmet"
+{ cat "$room/week.txt"; echo more; } > "$room/more_week.txt"
+sweep_program 'a scenario that is cut' 2 1 nothing nothing encode --sce cut_scenario.txt --his history.txt --week week.txt
+sweep_program 'a week with text after its end' 2 1 nothing nothing encode --sce scenario.txt --his history.txt --week more_week.txt
+sweep_program 'a late week' 2 1 nothing nothing encode --sce scenario.txt --his late.txt --week week.txt
+sweep_program 'held cells' 2 0 text nothing encode "${week[@]}" --fix wednesday
+sweep_program 'held cells of an unknown nurse' 2 1 nothing nothing encode "${week[@]}" --fix held_unknown
+sweep_program 'an answer with both values' 2 1 nothing nothing decode "${week[@]}" --answer both_values --sol made
+sweep_program 'an answer without a roster' 2 5 nothing nothing decode "${week[@]}" --answer no_roster --sol made
+sweep_program 'an answer that satisfies nothing' 2 6 nothing nothing decode "${week[@]}" --answer unmet --sol made
+sweep_program 'a roster that lacks a held cell' 2 6 nothing nothing extend "${week[@]}" --fix wednesday --from monday
+sweep_program 'a scenario that is missing' 2 3 nothing nothing encode --sce missing --his history.txt --week week.txt
+sweep_program 'an output in no folder' 2 3 nothing nothing encode "${week[@]}" --opb missing/made
+
 sweep_program 'an empty answer' some 1 nothing nothing decode "${five[@]}" --answer nothing --sol made
 
 begins_case 'an answer of one long line makes no more allocations than an empty one'
@@ -168,5 +194,5 @@ if [ -z "$ending" ]; then
     begins_case 'all tests of refused memory'
     [ $swept = $(($(number_of $whole_runs refused_memory) + $(number_of $tables refused_tables))) ] || complain 'one is not swept'
 fi
-echo "$script: $refusals refusals, of which $went_on went on without the room"
+echo "$script: $refusals refusals, of which $went_on went on without the room; live blocks were counted after $runs runs"
 finish

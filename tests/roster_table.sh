@@ -1,12 +1,12 @@
 #!/usr/bin/env bash
-# examples/roster_table.py on the roster of examples/n005w4: held cells, requests that were not granted, what each nurse
+# helpers/inrc2pb-table on the roster of examples/n005w4: held cells, requests that were not granted, what each nurse
 # costs beside the report of `decode`, the picture, the spreadsheet, and colours in a terminal only.
 #
 #   tests/roster_table.sh [llvm | rattle | PROGRAM]
 #
 # Needs Python 3.8; for colours `script`, of the usual tools of Linux.
 . "$(dirname "$0")/kit.sh"
-table=$(realpath examples/roster_table.py)
+table=$(realpath helpers/inrc2pb-table)
 cp examples/n005w4/*.txt "$room"
 cd "$room" || exit 2
 week=(--sce Sc-n005w4.txt --his H0-n005w4-0.txt --week WD-n005w4-0.txt)
@@ -43,7 +43,7 @@ cp out plain
 lacks_part $'\e'
 lacks_part '*'
 begins_case 'requests that were not granted'
-shows --week WD-n005w4-0.txt plain.txt
+shows --sce Sc-n005w4.txt --week WD-n005w4-0.txt plain.txt
 has_part 'Early Nu!'
 has_part '! = a request to be off was not granted'
 begins_case 'as many as S4 charges'
@@ -77,14 +77,14 @@ python3 -c 'import xml.dom.minidom; xml.dom.minidom.parse("out")' || complain 'i
 begins_case 'files of two weeks'
 sed 's/Patrick/Paul/' plain.txt > other.txt
 "$table" "${week[@]}" other.txt > out 2> err && complain 'no fault is told'
-grep -q 'do not belong to one week' err || complain "told: $(cat err)"
+grep -q "'Paul' is no nurse of NURSES: it has Patrick" err || complain "told: $(cat err)"
 begins_case 'a scenario of another ward'
 sed 's/Patrick/Paul/' Sc-n005w4.txt > other.txt
 "$table" --sce other.txt plain.txt > out 2> err && complain 'no fault is told'
-grep -q 'do not belong to one week' err || complain "told: $(cat err)"
+grep -q "'Patrick' is no nurse of NURSES" err || complain "told: $(cat err)"
 begins_case 'a file that is not there'
 "$table" unwritten.txt > out 2> err && complain 'no fault is told'
-grep -qx 'roster_table.py: unwritten.txt: No such file or directory' err || complain "told: $(cat err)"
+grep -qx 'inrc2pb-table: unwritten.txt: No such file or directory: look at its name and folder' err || complain "told: $(cat err)"
 begins_case 'places that want more nurses'
 shows "${week[@]}" --fix promised.txt held.txt
 [ $(($(grep '^missing on ' out | tr -cd '(' | wc -c) * 30)) -eq "$(sed -n 's/^S1 //p' report)" ] || complain "S1 is another: $(cat out)"

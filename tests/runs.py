@@ -3,7 +3,7 @@
 import os
 import subprocess
 
-from rules import SOFT_RULES
+from drafts import SOFT_RULES
 
 FILES = {
     "sce": "scenario.txt", "his": "history.txt", "week": "week.txt", "fix": "fix.txt",

@@ -3,8 +3,7 @@
 import re
 import time
 
-from random_weeks import files_of, solution_text
-from rules import read_roster, read_week
+from drafts import files_of, read_roster, read_week, solution_text
 
 NUMBER = re.compile(r"\b\d+\b")
 

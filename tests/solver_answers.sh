@@ -2,15 +2,15 @@
 # Decodes the answers that real solvers gave for the week of examples/n005w4. Each is a roster whose objective and penalty
 # are 320, the least ones, as two solvers proved. What `decode` writes as a solution goes back through `extend` and
 # `decode`, with the same costs and the same solution. The same with cells held, and with `--early` for the last week of
-# examples/n030w4.
+# examples/thirty.
 #
 #   tests/solver_answers.sh [llvm | rattle | PROGRAM]
 #
 # Needs bash and the usual tools of a shell.
 . "$(dirname "$0")/kit.sh"
 
-cp examples/n005w4/*.txt examples/n005w4/answers/*.txt examples/n030w4/*.txt "$room"
-cp tests/n030w4_clasp_early.txt "$room/clasp-early.txt"
+cp examples/n005w4/*.txt examples/n005w4/answers/*.txt examples/thirty/*.txt "$room"
+cp tests/thirty_clasp_early.txt "$room/clasp-early.txt"
 files=(--sce Sc-n005w4.txt --his H0-n005w4-0.txt --week WD-n005w4-0.txt)
 
 # wanted_report PENALTY: the answer's status, the least objective twice, and the last `o` value, if there is one.
@@ -50,7 +50,7 @@ holds_cells() {
 # clasp's answer to the model of the last week of thirty nurses with `--early`. Its objective there is the last one that
 # clasp told. Without the flag the week pays for what was exceeded before it too: for the same roster it pays more.
 charges_early() {
-    local thirty=(--sce Sc-n030w4.txt --his H0-n030w4-3.txt --week WD-n030w4-3.txt) early
+    local thirty=(--sce Sc-thirty.txt --his H0-thirty-3.txt --week WD-thirty-3.txt) early
     in=$room/clasp-early.txt
     run 'charged early' 0 text nothing decode "${thirty[@]}" --early --sol solution
     has_line "objective $(sed -n 's/^o //p' "$in" | tail -n 1)"

@@ -1,13 +1,19 @@
 /* Loaded before the C library, it tells each file that is opened, each read and each write, a line each on the file
    descriptor 9: what was done, the path, and for what it was opened or how many bytes were moved, -1 where it failed.
+   The call that the environment names as FAILS, such as "read 3" for the third read, is not made and fails with the
+   error of the number ERRNO; its line ends in "refused".
    Rattle's programs open by openat, relative to where they run. It needs no headers. */
 typedef unsigned long size;
 
 extern int __open(const char *path, int flags, ...);
 extern long __read(int file, void *bytes, size count);
 extern long __write(int file, const void *bytes, size count);
+extern char *getenv(const char *name);
+extern long atol(const char *text);
+extern int *__errno_location(void);
 
 enum { FILES = 32, LONGEST = 100, TOLD = 9 };
+enum { OPENS, READS, WRITES };
 
 static char paths[FILES][LONGEST] = {"input", "output", "errors"};
 
@@ -31,6 +37,29 @@ static void tell(const char *what, const char *path, const char *how)
     __write(TOLD, line, used);
 }
 
+/* Whether this call, of those of its kind, is the one that fails. */
+static int is_refused(int kind)
+{
+    static const char *const names[] = {"open ", "read ", "write "};
+    static long made[3];
+    const char *name = names[kind];
+    const char *wanted = getenv("FAILS");
+    made[kind] += 1;
+    if (!wanted)
+        return 0;
+    while (*name && *name == *wanted)
+        name++, wanted++;
+    if (*name || atol(wanted) != made[kind])
+        return 0;
+    *__errno_location() = atol(getenv("ERRNO"));
+    return 1;
+}
+
+static const char *path_of(int file)
+{
+    return file >= 0 && file < FILES ? paths[file] : "?";
+}
+
 static long told_count(const char *what, int file, long count)
 {
     char digits[24];
@@ -42,14 +71,19 @@ static long told_count(const char *what, int file, long count)
     while (rest /= 10);
     if (count < 0)
         digits[--at] = '-';
-    tell(what, file < FILES ? paths[file] : "?", digits + at);
+    tell(what, path_of(file), digits + at);
     return count;
 }
 
 static int told_open(const char *path, int flags, int mode)
 {
     static const char *const uses[] = {"read", "write", "both", "?"};
-    int file = __open(path, flags, mode);
+    int file;
+    if (is_refused(OPENS)) {
+        tell("open", path, "refused");
+        return -1;
+    }
+    file = __open(path, flags, mode);
     tell("open", path, uses[flags & 3]);
     if (file >= 0 && file < FILES)
         paths[file][put(paths[file], 0, path) % LONGEST] = 0;
@@ -69,10 +103,18 @@ int openat(int folder, const char *path, int flags, int mode)
 
 long read(int file, void *bytes, size count)
 {
+    if (is_refused(READS)) {
+        tell("read", path_of(file), "refused");
+        return -1;
+    }
     return told_count("read", file, __read(file, bytes, count));
 }
 
 long write(int file, const void *bytes, size count)
 {
+    if (is_refused(WRITES)) {
+        tell("write", path_of(file), "refused");
+        return -1;
+    }
     return told_count("write", file, __write(file, bytes, count));
 }

@@ -8,10 +8,40 @@
 
 line version "inrc2pb $(sed -n 's/^## //p' CHANGELOG.md | head -n 1)"
 
-# The help that was shown last ends with an example of the command and where more is said.
+# Where each thing is that a help text promises: a line of a page of docs/, and a line of the manual page.
+declare -A line_of_page=(
+    [files]='^## The files, slot by slot$' ['files of the week']='^## The files, slot by slot$' [roster]='^## The files, slot by slot$'
+    [model]='^## The OPB text$' [answer]='^## Answers of solvers$'
+    ['solution file']='^| solution file | ' [report]='^| report | ' [faults]='^| fault | text | status |$'
+    ['exit statuses']='^| fault | text | status |$'
+)
+declare -A line_of_manual=(
+    [files]='^\.It scenario$' ['files of the week']='^\.It week$' [roster]='^\.It solution$'
+    [model]='^\.It model$' [answer]='^\.It answer$'
+    ['solution file']='^\.It solution$' [report]='^\.It report$' [faults]='^\.Sh EXIT STATUS$' ['exit statuses']='^\.Sh EXIT STATUS$'
+)
+
+# The help that was shown last ends with an example of the command, and with a line that says where more is said, as `The
+# THING, the THING and the THING: inrc2pb(1), PAGE, PAGE.` Each thing is in one of the pages, and in the manual page; each page
+# has one of them.
 ends_with_example() {
+    local last things thing page pages found
     grep -A 1 '^Example:$' "$room/out" | grep -q -- "inrc2pb $1 --sce " || complain 'no example'
-    tail -n 1 "$room/out" | grep -q ': inrc2pb(1), docs/formats.md.$' || complain 'not told where more is said'
+    last=$(tail -n 1 "$room/out")
+    [[ $last =~ ^The\ ([a-z, ]+):\ inrc2pb\(1\),\ ([a-z/., ]+)\.$ ]] || { complain "not said where more is said: $last"; return; }
+    things=${BASH_REMATCH[1]//, the /$'\n'}
+    IFS=' ' read -ra pages <<< "${BASH_REMATCH[2]//,/}"
+    for page in "${pages[@]}"; do
+        found=0
+        while IFS= read -r thing; do
+            grep -qe "${line_of_page[$thing]:-nowhere}" "$page" && found=1
+        done <<< "${things// and the /$'\n'}"
+        [ $found = 1 ] || complain "nothing of this is in $page"
+    done
+    while IFS= read -r thing; do
+        grep -qe "${line_of_page[$thing]:-nowhere}" "${pages[@]}" || complain "the $thing: in none of ${pages[*]}"
+        grep -qe "${line_of_manual[$thing]:-nowhere}" docs/inrc2pb.1 || complain "the $thing: not in the manual page"
+    done <<< "${things// and the /$'\n'}"
 }
 
 # tells_options SUBCOMMAND OPTION..: its help has a line for each option.
@@ -36,12 +66,12 @@ says() {
     head -n 1 "$room/out" | grep -qxF -- "$sentence" || complain 'another sentence'
     grep -q "^Usage: inrc2pb $subcommand " "$room/out" || complain 'another usage'
     set -- "${@:3}" sce 'The scenario' his 'The history before the week' week 'The requirements and requests of the week' \
-        fix 'Assignments that are held, in the form of a solution file'
+        fix 'Assignments to keep, as a solution file'
     while [ $# -gt 0 ]; do
         tr -s ' ' < "$room/out" | grep -qxF -e " --$1 <FILE> $2" || complain "another line for --$1"
         shift 2
     done
-    tr -s ' ' < "$room/out" | grep -qx ' --early Charges what exceeds a total in the week in which it arises' || complain 'another line for --early'
+    tr -s ' ' < "$room/out" | grep -qx ' --early Charge excess assignments and weekends as soon as they occur' || complain 'another line for --early'
 }
 
 asks_for_help() {
@@ -58,10 +88,10 @@ asks_for_help() {
     tells_options encode --sce --his --week --fix --opb
     tells_options decode --sce --his --week --fix --sol --answer
     tells_options extend --sce --his --week --fix --from
-    says encode 'Writes the week as a pseudo-Boolean model' opb 'Where to write the model [default: standard output]'
-    says decode "Turns a solver's answer into a solution file, and reports what it costs" \
-        sol 'Where to write the solution file' answer "The solver's answer [default: standard input]"
-    says extend 'Turns a roster into an answer of a solver' from 'The roster, in the form of a solution file'
+    says encode 'Writes the week as a pseudo-Boolean model' opb 'Where to write the model, replacing the file [default: standard output]'
+    says decode "Turns a solver's answer into a solution file, and reports its costs" \
+        sol 'Where to write the solution, replacing the file' answer "The solver's answer [default: standard input]"
+    says extend "Turns a roster into a solver's answer" from 'The roster, as a solution file'
     run 'the version' 0 version nothing --version
     out=/dev/full refuses 'help that cannot be written' 3 'write failed' --help
     out=/dev/full refuses 'a version that cannot be written' 3 'write failed' --version

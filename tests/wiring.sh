@@ -1,6 +1,7 @@
 #!/usr/bin/env bash
 # Runs the program where no contract reaches: which file goes to which reader, in which order they are opened, outputs of
-# many buffers, devices that fill up or go away in the middle, outputs that are inputs, streams that are closed.
+# many buffers, devices that fill up or go away in the middle, limits on files, outputs that are inputs or one file, streams
+# that are closed or do not block.
 #
 #   tests/wiring.sh [llvm | rattle | PROGRAM]
 #
@@ -95,6 +96,37 @@ fills_devices() {
     fi
 }
 
+# beyond_limit WORD..: runs the program in the room, with files of at most four blocks and the default action of the signal for
+# more. It ends by that signal, without a word.
+beyond_limit() {
+    { (cd "$room" && ulimit -c 0 -f 4 && exec env --default-signal=XFSZ "$program" "$@" < /dev/null > "$out" 2> err); } 2> /dev/null
+    [ $? = $((128 + $(kill -l XFSZ))) ] || complain 'not ended by the signal'
+    [ ! -s "$room/err" ] || complain "on standard error: $(head -c 300 "$room/err")"
+}
+
+# is_cut FILE: it holds as much of the model as fits into four blocks.
+is_cut() {
+    begins "$1"
+    [ "$(stat -c %s "$room/$1")" = 4096 ] || complain "$1 has other bytes than fit"
+}
+
+ends_by_signal() {
+    begins_case 'a model beyond the limit on files'
+    cp "$room/five_scenario.txt" "$room/cut.opb"
+    beyond_limit encode "${five[@]}" --opb cut.opb
+    is_cut cut.opb
+    begins_case 'a model beyond the limit on files, on standard output'
+    out=$room/cut.opb beyond_limit encode "${five[@]}"
+    is_cut cut.opb
+    begins_case 'a fault before the limit is reached'
+    line kept 'an older file'
+    cp "$room/kept" "$room/cut.opb"
+    (cd "$room" && ulimit -f 4 && exec "$program" encode "${five[@]:0:4}" --week cut.opb --opb cut.opb 2> err)
+    [ $? = 1 ] || complain 'another status'
+    holds cut.opb kept
+    rm -f "$room/cut.opb"
+}
+
 # opens_first ONE OTHER WORD..: the program opens the file ONE before OTHER. They are two pipes, of which the second is
 # filled only once the first was opened; opened the other way round neither would ever be.
 opens_first() {
@@ -137,6 +169,49 @@ writes_over_inputs() {
     ln -s both.txt "$room/link"
     run 'a link as output' 0 nothing nothing encode "${week[@]}" --opb link
     holds both.txt model
+}
+
+# over FIRST SECOND NAME: the file NAME has FIRST, and then what of SECOND is longer.
+over() { { cat "$room/$1"; tail -c +$(($(stat -c %s "$room/$1") + 1)) "$room/$2"; } > "$room/$3"; }
+
+# Paths are not compared: words that clap accepts are never refused for what they name. docs/answers.md says what then happens.
+names_one_file_twice() {
+    local all=("${days[@]/#/Ann }") rows
+    rows=("${all[@]/%/ Day Nurse}")
+    solution long_roster "${rows[@]}"
+    printf 's SATISFIABLE\nv x8 x1 x2 x3 x4 x5 x6 x7\n' > "$room/all_days.txt"
+    over report long_roster mixed
+    out=$room/both.txt run 'a solution and a report to one file' 0 nothing nothing decode "${week[@]}" --answer all_days.txt --sol both.txt
+    holds both.txt mixed
+    out=$room/both.txt run 'a solution to /dev/stdout, which is a file' 0 nothing nothing decode "${week[@]}" --answer all_days.txt --sol /dev/stdout
+    holds both.txt mixed
+    cat "$room/long_roster" "$room/report" > "$room/one_by_one"
+    begins_case 'a solution to /dev/stdout, which is a pipe'
+    (cd "$room" && "$program" decode "${week[@]}" --answer all_days.txt --sol /dev/stdout | cat) | cmp -s - "$room/one_by_one" || complain 'another text'
+    begins_case 'a model to /dev/stdout, which appends to a file'
+    cp "$room/kept" "$room/both.txt"
+    (cd "$room" && exec "$program" encode "${week[@]}" --opb /dev/stdout >> both.txt 2> err) || complain 'another status'
+    holds both.txt model
+    run 'a file called -' 0 nothing nothing encode "${week[@]}" --opb -
+    holds - model
+    rm -f "$room/-" "$room/both.txt"
+}
+
+# A read that would have to wait for more is a failed read.
+reads_without_waiting() {
+    begins_case 'a standard input that does not block and has no data yet'
+    (cd "$room" && exec python3 - "$program" 2> err <<'END'
+import os, subprocess, sys
+reader, writer = os.pipe()
+os.set_blocking(reader, False)
+words = [sys.argv[1], 'decode', '--sce', 'scenario.txt', '--his', 'history.txt', '--week', 'week.txt', '--sol', 'unmade']
+sys.exit(subprocess.run(words, stdin=reader, timeout=15).returncode)
+END
+    )
+    [ $? = 3 ] || complain 'another status'
+    line read_failed 'inrc2pb: read failed'
+    holds err read_failed
+    is_missing unmade
 }
 
 # refuses_nobody WHAT STATUS FAULT WORD..: the same as `refuses`, without the rights of root.
@@ -223,8 +298,11 @@ reads_long_words() {
 swaps_files
 writes_many_buffers
 fills_devices
+ends_by_signal
 opens_in_order
 writes_over_inputs
+names_one_file_twice
+reads_without_waiting
 lacks_rights
 closes_streams
 answers_at_a_terminal

@@ -1,0 +1,17 @@
+# shellcheck shell=bash
+# The commit that the files of this clone are, and its time. To be sourced at the top of the clone.
+# shellcheck disable=SC2034  # The scripts use both.
+
+# The commit's name, with `-dirty` if a file that git knows has other contents; `unknown` outside a clone.
+commit=unknown
+commit_time=$(date -r CHANGELOG.md +%s)
+if [ -e .git ]; then
+    commit=$(git describe --always --dirty --abbrev=40 --exclude="*") || commit=unknown
+    commit_time=$(git log -1 --format=%ct) || commit_time=$(date -r CHANGELOG.md +%s)
+fi
+
+# is_committed: the files are those of the commit.
+is_committed() { [[ $commit != unknown && $commit != *-dirty ]]; }
+
+# Archives and packages built from one commit are the same bytes: their files have the commit's time.
+export SOURCE_DATE_EPOCH=${SOURCE_DATE_EPOCH:-$commit_time}

@@ -1,0 +1,62 @@
+#!/usr/bin/env bash
+# Writes FOLDER/inrc2pb_VERSION_amd64.deb: the programs, their manual pages, completions, pages and example weeks, where
+# Debian puts them. `make deb` builds first. The same commit gives the same bytes.
+#
+#   package/deb.sh FOLDER
+#
+# Needs bash, make, strip and dpkg-deb.
+set -u
+[ $# = 1 ] || { echo "usage: package/deb.sh FOLDER"; exit 2; }
+mkdir -p "$1" && folder=$(realpath "$1") || exit 2
+cd "$(dirname "$0")/.." || exit 2
+. package/stage.sh
+
+maintainer='inrc2pb maintainers <maintainers@inrc2pb.invalid>'
+top=$stage/top
+pages=$top/usr/share/doc/inrc2pb
+mkdir "$top"
+install_to "$top" /usr ZSH="$top/usr/share/zsh/vendor-completions"
+strip --strip-all "$top/usr/bin/inrc2pb" "$top/usr/bin/who_fits" || exit
+gzip -n9 "$top"/usr/share/man/man1/*.1
+
+cat > "$pages/copyright" << 'TEXT'
+Format: https://www.debian.org/doc/packaging-manuals/copyright-format/1.0/
+Upstream-Name: inrc2pb
+Comment: The repository states no license. Ask its owner before you pass this package on.
+
+Files: *
+Copyright: the authors of inrc2pb
+License: not-stated
+ No license is stated.
+TEXT
+gzip -n9 > "$pages/changelog.gz" << TEXT
+inrc2pb ($version) unstable; urgency=medium
+
+  * The changes are in CHANGELOG.md.
+
+ -- $maintainer  $(date -R -d "@$SOURCE_DATE_EPOCH")
+TEXT
+
+mkdir "$top/DEBIAN"
+(cd "$top" && find usr -type f -print0 | sort -z | xargs -0 md5sum > DEBIAN/md5sums) || exit
+cat > "$top/DEBIAN/control" << TEXT
+Package: inrc2pb
+Version: $version
+Architecture: amd64
+Maintainer: $maintainer
+Installed-Size: $(du -s --apparent-size -k "$top/usr" | cut -f 1)
+Depends: libc6 (>= $libc), python3
+Recommends: clasp, coinor-cbc
+Suggests: minisat+, sat4j
+Section: math
+Priority: optional
+Description: nurse rostering as a pseudo-Boolean model
+ Turns one week of the Second International Nurse Rostering Competition
+ (INRC-II) into a pseudo-Boolean model (OPB) for a solver such as clasp, and
+ the solver's answer into a roster with a report of its costs.
+ .
+ The encoding, the decoder and every byte read and written are proved.
+TEXT
+set_times "$top"
+dpkg-deb --root-owner-group -Zxz --build "$top" "$folder/inrc2pb_${version}_amd64.deb" > /dev/null || exit
+echo "$folder/inrc2pb_${version}_amd64.deb"

@@ -1,0 +1,33 @@
+# shellcheck shell=bash
+# The common part of archive and package. To be sourced at the top of the clone.
+#
+# PROGRAM and WHO_FITS name other programs than out/inrc2pb and out/who_fits.
+umask 022
+export LC_ALL=C TZ=UTC
+. package/commit.sh
+
+PROGRAM=$(realpath -m "${PROGRAM:-out/inrc2pb}")
+WHO_FITS=$(realpath -m "${WHO_FITS:-out/who_fits}")
+for program in "$PROGRAM" "$WHO_FITS"; do
+    [ -x "$program" ] || { echo "There is no $program yet: 'make' builds it."; exit 2; }
+done
+
+# The version is written in crates/inrc2pb_command/src/command.rt alone.
+version=$("$PROGRAM" --version) && version=${version#inrc2pb } || exit 2
+
+# The latest version of the C library whose symbols the programs use.
+libc=$(grep -aoh 'GLIBC_[0-9][0-9.]*' "$PROGRAM" "$WHO_FITS" | sort -uV | tail -n 1)
+libc=${libc#GLIBC_}
+
+stage=$(mktemp -d) || exit 2
+trap 'rm -rf "$stage"' EXIT
+
+# install_to FOLDER PREFIX [VARIABLE=VALUE..]: the files of `make install`, and PROVED with the pages.
+install_to() {
+    make -s --no-print-directory install PROGRAM="$PROGRAM" WHO_FITS="$WHO_FITS" DESTDIR="$1" PREFIX="$2" "${@:3}" || exit
+    package/proved.sh > "$1$2/share/doc/inrc2pb/PROVED"
+    printf 'libc: %s or later\n' "$libc" >> "$1$2/share/doc/inrc2pb/PROVED"
+}
+
+# set_times FOLDER: every file has the time of the commit.
+set_times() { find "$1" -exec touch -hd "@$SOURCE_DATE_EPOCH" {} +; }

@@ -1,0 +1,71 @@
+#!/usr/bin/env bash
+# Runs the tests of the helpers, helpers/tests, on the program. Compares the options in their manual page with their help, and
+# the fault texts of docs/answers.md with those that docs/your_ward.md explains.
+#
+#   tests/helpers.sh [llvm | rattle | PROGRAM]
+#
+# Needs Python 3.8; tests that need clasp or cbc are skipped if it is not installed.
+. "$(dirname "$0")/kit.sh"
+
+# One case for each test of Python.
+run_tests() {
+    local ran
+    what='helpers/tests'
+    INRC2PB=$program python3 -B -W error::SyntaxWarning -m unittest discover -s helpers/tests > "$out" 2> "$err" ||
+        complain "$(grep -A 25 -m 3 -E '^(FAIL|ERROR): ' "$err" | head -n 60)"
+    ran=$(sed -n 's/^Ran \([0-9]*\) tests\{0,1\} .*/\1/p' "$err")
+    checked=$((checked + ${ran:-0}))
+    [ "${ran:-0}" -gt 0 ] || complain "no test ran: $(tail -n 3 "$err")"
+}
+
+# The options on standard input, one a line.
+options() { grep -oE -- '--[a-zA-Z-]+' | sort -u; }
+
+# The options that the manual page lists for a command.
+listed() {
+    awk -v command="$1" '/^\.Ss / { inside = $2 == command; next } /^\.Sh / { inside = 0 }
+        inside && /^\.It / { gsub(/Fl -/, "--"); print }' docs/inrc2pb-helpers.1 | options
+}
+
+manual_has_each_option() {
+    local helper name shown
+    for helper in helpers/inrc2pb-*; do
+        name=$(basename "$helper")
+        begins_case "the options of $name in the manual page"
+        shown=$({ "$helper" --help; for_each_command "$helper"; } | grep -E '^ +-' | options | grep -vx -- --help)
+        [ "$(listed "$name")" = "$shown" ] || complain "$(diff <(listed "$name") <(echo "$shown"))"
+    done
+    if command -v mandoc > /dev/null; then
+        begins_case 'the manual page'
+        mandoc -Tlint docs/inrc2pb-helpers.1 2> /dev/null | grep -v ' STYLE: referenced manual not found' && complain 'mandoc complains'
+    fi
+}
+
+# The help of the commands of a helper that has some.
+for_each_command() {
+    local command
+    for command in $("$1" --help | sed -n 's/^    \([a-z][a-z]*\)  .*/\1/p'); do
+        "$1" "$command" --help 2> /dev/null
+    done
+}
+
+# The texts in the table of faults in docs/answers.md.
+fault_texts() {
+    # shellcheck disable=SC2016  # The backquotes are those of the page.
+    awk -F '|' '/^\| fault \| text \|/ { inside = 1; next } inside && !/^\|/ { exit } inside { print $3 }' docs/answers.md |
+        grep -oE '`[^`]+`' | tr -d '`' | sed 's/[: ]*$//'
+}
+
+explains_each_fault() {
+    local text
+    begins_case 'the faults that docs/your_ward.md explains'
+    [ "$(fault_texts | wc -l)" -ge 20 ] || complain "only $(fault_texts | wc -l) texts in docs/answers.md"
+    while read -r text; do
+        grep -qF -- "$text" docs/your_ward.md || complain "docs/your_ward.md does not explain '$text'"
+    done < <(fault_texts)
+}
+
+run_tests
+manual_has_each_option
+explains_each_fault
+finish

@@ -1,0 +1,111 @@
+#!/usr/bin/env bash
+# Installs into an empty folder. Follows every link of the installed pages, and runs every command of the installed tree in an
+# empty folder, through links, with nothing of the clone. Then uninstalls: nothing may be left.
+#
+#   tests/install.sh [llvm | rattle | PROGRAM]
+#
+# Nothing is proved. Needs bash, the usual tools of a shell, make and Python 3.8; if no clasp is installed, the commands that
+# search for rosters are not tried.
+. "$(dirname "$0")/kit.sh"
+needs crates/who_fits/out/who_fits
+clone=$PWD
+installed=$room/installed/usr
+
+# make_target TARGET WORD..: as a user runs make, with the programs that are tested.
+make_target() {
+    make -s -C "$clone" "$@" PROGRAM="$program" WHO_FITS="$clone/crates/who_fits/out/who_fits" > "$out" 2>&1
+}
+
+# The pages and files that an installed page names are installed too.
+links_hold() {
+    local page link
+    while read -r page; do
+        begins_case "the links of ${page#"$installed"/}"
+        while read -r link; do
+            # Sources are in the clone only.
+            [[ $link != ../crates/* ]] || { [ -e "docs/$link" ] || complain "the clone has no $link"; continue; }
+            [ -e "$(dirname "$page")/$link" ] || complain "there is no $link"
+        done < <(grep -oE '\]\([^)#]+' "$page" | sed 's/^](//' | grep -v '://')
+    done < <(find "$installed/share/doc" -name '*.md')
+}
+
+# runs NAME WORD..: the installed command, through a link, in an empty folder.
+runs() {
+    local name=$1
+    begins_case "$name ${*:2}"
+    mkdir -p "$room/links" "$room/elsewhere"
+    ln -sf "$installed/bin/$name" "$room/links/$name"
+    (cd "$room/elsewhere" && env -i HOME="$room" PATH="$installed/bin:/usr/local/bin:/usr/bin:/bin:/usr/games" "$room/links/$name" "${@:2}") \
+        > "$out" 2> "$err" || complain "it ends with $?: $(tail -n 3 "$err")"
+}
+
+# Each helper does its work on the installed examples.
+runs_commands() {
+    local ward=$installed/share/doc/inrc2pb/examples/ward command
+    local week=(--sce "$ward/ward.txt" --his "$ward/history-0.txt" --week "$ward/week-0.txt")
+    for command in "$installed"/bin/*; do
+        [ "${command##*/}" = who_fits ] || runs "${command##*/}" --help
+    done
+    runs who_fits "$ward/ward.txt" "$ward/history-0.txt" "$ward/week-0.txt"
+    runs inrc2pb encode "${week[@]}" --opb week.opb
+    runs inrc2pb-check "${week[@]}" --roster "$ward/roster-0.txt"
+    runs inrc2pb-check "${week[@]}" --constraint 60
+    has_line 'constraint 60, line 62 of the model: H2: Wed Day Nurse needs at least 1'
+    runs inrc2pb-table "${week[@]}" "$ward/roster-0.txt"
+    runs inrc2pb-next "$ward/ward.txt" "$ward/history-0.txt" "$ward/roster-0.txt" --out history-1.txt
+    cmp -s "$room/elsewhere/history-1.txt" "$ward/history-1.txt" || complain 'another history'
+    runs inrc2pb-keep --keep Mon,Tue "$ward/roster-0.txt" --out kept.txt
+    runs inrc2pb-lp model week.opb --lp week.lp
+    begins_case 'the installed library'
+    (cd "$room/elsewhere" && PYTHONPATH=$installed/share/inrc2pb PATH=$installed/bin:$PATH python3 -B -c 'import sys
+from inrc2pb import files, program
+print(program.penalty_of(program.WeekFiles(*sys.argv[1:4]), sys.argv[4]))' "$ward"/{ward,history-0,week-0,roster-0}.txt) \
+        > "$out" 2> "$err" || complain "$(tail -n 1 "$err")"
+    has_line 20
+    command -v clasp > /dev/null || return
+    runs inrc2pb-improve "${week[@]}" --fix kept.txt --time 20 --jobs 1 --solver clasp --sol roster-0.txt
+    has_line 'penalty 20'
+    runs inrc2pb-period "${week[@]}" --week "$ward/week-1.txt" --time 10 --once --solver clasp --out period
+    runs inrc2pb-simulate "${week[@]}" --timeout 5 --solver clasp --sol simulated.txt --cusOut custom.txt
+}
+
+# Whoever follows the page of a ward in an empty folder, with the installed examples, comes to its end.
+follows_page() {
+    local pages=$installed/share/doc/inrc2pb
+    begins_case 'docs/your_ward.md in an empty folder'
+    mkdir "$room/planner"
+    cp -r "$pages/examples" "$room/planner"
+    awk '/^```sh$/ { inside = 1; next } /^```/ { inside = 0 } inside' "$pages/docs/your_ward.md" > "$room/blocks"
+    (cd "$room/planner" && env -i HOME="$room" PATH="$installed/bin:/usr/local/bin:/usr/bin:/bin:/usr/games" \
+        timeout 900 bash -eu "$room/blocks") > "$out" 2> "$err" || complain "it ends with $?: $(tail -n 3 "$err")"
+}
+
+# The manual pages name every installed command.
+manual_names_commands() {
+    local command
+    begins_case 'the manual pages'
+    for command in "$installed"/bin/inrc2pb*; do
+        grep -qx ".Nm ${command##*/}\( ,\)\{0,1\}" "$installed"/share/man/man1/*.1 || complain "no manual page names ${command##*/}"
+        [ -s "$installed/share/man/man1/${command##*/}.1" ] || complain "man finds no ${command##*/}"
+    done
+}
+
+begins_case 'make install'
+make_target install DESTDIR="$room/installed" PREFIX=/usr || complain "it fails: $(tail -n 3 "$out")"
+[ -x "$installed/bin/inrc2pb" ] || complain 'no program'
+links_hold
+manual_names_commands
+runs_commands
+! command -v clasp > /dev/null || follows_page
+begins_case 'a helper without its library'
+mv "$installed/share/inrc2pb" "$room/away"
+"$installed/bin/inrc2pb-table" --help > "$out" 2> "$err" && complain 'it runs'
+grep -q '^inrc2pb-table: there is no folder share/inrc2pb: install it again' "$err" || complain "said: $(head -n 3 "$err")"
+mv "$room/away" "$installed/share/inrc2pb"
+begins_case 'make uninstall'
+find "$installed" -name __pycache__ -prune -exec rm -r {} +
+make_target uninstall DESTDIR="$room/installed" PREFIX=/usr || complain "it fails: $(tail -n 3 "$out")"
+[ -z "$(find "$installed" -type f)" ] || complain "left: $(find "$installed" -type f | head -n 3)"
+begins_case 'without a program'
+make -s install DESTDIR="$room/other" PROGRAM="$room/none" > "$out" 2>&1 && complain 'it installs where nothing was built'
+finish

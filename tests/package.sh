@@ -1,0 +1,115 @@
+#!/usr/bin/env bash
+# Builds the archive and the Debian package twice, and compares the bytes. Unpacks the archive into an empty folder and
+# installs it, installs the package by `dpkg --root`, and runs README's first shell block with the installed files and nothing
+# else from the clone. Checks the checksums, PROVED, and the package by lintian.
+#
+#   tests/package.sh [llvm | rattle | PROGRAM]
+#
+# Nothing is proved. Without dpkg, strip or lintian the package is not tried; without clasp its stored answer stands in. Needs
+# bash, the usual tools of a shell, make and Python 3.8.
+. "$(dirname "$0")/kit.sh"
+needs crates/who_fits/out/who_fits
+. tests/stand_ins.sh
+stand_in_for_clasp
+
+export PROGRAM=$program
+WHO_FITS=$(realpath crates/who_fits/out/who_fits)
+export WHO_FITS
+version=$("$program" --version)
+version=${version#inrc2pb }
+archive=inrc2pb-$version-x86_64-linux
+package=inrc2pb_${version}_amd64.deb
+
+# built_twice WHAT SCRIPT FILE: the script writes the file, and the same bytes under other settings.
+built_twice() {
+    begins_case "$1, built twice"
+    "package/$2" "$room/first" > "$out" 2>&1 || complain "$2: $(tail -n 3 "$out")"
+    (umask 077 && TZ=Asia/Tokyo LANG=C.UTF-8 "package/$2" "$room/second" > "$out" 2>&1) || complain "$2: $(tail -n 3 "$out")"
+    cmp -s "$room/first/$3" "$room/second/$3" || complain "$3 differs"
+}
+
+# first_block PAGE: its first shell block.
+first_block() { awk '/^```sh$/ { inside = 1; next } /^```/ { if (inside) exit } inside' "$1"; }
+
+# works FOLDER: README's first block runs with the files installed to this prefix, in a folder with only the example weeks.
+works() {
+    local pages=$1/share/doc/inrc2pb
+    begins_case "README's first commands, as installed to ${1#"$room"/}"
+    rm -rf "$room/elsewhere"
+    mkdir "$room/elsewhere"
+    first_block "$pages/README.md" > "$room/block"
+    grep -q 'inrc2pb encode' "$room/block" || complain 'no such block'
+    cp -r "$pages/examples" "$room/elsewhere"
+    (cd "$room/elsewhere" && env -i HOME="$room/elsewhere" PATH="$1/bin:$room/bin:/usr/local/bin:/usr/bin:/bin:/usr/games" \
+        timeout 600 bash -eu "$room/block") > "$out" 2> "$err" || complain "it ends with $?: $(tail -n 3 "$err")"
+    has_line 'penalty 320'
+    [ -s "$room/elsewhere/roster.txt" ] || complain 'no roster.txt'
+}
+
+# states_proof FILE: it names the commit, the kit, the gate's result and the C library.
+states_proof() {
+    begins_case "${1#"$room"/}"
+    for word in commit kit gate libc; do
+        grep -q "^$word: ." "$1" || complain "no line '$word'"
+    done
+    package/proved.sh | grep -qxF "$(head -n 1 "$1")" || complain 'another commit'
+}
+
+# says_of_gate WHAT COMMIT LINE WANTED: the line of PROVED for a gate that left this commit and this last line.
+says_of_gate() {
+    begins_case "PROVED after $1"
+    printf '%s\n' "$2" "$3" > "$room/gate"
+    GATE=$room/gate package/proved.sh | grep -qxF "gate: $4" || complain "not '$4'"
+}
+
+gates_are_told_apart() {
+    local commit not='has not passed on this commit on the machine that built this'
+    commit=$(package/proved.sh | sed -n 's/^commit: //p')
+    case $commit in
+        unknown | *-dirty) says_of_gate 'a gate of other files' "$commit" '9 passed, 0 failed' "$not" ;;
+        *) says_of_gate 'a gate that passed' "$commit" '9 passed, 0 failed' 'passed on this commit: 9 passed, 0 failed' ;;
+    esac
+    says_of_gate 'a gate that failed' "$commit" '8 passed, 1 failed' "$not"
+    says_of_gate 'a gate of another commit' "0$commit" '9 passed, 0 failed' "$not"
+}
+
+# Every command that is installed runs.
+starts() {
+    local command
+    for command in "$1"/bin/*; do
+        begins_case "${command#"$room"/} --help"
+        (cd "$room" && "$command" --help > "$out" 2>&1) || [ "$(basename "$command")" = who_fits ] || complain "it ends with $?"
+    done
+}
+
+gates_are_told_apart
+built_twice 'the archive' archive.sh "$archive.tar.gz"
+begins_case 'the checksums'
+mkdir "$room/unpacked"
+tar -C "$room/unpacked" -xzf "$room/first/$archive.tar.gz" || complain 'it does not unpack'
+(cd "$room/unpacked/$archive" && sha256sum --check --quiet SHA256SUMS > "$out" 2>&1) || complain "$(head -n 3 "$out")"
+states_proof "$room/unpacked/$archive/PROVED"
+begins_case 'install.sh'
+"$room/unpacked/$archive/install.sh" "$room/prefix" > "$out" 2>&1 || complain "it ends with $?: $(tail -n 3 "$out")"
+diff -r "$room/unpacked/$archive/bin" "$room/prefix/bin" > "$out" || complain "$(head -n 3 "$out")"
+rm -r "$room/unpacked"
+works "$room/prefix"
+starts "$room/prefix"
+
+if command -v dpkg-deb dpkg strip | wc -l | grep -qx 3; then
+    built_twice 'the package' deb.sh "$package"
+    begins_case 'dpkg --root'
+    mkdir -p "$room/root/var/lib/dpkg/info" "$room/root/var/lib/dpkg/updates"
+    : > "$room/root/var/lib/dpkg/status"
+    PATH=$PATH:/usr/sbin:/sbin dpkg --root="$room/root" --log=/dev/null --force-not-root --force-depends --force-script-chrootless \
+        -i "$room/first/$package" > "$out" 2>&1 || complain "it ends with $?: $(tail -n 3 "$out")"
+    states_proof "$room/root/usr/share/doc/inrc2pb/PROVED"
+    works "$room/root/usr"
+    if command -v lintian > /dev/null; then
+        begins_case 'lintian'
+        lintian --fail-on error "$room/first/$package" > "$out" 2>&1 || complain "$(grep '^E:' "$out" | head -n 5)"
+    fi
+else
+    echo 'package.sh: no dpkg or strip is installed, so the package was not tried'
+fi
+finish

@@ -1,0 +1,59 @@
+#!/usr/bin/env bash
+# Checks facts that the repository states twice: the program's version is that of CHANGELOG.md, the example weeks are those of
+# their generator, and the libraries' examples are their tests. Checks that no crate takes more lemmas of another than before, and
+# the shell scripts by shellcheck, if that is installed.
+#
+#   tests/repository.sh [llvm | rattle | PROGRAM]
+#
+# Needs bash, the usual tools of a shell and Python 3.8.
+. "$(dirname "$0")/kit.sh"
+
+version_is_in_preparation() {
+    local version
+    begins_case 'the version in CHANGELOG.md'
+    version=$("$program" --version)
+    grep -m 1 '^## ' CHANGELOG.md | grep -qx "## ${version#inrc2pb }" || complain "it does not begin with ${version#inrc2pb }"
+}
+
+weeks_are_made() {
+    local folder name
+    begins_case 'the example weeks'
+    examples/make_weeks.py "$room/weeks"
+    for folder in "$room"/weeks/*/; do
+        name=$(basename "$folder")
+        diff -r "$folder" "examples/$name" > "$room/diff" || complain "examples/$name: $(head -n 5 "$room/diff")"
+    done
+}
+
+# The example with which a library opens is the text of a test, line for line.
+examples_are_tests() {
+    local crate example test
+    begins_case "the libraries' examples"
+    for crate in rota_core rota_read rota_items opb_text solver_text rota_pb; do
+        example=$(awk '/^\/\/! ```$/ { inside = !inside; next } inside { sub(/^\/\/! /, "    "); print }' "crates/$crate/src/lib.rt")
+        test=$(sed -n "/^fn example_of_$crate(/,/^}/p" crates/*_tests/src/examples.rt)
+        [ -n "$example" ] || complain "crates/$crate/src/lib.rt opens with no example"
+        [[ $test == *"$example"* ]] || complain "crates/$crate/src/lib.rt: its example is not its test"
+    done
+}
+
+# A crate uses another crate's contracts, and no more of its lemmas than today.
+takes_contracts() {
+    local modules
+    begins_case 'lemma modules that a crate takes from another'
+    modules=$(tests/doors.py | cut -d ' ' -f 2,3 | sort -u | wc -l)
+    [ "$modules" -le 2 ] || complain "$modules, and 2 before: $(tests/doors.py)"
+}
+
+scripts_are_clean() {
+    begins_case 'the scripts'
+    command -v shellcheck > /dev/null || return
+    shellcheck .ci/run ./*.sh package/*.sh tests/*.sh > "$room/checked" || complain "$(head -n 20 "$room/checked")"
+}
+
+version_is_in_preparation
+weeks_are_made
+examples_are_tests
+takes_contracts
+scripts_are_clean
+finish
