@@ -1,34 +1,38 @@
 #!/usr/bin/env python3
 """Writes the completions for bash, zsh and fish from one description of the commands and options.
 
-usage: write.py [FOLDER]
-
-FOLDER is where the files go; without one, beside this script. tests/manual.sh compares the files with what this writes,
-and the description with what the program's help says. Needs Python 3.8 or later.
+tests/manual.sh compares the files with the output of this script, and their words with those of the program's help and of the
+manual page. Needs Python 3.8 or later.
 """
 
-import sys
+import argparse
 from pathlib import Path
+from typing import Dict, Iterator, Tuple
 
-ANY = {
-    "--help": ("", "Shows what there is to give"),
-    "--version": ("", "Shows the version"),
+# An option's argument, or '', and its text in the program's help, without its default.
+Option = Tuple[str, str]
+Options = Dict[str, Option]
+
+ANY: Options = {
+    "--help": ("", "Print help"),
+    "--version": ("", "Print version"),
 }
-WEEK = {
+WEEK: Options = {
     "--sce": ("file", "The scenario"),
     "--his": ("file", "The history before the week"),
     "--week": ("file", "The requirements and requests of the week"),
-    "--fix": ("file", "Assignments that are held"),
-    "--early": ("", "Charges what exceeds a total in the week in which it arises"),
+    "--fix": ("file", "Assignments to keep, as a solution file"),
+    "--early": ("", "Charge excess assignments and weekends as soon as they occur"),
 }
 HELP = {"--help": ANY["--help"]}
-COMMANDS = {
-    "encode": ("Writes the week as a pseudo-Boolean model", {**WEEK, "--opb": ("file", "Where to write the model"), **HELP}),
-    "decode": (
-        "Turns a solver's answer into a solution file",
-        {**WEEK, "--sol": ("file", "Where to write the solution file"), "--answer": ("file", "The solver's answer"), **HELP},
-    ),
-    "extend": ("Turns a roster into an answer of a solver", {**WEEK, "--from": ("file", "The roster"), **HELP}),
+OPB = {"--opb": ("file", "Where to write the model, replacing the file")}
+SOL = {"--sol": ("file", "Where to write the solution, replacing the file")}
+ANSWER = {"--answer": ("file", "The solver's answer")}
+FROM = {"--from": ("file", "The roster, as a solution file")}
+COMMANDS: Dict[str, Tuple[str, Options]] = {
+    "encode": ("Writes the week as a pseudo-Boolean model", {**WEEK, **OPB, **HELP}),
+    "decode": ("Turns a solver's answer into a solution file, and reports its costs", {**WEEK, **SOL, **ANSWER, **HELP}),
+    "extend": ("Turns a roster into a solver's answer", {**WEEK, **FROM, **HELP}),
 }
 FILES = list(dict.fromkeys(name for _, options in COMMANDS.values() for name, (kind, _) in options.items() if kind == "file"))
 
@@ -93,11 +97,13 @@ _inrc2pb "$@"
 """
 
 
-def quoted(text):
+def quoted(text: str) -> str:
+    """The text as one word of a shell."""
     return "'" + text.replace("'", "'\\''") + "'"
 
 
-def bash():
+def bash() -> str:
+    """The completion for bash."""
     choices = [f"        {name}) choices='{' '.join(options)}' ;;" for name, (_, options) in COMMANDS.items()]
     return BASH % {
         "names": " | ".join(COMMANDS),
@@ -107,8 +113,10 @@ def bash():
     }
 
 
-def zsh():
-    def argument(name, kind, about):
+def zsh() -> str:
+    """The completion for zsh."""
+
+    def argument(name: str, kind: str, about: str) -> str:
         return quoted(f"{name}[{about}]" + (":file:_files" if kind else ""))
 
     cases = []
@@ -122,7 +130,8 @@ def zsh():
     }
 
 
-def fish():
+def fish() -> Iterator[str]:
+    """The lines of the completion for fish."""
     yield "# Completion of inrc2pb's commands, options and file names, for fish. Written by write.py beside it."
     yield "complete -c inrc2pb -f"
     for name, (_, about) in ANY.items():
@@ -134,8 +143,11 @@ def fish():
             yield f"complete -c inrc2pb -n {seen} -l {option[2:]}{' -r -F' if kind else ''} -d {quoted(meaning)}"
 
 
-def main():
-    folder = Path(sys.argv[1]) if len(sys.argv) > 1 else Path(__file__).resolve().parent
+def main() -> None:
+    """Writes the three files."""
+    parser = argparse.ArgumentParser(description="Writes the completions for bash, zsh and fish.")
+    parser.add_argument("folder", nargs="?", type=Path, default=Path(__file__).resolve().parent, help="where the files go [default: beside this script]")
+    folder = parser.parse_args().folder
     (folder / "inrc2pb.bash").write_text(bash())
     (folder / "_inrc2pb").write_text(zsh())
     (folder / "inrc2pb.fish").write_text("\n".join(fish()) + "\n")
