@@ -1,12 +1,12 @@
 #!/usr/bin/env bash
-# Compares the lists of docs/reading.md, what is to be read to believe the promises, with what the contracts rest on.
+# Compares the lists of docs/reading.md with the definitions that the contracts rest on.
 #
-#   tests/reading.sh [--fix]
+#   tests/reading.sh [--fix | llvm | rattle | PROGRAM]
 #
-# With --fix the counts of lines on the page are put right. Nothing is proved or built: it takes a second.
+# --fix corrects the counts of lines on the page. No program is needed: it takes a second.
 set -u
 cd "$(dirname "$0")/.." || exit 2
-python3 tests/reading.py "$@"
+if [ "${1:-}" = --fix ]; then python3 tests/reading.py --fix; else python3 tests/reading.py; fi
 failed=$?
 [ -z "${TALLY:-}" ] || echo "1 $failed" > "$TALLY"
 exit $failed
