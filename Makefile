@@ -91,7 +91,7 @@ install:
 	install -m 644 docs/*.md docs/*.svg "$(PAGES)/docs"
 	install -m 644 bench/README.md bench/*.svg "$(PAGES)/bench"
 	cp -R examples "$(PAGES)"
-	find "$(PAGES)/examples" -name __pycache__ -prune -exec rm -r {} +
+	find "$(PAGES)/examples" \( -name __pycache__ -o -name '*.sh' \) -prune -exec rm -r {} +
 	chmod -R u=rwX,go=rX "$(PAGES)/examples"
 
 # Removes the files of `install`, with the same PREFIX, and no folders except its own.

@@ -3,6 +3,8 @@
 #
 #   ./install.sh PREFIX          for example "$HOME/.local", or /usr/local as root
 set -u
+umask 022
+unset CDPATH
 [ $# = 1 ] || { echo 'usage: ./install.sh PREFIX'; exit 2; }
 mkdir -p "$1" && prefix=$(cd "$1" && pwd) || exit 2
 cd "$(dirname "$0")" || exit 2

@@ -6,11 +6,11 @@ import tempfile
 from pathlib import Path
 from typing import Callable, Iterator, List, Optional, Tuple
 
-from .command import Misuse, add_week_options, parser, run, week_files
+from .command import Misuse, add_week_options, fault_line, parser, run, week_files
 from .constraint import block_of, blocks, named_row, row_of
 from .files import Assignment, FileFault, History, Limits, Scenario, Solution, Week, WeekData
 from .files import check_week_number, read_history, read_scenario, read_solution, read_week
-from .program import NO_PROGRAM, ProgramFault, encode
+from .program import NO_PROGRAM, ProgramFault, encode, extend
 from .slots import quoted, text_of
 
 COUNTED = re.compile(r"\s*(SKILLS|SHIFT_TYPES|CONTRACTS|NURSES|SHIFT_OFF_REQUESTS|ASSIGNMENTS)\s*=\s*(\d+)\s*$")
@@ -105,7 +105,7 @@ class Check:
             print(f"{fault}{count_hint(path, fault.line)}{hint(fault)}")
         except OSError as fault:
             self.mistakes += 1
-            print(f"{path}: {fault.strerror}: look at its name and folder")
+            print(fault_line(fault))
         return None
 
     def warns(self, path: Path, warnings: Iterator[str]) -> None:
@@ -198,12 +198,16 @@ def main() -> Optional[int]:
     if not check.mistakes and week and given.constraint is not None:
         _explain(given.constraint, week, held, given)
     elif not check.mistakes and week:
+        checked = ""
         try:
             encode(week_files(given), Path("/dev/null"))
+            for roster in given.roster:
+                checked = f"{roster}: "
+                extend(week_files(given), roster, with_report=False)
         except ProgramFault as fault:
             if fault.status != NO_PROGRAM:
                 check.mistakes += 1
-                print(fault)
+                print(f"{checked}{fault}")
     if not check.mistakes and given.constraint is None:
         print("No mistake found.")
     return 1 if check.mistakes else 0

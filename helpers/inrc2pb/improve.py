@@ -153,7 +153,7 @@ def _arguments() -> argparse.ArgumentParser:
         "standard error, the report on standard output."
     )
     add_week_options(words)
-    words.add_argument("--sol", metavar="FILE", type=Path, required=True, help="the roster to write; it always has the best one")
+    words.add_argument("--sol", metavar="FILE", type=Path, required=True, help="the roster to write; it always has the best one of this run")
     words.add_argument("--from", dest="start", metavar="FILE", type=Path, help="the roster to begin with (default: none)")
     words.add_argument("--time", metavar="SECONDS", type=float, default=120.0, help="seconds to search (default: %(default).0f)")
     words.add_argument("--seed", metavar="N", type=int, default=1, help="seed of the random choices (default: %(default)s)")
