@@ -1,7 +1,7 @@
 //! A week whose rows do not come from a file: the example of your own format in `docs/embedding.md`.
-ghost use Rattle.std.specs.Prelude.{IfOk};
+ghost use Rattle.std.specs.Prelude.{◌≡◌, IfOk};
 ghost use Rattle.std.specs.Option.{ForSome};
-ghost use Rattle.rota_core.specs.InstanceTables.{HasNumbersOf};
+ghost use Rattle.rota_core.specs.ScenarioTables.{numbers_of};
 
 use rota_core::{Demand, Scenario, Week, WeekParts};
 use std::alloc::{AllocError, Global};
@@ -21,7 +21,7 @@ pub fn week_of_rows(
     scenario: &Scenario,
     rows: &[Row],
 ) -> Result<Option<Week>, AllocError>
-    ensures { IfOk result (λ given. ForSome given (λ week. HasNumbersOf scenario.now week.nurses week.shifts week.skills)) }
+    ensures { IfOk result (λ given. ForSome given (λ week. week.numbers ≡ numbers_of scenario.now)) }
 {
     let (nurses, shifts, skills) = (scenario.nurses(), scenario.shifts(), scenario.skills());
     let no_demand = Demand {

@@ -1,5 +1,6 @@
 //! The files of small weeks.
-ghost use Rattle.rota_core.specs.InstanceTables.{HasNumbersOf};
+ghost use Rattle.std.specs.Prelude.{◌≡◌};
+ghost use Rattle.rota_core.specs.ScenarioTables.{numbers_of};
 
 use rota_core::{FileFault, Instance, Scenario, Week};
 use rota_read::{read_history, read_scenario, read_week};
@@ -107,7 +108,7 @@ fn after(
     history: &[u8],
     week: Week,
 ) -> Result<Instance, FileFault>
-    requires { HasNumbersOf scenario week.nurses week.shifts week.skills }
+    requires { week.numbers ≡ numbers_of scenario }
 {
     let history = read_history(alloc, &scenario, history)?;
     Instance::join(scenario, history, week, false)

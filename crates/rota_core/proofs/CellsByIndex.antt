@@ -71,7 +71,7 @@ cells-at_indices t truths same =
 -- they are the cells of a week of the roster's shape
 pub cells_in-is : (problem : Problem) (t : RosterTables) → HasShapeOf problem t → cells_in t ≡ cells_of problem (set_of t)
 unfolding cells_in cells_of
-cells_in-is problem t shape = rw (shape.same_nurses, shape.same_shifts, shape.same_skills) refl
+cells_in-is problem t shape = rw shape refl
 
 pub indices-within : (nurses shifts skills : ℕ) (bits : List Bool) → HoldsRoster nurses shifts skills bits
     → AreIndices shifts skills (true_from bits 0 (cell_count nurses shifts skills))

@@ -44,9 +44,7 @@ module _ (nurses shifts skills : ℕ) (bits : List Bool) (t : RosterTables) (see
       let index = cell_index shifts skills cell in
       let count = cell_count nurses shifts skills in
       record {
-        same_nurses = ap (λ u. u.nurses) seen;
-        same_shifts = ap (λ u. u.shifts) seen;
-        same_skills = ap (λ u. u.skills) seen;
+        same_numbers = ap (λ u. u.numbers) seen;
         is_there = get_or-take count (set bits index true) index false (index-in cell in_t) ∙
             get_or-set_same bits index true false (cell_index-in cell holds in_t);
         others_stay = λ other in_other ne.

@@ -1,10 +1,9 @@
 -- The contents of an instance, and the week that it describes.
-use Rattle.std.specs.Prelude.{◌≡◌, ℕ, ◌+◌, ◌*◌, ◌<◌, Bool, false, ◌==◌, Option, Some, None, length, slice_index_or}
-use Rattle.std.specs.Option.{ForSome}
+use Rattle.std.specs.Prelude.{◌≡◌, ◌+◌, ◌*◌, ◌<◌, Bool, false, ◌==◌, Option, Some, length, slice_index_or}
+use Rattle.std.specs.Option.{ForSome, option_map_or}
 use Rattle.rota_core.specs.Limits.{DAYS}
-use Rattle.rota_core.specs.Roster.{Roster}
 use Rattle.rota_core.specs.RosterTables.{RosterTables, IsRoster, set_of}
-use Rattle.rota_core.specs.ScenarioTables.{ScenarioTables, IsScenario}
+use Rattle.rota_core.specs.ScenarioTables.{ScenarioTables, IsScenario, numbers_of}
 use Rattle.rota_core.specs.Problem.{Problem, no_contract, no_demand, no_past, no_span}
 use Rattle.rota_core.specs.WeekTables.{HistoryTables, WeekTables, IsHistory, IsWeek}
 
@@ -16,37 +15,24 @@ pub record InstanceTables : Type 0 where
   pub is_early : Bool
   pub held : Option RosterTables
 
--- rows for the scenario's numbers of nurses, shift types and skills
-pub record HasNumbersOf (scenario : ScenarioTables) (nurses shifts skills : ℕ) : Type 0 where
-  pub same_nurses : nurses ≡ length scenario.nurses
-  pub same_shifts : shifts ≡ length scenario.shifts
-  pub same_skills : skills ≡ length scenario.skills
-
 -- All tables are within their limits and fit each other, and the week is one of the scenario's.
 pub record IsInstance (t : InstanceTables) : Type 0 where
   pub scenario : IsScenario t.scenario
   pub history : IsHistory t.history
   pub week : IsWeek t.week
-  pub history_fits : HasNumbersOf t.scenario t.history.nurses t.history.shifts t.history.skills
-  pub week_fits : HasNumbersOf t.scenario t.week.nurses t.week.shifts t.week.skills
+  pub history_fits : t.history.numbers ≡ numbers_of t.scenario
+  pub week_fits : t.week.numbers ≡ numbers_of t.scenario
   pub spanned : t.history.week < t.scenario.weeks
-  pub held : ForSome t.held (λ roster. IsRoster roster × HasNumbersOf t.scenario roster.nurses roster.shifts roster.skills)
+  pub held : ForSome t.held (λ roster. IsRoster roster × (roster.numbers ≡ numbers_of t.scenario))
 
 -- the tables with exactly these cells held
 abbrev pub holding : InstanceTables → RosterTables → InstanceTables
 holding t roster = record t { held = Some roster }
 
--- whether a cell is in the roster, if there is a roster
-abbrev pub set_of_held : Option RosterTables → Roster
-set_of_held None = λ one. false
-set_of_held (Some roster) = set_of roster
-
 -- the week that the tables describe
 abbrev pub problem_of : InstanceTables → Problem
 problem_of t = record {
-  nurses = length t.scenario.nurses;
-  shifts = length t.scenario.shifts;
-  skills = length t.scenario.skills;
+  numbers = numbers_of t.scenario;
   is_last = t.history.week + 1 == t.scenario.weeks;
   is_early = t.is_early;
   has_skill = λ n k. slice_index_or t.scenario.has_skill (n * length t.scenario.skills + k) false;
@@ -56,5 +42,5 @@ problem_of t = record {
   contract = λ n. slice_index_or t.scenario.contracts (slice_index_or t.scenario.contract_of n 0) no_contract;
   past = λ n. slice_index_or t.history.past n no_past;
   requests = λ n d s. slice_index_or t.week.requests ((n * DAYS + d) * length t.scenario.shifts + s) 0;
-  is_held = set_of_held t.held;
+  is_held = option_map_or set_of t.held (λ one. false);
 }

@@ -1,7 +1,7 @@
 -- The limits of the files' numbers. The constants of `src/limits.rt` have the same values.
 use Rattle.std.specs.Prelude.{ℕ, ◌≤◌}
 
--- from 1 to most
+-- from 1 to the maximum
 abbrev pub Within : ℕ → ℕ → Type 0
 Within maximum n = (1 ≤ n) × (n ≤ maximum)
 
@@ -36,3 +36,13 @@ max_number = 9999
 -- the maximum number of bytes in a file
 abbrev pub max_file_len : ℕ
 max_file_len = 4194304
+
+-- the numbers of nurses, shift types and skills
+pub record Numbers : Type 0 where
+  pub nurses : ℕ
+  pub shifts : ℕ
+  pub skills : ℕ
+
+-- each of these numbers is within its limit
+abbrev pub AreLimited : Numbers → Type 0
+AreLimited numbers = Within max_nurses numbers.nurses × Within max_shifts numbers.shifts × Within max_skills numbers.skills

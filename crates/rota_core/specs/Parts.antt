@@ -30,18 +30,14 @@ scenario_of parts = record {
 
 abbrev pub history_of : HistoryParts → HistoryTables
 history_of parts = record {
-  nurses = parts.nurses;
-  shifts = parts.shifts;
-  skills = parts.skills;
+  numbers = record { nurses = parts.nurses; shifts = parts.shifts; skills = parts.skills };
   week = parts.week;
   past = parts.past.items;
 }
 
 abbrev pub week_tables_of : WeekParts → WeekTables
 week_tables_of parts = record {
-  nurses = parts.nurses;
-  shifts = parts.shifts;
-  skills = parts.skills;
+  numbers = record { nurses = parts.nurses; shifts = parts.shifts; skills = parts.skills };
   demands = parts.demands.items;
   requests = parts.requests.items;
 }

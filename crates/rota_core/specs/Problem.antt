@@ -1,5 +1,6 @@
 -- The week as the rules see it. Days are 0 (Monday) to 6 (Sunday).
 use Rattle.std.specs.Prelude.{ℕ, Bool, false, None}
+use Rattle.rota_core.specs.Limits.{Numbers}
 use Rattle.rota_core.specs.declared.values.Span.{Span}
 use Rattle.rota_core.specs.declared.values.Cell.{Cell}
 use Rattle.rota_core.specs.declared.values.Contract.{Contract}
@@ -8,23 +9,18 @@ use Rattle.rota_core.specs.declared.values.Past.{Past}
 
 -- The data of one week on which the rules depend.
 pub record Problem : Type 0 where
-  pub nurses : ℕ
-  pub shifts : ℕ
-  pub skills : ℕ
+  pub numbers : Numbers
+  pub open numbers use *
   pub is_last : Bool
   -- the excess of a total is charged in each week, not only in the last
   pub is_early : Bool
-  -- by nurse and skill
-  pub has_skill : ℕ → ℕ → Bool
-  -- by day, shift type and skill
+  pub has_skill : (nurse skill : ℕ) → Bool
   pub demand : (day shift skill : ℕ) → Demand
   -- the second shift type may not follow the first on the next day
-  pub is_forbidden : ℕ → ℕ → Bool
-  -- by shift type
-  pub limits : ℕ → Span
-  -- by nurse
-  pub contract : ℕ → Contract
-  pub past : ℕ → Past
+  pub is_forbidden : (first second : ℕ) → Bool
+  pub limits : (shift : ℕ) → Span
+  pub contract : (nurse : ℕ) → Contract
+  pub past : (nurse : ℕ) → Past
   -- the number of request rows that ask for a nurse's day off, from its shift type or from any
   pub requests : (nurse day shift : ℕ) → ℕ
   -- the cell is held: each roster must contain it

@@ -20,18 +20,14 @@ pub record InShape (t : RosterTables) (cell : Cell) : Type 0 where
 
 -- the new roster has the shape of the old one, the cell, and otherwise exactly the cells of the old one
 pub record AddsCell (old new : RosterTables) (cell : Cell) : Type 0 where
-  pub same_nurses : new.nurses ≡ old.nurses
-  pub same_shifts : new.shifts ≡ old.shifts
-  pub same_skills : new.skills ≡ old.skills
+  pub same_numbers : new.numbers ≡ old.numbers
   pub is_there : set_of new cell ≡ true
   pub others_stay : (other : Cell) → InShape old other → other ≢ cell → set_of new other ≡ set_of old other
 
 -- the roster with these numbers of nurses, shift types and skills, and these truth values; the list of truth values may be longer
 abbrev pub roster_tables : (nurses shifts skills : ℕ) → List Bool → RosterTables
 roster_tables nurses shifts skills bits = record {
-  nurses = nurses;
-  shifts = shifts;
-  skills = skills;
+  numbers = record { nurses = nurses; shifts = shifts; skills = skills };
   cells = take (cell_count nurses shifts skills) bits;
 }
 

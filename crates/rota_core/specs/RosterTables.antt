@@ -1,15 +1,14 @@
 -- The contents of a roster: a set of cells within the numbers of an instance.
 use Rattle.std.specs.Prelude.{◌≡◌, ℕ, ◌+◌, ◌*◌, Bool, false, List, length, slice_index_or}
-use Rattle.rota_core.specs.Limits.{DAYS, Within, max_nurses, max_shifts, max_skills}
+use Rattle.rota_core.specs.Limits.{DAYS, Numbers, AreLimited}
 use Rattle.rota_core.specs.declared.values.Cell.{Cell}
 use Rattle.rota_core.specs.Roster.{Roster, cell}
 use Rattle.rota_core.specs.Problem.{Problem}
 
--- The numbers of nurses, shift types and skills, and whether each cell is in the roster, by the cell's index.
+-- Whether each cell is in the roster, by the cell's index.
 pub record RosterTables : Type 0 where
-  pub nurses : ℕ
-  pub shifts : ℕ
-  pub skills : ℕ
+  pub numbers : Numbers
+  pub open numbers use *
   pub cells : List Bool
 
 -- the index of a cell, for these numbers of shift types and skills
@@ -25,14 +24,10 @@ abbrev pub set_of : RosterTables → Roster
 set_of t cell = slice_index_or t.cells (cell_index t.shifts t.skills cell) false
 
 -- the roster has the week's numbers of nurses, shift types and skills
-pub record HasShapeOf (problem : Problem) (t : RosterTables) : Type 0 where
-  pub same_nurses : t.nurses ≡ problem.nurses
-  pub same_shifts : t.shifts ≡ problem.shifts
-  pub same_skills : t.skills ≡ problem.skills
+abbrev pub HasShapeOf : Problem → RosterTables → Type 0
+HasShapeOf problem t = t.numbers ≡ problem.numbers
 
 -- The numbers are within the limits, and each cell has a truth value.
 pub record IsRoster (t : RosterTables) : Type 0 where
-  pub nurses : Within max_nurses t.nurses
-  pub shifts : Within max_shifts t.shifts
-  pub skills : Within max_skills t.skills
+  pub numbers : AreLimited t.numbers
   pub cells : length t.cells ≡ cell_count t.nurses t.shifts t.skills

@@ -2,7 +2,7 @@
 use Rattle.std.specs.Prelude.{◌≡◌, ℕ, ◌*◌, ◌≤◌, ◌<◌, Bool, false, List, [], ◌∷◌, length, codes}
 use Rattle.std.specs.List.{AllByRecursion, IsDistinct}
 use Rattle.std.specs.Str.{bytes_eq}
-use Rattle.rota_core.specs.Limits.{Within, max_contracts, max_nurses, max_number, max_shifts, max_skills, max_weeks}
+use Rattle.rota_core.specs.Limits.{Numbers, Within, max_contracts, max_nurses, max_number, max_shifts, max_skills, max_weeks}
 use Rattle.rota_core.specs.declared.values.Span.{Span}
 use Rattle.rota_core.specs.declared.values.Contract.{Contract}
 use Rattle.rota_core.specs.Words.{is_among, IsWord}
@@ -20,6 +20,10 @@ pub record ScenarioTables : Type 0 where
   pub nurses : List (List ℕ)
   pub contract_of : List ℕ
   pub has_skill : List Bool
+
+-- the numbers of the scenario's nurses, shift types and skills
+abbrev pub numbers_of : ScenarioTables → Numbers
+numbers_of t = record { nurses = length t.nurses; shifts = length t.shifts; skills = length t.skills }
 
 -- no name occurs twice
 abbrev pub AreDistinct : List (List ℕ) → Type 0

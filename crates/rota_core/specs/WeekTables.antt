@@ -2,24 +2,20 @@
 use Rattle.std.specs.Prelude.{◌≡◌, ℕ, ◌*◌, ◌≤◌, ◌<◌, List, length}
 use Rattle.std.specs.List.{AllByRecursion}
 use Rattle.std.specs.Option.{ForSome}
-use Rattle.rota_core.specs.Limits.{DAYS, Within, max_nurses, max_number, max_shifts, max_skills}
+use Rattle.rota_core.specs.Limits.{DAYS, Numbers, AreLimited, max_number}
 use Rattle.rota_core.specs.declared.values.Demand.{Demand}
 use Rattle.rota_core.specs.declared.values.Past.{Past}
 
--- The numbers of nurses, shift types and skills, and the rows of a history, by nurse.
+-- The rows of a history, by nurse.
 pub record HistoryTables : Type 0 where
-  pub nurses : ℕ
-  pub shifts : ℕ
-  pub skills : ℕ
+  pub numbers : Numbers
   pub week : ℕ
   pub past : List Past
 
 -- The rows of a week. Index (d*S+s)*K+k of `demands` is the number of nurses that day d needs on shift type s with skill k, and index
 -- (n*DAYS+d)*S+s of `requests` is the number of request rows that ask for nurse n's day d off, from shift type s or from any.
 pub record WeekTables : Type 0 where
-  pub nurses : ℕ
-  pub shifts : ℕ
-  pub skills : ℕ
+  pub numbers : Numbers
   pub demands : List Demand
   pub requests : List ℕ
 
@@ -35,16 +31,12 @@ IsDemand demand = (demand.minimum ≤ max_number) × (demand.optimal ≤ max_num
 
 -- The rows are within the limits, and there is one for each nurse.
 pub record IsHistory (t : HistoryTables) : Type 0 where
-  pub nurses : Within max_nurses t.nurses
-  pub shifts : Within max_shifts t.shifts
-  pub skills : Within max_skills t.skills
+  pub numbers : AreLimited t.numbers
   pub week : t.week ≤ max_number
-  pub past : (length t.past ≡ t.nurses) × AllByRecursion (IsPast t.shifts) t.past
+  pub past : (length t.past ≡ t.numbers.nurses) × AllByRecursion (IsPast t.numbers.shifts) t.past
 
 -- The rows are within the limits, and there is one for each index.
 pub record IsWeek (t : WeekTables) : Type 0 where
-  pub nurses : Within max_nurses t.nurses
-  pub shifts : Within max_shifts t.shifts
-  pub skills : Within max_skills t.skills
-  pub demands : (length t.demands ≡ DAYS * t.shifts * t.skills) × AllByRecursion IsDemand t.demands
-  pub requests : (length t.requests ≡ t.nurses * DAYS * t.shifts) × AllByRecursion (λ n. n ≤ max_number) t.requests
+  pub numbers : AreLimited t.numbers
+  pub demands : (length t.demands ≡ DAYS * t.numbers.shifts * t.numbers.skills) × AllByRecursion IsDemand t.demands
+  pub requests : (length t.requests ≡ t.numbers.nurses * DAYS * t.numbers.shifts) × AllByRecursion (λ n. n ≤ max_number) t.requests

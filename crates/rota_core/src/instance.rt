@@ -49,10 +49,11 @@ impl Model for Instance {
 }
 
 impl Instance {
-    ghost use Rattle.rota_core.specs.InstanceTables.{HasNumbersOf, IsInstance, holding, problem_of};
+    ghost use Rattle.rota_core.specs.InstanceTables.{IsInstance, holding, problem_of};
     ghost use Rattle.rota_core.specs.Roster.{InWeek};
     ghost use Rattle.rota_core.specs.RosterCells.{cells_of};
     ghost use Rattle.rota_core.specs.RosterTables.{HasShapeOf};
+    ghost use Rattle.rota_core.specs.ScenarioTables.{numbers_of};
 
     /// The instance of these three tables, with no cell held. Returns `LateWeek` at line 0 of the history if
     /// the history's week number is not below the scenario's number of weeks. `early` says whether the excess
@@ -63,8 +64,8 @@ impl Instance {
         week: Week,
         early: bool,
     ) -> Result<Instance, FileFault>
-        requires history_fits { HasNumbersOf scenario history.nurses history.shifts history.skills }
-        requires week_fits { HasNumbersOf scenario week.nurses week.shifts week.skills }
+        requires history_fits { history.numbers ≡ numbers_of scenario }
+        requires week_fits { week.numbers ≡ numbers_of scenario }
         ensures joined { IfOk result (λ i. i ≡ record {
           scenario = scenario;
           history = history;

@@ -13,9 +13,9 @@ module _ (t : InstanceTables) (limits : IsInstance t) where
   contract-small : (n : ℕ) → IsContract ((problem_of t).contract n)
   contract-small n = search (rules, AllByRecursion-or_default, limits.scenario.contracts.1)
 
-  past-small : (n : ℕ) → IsPast t.history.shifts ((problem_of t).past n)
+  past-small : (n : ℕ) → IsPast t.history.numbers.shifts ((problem_of t).past n)
   past-small n =
-      AllByRecursion-or_default (IsPast t.history.shifts) t.history.past n no_past limits.history.past.1 (search rules)
+      AllByRecursion-or_default (IsPast t.history.numbers.shifts) t.history.past n no_past limits.history.past.1 (search rules)
 
   pub instance-within_limits : IsWithinLimits (problem_of t)
   instance-within_limits = record {

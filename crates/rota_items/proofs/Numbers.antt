@@ -44,5 +44,5 @@ pub index-assigned : (problem : Problem) (tables : RosterTables) (index v : ℕ)
     v < unit_number problem → slice_index_or tables.cells index false ≡ assignment_of problem (set_of tables) v
 index-assigned problem tables index v shape next below =
     let same : index ≡ cell_index tables.shifts tables.skills (cell_of_number problem v) =
-    rw (shape.same_shifts, shape.same_skills) (omega (arith, cell_number-of problem v (omega arith) below)) in
+    rw shape (omega (arith, cell_number-of problem v (omega arith) below)) in
     ap (λ at. slice_index_or tables.cells at false) same ∙ sym (assigned problem (set_of tables) v (omega arith) below)

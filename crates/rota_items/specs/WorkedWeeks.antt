@@ -22,9 +22,7 @@ wide = record { total = limits_of 1 9; work = limits_of 1 9; off = limits_of 1 9
 -- one shift type, no demand, and limits so wide that they cost nothing
 abbrev pub plain_week : Problem
 plain_week = record {
-  nurses = 1;
-  shifts = 1;
-  skills = 1;
+  numbers = record { nurses = 1; shifts = 1; skills = 1 };
   is_last = false;
   is_early = false;
   has_skill = λ n k. true;
@@ -65,7 +63,7 @@ unskilled_week = record (demanding_week 1 1) { has_skill = λ n k. false }
 -- early after night is forbidden, and the last shift was a night
 abbrev pub nights_week : Problem
 nights_week = record plain_week {
-  shifts = 2;
+  numbers = record plain_week.numbers { shifts = 2 };
   is_forbidden = λ s t. s == 1 && t == 0;
   past = λ n. record no_past { assignments = 1; last = Some 1; shift_run = 1; work_run = 1 };
 }
@@ -73,7 +71,7 @@ nights_week = record plain_week {
 -- two rows ask for a Monday without early, and one for a Monday off
 abbrev pub requests_week : Problem
 requests_week = record plain_week {
-  shifts = 2;
+  numbers = record plain_week.numbers { shifts = 2 };
   requests = λ n d s. if d == 0 then (if s == 0 then 3 else 1) else 0;
 }
 

@@ -1,7 +1,7 @@
 //! The files of a week, read whole and checked one after the other.
-ghost use Rattle.std.specs.Prelude.{IfOk};
+ghost use Rattle.std.specs.Prelude.{◌≡◌, IfOk};
 ghost use Rattle.rota_core.specs.declared.fault.FileName.TheVariants as names;
-ghost use Rattle.rota_core.specs.InstanceTables.{HasNumbersOf};
+ghost use Rattle.rota_core.specs.ScenarioTables.{numbers_of};
 ghost use Rattle.rota_read.specs.ScenarioLayout.{scenario as scenario_layout};
 ghost use Rattle.rota_read.specs.HistoryLayout.{history as history_layout};
 ghost use Rattle.rota_read.specs.WeekLayout.{week as week_layout};
@@ -36,7 +36,7 @@ fn read_history_from<S: Source>(
     scenario: &Scenario,
     source: &mut S,
 ) -> Result<History, Fault>
-    ensures fits { IfOk result (λ h. HasNumbersOf scenario.now h.nurses h.shifts h.skills) }
+    ensures fits { IfOk result (λ h. h.numbers ≡ numbers_of scenario.now) }
     ensures reads { (file_reading names.History (history_layout scenario.now) (reader_of S.Source source.old source.new)).ends result }
 {
     let text = read_file(alloc, source)?;
@@ -48,7 +48,7 @@ fn read_week_from<S: Source>(
     scenario: &Scenario,
     source: &mut S,
 ) -> Result<Week, Fault>
-    ensures fits { IfOk result (λ w. HasNumbersOf scenario.now w.nurses w.shifts w.skills) }
+    ensures fits { IfOk result (λ w. w.numbers ≡ numbers_of scenario.now) }
     ensures reads { (file_reading names.Week (week_layout scenario.now) (reader_of S.Source source.old source.new)).ends result }
 {
     let text = read_file(alloc, source)?;
@@ -57,8 +57,8 @@ fn read_week_from<S: Source>(
 
 // The three files joined, if the week is one of the scenario's.
 fn join(scenario: Scenario, history: History, week: Week, early: bool) -> Result<Instance, Fault>
-    requires history_fits { HasNumbersOf scenario history.nurses history.shifts history.skills }
-    requires week_fits { HasNumbersOf scenario week.nurses week.shifts week.skills }
+    requires history_fits { history.numbers ≡ numbers_of scenario }
+    requires week_fits { week.numbers ≡ numbers_of scenario }
     ensures { (joining scenario history week early).ends result }
 {
     Ok(Instance::join(scenario, history, week, early)?)

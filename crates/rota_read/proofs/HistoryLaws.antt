@@ -4,16 +4,15 @@ use Rattle.std.proofs.Common.{List, [], ◌∷◌, length, codes, map, set, repl
 use Rattle.std.specs.List.{AllByRecursion, count_by}
 use Rattle.std.proofs.lemmas.List.{length-set, length-map, length-replicate}
 use Rattle.std.proofs.lemmas.List.Sums.{sum_by-cons, sum_by-set, count_by-le-length}
-use Rattle.rota_core.specs.Limits.{max_number}
+use Rattle.rota_core.specs.Limits.{AreLimited, max_number}
 use Rattle.rota_core.specs.declared.values.Past.{Past}
-use Rattle.rota_core.specs.InstanceTables.{HasNumbersOf}
-use Rattle.rota_core.specs.ScenarioTables.{ScenarioTables}
+use Rattle.rota_core.specs.ScenarioTables.{ScenarioTables, numbers_of}
 use Rattle.rota_core.specs.Problem.{no_past}
 use Rattle.rota_core.specs.WeekTables.{HistoryTables, IsHistory, IsPast}
 use Rattle.rota_read.specs.Tokens.{Token, tokens}
 use Rattle.rota_read.specs.Layout.{repeat}
 use Rattle.rota_read.specs.HistoryLayout.{past, Pasts, has_past, past_row, past_rows, history_heading, history}
-use Rattle.rota_read.specs.HistoryRows.{GivesEachPast, HasLimitedNumbers}
+use Rattle.rota_read.specs.HistoryRows.{GivesEachPast}
 use Rattle.rota_read.specs.Files.{Fills, Spells}
 use Rattle.rota_read.proofs.SlotLaws.{number-within, known_name-below, known_name-free, shift_or-below}
 
@@ -149,27 +148,24 @@ gives_each_past tables front pasts h =
     all_given pasts (kept.2 ∙ sym kept.0)
 
 history-is_history : (tables : ScenarioTables) (front : List Token) (spelled : HistoryTables) →
-    HasLimitedNumbers spelled → Fills (history tables) front spelled → IsHistory spelled
+    AreLimited (numbers_of tables) → Fills (history tables) front spelled → IsHistory spelled
 unfolding Fills history
 history-is_history tables front spelled numbers h =
     let rows = h.5 in
     let kept = past_rows-kept tables rows.1 rows.0 rows.4 in
-    let within = subst HasLimitedNumbers rows.5.1 numbers in
     rw rows.5.1 (record {
-      nurses = within.0;
-      shifts = within.1;
-      skills = within.2;
+      numbers = numbers;
       week = heading-within h.1 h.0 h.4;
       past = (length-map rows.0 (λ past. unwrap_or past no_past) ∙ kept.0, all_past (length tables.shifts) rows.0 kept.1);
     })
 
 -- a text spells histories only
 pub spells-is_history : (tables : ScenarioTables) (text : List ℕ) (spelled : HistoryTables) →
-    HasLimitedNumbers spelled → Spells (history tables) text spelled → IsHistory spelled
+    AreLimited (numbers_of tables) → Spells (history tables) text spelled → IsHistory spelled
 spells-is_history tables text spelled numbers h = history-is_history tables (tokens text) spelled numbers h.filled
 
 -- a history has the numbers of its scenario
-pub spells-HasNumbersOf : (tables : ScenarioTables) (text : List ℕ) (spelled : HistoryTables) →
-    Spells (history tables) text spelled → HasNumbersOf tables spelled.nurses spelled.shifts spelled.skills
+pub spells-numbers : (tables : ScenarioTables) (text : List ℕ) (spelled : HistoryTables) →
+    Spells (history tables) text spelled → spelled.numbers ≡ numbers_of tables
 unfolding Fills history
-spells-HasNumbersOf tables text spelled h = rw h.filled.5.5.1 (record { same_nurses = refl; same_shifts = refl; same_skills = refl })
+spells-numbers tables text spelled h = rw h.filled.5.5.1 refl

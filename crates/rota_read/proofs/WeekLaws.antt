@@ -4,10 +4,9 @@ use Rattle.std.proofs.Common.{List, [], ◌∷◌, Option, Some, None, length, g
 use Rattle.std.specs.List.{All, AllByRecursion, flat_map, range_with_len}
 use Rattle.std.proofs.lemmas.List.{length-map, length-replicate, length-set}
 use Rattle.std.proofs.lemmas.List.Elements.{All-replicate, All-set, recursion_from_All}
-use Rattle.rota_core.specs.Limits.{max_number}
-use Rattle.rota_core.specs.ScenarioTables.{ScenarioTables}
+use Rattle.rota_core.specs.Limits.{AreLimited, max_number}
+use Rattle.rota_core.specs.ScenarioTables.{ScenarioTables, numbers_of}
 use Rattle.rota_core.specs.Problem.{no_demand}
-use Rattle.rota_core.specs.InstanceTables.{HasNumbersOf}
 use Rattle.rota_core.specs.WeekTables.{WeekTables, IsWeek, IsDemand}
 use Rattle.rota_core.specs.declared.values.Demand.{Demand}
 use Rattle.rota_read.specs.declared.week.RequestRow.{RequestRow}
@@ -16,7 +15,6 @@ use Rattle.rota_read.specs.Layout.{Layout}
 use Rattle.rota_read.specs.WeekLayout.{demand, demands_of_days, Requirements, requirement, requirement_of, requirement_row}
 use Rattle.rota_read.specs.WeekLayout.{after_row, repeat_until, max_rows, no_requirements, requirement_rows}
 use Rattle.rota_read.specs.WeekLayout.{demand_on, demand_table, request_row, request_table, requirements_part, requests_part, week}
-use Rattle.rota_read.specs.WeekRows.{AreWithin}
 use Rattle.rota_read.specs.Files.{Fills, Spells}
 use Rattle.rota_core.proofs.LogicWords.{AllByRecursion-append}
 use Rattle.rota_read.proofs.WordLaws.{tokens-are_tokens}
@@ -161,7 +159,7 @@ requests-few t front rows all h =
 -- ---- the week
 
 -- tokens that fill the slots of a week's file give a week
-week-is_week : (t : ScenarioTables) (front : List Token) (tables : WeekTables) → AreWithin t → AreTokens front →
+week-is_week : (t : ScenarioTables) (front : List Token) (tables : WeekTables) → AreLimited (numbers_of t) → AreTokens front →
     Fills (week t) front tables → IsWeek tables
 unfolding Fills week
 week-is_week t front tables counts all h =
@@ -169,9 +167,7 @@ week-is_week t front tables counts all h =
     let after = right front h.1 h.2 h.3 all in
     let few = requests-few t requests.1 requests.0 (left h.2 requests.1 requests.2 requests.3 after) requests.4 in
     rw requests.5.1 (record {
-      nurses = counts.0;
-      shifts = counts.1;
-      skills = counts.2;
+      numbers = counts;
       demands = demand_table-kept (length t.shifts) (length t.skills) h.0 (requirements-kept t h.1 h.0 h.4);
       requests = (
         request_table-length (length t.nurses) (length t.shifts) requests.0,
@@ -181,12 +177,12 @@ week-is_week t front tables counts all h =
     })
 
 -- a text spells weeks only
-pub spells-is_week : (t : ScenarioTables) (text : List ℕ) (tables : WeekTables) → AreWithin t → Spells (week t) text tables →
+pub spells-is_week : (t : ScenarioTables) (text : List ℕ) (tables : WeekTables) → AreLimited (numbers_of t) → Spells (week t) text tables →
     IsWeek tables
 spells-is_week t text tables counts h = week-is_week t (tokens text) tables counts (tokens-are_tokens text) h.filled
 
 -- a week has the numbers of its scenario
-pub spells-HasNumbersOf : (t : ScenarioTables) (text : List ℕ) (tables : WeekTables) → Spells (week t) text tables →
-    HasNumbersOf t tables.nurses tables.shifts tables.skills
+pub spells-numbers : (t : ScenarioTables) (text : List ℕ) (tables : WeekTables) → Spells (week t) text tables →
+    tables.numbers ≡ numbers_of t
 unfolding Fills week
-spells-HasNumbersOf t text tables h = rw h.filled.5.5.1 (record { same_nurses = refl; same_shifts = refl; same_skills = refl })
+spells-numbers t text tables h = rw h.filled.5.5.1 refl

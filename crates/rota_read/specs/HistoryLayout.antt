@@ -3,7 +3,7 @@ use Rattle.std.specs.Prelude.{ℕ, Bool, List, codes, length, map, replicate, sl
 use Rattle.std.specs.Prelude.{Option, Some, None, unwrap_or, is_some}
 use Rattle.rota_core.specs.Limits.{max_number}
 use Rattle.rota_core.specs.declared.values.Past.{Past}
-use Rattle.rota_core.specs.ScenarioTables.{ScenarioTables}
+use Rattle.rota_core.specs.ScenarioTables.{ScenarioTables, numbers_of}
 use Rattle.rota_core.specs.Problem.{no_past}
 use Rattle.rota_core.specs.WeekTables.{HistoryTables}
 use Rattle.rota_read.specs.Layout.{shift_or, Layout, end, ◌>>=◌, exactly, number, any_word, known_name, repeat}
@@ -60,9 +60,7 @@ history tables = do
   week ← history_heading
   pasts ← past_rows tables
   end (record {
-    nurses = length tables.nurses;
-    shifts = length tables.shifts;
-    skills = length tables.skills;
+    numbers = numbers_of tables;
     week = week;
     past = map (λ past. unwrap_or past no_past) pasts;
   })

@@ -5,7 +5,7 @@ use Rattle.std.specs.List.{flat_map, range_with_len}
 use Rattle.std.specs.Option.{option_map_or}
 use Rattle.rota_core.specs.Limits.{DAYS, max_number}
 use Rattle.rota_core.specs.declared.values.Demand.{Demand}
-use Rattle.rota_core.specs.ScenarioTables.{ScenarioTables}
+use Rattle.rota_core.specs.ScenarioTables.{ScenarioTables, numbers_of}
 use Rattle.rota_core.specs.Problem.{no_demand}
 use Rattle.rota_core.specs.WeekTables.{WeekTables}
 use Rattle.rota_read.specs.declared.week.RequestRow.{RequestRow}
@@ -126,9 +126,7 @@ week t = do
   requirements ← requirements_part t
   requests ← requests_part t
   end (record {
-    nurses = length t.nurses;
-    shifts = length t.shifts;
-    skills = length t.skills;
+    numbers = numbers_of t;
     demands = demand_table requirements;
     requests = request_table (length t.nurses) (length t.shifts) requests;
   })

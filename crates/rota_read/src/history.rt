@@ -3,14 +3,14 @@
 ghost use Rattle.std.specs.Prelude.{◌≡◌, ◌<◌, length, map, None, unwrap_or, replicate, IfOk, IfErr};
 ghost use Rattle.rota_core.specs.Parts.{history_of};
 ghost use Rattle.rota_core.specs.Problem.{no_past};
-ghost use Rattle.rota_core.specs.InstanceTables.{HasNumbersOf};
-ghost use Rattle.rota_core.specs.ScenarioTables.{ScenarioTables};
+ghost use Rattle.rota_core.specs.Limits.{AreLimited};
+ghost use Rattle.rota_core.specs.ScenarioTables.{ScenarioTables, numbers_of};
 ghost use Rattle.rota_core.specs.declared.fault.FileName.TheVariants as files;
 ghost use Rattle.rota_read.specs.Files.{Spells};
 ghost use Rattle.rota_read.specs.FileAnswers.{IsFaultOf};
 ghost use Rattle.rota_read.specs.OneMeaning.{OneMeaning};
 ghost use Rattle.rota_read.specs.HistoryLayout.{past, has_past, past_row, past_rows, history_heading, history};
-ghost use Rattle.rota_read.specs.HistoryRows.{GivesEachPast, HasLimitedNumbers};
+ghost use Rattle.rota_read.specs.HistoryRows.{GivesEachPast};
 ghost use Rattle.rota_read.specs.Layout.{repeat};
 ghost use Rattle.rota_read.specs.Reading.{read_layout, Reads, read_text, ReadsFile};
 
@@ -123,7 +123,7 @@ fn each_past(alloc: Global, pasts: &[Option<Past>]) -> Result<Vec<Past>, AllocEr
 #[tactic(auto, using(crate::proofs::EndLemmas::front_fails), unfolding(crate::specs::HistoryLayout::history, crate::specs::Reading::read_layout, crate::specs::Reading::read_text))]
 fn history_parts(alloc: Global, scenario: &Scenario, text: &[u8]) -> Result<HistoryParts, Stop>
     ensures read { ReadsFile history_of result (read_text (history scenario.now) text.now) }
-    ensures limits { IfOk result (λ parts. HasLimitedNumbers (history_of parts)) }
+    ensures limits { IfOk result (λ _. AreLimited (numbers_of scenario.now)) }
 {
     let mut cursor = Cursor::open(text)?;
     let week = cursor.history_heading()?;
@@ -154,7 +154,7 @@ fn history_parts(alloc: Global, scenario: &Scenario, text: &[u8]) -> Result<Hist
 #[tactic(auto, using(crate::proofs::FileLaws::file_steps))]
 pub fn read_history(alloc: Global, scenario: &Scenario, text: &[u8]) -> Result<History, FileFault>
     ensures spelled { IfOk result (Spells (history scenario.now) text.now) }
-    ensures numbers { IfOk result (λ h. HasNumbersOf scenario.now h.nurses h.shifts h.skills) }
+    ensures numbers { IfOk result (λ h. h.numbers ≡ numbers_of scenario.now) }
     ensures fault { IfErr result (IsFaultOf files.History (history scenario.now) text.now) }
 {
     match history_parts(alloc, scenario, text) {

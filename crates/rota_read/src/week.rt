@@ -4,15 +4,15 @@ ghost use Rattle.std.specs.Prelude.{◌≡◌, ◌≤◌, ◌+◌, [], length, I
 ghost use Rattle.std.specs.List.{All};
 ghost use Rattle.rota_read.specs.Layout.{repeat};
 ghost use Rattle.rota_core.specs.Parts.{week_tables_of};
-ghost use Rattle.rota_core.specs.ScenarioTables.{ScenarioTables};
-ghost use Rattle.rota_core.specs.InstanceTables.{HasNumbersOf};
+ghost use Rattle.rota_core.specs.Limits.{AreLimited};
+ghost use Rattle.rota_core.specs.ScenarioTables.{ScenarioTables, numbers_of};
 ghost use Rattle.rota_core.specs.declared.fault.FileName.TheVariants as files;
 ghost use Rattle.rota_read.specs.Files.{Spells};
 ghost use Rattle.rota_read.specs.FileAnswers.{IsFaultOf};
 ghost use Rattle.rota_read.specs.OneMeaning.{OneMeaning};
 ghost use Rattle.rota_read.specs.Reading.{read_layout, read_text, Reads, ReadsFile};
 ghost use Rattle.rota_read.specs.WeekBound.{BoundEndsNoRows};
-ghost use Rattle.rota_read.specs.WeekRows.{IsRequest, AreWithin};
+ghost use Rattle.rota_read.specs.WeekRows.{IsRequest};
 ghost use Rattle.rota_read.specs.WeekLayout.{request_row, requests_part, week};
 
 use crate::cursor::Cursor;
@@ -77,7 +77,7 @@ impl<'a> Cursor<'a> {
 #[tactic(auto, using(crate::proofs::EndLemmas::front_fails), unfolding(crate::specs::WeekLayout::week, crate::specs::Reading::read_layout, crate::specs::Reading::read_text))]
 fn week_parts(alloc: Global, scenario: &Scenario, text: &[u8]) -> Result<WeekParts, Stop>
     ensures read { ReadsFile week_tables_of result (read_text (week scenario.now) text.now) }
-    ensures within { IfOk result (λ _. AreWithin scenario.now) }
+    ensures within { IfOk result (λ _. AreLimited (numbers_of scenario.now)) }
 {
     let mut cursor = Cursor::open(text)?;
     let requirements = cursor.requirements_part(alloc, scenario)?;
@@ -118,7 +118,7 @@ fn week_parts(alloc: Global, scenario: &Scenario, text: &[u8]) -> Result<WeekPar
 #[tactic(auto, using(crate::proofs::FileLaws::file_steps))]
 pub fn read_week(alloc: Global, scenario: &Scenario, text: &[u8]) -> Result<Week, FileFault>
     ensures spelled { IfOk result (Spells (week scenario.now) text.now) }
-    ensures numbers { IfOk result (λ w. HasNumbersOf scenario.now w.nurses w.shifts w.skills) }
+    ensures numbers { IfOk result (λ w. w.numbers ≡ numbers_of scenario.now) }
     ensures fault { IfErr result (IsFaultOf files.Week (week scenario.now) text.now) }
 {
     match week_parts(alloc, scenario, text) {

@@ -1,6 +1,7 @@
 //! The words of the command line, and the files that they name, read.
-ghost use Rattle.std.specs.Prelude.{IfOk};
-ghost use Rattle.rota_core.specs.InstanceTables.{HasNumbersOf, problem_of as tables_of};
+ghost use Rattle.std.specs.Prelude.{◌≡◌, IfOk};
+ghost use Rattle.rota_core.specs.InstanceTables.{problem_of as tables_of};
+ghost use Rattle.rota_core.specs.ScenarioTables.{numbers_of};
 ghost use Rattle.rota_core.specs.RosterTables.{HasShapeOf};
 
 use rota_core::{FileFault, History, Instance, Roster, Scenario, Week};
@@ -90,7 +91,7 @@ fn history_of<R: Files + AllocGlobal>(
     scenario: &Scenario,
     path: &str,
 ) -> Result<History, Stop>
-    ensures { IfOk result (λ h. HasNumbersOf scenario.now h.nurses h.shifts h.skills) }
+    ensures { IfOk result (λ h. h.numbers ≡ numbers_of scenario.now) }
 {
     let text = fs::read(rt, path)?;
     Ok(read_history(rt.alloc(), scenario, &text)?)
@@ -98,7 +99,7 @@ fn history_of<R: Files + AllocGlobal>(
 
 // The week that the file at the path spells.
 fn problem_of<R: Files + AllocGlobal>(rt: &R, scenario: &Scenario, path: &str) -> Result<Week, Stop>
-    ensures { IfOk result (λ w. HasNumbersOf scenario.now w.nurses w.shifts w.skills) }
+    ensures { IfOk result (λ w. w.numbers ≡ numbers_of scenario.now) }
 {
     let text = fs::read(rt, path)?;
     Ok(read_week(rt.alloc(), scenario, &text)?)
@@ -112,7 +113,7 @@ fn after<R: Files + AllocGlobal>(
     week: Week,
     early: bool,
 ) -> Result<Instance, Stop>
-    requires { HasNumbersOf scenario week.nurses week.shifts week.skills }
+    requires { week.numbers ≡ numbers_of scenario }
 {
     let history = history_of(rt, &scenario, history)?;
     Ok(Instance::join(scenario, history, week, early)?)

@@ -5,8 +5,9 @@
 //! nurse fits if she has the skill and, on Monday, if her last shift does not forbid the shift type.
 #![tactic(auto)]
 
-ghost use Rattle.std.specs.Prelude.{◌<◌, IfOk};
-ghost use Rattle.rota_core.specs.InstanceTables.{HasNumbersOf, problem_of};
+ghost use Rattle.std.specs.Prelude.{◌≡◌, ◌<◌, IfOk};
+ghost use Rattle.rota_core.specs.InstanceTables.{problem_of};
+ghost use Rattle.rota_core.specs.ScenarioTables.{numbers_of};
 ghost use Rattle.rota_core.specs.Roster.{InWeek};
 
 use anyhow::{Context, Result, bail};
@@ -39,7 +40,7 @@ fn scenario_of<R: Files + AllocGlobal>(rt: &R, path: &str) -> Result<Scenario> {
 
 // The history that the file spells.
 fn history_of<R: Files + AllocGlobal>(rt: &R, scenario: &Scenario, path: &str) -> Result<History>
-    ensures { IfOk result (λ h. HasNumbersOf scenario.now h.nurses h.shifts h.skills) }
+    ensures { IfOk result (λ h. h.numbers ≡ numbers_of scenario.now) }
 {
     let text = bytes_of(rt, path)?;
     Ok(read_history(rt.alloc(), scenario, &text)?)
@@ -47,7 +48,7 @@ fn history_of<R: Files + AllocGlobal>(rt: &R, scenario: &Scenario, path: &str) -
 
 // The week's data that the file spells.
 fn data_of<R: Files + AllocGlobal>(rt: &R, scenario: &Scenario, path: &str) -> Result<Week>
-    ensures { IfOk result (λ w. HasNumbersOf scenario.now w.nurses w.shifts w.skills) }
+    ensures { IfOk result (λ w. w.numbers ≡ numbers_of scenario.now) }
 {
     let text = bytes_of(rt, path)?;
     Ok(read_week(rt.alloc(), scenario, &text)?)

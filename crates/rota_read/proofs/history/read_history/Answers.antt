@@ -1,7 +1,7 @@
 use Rattle.rota_core.specs.Parts.{history_of}
 use Rattle.rota_read.specs.HistoryLayout.{history}
 use Rattle.rota_read.proofs.FileLaws.{spells-read}
-use Rattle.rota_read.proofs.HistoryLaws.{spells-is_history, spells-HasNumbersOf}
+use Rattle.rota_read.proofs.HistoryLaws.{spells-is_history, spells-numbers}
 use Rattle.rota_read.proofs.history.read_history.Goals as goal
 
 pub of_parts-requires : goal.of_parts-requires
@@ -21,4 +21,4 @@ returns-in-Ok-clause-numbers c =
     let tables = c.args.scenario.now in
     let parts = history_of c.in-Ok.parts in
     let spelled = spells-read (history tables) c.args.text.now parts c.in-Ok.ensures.read in
-    rw c.of_parts.ensures (spells-HasNumbersOf tables c.args.text.now parts spelled)
+    rw c.of_parts.ensures (spells-numbers tables c.args.text.now parts spelled)

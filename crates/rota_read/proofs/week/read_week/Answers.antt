@@ -1,7 +1,7 @@
 use Rattle.rota_core.specs.Parts.{week_tables_of}
 use Rattle.rota_read.specs.WeekLayout.{week}
 use Rattle.rota_read.proofs.FileLaws.{spells-read}
-use Rattle.rota_read.proofs.WeekLaws.{spells-is_week, spells-HasNumbersOf}
+use Rattle.rota_read.proofs.WeekLaws.{spells-is_week, spells-numbers}
 use Rattle.rota_read.proofs.week.read_week.Goals as goal
 
 pub of_parts-requires : goal.of_parts-requires
@@ -20,4 +20,4 @@ returns-in-Ok-clause-numbers c =
     let scenario = c.args.scenario.now in
     let parts = week_tables_of c.in-Ok.parts in
     let spelled = spells-read (week scenario) c.args.text.now parts c.in-Ok.ensures.read in
-    rw c.of_parts.ensures (spells-HasNumbersOf scenario c.args.text.now parts spelled)
+    rw c.of_parts.ensures (spells-numbers scenario c.args.text.now parts spelled)

@@ -7,7 +7,7 @@ use Rattle.rota_items.proofs.extended.extension.emit_assigned.Goals as goal
 
 pub has_index-requires : goal.has_index-requires
 has_index-requires g c =
-    let shape = c.requires.shape in rw (shape.same_nurses, shape.same_shifts, shape.same_skills) (omega (arith, c.cell_count-index-end.ensures.count))
+    let shape = c.requires.shape in rw shape (omega (arith, c.cell_count-index-end.ensures.count))
 
 pub returns-in_err-literal-clause-takes : goal.returns-in_err-literal-clause-takes
 returns-in_err-literal-clause-takes g c =
