@@ -31,8 +31,7 @@ KeepsOneCell problem roster =
 -- H2: each day has the minimum number of nurses, for each shift type and skill
 abbrev pub KeepsMinimum : Problem → Roster → Type 0
 KeepsMinimum problem roster =
-    (d s k : ℕ) → d < DAYS → s < problem.shifts → k < problem.skills →
-    (problem.demand d s k).minimum ≤ nurses_at problem roster d s k
+    (d s k : ℕ) → d < DAYS → s < problem.shifts → k < problem.skills → (problem.demand d s k).minimum ≤ nurses_at problem roster d s k
 
 -- H3: no shift type follows one that it may not follow; the last one of the history comes before Monday
 pub record KeepsSuccession (problem : Problem) (roster : Roster) : Type 0 where
@@ -45,8 +44,7 @@ pub record KeepsSuccession (problem : Problem) (roster : Roster) : Type 0 where
 
 -- H4: the nurse of each cell has its skill
 abbrev pub KeepsSkills : Problem → Roster → Type 0
-KeepsSkills problem roster =
-    (one : Cell) → Has problem roster one → problem.has_skill one.nurse one.skill ≡ true
+KeepsSkills problem roster = (one : Cell) → Has problem roster one → problem.has_skill one.nurse one.skill ≡ true
 
 -- H5: each held cell is in the roster
 abbrev pub KeepsHeld : Problem → Roster → Type 0

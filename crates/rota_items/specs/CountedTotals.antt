@@ -1,10 +1,5 @@
--- The totals that count in a week, and the charge of a week for a maximum total.
-use Rattle.std.specs.Prelude.{◌+◌, ◌-◌, if◌then◌else◌}
-use Rattle.rota_items.specs.Imports.{ℕ, Bool, Problem}
-
--- the minimum totals of assignments count in the last week only
-abbrev pub min_totals_count : Problem → Bool
-min_totals_count problem = problem.is_last
+-- The charge of a week for a maximum total.
+use Rattle.rota_items.specs.Imports.{ℕ, Problem, ◌+◌, ◌-◌, if◌then◌else◌}
 
 -- the excess of `before + now` over the maximum, less the excess already in `before`
 abbrev pub added_excess : (maximum before now : ℕ) → ℕ

@@ -1,14 +1,14 @@
 -- The words that describe costs and model: lists and numbers, weeks, rosters and rules.
 pub use Rattle.std.specs.Prelude.{ℕ, zero, suc, nat_le, nat_lt, min, ℤ, int_le, pos, negsuc, Bool, true, false, not}
+pub use Rattle.std.specs.Prelude.{◌+◌, ◌-◌, ◌*◌, ◌==◌, ◌&&◌, ◌||◌, if◌then◌else◌}
 pub use Rattle.std.specs.Prelude.{List, [], map, flat_map, length, count_by, sum_by, slice_index_or, All, Option, Some, None, MatchOption}
 pub use Rattle.std.specs.List.{range_with_len, list_any}
 pub use Rattle.rota_core.specs.SumsBelow.{sum_below, count_below}
 pub use Rattle.rota_core.specs.Limits.{DAYS}
 pub use Rattle.rota_core.specs.Problem.{Problem}
 pub use Rattle.rota_core.specs.Roster.{Roster, cell, InWeek}
-pub use Rattle.rota_core.specs.HardRules.{works, is_on, is_off, nurses_at}
-pub use Rattle.rota_core.specs.HardRules.{KeepsHardRules, KeepsOneCell, KeepsMinimum, KeepsSuccession, KeepsSkills}
-pub use Rattle.rota_core.specs.HardRules.{KeepsHeld, KeepsCompetitionRules}
+pub use Rattle.rota_core.specs.HardRules.{works, is_on, is_off, nurses_at, KeepsHardRules, KeepsCompetitionRules}
+pub use Rattle.rota_core.specs.HardRules.{KeepsOneCell, KeepsMinimum, KeepsSuccession, KeepsSkills, KeepsHeld}
 pub use Rattle.rota_core.specs.Rules.{soft_rules, hard_rules}
 pub use Rattle.rota_core.specs.declared.values.Cell.{Cell}
 pub use Rattle.rota_core.specs.declared.values.Span.{Span}

@@ -8,8 +8,7 @@ Term X = ℤ × X
 -- the sum of the coefficients of the true cells or variables
 abbrev pub value_of : {X : Type 0} → (X → Bool) → List (Term X) → ℤ
 value_of assignment [] = pos 0
-value_of assignment (term ∷ terms) =
-    (if assignment term.1 then term.0 else pos 0) +ℤ value_of assignment terms
+value_of assignment (term ∷ terms) = (if assignment term.1 then term.0 else pos 0) +ℤ value_of assignment terms
 
 -- terms whose sum must be at least the degree
 pub record Constraint : Type 0 where

@@ -1,8 +1,7 @@
 -- Runs of days with a property, and their cost. `has d` says whether day d has the property, and `history` is the length of the run that
 -- the days before Monday left.
-use Rattle.std.specs.Prelude.{◌+◌, ◌-◌, ◌&&◌, if◌then◌else◌}
-use Rattle.rota_items.specs.Imports.{ℕ, zero, suc, Bool, not, nat_le, nat_lt, count_by, sum_by, List}
-use Rattle.rota_items.specs.Imports.{DAYS, range_with_len, Span}
+use Rattle.rota_items.specs.Imports.{DAYS, ℕ, zero, suc, Bool, not, nat_le, nat_lt, count_by, sum_by, List, range_with_len, Span}
+use Rattle.rota_items.specs.Imports.{◌+◌, ◌-◌, ◌&&◌, if◌then◌else◌}
 
 -- the days Monday to Sunday
 abbrev pub week_days : List ℕ
@@ -13,21 +12,14 @@ abbrev pub run_length_before : (ℕ → Bool) → ℕ → ℕ → ℕ
 run_length_before has history zero = history
 run_length_before has history (suc d) = (if has d then run_length_before has history d + 1 else 0)
 
--- the length of the run on day d, up to that day; 0 if the day does not have the property
-abbrev pub run_length : (ℕ → Bool) → ℕ → ℕ → ℕ
-run_length has history d = run_length_before has history (suc d)
-
 -- whether the run on day d, up to that day, is longer than the maximum
 abbrev pub is_over : (ℕ → Bool) → (history maximum day : ℕ) → Bool
-is_over has history maximum d = nat_lt maximum (run_length has history d)
+is_over has history maximum d = nat_lt maximum (run_length_before has history (suc d))
 
--- a day without the property after a run
-abbrev pub ends_run : (ℕ → Bool) → ℕ → ℕ → Bool
-ends_run has history d = not (has d) && nat_le 1 (run_length_before has history d)
-
--- the number of days that the run before d is too short
+-- the number of days that the run before d is too short, if d ends a run: a day without the property, after one with it
 abbrev pub missing_on : (ℕ → Bool) → (history minimum day : ℕ) → ℕ
-missing_on has history minimum d = (if ends_run has history d then minimum - run_length_before has history d else 0)
+missing_on has history minimum d =
+    (if not (has d) && nat_le 1 (run_length_before has history d) then minimum - run_length_before has history d else 0)
 
 -- the days whose run is above the maximum
 unfoldable pub run_over : (ℕ → Bool) → ℕ → ℕ → ℕ

@@ -1,6 +1,5 @@
 -- The numbers of the model's variables, and the roster that an assignment represents.
-use Rattle.std.specs.Prelude.{◌+◌}
-use Rattle.rota_items.specs.Imports.{ℕ, Bool, Cell, Problem, cell, Roster}
+use Rattle.rota_items.specs.Imports.{ℕ, Bool, Cell, Problem, cell, Roster, ◌+◌}
 use Rattle.rota_core.specs.RosterTables.{cell_index, cell_count}
 
 -- the variable that is true if the cell is in the roster

@@ -68,7 +68,7 @@ pub use Rattle.rota_items.specs.WeekModel.{slack_variables, extension_of, item_r
 pub use Rattle.rota_core.specs.declared.rule.Rule.TheVariants.{H5, H1, H2, H3, H4, S1, S4}
 pub use Rattle.rota_items.specs.Bounds.{max_cells, max_constant, max_weight, max_cells_of_nurse, max_items, max_cells_of_day, max_constant_of_rule, max_objective, max_run_items}
 pub use Rattle.rota_items.specs.Bounds.{count_limit, max_unit_weight, max_coefficient, max_constant_of_nurse, max_cost_of_nurse, max_items_of_nurse, max_terms, penalty_limit}
-pub use Rattle.rota_items.specs.CountedTotals.{added_excess, charged_excess, min_totals_count}
+pub use Rattle.rota_items.specs.CountedTotals.{added_excess, charged_excess}
 pub use Rattle.rota_items.specs.CountedItems.{max_totals_count, excess_before_counts}
 pub use Rattle.rota_items.specs.EarlyWeeks.{CountedTotal, FollowEarly, RosteredWeek, added_by_all, added_in, early_charges}
 pub use Rattle.rota_core.specs.Limits.{max_skills, max_nurses, max_shifts, max_number}

@@ -3,7 +3,7 @@ use Rattle.rota_items.proofs.Common.Imports.{◌≡◌, ℕ, ◌*◌, ◌<◌, B
 use Rattle.rota_items.proofs.Common.Imports.{is_off, is_on, works, Roster, Problem, Rule, Cell, Item, on_cells, work_cells, weighted_shortages, Span, Property, Present, Absent, Runs, run_items}
 use Rattle.rota_items.proofs.Common.Imports.{max_number, max_shifts, ◌+◌, run_cost, off_runs, shift_runs, work_runs}
 use Rattle.rota_core.specs.declared.rule.Rule.TheVariants.{S2, S3}
-use Rattle.rota_items.specs.rules.ConsecutiveAssignments.Cost.{consecutive_assignment_cost_of, history_on, shift_run_cost, shift_run_weight, work_run_weight}
+use Rattle.rota_items.specs.rules.ConsecutiveAssignments.Cost.{consecutive_assignment_cost_of, history_on, shift_run_weight, work_run_weight}
 use Rattle.rota_items.specs.rules.ConsecutiveDaysOff.Cost.{consecutive_day_off_cost_of, off_run_weight}
 use Rattle.rota_items.specs.rules.ConsecutiveAssignments.Items.{assignment_runs_of}
 use Rattle.rota_items.specs.rules.ConsecutiveDaysOff.Items.{days_off_runs_of}
@@ -47,6 +47,10 @@ module _ (problem : Problem) where
   abbrev shift_items : ℕ → ℕ → List (Item Cell)
   shift_items n s = run_items (shift_runs problem n s)
 
+  -- the units that a nurse's runs on a shift type cost
+  abbrev shift_run_cost : Roster → ℕ → ℕ → ℕ
+  shift_run_cost roster n s = run_cost (is_on problem roster n s) (history_on problem n s) (problem.limits s)
+
   pub sound-consecutive_assignments : IsNurseRuleSound problem S2 (consecutive_assignment_cost_of problem) assignment_runs_of (λ _ _. 0)
   sound-consecutive_assignments = record {
     items = λ n n_in.
@@ -58,7 +62,7 @@ module _ (problem : Problem) where
         omega (
           arith,
           sum_by-append (weighted roster) (concat_below problem.shifts (shift_items n)) (run_items (work_runs problem n)),
-          sum_by-each-times (weighted roster) problem.shifts shift_run_weight (shift_items n) (shift_run_cost problem roster n) (λ s s_in.
+          sum_by-each-times (weighted roster) problem.shifts shift_run_weight (shift_items n) (shift_run_cost roster n) (λ s s_in.
               weighted-on_runs problem roster one n n_in S2 shift_run_weight (history_on problem n s) (problem.limits s) s s_in),
           weighted-work_runs problem roster one n n_in S2 work_run_weight (problem.past n).work_run (problem.contract n).work,
         );
@@ -79,7 +83,7 @@ module _ (problem : Problem) where
     cost_small = λ limits roster n.
         omega (
           arith,
-          sum_below-at_most problem.shifts max_shifts (7 * (1 + max_number)) (shift_run_cost problem roster n) limits.shifts (λ s.
+          sum_below-at_most problem.shifts max_shifts (7 * (1 + max_number)) (shift_run_cost roster n) limits.shifts (λ s.
               omega (arith, limits.limits s, run_cost-le (is_on problem roster n s) (history_on problem n s) (problem.limits s))),
           run_cost-le (works problem roster n) (problem.past n).work_run (problem.contract n).work,
           limits.work_limits n,

@@ -1,7 +1,7 @@
 -- The items of the totals and their constant charge the assignments outside the limits.
 use Rattle.rota_items.proofs.Common.Imports.{◌≡◌, ℕ, ◌+◌, ◌-◌, ◌*◌, ◌<◌, ◌≤◌, Bool, ◌&&◌, true, false, cond, refl, arith, ints, min, ℤ, pos, negsuc, nat_lt, count_by, sum_by-append}
 use Rattle.rota_items.proofs.Common.Imports.{AllByRecursion-append, AllByRecursion-singleton_if, inl, inr, KeepsOneCell, Roster, Problem, nurse_cells, work_cells, shortage, times, IsUnit}
-use Rattle.rota_items.proofs.Common.Imports.{cell, rules, charged_excess, excess_before_counts, max_totals_count, min_totals_count}
+use Rattle.rota_items.proofs.Common.Imports.{cell, rules, charged_excess, excess_before_counts, max_totals_count}
 use Rattle.rota_items.proofs.Common.Imports.{AllByRecursion-concat_below, InWeek}
 use Rattle.rota_core.specs.declared.rule.Rule.TheVariants.{S6}
 use Rattle.rota_items.specs.rules.TotalAssignments.Cost.{assignment_cost_of, assignment_weight, assignments_of}
@@ -30,7 +30,7 @@ max_charged problem maximum before now exceeds small is = grind arith
 
 module _ (problem : Problem) where
   abbrev is_wanted : ℕ → Bool
-  is_wanted n = min_totals_count problem && nat_lt 0 (still_wanted problem n)
+  is_wanted n = problem.is_last && nat_lt 0 (still_wanted problem n)
 
   abbrev is_limited : ℕ → Bool
   is_limited n = max_totals_count problem && nat_lt (still_allowed problem n) 7
@@ -91,7 +91,7 @@ module _ (problem : Problem) where
           sum_by-append (weighted roster) (min_totals_of problem n) (max_totals_of problem n),
           sum_by-singleton_if (weighted roster) (is_wanted n) (min_total_item problem n),
           sum_by-singleton_if (weighted roster) (is_limited n) (max_total_item problem n),
-          min_charged (min_totals_count problem) (problem.contract n).total.min (problem.past n).assignments _ _
+          min_charged problem.is_last (problem.contract n).total.min (problem.past n).assignments _ _
               (assignments-le roster n one n_in) (shortage-minimum roster n),
           max_charged problem (problem.contract n).total.max (problem.past n).assignments _ _
               (assignments-le roster n one n_in) (shortage-maximum roster n),

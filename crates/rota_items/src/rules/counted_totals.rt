@@ -2,16 +2,8 @@
 ghost use Rattle.std.specs.Prelude.{◌≡◌};
 ghost use Rattle.rota_core.specs.InstanceTables.{problem_of};
 ghost use Rattle.rota_items.specs.CountedItems.{excess_before_counts, max_totals_count};
-ghost use Rattle.rota_items.specs.CountedTotals.{min_totals_count};
 
 use rota_core::Instance;
-
-/// Whether the minimum totals of assignments count.
-pub fn min_totals_count(instance: &Instance) -> bool
-    ensures { result ≡ min_totals_count (problem_of instance.now) }
-{
-    instance.last_week()
-}
 
 /// Whether the maximum totals of assignments and of weekends count.
 pub fn max_totals_count(instance: &Instance) -> bool

@@ -2,7 +2,6 @@
 ghost use Rattle.std.specs.Prelude.{◌≡◌, ◌<◌, ◌≤◌, ◌&&◌, nat_lt};
 ghost use Rattle.rota_core.specs.InstanceTables.{problem_of};
 ghost use Rattle.rota_items.specs.CountedItems.{max_totals_count};
-ghost use Rattle.rota_items.specs.CountedTotals.{min_totals_count};
 ghost use Rattle.rota_items.specs.Takes.{TakesItems};
 ghost use Rattle.rota_items.specs.CellSums.{IsSumOf};
 ghost use Rattle.rota_items.specs.SoftItems.{item_of};
@@ -11,7 +10,7 @@ ghost use Rattle.rota_items.specs.rules.TotalAssignments.Items.{assignment_const
 use crate::cell_sum::CellSum;
 use crate::items::item_takers::ItemTaker;
 use crate::items::soft_item::SoftItem;
-use crate::rules::counted_totals::{excess_before_counts, max_totals_count, min_totals_count};
+use crate::rules::counted_totals::{excess_before_counts, max_totals_count};
 use crate::rules::item_visits::emit_item_if;
 use crate::sums::Sign;
 use rota_core::{DAYS, Instance, Rule};
@@ -41,9 +40,9 @@ fn still_allowed(instance: &Instance, nurse: u16) -> u16
 fn asks_for_more(instance: &Instance, nurse: u16) -> bool
     requires { nurse < (problem_of instance.now).nurses }
     ensures { let problem = problem_of instance.now in
-        result ≡ (min_totals_count problem && nat_lt 0 (still_wanted problem nurse)) }
+        result ≡ (problem.is_last && nat_lt 0 (still_wanted problem nurse)) }
 {
-    min_totals_count(instance) && 0 < still_wanted(instance, nurse)
+    instance.last_week() && 0 < still_wanted(instance, nurse)
 }
 
 // Whether the maximum total counts and the week can exceed it.
@@ -111,7 +110,7 @@ fn wanted_beyond_days(instance: &Instance, nurse: u16) -> u16
     requires { nurse < (problem_of instance.now).nurses }
     ensures { result ≡ wanted_beyond_days (problem_of instance.now) nurse }
 {
-    if !min_totals_count(instance) {
+    if !instance.last_week() {
         return 0;
     }
     still_wanted(instance, nurse).saturating_sub(u16::from(DAYS))

@@ -1,6 +1,5 @@
 -- S5, complete weekends: nurses who must have complete weekends, but work on only one day of one.
-use Rattle.std.specs.Prelude.{◌&&◌, ◌||◌, if◌then◌else◌}
-use Rattle.rota_items.specs.Imports.{ℕ, Bool, not, works, Roster, Problem}
+use Rattle.rota_items.specs.Imports.{ℕ, Bool, not, works, Roster, Problem, ◌&&◌, ◌||◌, if◌then◌else◌}
 
 -- the weight of each such weekend of a nurse
 abbrev pub complete_weekend_weight : ℕ
@@ -14,5 +13,4 @@ exactly_one x y = (x && not y) || (not x && y)
 abbrev pub complete_weekend_cost_of : Problem → Roster → ℕ → ℕ
 complete_weekend_cost_of problem roster n =
     (if (problem.contract n).complete && exactly_one (works problem roster n 5) (works problem roster n 6)
-    then complete_weekend_weight
-    else 0)
+    then complete_weekend_weight else 0)

@@ -1,6 +1,5 @@
 -- S1, optimal coverage: nurses below the optimal number of a day's shift type and skill.
-use Rattle.std.specs.Prelude.{◌-◌, ◌*◌}
-use Rattle.rota_items.specs.Imports.{DAYS, ℕ, sum_below, nurses_at, Roster, Problem}
+use Rattle.rota_items.specs.Imports.{DAYS, ℕ, sum_below, nurses_at, Roster, Problem, ◌-◌, ◌*◌}
 
 -- the weight of each missing nurse
 abbrev pub optimum_weight : ℕ
@@ -9,6 +8,5 @@ optimum_weight = 30
 -- the cost of all missing nurses, for each day, shift type and skill
 abbrev pub optimum_cost : Problem → Roster → ℕ
 optimum_cost problem roster =
-    optimum_weight *
-    sum_below DAYS (λ d. sum_below problem.shifts (λ s. sum_below problem.skills (λ k.
+    optimum_weight * sum_below DAYS (λ d. sum_below problem.shifts (λ s. sum_below problem.skills (λ k.
     (problem.demand d s k).optimal - nurses_at problem roster d s k)))

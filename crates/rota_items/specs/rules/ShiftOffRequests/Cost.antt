@@ -1,6 +1,5 @@
 -- S4, requests: cells that request rows ask to leave free.
-use Rattle.std.specs.Prelude.{◌*◌, if◌then◌else◌}
-use Rattle.rota_items.specs.Imports.{DAYS, ℕ, sum_below, Roster, cell, Problem}
+use Rattle.rota_items.specs.Imports.{DAYS, ℕ, sum_below, Roster, cell, Problem, ◌*◌, if◌then◌else◌}
 
 -- the weight of each request row that a cell matches
 abbrev pub request_weight : ℕ
@@ -9,6 +8,5 @@ request_weight = 10
 -- the cost of all cells of the roster that match request rows
 abbrev pub request_cost : Problem → Roster → ℕ
 request_cost problem roster =
-    request_weight *
-    sum_below problem.nurses (λ n. sum_below DAYS (λ d. sum_below problem.shifts (λ s. sum_below problem.skills (λ k.
+    request_weight * sum_below problem.nurses (λ n. sum_below DAYS (λ d. sum_below problem.shifts (λ s. sum_below problem.skills (λ k.
     if roster (cell n d s k) then problem.requests n d s else 0))))

@@ -1,7 +1,6 @@
 -- S6, total assignments: assignments outside the limits of the nurse's total.
-use Rattle.std.specs.Prelude.{◌+◌, ◌-◌, ◌*◌, if◌then◌else◌}
-use Rattle.rota_items.specs.Imports.{DAYS, ℕ, sum_below, count_below, Roster, cell, Problem}
-use Rattle.rota_items.specs.CountedTotals.{charged_excess, min_totals_count}
+use Rattle.rota_items.specs.Imports.{DAYS, ℕ, sum_below, count_below, Roster, cell, Problem, ◌+◌, ◌-◌, ◌*◌, if◌then◌else◌}
+use Rattle.rota_items.specs.CountedTotals.{charged_excess}
 
 -- the weight of each assignment outside the limits
 abbrev pub assignment_weight : ℕ
@@ -12,12 +11,10 @@ abbrev pub assignments_of : Problem → Roster → ℕ → ℕ
 assignments_of problem roster n =
     sum_below DAYS (λ d. sum_below problem.shifts (λ s. count_below problem.skills (λ k. roster (cell n d s k))))
 
--- the number of assignments below the minimum total, in the weeks in which it counts
+-- the number of assignments below the minimum total, which counts in the last week only
 abbrev pub below_min_total : Problem → Roster → ℕ → ℕ
 below_min_total problem roster n =
-    (if min_totals_count problem
-    then (problem.contract n).total.min - ((problem.past n).assignments + assignments_of problem roster n)
-    else 0)
+    (if problem.is_last then (problem.contract n).total.min - ((problem.past n).assignments + assignments_of problem roster n) else 0)
 
 -- the number of assignments above the maximum total for which the week pays
 abbrev pub above_max_total : Problem → Roster → ℕ → ℕ
@@ -26,5 +23,4 @@ above_max_total problem roster n =
 
 -- the cost of a nurse's total
 abbrev pub assignment_cost_of : Problem → Roster → ℕ → ℕ
-assignment_cost_of problem roster n =
-    assignment_weight * (below_min_total problem roster n + above_max_total problem roster n)
+assignment_cost_of problem roster n = assignment_weight * (below_min_total problem roster n + above_max_total problem roster n)

@@ -5,7 +5,6 @@ use Rattle.rota_core.specs.declared.rule.Rule.TheVariants.{S6}
 use Rattle.rota_items.specs.Imports.{ℕ, pos, negsuc, nat_lt, min, List, Cell, Problem}
 use Rattle.rota_items.specs.Rows.{singleton_if, nurse_cells, Item, times}
 use Rattle.rota_items.specs.CountedItems.{excess_before_counts, max_totals_count}
-use Rattle.rota_items.specs.CountedTotals.{min_totals_count}
 use Rattle.rota_items.specs.rules.TotalAssignments.Cost.{assignment_weight}
 
 -- the assignments that the nurse still needs for her minimum total, and the assignments that she may still have below her maximum
@@ -34,7 +33,7 @@ max_total_item problem n = record {
 }
 
 abbrev pub min_totals_of : Problem → ℕ → List (Item Cell)
-min_totals_of problem n = singleton_if (min_totals_count problem && nat_lt 0 (still_wanted problem n)) (min_total_item problem n)
+min_totals_of problem n = singleton_if (problem.is_last && nat_lt 0 (still_wanted problem n)) (min_total_item problem n)
 
 abbrev pub max_totals_of : Problem → ℕ → List (Item Cell)
 max_totals_of problem n =
@@ -46,7 +45,7 @@ totals_of problem n = min_totals_of problem n ++ max_totals_of problem n
 
 -- a nurse's needed assignments beyond one for each day
 abbrev pub wanted_beyond_days : Problem → ℕ → ℕ
-wanted_beyond_days problem n = (if min_totals_count problem then still_wanted problem n - DAYS else 0)
+wanted_beyond_days problem n = (if problem.is_last then still_wanted problem n - DAYS else 0)
 
 -- a nurse's assignments in the history above the maximum total
 abbrev pub assignments_above : Problem → ℕ → ℕ
