@@ -15,7 +15,7 @@ from .files import scenario_text, history_text, write_history, write_text
 from .improve import Progress, search
 from .next_history import next_history
 from .processes import Processes
-from .program import SOFT_RULES, ProgramFault, Report, WeekFiles, decode, encode, extend
+from .program import SOFT_RULES, ProgramFault, Report, WeekFiles, decode, encode, extend, find_program
 from .shared_totals import shared_week
 from .solvers import Task, find_solver, installed_solvers
 
@@ -58,6 +58,8 @@ def plan_once(solver_name: str, seconds: float) -> Plan:
 
 def plan_by_improving(solvers: Sequence[str], seconds: float, seed: int, jobs: int) -> Plan:
     """Looks for a roster and improves it."""
+    for name in solvers:
+        find_solver(name)
 
     def plan(files: WeekFiles, solution: Path) -> bool:
         return search(files, None, solution, seconds, seed, jobs, solvers, Progress(sys.stderr)).stopped
@@ -88,6 +90,7 @@ class Period:
             read_solution(path, self.scenario)
         for path in files.weeks:
             read_week(path, self.scenario)
+        find_program()
         folder.mkdir(parents=True, exist_ok=True)
         if not os.access(folder, os.W_OK):
             raise PermissionError(errno.EACCES, os.strerror(errno.EACCES), str(folder))

@@ -2,6 +2,7 @@
 
 import os
 import shutil
+import sys
 import unittest
 from dataclasses import replace
 
@@ -94,9 +95,18 @@ class PeriodFaults(HelperTest):
             self.assertEqual((said.count("\n"), said.startswith("week 0\ninrc2pb-period: week 0: "), printed), (2, True, ""), said)
         self.assertEqual(list(self.folder.iterdir()), [])
 
-    def test_a_solver_that_is_missing(self):
-        _, _, said = self.period(*WARD_OPTIONS, "--once", "--solver", "nosolver")
-        self.assertIn("there is no solver nosolver", said)
+    def test_without_a_solver_or_the_program_no_folder_is_made(self):
+        out = self.folder / "planned" / "here"
+        for words, environment, status, says in (
+            (("--once", "--solver", "nosolver"), {}, 1, "there is no solver nosolver"),
+            (("--solver", sys.executable, "--solver", "nosolver"), {}, 1, "there is no solver nosolver"),
+            (("--solver", sys.executable), {"INRC2PB": "/nowhere/inrc2pb"}, 127, "there is no program /nowhere/inrc2pb"),
+        ):
+            with self.subTest(words, **environment):
+                ran = run("period", *WARD_OPTIONS, *words, "--out", out, "--time", 1, environment=environment)
+                self.assertEqual((ran[0], ran[1], ran[2].count("\n")), (status, "", 1), ran[2])
+                self.assertIn(says, ran[2])
+                self.assertEqual(list(self.folder.iterdir()), [])
 
     @unittest.skipIf(os.geteuid() == 0, "root may write everywhere")
     def test_a_folder_without_write_permission(self):
