@@ -22,11 +22,18 @@ links_hold() {
     while read -r page; do
         begins_case "the links of ${page#"$installed"/}"
         while read -r link; do
-            # Sources are in the clone only.
-            [[ $link != ../crates/* ]] || { [ -e "docs/$link" ] || complain "the clone has no $link"; continue; }
             [ -e "$(dirname "$page")/$link" ] || complain "there is no $link"
         done < <(grep -oE '\]\([^)#]+' "$page" | sed 's/^](//' | grep -v '://')
     done < <(find "$installed/share/doc" -name '*.md')
+}
+
+# Sources are in the clone only. An installed page names each that the clone's page links to.
+names_sources() {
+    local page source
+    begins_case 'the sources that pages link to'
+    while IFS=: read -r page source; do
+        grep -qF "\`$source\`" "$installed/share/doc/inrc2pb/$page" || complain "the installed $page does not name $source"
+    done < <(grep -oE '\]\(\.\./crates/[^)]*' docs/*.md | sed 's|](../||')
 }
 
 # runs NAME WORD..: the installed command, through a link, in an empty folder.
@@ -94,6 +101,7 @@ begins_case 'make install'
 make_target install DESTDIR="$room/installed" PREFIX=/usr || complain "it fails: $(tail -n 3 "$out")"
 [ -x "$installed/bin/inrc2pb" ] || complain 'no program'
 links_hold
+names_sources
 manual_names_commands
 runs_commands
 ! command -v clasp > /dev/null || follows_page
