@@ -51,8 +51,10 @@ runs_commands() {
     local ward=$installed/share/doc/inrc2pb/examples/ward command
     local week=(--sce "$ward/ward.txt" --his "$ward/history-0.txt" --week "$ward/week-0.txt")
     for command in "$installed"/bin/*; do
-        [ "${command##*/}" = who_fits ] || runs "${command##*/}" --help
+        runs "${command##*/}" --help
     done
+    runs who_fits --help
+    has_line 'Usage: who_fits SCENARIO HISTORY WEEK'
     runs who_fits "$ward/ward.txt" "$ward/history-0.txt" "$ward/week-0.txt"
     runs inrc2pb encode "${week[@]}" --opb week.opb
     runs inrc2pb-check "${week[@]}" --roster "$ward/roster-0.txt"
@@ -91,7 +93,7 @@ follows_page() {
 manual_names_commands() {
     local command
     begins_case 'the manual pages'
-    for command in "$installed"/bin/inrc2pb*; do
+    for command in "$installed"/bin/*; do
         grep -qx ".Nm ${command##*/}\( ,\)\{0,1\}" "$installed"/share/man/man1/*.1 || complain "no manual page names ${command##*/}"
         [ -s "$installed/share/man/man1/${command##*/}.1" ] || complain "man finds no ${command##*/}"
     done

@@ -78,7 +78,7 @@ starts() {
     local command
     for command in "$1"/bin/*; do
         begins_case "${command#"$room"/} --help"
-        (cd "$room" && "$command" --help > "$out" 2>&1) || [ "$(basename "$command")" = who_fits ] || complain "it ends with $?"
+        (cd "$room" && "$command" --help > "$out" 2>&1) || complain "it ends with $?"
     done
 }
 
