@@ -4,9 +4,10 @@ import threading
 import time
 from dataclasses import dataclass
 from pathlib import Path
-from typing import Callable, Optional
+from typing import Callable, Optional, Sequence
 
-from .files import Scenario, Solution, read_solution, write_solution
+from .files import Assignment, Solution, Week, write_solution
+from .misfits import explained, read_roster
 from .neighborhoods import Neighborhood
 from .program import ProgramFault, Report, WeekFiles, decode, extend, penalty_of
 
@@ -114,7 +115,10 @@ class BestRoster:
         return report
 
 
-def read_start(files: WeekFiles, start: Path, scenario: Scenario) -> Snapshot:
-    """The roster with which a search begins. One that breaks a hard rule is a ProgramFault."""
-    roster = read_solution(start, scenario)
-    return Snapshot(0, penalty_of(files, start), roster)
+def read_start(files: WeekFiles, start: Path, week: Week, held: Sequence[Assignment]) -> Snapshot:
+    """The roster with which a search begins. One that breaks a hard rule is a ProgramFault that says in which line, and why."""
+    rows = read_roster(start, week.scenario, week.history).assignments
+    try:
+        return Snapshot(0, penalty_of(files, start), Solution(week.history.week, week.scenario.name, rows))
+    except ProgramFault as fault:
+        raise explained(fault, start, week, held) from fault

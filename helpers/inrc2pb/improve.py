@@ -14,7 +14,8 @@ from typing import Iterator, List, Optional, Sequence, TextIO
 
 from .best_roster import BestRoster, Snapshot, read_start
 from .command import Misuse, add_week_options, parser, week_files
-from .files import read_files, read_solution
+from .files import Assignment, Week, read_files
+from .misfits import read_held
 from .program import ProgramFault, Report, WeekFiles
 from .search import Search
 from .solvers import find_solver, installed_solvers
@@ -96,14 +97,14 @@ def search(
     solution = Path(solution).absolute()
     found = [find_solver(name) for name in solvers or installed_solvers()]
     week = read_files(files.scenario, files.history, files.week)
-    fixed = read_solution(files.fix, week.scenario).assignments if files.fix else ()
+    fixed = held_rows(files.fix, week, progress) if files.fix else ()
     _check_folder(solution)
     best = BestRoster(files, solution, progress.improved)
     running = Search(files, week, fixed, best, found, seconds, progress.warn)
     folder = Path(tempfile.mkdtemp(prefix="inrc2pb-improve-"))
     try:
         if start:
-            best.offer(read_start(files, start, week.scenario), Snapshot(), None, folder, "the given roster")
+            best.offer(read_start(files, start, week, fixed), Snapshot(), None, folder, "the given roster")
         with _signals(running) as caught:
             running.run(folder, seed, jobs)
     finally:
@@ -113,6 +114,11 @@ def search(
         advice = "stopped before the first roster" if caught else f"no roster was found in {seconds:.0f} s: give it more with --time"
         raise ProgramFault(5, advice)
     return Outcome(best, bool(caught))
+
+
+def held_rows(fix: Path, week: Week, progress: Progress) -> Sequence[Assignment]:
+    """The rows of the fix file. A warning is printed if it is of another ward or week."""
+    return read_held(fix, week.scenario, week.history, lambda warning: progress.warn(f"{fix}: {warning}")).assignments
 
 
 def _check_folder(solution: Path) -> None:

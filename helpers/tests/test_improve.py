@@ -135,14 +135,41 @@ class BadInput(HelperTest):
     def test_one_line(self):
         target = ("--sol", self.folder / "best.txt")
         two = self.changed(ROSTER, "Amara Mon Day Charge", "Amara Tue Late Charge")
-        self.assert_refused(6, "roster breaks", *WEEK_OPTIONS, *target, "--from", two)
+        says = f"inrc2pb-improve: {two} line 6: roster breaks H1: Amara has two places on Tue: correct its file, or leave it out\n"
+        self.assert_refused(6, says, *WEEK_OPTIONS, *target, "--from", two)
         self.assert_refused(3, "missing.txt", *WEEK_OPTIONS, *target, "--from", self.folder / "missing.txt")
         self.assert_refused(3, "no_folder", *WEEK_OPTIONS, "--sol", self.folder / "no_folder" / "best.txt")
         broken = self.changed(SCENARIO, "Chen Full", "Chen Ful", "broken.txt")
         self.assert_refused(1, "line 26", "--sce", broken, *WEEK_OPTIONS[2:], *target)
         self.assertFalse((self.folder / "best.txt").exists())
 
-    @unittest.skipUnless(HAS_CLASP and os.getuid() == 0 and Path("/dev/full").exists(), "needs clasp")
+    @unittest.skipUnless(HAS_CLASP, "needs clasp")
+    def test_held_rows_that_do_not_fit(self):
+        fix, words = self.folder / "rows.txt", (*WEEK_OPTIONS, "--sol", self.folder / "best.txt", "--fix", self.folder / "rows.txt")
+        self.solution("Amara Tue Day Charge", "Chen Mon Day Charge")
+        self.assert_refused(1, f"{fix} line 6: Chen does not have the skill Charge: no roster can have this row\n", *words)
+        self.solution("Zoe Mon Day Nurse", week=2, ward="icu")
+        other = "line 2 has 'icu', and the scenario is 'ward': is the file of another ward?\n"
+        self.assert_refused(1, other, *words)
+        # Every nurse is held on the late shift of Monday, so nobody is left for the others.
+        late = [f"{nurse} Mon Late Nurse" for nurse in ("Amara", "Bruno", "Chen", "Ewa", "Finn", "Grace")]
+        self.solution(*late)
+        self.assert_refused(5, f"no roster keeps the hard rules and has the rows of {fix}, says clasp", *words, "--solver", "clasp")
+
+    @unittest.skipUnless(HAS_CLASP, "needs clasp")
+    def test_files_of_another_week(self):
+        other = self.solution(*ROSTER.read_text().splitlines()[4:], week=3)
+        target = self.folder / "best.txt"
+        words = (*WEEK_OPTIONS, "--sol", target, "--time", 60, "--jobs", 1, "--solver", "clasp")
+        status, report, said = run("improve", *words, "--fix", other)
+        self.assertEqual(status, 0, said)
+        hint = "line 2 has week 3, and the history has week 0: is the file of another week?"
+        self.assertEqual(said.splitlines()[0], f"inrc2pb-improve: {other}: {hint}")
+        self.assertIn("penalty 20\n", report)
+        self.assertEqual(run("improve", *words, "--from", other)[0], 0)
+        self.assertTrue(target.read_text().startswith("SOLUTION\n0 ward\n"))
+
+    @unittest.skipUnless(HAS_CLASP, "needs clasp")
     def test_a_week_that_no_roster_meets(self):
         eight = ROOT / "examples" / "eight"
         words = ("--sce", eight / "Sc-eight.txt", "--his", eight / "H0-eight-1.txt", "--week", eight / "WD-eight-1.txt")

@@ -78,10 +78,12 @@ class Periods(PeriodTest):
 
     def test_held_shifts_of_a_week(self):
         held = self.folder / "held.txt"
-        held.write_text("SOLUTION 1 ward ASSIGNMENTS = 1 Grace Sat Day Nurse\n")
-        status, _, said = run("period", *WARD_OPTIONS, "--fix", f"1={held}", "--out", self.folder, "--time", 5, "--once", "--solver", "clasp")
-        self.assertEqual(status, 0, said)
-        self.assertIn("Grace Sat Day Nurse\n", (self.folder / "roster-1.txt").read_text())
+        words = (*WARD_OPTIONS, "--fix", f"1={held}", "--out", self.folder, "--time", 5, "--once", "--solver", "clasp")
+        for week, hint in ((1, ""), (3, f"inrc2pb-period: {held}: line 1 has week 3, and the history has week 1: is the file of another week?\n")):
+            held.write_text(f"SOLUTION {week} ward ASSIGNMENTS = 1 Grace Sat Day Nurse\n")
+            status, _, said = run("period", *words)
+            self.assertEqual((status, said), (0, f"week 0\nweek 1\n{hint}"))
+            self.assertIn("Grace Sat Day Nurse\n", (self.folder / "roster-1.txt").read_text())
 
 
 class PeriodFaults(HelperTest):
@@ -129,6 +131,10 @@ class PeriodFaults(HelperTest):
         self.assertIn("week 3 is not planned", said)
         _, _, said = self.period("--sce", SCENARIO, "--his", HISTORY, "--week", WEEK, "--fix", "held.txt")
         self.assertIn("give the week's number and its file, such as 0=promised.txt", said)
+        fix = self.solution("Chen Mon Day Charge", week=3, name="held.txt")
+        _, _, said = self.period("--sce", SCENARIO, "--his", HISTORY, "--week", WEEK, "--week", WEEK, "--fix", f"1={fix}")
+        hint = "line 2 has week 3, and the history has week 1: is the file of another week?"
+        self.assertEqual(said, f"inrc2pb-period: {fix} line 5: Chen does not have the skill Charge: no roster can have this row; {hint}\n")
         wrong = self.changed(WEEK, "Chen Any", "Chan Any")
         _, _, said = self.period("--sce", SCENARIO, "--his", HISTORY, "--week", wrong)
         self.assertIn("'Chan' is no nurse of NURSES: did you mean 'Chen'?", said)
