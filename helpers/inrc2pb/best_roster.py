@@ -1,5 +1,6 @@
 """The best roster of a search, shared by its workers: only rosters that `decode` accepted get in."""
 
+import tempfile
 import threading
 import time
 from dataclasses import dataclass
@@ -108,7 +109,13 @@ class BestRoster:
 
     def report(self) -> Report:
         """The report of the roster in the file; its status is OPTIMUM FOUND if a solver proved it."""
-        answer, report = extend(self._files, self._solution)
+        with tempfile.TemporaryDirectory() as folder:
+            written = self._solution
+            if not written.is_file():
+                # Nothing can be read from a device.
+                written = Path(folder, "roster.txt")
+                write_solution(written, self._best.roster)
+            answer, report = extend(self._files, written)
         if self.is_proved():
             return decode(self._files, answer.replace("s SATISFIABLE", "s OPTIMUM FOUND", 1))
         assert report is not None
