@@ -19,7 +19,7 @@ from ward import HELPERS, ROOT, ROSTER, SCENARIO, WEEK_FILES, WEEK_OPTIONS, Help
 
 from inrc2pb import command
 from inrc2pb.best_roster import BestRoster, Snapshot
-from inrc2pb.improve import improve, main
+from inrc2pb.improve import Progress, improve, main, search
 from inrc2pb.neighborhoods import Neighborhood, Neighborhoods
 from inrc2pb.processes import Processes
 from inrc2pb.solvers import Cbc, Task, find_solver
@@ -27,12 +27,27 @@ from inrc2pb.solvers import Cbc, Task, find_solver
 FAKE = Path(__file__).resolve().parent / "fake_solver.py"
 THIRTY = ROOT / "examples" / "thirty"
 THIRTY_FILES = program.WeekFiles(THIRTY / "Sc-thirty.txt", THIRTY / "H0-thirty-3.txt", THIRTY / "WD-thirty-3.txt")
+# A roster of this week: clasp's answer to its model with --early.
+EARLY_ANSWER = ROOT / "tests" / "thirty_clasp_early.txt"
 HAS_CLASP, HAS_CBC = (shutil.which(name) is not None for name in ("clasp", "cbc"))
 
 
 def fake(how):
     """The command of a fake solver."""
     return f"{sys.executable} {FAKE} {how}"
+
+
+class UntilBetter(Progress):
+    """Ends a search, as Ctrl-C does, when it has a better roster than the given one."""
+
+    def __init__(self):
+        super().__init__(None)
+        self.penalties = []
+
+    def improved(self, penalty, finder):
+        self.penalties.append(penalty)
+        if len(self.penalties) == 2:
+            os.kill(os.getpid(), signal.SIGINT)
 
 
 class Searches(HelperTest):
@@ -47,15 +62,22 @@ class Searches(HelperTest):
         self.assertEqual(program.penalty_of(WEEK_FILES, target), 20)
 
     @unittest.skipUnless(HAS_CLASP, "needs clasp")
-    def test_it_improves_a_roster_and_never_makes_it_worse(self):
-        target = self.folder / "best.txt"
-        answer = subprocess.run(
-            ["clasp", "--time-limit=2", str(self.model(THIRTY_FILES))], stdout=subprocess.PIPE, stderr=subprocess.DEVNULL).stdout
-        start = self.folder / "start.txt"
-        before = program.decode(THIRTY_FILES, answer.decode(), start).penalty
-        found = improve(THIRTY_FILES, start, target, 6, 3, 2, ["clasp"])
-        self.assertLessEqual(found.penalty, before)
-        self.assertEqual(program.penalty_of(THIRTY_FILES, target), found.penalty)
+    def test_it_finds_the_best_roster_of_a_small_week_from_a_worse_one(self):
+        start, target = self.swapped("Amara", "Bruno"), self.folder / "best.txt"
+        self.assertEqual(program.penalty_of(WEEK_FILES, start), 110)
+        found = improve(WEEK_FILES, start, target, 100, 3, 2, ["clasp"])
+        self.assertEqual((found.penalty, found.optimal), (20, True))
+        self.assertEqual(program.penalty_of(WEEK_FILES, target), 20)
+
+    @unittest.skipUnless(HAS_CLASP, "needs clasp")
+    def test_it_improves_a_roster_of_a_large_week(self):
+        # The search ends at the first better roster: after some seconds, or later on a machine with other work.
+        start, target, progress = self.folder / "start.txt", self.folder / "best.txt", UntilBetter()
+        before = program.decode(THIRTY_FILES, EARLY_ANSWER.read_text(), start).penalty
+        found = search(THIRTY_FILES, start, target, 300, 3, 2, ["clasp"], progress).report.penalty
+        self.assertEqual(progress.penalties[0], before)
+        self.assertLess(found, before)
+        self.assertEqual(program.penalty_of(THIRTY_FILES, target), found)
 
     def model(self, week):
         path = self.folder / "week.opb"
@@ -263,13 +285,6 @@ class BadTargets(HelperTest):
             return handle, name
 
         return made
-
-    def swapped(self, one, two):
-        """The ward's roster with the weeks of two nurses swapped."""
-        names = {one: two, two: one}
-        roster = files.read_solution(ROSTER)
-        rows = [row._replace(nurse=names.get(row.nurse, row.nurse)) for row in roster.assignments]
-        return self.solution(*(row.row() for row in rows), name="start.txt")
 
 
 class Stops(HelperTest):
