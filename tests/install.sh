@@ -78,13 +78,15 @@ print(program.penalty_of(program.WeekFiles(*sys.argv[1:4]), sys.argv[4]))' "$war
     runs inrc2pb-simulate "${week[@]}" --timeout 5 --solver clasp --sol simulated.txt --cusOut custom.txt
 }
 
-# Whoever follows the page of a ward in an empty folder, with the installed examples, comes to its end.
+# follows_page PAGE: whoever follows the page in an empty folder, with the installed examples, comes to its end.
 follows_page() {
     local pages=$installed/share/doc/inrc2pb
-    begins_case 'docs/your_ward.md in an empty folder'
+    begins_case "docs/$1 in an empty folder"
+    rm -rf "$room/planner"
     mkdir "$room/planner"
     cp -r "$pages/examples" "$room/planner"
-    awk '/^```sh$/ { inside = 1; next } /^```/ { inside = 0 } inside' "$pages/docs/your_ward.md" > "$room/blocks"
+    awk '/^```sh$/ { inside = 1; next } /^```/ { inside = 0 } inside' "$pages/docs/$1" > "$room/blocks"
+    [ -s "$room/blocks" ] || complain 'no block'
     (cd "$room/planner" && env -i HOME="$room" PATH="$installed/bin:/usr/local/bin:/usr/bin:/bin:/usr/games" \
         timeout 900 bash -eu "$room/blocks") > "$out" 2> "$err" || complain "it ends with $?: $(tail -n 3 "$err")"
 }
@@ -106,7 +108,9 @@ links_hold
 names_sources
 manual_names_commands
 runs_commands
-! command -v clasp > /dev/null || follows_page
+follows_page helpers.md
+has_line 'Amara Bruno 110'
+! command -v clasp > /dev/null || follows_page your_ward.md
 begins_case 'a helper without its library'
 mv "$installed/share/inrc2pb" "$room/away"
 "$installed/bin/inrc2pb-table" --help > "$out" 2> "$err" && complain 'it runs'
