@@ -5,6 +5,7 @@ import shutil
 import sys
 import unittest
 from dataclasses import replace
+from pathlib import Path
 
 from ward import HISTORY, ROOT, SCENARIO, WARD, WEEK, WEEK_OPTIONS, HelperTest, files, program, run
 
@@ -116,6 +117,12 @@ class PeriodFaults(HelperTest):
         self.assert_fault(self.period(*WARD_OPTIONS, "--once", "--solver", "false"), (
             f"inrc2pb-period: {self.folder}: Permission denied: you may not read or write it: "
             "look at its rights and those of its folder, or choose another folder"), 3)
+
+    @unittest.skipUnless(Path("/sys").is_dir(), "there is no /sys")
+    def test_a_folder_in_which_nobody_may_write(self):
+        status, printed, said = run("period", *WARD_OPTIONS, "--once", "--solver", "false", "--out", "/sys/planned")
+        self.assertEqual((status, printed, said.count("\n")), (3, "", 1), said)
+        self.assertRegex(said, "^inrc2pb-period: /sys/planned: .* choose another folder\n$")
 
     def test_a_week_without_a_roster(self):
         eight = ROOT / "examples" / "eight"
