@@ -82,9 +82,10 @@ def misfits(path: Path, solution: Solution, scenario: Scenario, history: Optiona
 
 
 def read_held(path: Path, scenario: Scenario, history: Optional[History], warn: Callable[[str], None]) -> Solution:
-    """Reads a fix file. A row that no roster can have is a fault; `warn` is told if the file is of another ward or week."""
+    """Reads a fix file. A row that no roster can have is a fault; `warn` gets the hint if the file is of another ward or week."""
     solution = read_roster(path, scenario, history)
-    for misfit in misfits(path, solution, scenario, history):
+    misfit = next(misfits(path, solution, scenario, history), None)
+    if misfit:
         raise FileFault(path, misfit.line, f"{misfit.reason}: no roster can have this row{_hint(path, scenario, history)}")
     found = other_week(path, scenario, history)
     if found:
@@ -96,7 +97,7 @@ def explained(fault: ProgramFault, path: Path, week: Week, held: Iterable[Assign
     """The fault that `inrc2pb extend` found in the roster of this file; if it breaks a hard rule, with the line and the reason."""
     rule = re.search(r"roster breaks (H[1-5])", fault.message)
     if not rule:
-        return ProgramFault(fault.status, f"{path}: {fault.message}")
+        return fault
     solution = read_roster(path, week.scenario, week.history)
     found = next(_misfits_of(rule.group(1), path, solution, week, held), None)
     reason = f"{rule.group()}{f': {found.reason}' if found else ''}{_hint(path, week.scenario, week.history)}"
