@@ -74,7 +74,8 @@ HELPERS = $(wildcard helpers/inrc2pb-*)
 MODULES = $(wildcard helpers/inrc2pb/*.py)
 COMPLETIONS = "$(SHARE)/bash-completion/completions" "$(ZSH)" "$(SHARE)/fish/vendor_completions.d"
 
-# Installs the built programs, and builds nothing, so it can run as another user.
+# Installs the built programs, and builds nothing, so it can run as another user. Sources are in the clone only: an installed page
+# names their paths, without links.
 install:
 	@test -x "$(PROGRAM)" || { echo "There is no $(PROGRAM) yet: 'make' proves and builds it."; exit 1; }
 	mkdir -p "$(BIN)" "$(SHARE)/man/man1" "$(PAGES)/docs" "$(PAGES)/bench" $(COMPLETIONS)
@@ -89,6 +90,7 @@ install:
 	install -m 644 docs/completions/inrc2pb.fish "$(SHARE)/fish/vendor_completions.d/inrc2pb.fish"
 	install -m 644 README.md CHANGELOG.md CONTRIBUTING.md "$(PAGES)"
 	install -m 644 docs/*.md docs/*.svg "$(PAGES)/docs"
+	sed -E -i 's|\[[^]]*\]\(\.\./(crates/[^)]*)\)|`\1`|g' "$(PAGES)"/docs/*.md
 	install -m 644 bench/README.md bench/*.svg "$(PAGES)/bench"
 	cp -R examples "$(PAGES)"
 	find "$(PAGES)/examples" \( -name __pycache__ -o -name '*.sh' \) -prune -exec rm -r {} +

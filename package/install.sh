@@ -1,20 +1,60 @@
 #!/bin/sh
-# Installs the programs, manual pages, completions, pages and example weeks of this folder.
+# Installs the programs, manual pages, completions, pages and example weeks of this folder, or removes them again.
 #
-#   ./install.sh PREFIX          for example "$HOME/.local", or /usr/local as root
+#   ./install.sh PREFIX              for example "$HOME/.local", or /usr/local as root
+#   ./install.sh --uninstall PREFIX  removes the files that it installed there; it leaves those that were changed since
 set -u
 umask 022
 unset CDPATH
-[ $# = 1 ] || { echo 'usage: ./install.sh PREFIX'; exit 2; }
-mkdir -p "$1" && prefix=$(cd "$1" && pwd) || exit 2
-cd "$(dirname "$0")" || exit 2
 
-sha256sum --check --quiet SHA256SUMS || { echo 'Not installed: a file is not as it was packed.'; exit 1; }
-for folder in */; do
-    cp -R "${folder%/}" "$prefix" || exit
-done
-echo "Installed to $prefix. The example weeks are in $prefix/share/doc/inrc2pb/examples."
-case :$PATH: in
-    *":$prefix/bin:"*) ;;
-    *) echo "$prefix/bin is not on the path yet: PATH=\"$prefix/bin:\$PATH\"" ;;
-esac
+usage() {
+    echo 'usage: ./install.sh [--uninstall] PREFIX'
+    exit 2
+}
+
+action=install
+if [ "${1:-}" = --uninstall ]; then
+    action=uninstall
+    shift
+fi
+[ $# = 1 ] || usage
+case $1 in '' | -*) usage ;; esac
+[ $action = uninstall ] || mkdir -p "$1" || exit 2
+prefix=$(cd "$1" && pwd -P) || exit 2
+cd "$(dirname "$0")" || exit 2
+sums=$(pwd -P)/SHA256SUMS
+[ "$prefix/SHA256SUMS" != "$sums" ] || { echo 'Choose another folder than this one.'; exit 2; }
+
+install_files() {
+    sha256sum --check --quiet SHA256SUMS || { echo 'Not installed: a file is not as it was packed.'; exit 1; }
+    for folder in */; do
+        cp -R "${folder%/}" "$prefix" || exit
+    done
+    echo "Installed to $prefix. The example weeks are in $prefix/share/doc/inrc2pb/examples."
+    case :$PATH: in
+        *":$prefix/bin:"*) ;;
+        *) echo "$prefix/bin is not on the path yet: PATH=\"$prefix/bin:\$PATH\"" ;;
+    esac
+}
+
+# The files in the folders are installed, each with a line in SHA256SUMS. Of the prefix's folders only empty ones of the program
+# are removed; Python may have left a compiled form of the library in one.
+uninstall_files() {
+    cd "$prefix" || exit
+    removed=0
+    while read -r sum path; do
+        [ -f "$path" ] || continue
+        case $(sha256sum < "$path") in
+            "$sum "*) rm -f "$path" && removed=$((removed + 1)) ;;
+            *) echo "Left, because it was changed or is of another version: $prefix/$path" ;;
+        esac
+    done << LIST
+$(grep / "$sums")
+LIST
+    rm -rf share/inrc2pb/inrc2pb/__pycache__
+    find share/inrc2pb share/doc/inrc2pb -depth -type d -exec rmdir {} + 2> /dev/null
+    echo "Removed $removed files from $prefix."
+    [ $removed -gt 0 ]
+}
+
+"${action}_files"

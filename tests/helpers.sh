@@ -35,10 +35,6 @@ manual_has_each_option() {
         shown=$({ "$helper" --help; for_each_command "$helper"; } | grep -E '^ +-' | options | grep -vx -- --help)
         [ "$(listed "$name")" = "$shown" ] || complain "$(diff <(listed "$name") <(echo "$shown"))"
     done
-    if command -v mandoc > /dev/null; then
-        begins_case 'the manual page'
-        mandoc -Tlint docs/inrc2pb-helpers.1 2> /dev/null | grep -v ' STYLE: referenced manual not found' && complain 'mandoc complains'
-    fi
 }
 
 # The help of the commands of a helper that has some.

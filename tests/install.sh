@@ -22,11 +22,18 @@ links_hold() {
     while read -r page; do
         begins_case "the links of ${page#"$installed"/}"
         while read -r link; do
-            # Sources are in the clone only.
-            [[ $link != ../crates/* ]] || { [ -e "docs/$link" ] || complain "the clone has no $link"; continue; }
             [ -e "$(dirname "$page")/$link" ] || complain "there is no $link"
         done < <(grep -oE '\]\([^)#]+' "$page" | sed 's/^](//' | grep -v '://')
     done < <(find "$installed/share/doc" -name '*.md')
+}
+
+# Sources are in the clone only. An installed page names each that the clone's page links to.
+names_sources() {
+    local page source
+    begins_case 'the sources that pages link to'
+    while IFS=: read -r page source; do
+        grep -qF "\`$source\`" "$installed/share/doc/inrc2pb/$page" || complain "the installed $page does not name $source"
+    done < <(grep -oE '\]\(\.\./crates/[^)]*' docs/*.md | sed 's|](../||')
 }
 
 # runs NAME WORD..: the installed command, through a link, in an empty folder.
@@ -44,8 +51,10 @@ runs_commands() {
     local ward=$installed/share/doc/inrc2pb/examples/ward command
     local week=(--sce "$ward/ward.txt" --his "$ward/history-0.txt" --week "$ward/week-0.txt")
     for command in "$installed"/bin/*; do
-        [ "${command##*/}" = who_fits ] || runs "${command##*/}" --help
+        runs "${command##*/}" --help
     done
+    runs who_fits --help
+    has_line 'Usage: who_fits SCENARIO HISTORY WEEK'
     runs who_fits "$ward/ward.txt" "$ward/history-0.txt" "$ward/week-0.txt"
     runs inrc2pb encode "${week[@]}" --opb week.opb
     runs inrc2pb-check "${week[@]}" --roster "$ward/roster-0.txt"
@@ -69,13 +78,15 @@ print(program.penalty_of(program.WeekFiles(*sys.argv[1:4]), sys.argv[4]))' "$war
     runs inrc2pb-simulate "${week[@]}" --timeout 5 --solver clasp --sol simulated.txt --cusOut custom.txt
 }
 
-# Whoever follows the page of a ward in an empty folder, with the installed examples, comes to its end.
+# follows_page PAGE: whoever follows the page in an empty folder, with the installed examples, comes to its end.
 follows_page() {
     local pages=$installed/share/doc/inrc2pb
-    begins_case 'docs/your_ward.md in an empty folder'
+    begins_case "docs/$1 in an empty folder"
+    rm -rf "$room/planner"
     mkdir "$room/planner"
     cp -r "$pages/examples" "$room/planner"
-    awk '/^```sh$/ { inside = 1; next } /^```/ { inside = 0 } inside' "$pages/docs/your_ward.md" > "$room/blocks"
+    awk '/^```sh$/ { inside = 1; next } /^```/ { inside = 0 } inside' "$pages/docs/$1" > "$room/blocks"
+    [ -s "$room/blocks" ] || complain 'no block'
     (cd "$room/planner" && env -i HOME="$room" PATH="$installed/bin:/usr/local/bin:/usr/bin:/bin:/usr/games" \
         timeout 900 bash -eu "$room/blocks") > "$out" 2> "$err" || complain "it ends with $?: $(tail -n 3 "$err")"
 }
@@ -84,7 +95,7 @@ follows_page() {
 manual_names_commands() {
     local command
     begins_case 'the manual pages'
-    for command in "$installed"/bin/inrc2pb*; do
+    for command in "$installed"/bin/*; do
         grep -qx ".Nm ${command##*/}\( ,\)\{0,1\}" "$installed"/share/man/man1/*.1 || complain "no manual page names ${command##*/}"
         [ -s "$installed/share/man/man1/${command##*/}.1" ] || complain "man finds no ${command##*/}"
     done
@@ -94,9 +105,12 @@ begins_case 'make install'
 make_target install DESTDIR="$room/installed" PREFIX=/usr || complain "it fails: $(tail -n 3 "$out")"
 [ -x "$installed/bin/inrc2pb" ] || complain 'no program'
 links_hold
+names_sources
 manual_names_commands
 runs_commands
-! command -v clasp > /dev/null || follows_page
+follows_page helpers.md
+has_line 'Amara Bruno 110'
+! command -v clasp > /dev/null || follows_page your_ward.md
 begins_case 'a helper without its library'
 mv "$installed/share/inrc2pb" "$room/away"
 "$installed/bin/inrc2pb-table" --help > "$out" 2> "$err" && complain 'it runs'

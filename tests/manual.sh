@@ -3,7 +3,7 @@
 #
 #   tests/manual.sh [llvm | rattle | PROGRAM]
 #
-# Needs bash, the usual tools of a shell and Python 3.8; where mandoc or man is installed, the manual page is checked by it
+# Needs bash, the usual tools of a shell and Python 3.8; where mandoc or man is installed, all manual pages are checked by it
 # too, and where zsh or fish is, the completion for it.
 . "$(dirname "$0")/kit.sh"
 # shellcheck source=docs/completions/inrc2pb.bash
@@ -107,19 +107,22 @@ completions_are_written() {
     fi
 }
 
+# is_manual PAGE: mandoc and man read it.
 is_manual() {
-    begins_case 'the manual page'
+    begins_case "the manual page $1"
     if command -v mandoc > /dev/null; then
         # What it says of other pages depends on the machine.
-        mandoc -Tlint docs/inrc2pb.1 | grep -v ' STYLE: referenced manual not found' && complain 'mandoc complains'
+        mandoc -Tlint "$1" 2> /dev/null | grep -v ' STYLE: referenced manual not found' && complain 'mandoc complains'
     fi
     if command -v man > /dev/null && man --version 2> /dev/null | grep -q man-db; then
-        [ -z "$(LC_ALL=C man --warnings -l -Tascii docs/inrc2pb.1 2>&1 > /dev/null)" ] || complain 'man warns'
+        [ -z "$(LC_ALL=C man --warnings -l -Tascii "$1" 2>&1 > /dev/null)" ] || complain 'man warns'
     fi
 }
 
 names_the_same
 completes
 completions_are_written
-is_manual
+for page in docs/*.1; do
+    is_manual "$page"
+done
 finish

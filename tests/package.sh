@@ -1,7 +1,7 @@
 #!/usr/bin/env bash
-# Builds the archive and the Debian package twice, and compares the bytes. Unpacks the archive into an empty folder and
-# installs it, installs the package by `dpkg --root`, and runs README's first shell block with the installed files and nothing
-# else from the clone. Checks the checksums, PROVED, and the package by lintian.
+# Builds the archive and the Debian package twice, and compares the bytes. Unpacks the archive into an empty folder, installs
+# it and removes it again, installs the package by `dpkg --root`, and runs README's first shell block with the installed files
+# and nothing else from the clone. Checks the checksums, PROVED, and the package by lintian.
 #
 #   tests/package.sh [llvm | rattle | PROGRAM]
 #
@@ -78,8 +78,33 @@ starts() {
     local command
     for command in "$1"/bin/*; do
         begins_case "${command#"$room"/} --help"
-        (cd "$room" && "$command" --help > "$out" 2>&1) || [ "$(basename "$command")" = who_fits ] || complain "it ends with $?"
+        (cd "$room" && "$command" --help > "$out" 2>&1) || complain "it ends with $?"
     done
+}
+
+# files_of FOLDER: its files, one a line.
+files_of() { (cd "$1" && find . -type f | sort); }
+
+# uninstalls SCRIPT: it removes exactly the files that were installed to $room/prefix, and leaves a file that was changed.
+uninstalls() {
+    local changed=share/doc/inrc2pb/examples/ward/week-0.txt
+    begins_case 'install.sh --uninstall'
+    mkdir -p "$room/prefix/share/fonts"
+    touch "$room/prefix/bin/mine" "$room/prefix/share/doc/inrc2pb/examples/mine.txt"
+    echo >> "$room/prefix/$changed"
+    "$1" --uninstall "$room/prefix" > "$out" 2>&1 || complain "it ends with $?: $(tail -n 3 "$out")"
+    diff <(files_of "$room/prefix") <(printf './%s\n' bin/mine share/doc/inrc2pb/examples/mine.txt "$changed") > "$room/diff" ||
+        complain "$(head -n 5 "$room/diff")"
+    has_line "Left, because it was changed or is of another version: $room/prefix/$changed"
+    [ -d "$room/prefix/share/fonts" ] || complain 'a folder of others is gone'
+    [ ! -e "$room/prefix/share/inrc2pb" ] || complain 'the folder of the library is left'
+    begins_case 'install.sh --uninstall, again'
+    rm "$room/prefix/$changed"
+    ! "$1" --uninstall "$room/prefix" > "$out" 2>&1 || complain 'it finds nothing, and succeeds'
+    has_line "Removed 0 files from $room/prefix."
+    begins_case 'install.sh in its own folder'
+    ! (cd "$(dirname "$1")" && ./install.sh --uninstall .) > "$out" 2>&1 || complain 'it removes its own files'
+    [ -x "$(dirname "$1")/bin/inrc2pb" ] || complain 'the program is gone'
 }
 
 gates_are_told_apart
@@ -92,9 +117,10 @@ states_proof "$room/unpacked/$archive/PROVED"
 begins_case 'install.sh'
 "$room/unpacked/$archive/install.sh" "$room/prefix" > "$out" 2>&1 || complain "it ends with $?: $(tail -n 3 "$out")"
 diff -r "$room/unpacked/$archive/bin" "$room/prefix/bin" > "$out" || complain "$(head -n 3 "$out")"
-rm -r "$room/unpacked"
+mv "$room/unpacked" "$room/packed"
 works "$room/prefix"
 starts "$room/prefix"
+uninstalls "$room/packed/$archive/install.sh"
 
 if command -v dpkg-deb dpkg strip | wc -l | grep -qx 3; then
     built_twice 'the package' deb.sh "$package"

@@ -1,12 +1,14 @@
 """The best roster of a search, shared by its workers: only rosters that `decode` accepted get in."""
 
+import tempfile
 import threading
 import time
 from dataclasses import dataclass
 from pathlib import Path
-from typing import Callable, Optional
+from typing import Callable, Optional, Sequence
 
-from .files import Scenario, Solution, read_solution, write_solution
+from .files import Assignment, Solution, Week, write_solution
+from .misfits import explained, read_roster
 from .neighborhoods import Neighborhood
 from .program import ProgramFault, Report, WeekFiles, decode, extend, penalty_of
 
@@ -107,14 +109,23 @@ class BestRoster:
 
     def report(self) -> Report:
         """The report of the roster in the file; its status is OPTIMUM FOUND if a solver proved it."""
-        answer, report = extend(self._files, self._solution)
+        with tempfile.TemporaryDirectory() as folder:
+            written = self._solution
+            if not written.is_file():
+                # Nothing can be read from a device.
+                written = Path(folder, "roster.txt")
+                write_solution(written, self._best.roster)
+            answer, report = extend(self._files, written)
         if self.is_proved():
             return decode(self._files, answer.replace("s SATISFIABLE", "s OPTIMUM FOUND", 1))
         assert report is not None
         return report
 
 
-def read_start(files: WeekFiles, start: Path, scenario: Scenario) -> Snapshot:
-    """The roster with which a search begins. One that breaks a hard rule is a ProgramFault."""
-    roster = read_solution(start, scenario)
-    return Snapshot(0, penalty_of(files, start), roster)
+def read_start(files: WeekFiles, start: Path, week: Week, held: Sequence[Assignment]) -> Snapshot:
+    """The roster with which a search begins. One that breaks a hard rule is a ProgramFault that says in which line, and why."""
+    rows = read_roster(start, week.scenario, week.history).assignments
+    try:
+        return Snapshot(0, penalty_of(files, start), Solution(week.history.week, week.scenario.name, rows))
+    except ProgramFault as fault:
+        raise explained(fault, start, week, held) from fault

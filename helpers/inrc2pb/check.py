@@ -9,7 +9,8 @@ from typing import Callable, Iterator, List, Optional, Tuple
 from .command import Misuse, add_week_options, fault_line, parser, run, week_files
 from .constraint import block_of, blocks, named_row, row_of
 from .files import Assignment, FileFault, History, Limits, Scenario, Solution, Week, WeekData
-from .files import check_week_number, read_history, read_scenario, read_solution, read_week
+from .files import check_week_number, read_history, read_scenario, read_week
+from .misfits import explained, other_week, read_held, read_roster
 from .program import NO_PROGRAM, ProgramFault, encode, extend
 from .slots import quoted, text_of
 
@@ -118,15 +119,15 @@ class Check:
         if name != scenario.name:
             yield f"it is of '{name}', and the scenario is '{scenario.name}'"
 
-    def solution(self, path: Path, scenario: Scenario, history: Optional[History]) -> Optional[Solution]:
-        """Checks a fix file or a roster."""
-        solution = self.reads(path, lambda: read_solution(path, scenario))
-        if not isinstance(solution, Solution):
-            return None
-        self.warns(path, self.name(path, solution.scenario, scenario))
-        if history and solution.week != history.week:
-            self.warns(path, iter([f"it is of week {solution.week}, and the history is of week {history.week}"]))
-        return solution
+    def held(self, path: Path, scenario: Scenario, history: Optional[History]) -> List[Assignment]:
+        """Checks a fix file: its assignments, if it has no mistake."""
+        solution = self.reads(path, lambda: read_held(path, scenario, history, lambda warning: self.warns(path, iter([warning]))))
+        return list(solution.assignments) if isinstance(solution, Solution) else []
+
+    def roster(self, path: Path, scenario: Scenario, history: Optional[History]) -> None:
+        """Checks a roster."""
+        if self.reads(path, lambda: read_roster(path, scenario, history)):
+            self.warns(path, filter(None, [other_week(path, scenario, history)]))
 
     def history(self, scenario: Scenario) -> Optional[History]:
         """Checks the history."""
@@ -158,11 +159,40 @@ class Check:
         if isinstance(data, WeekData):
             self.warns(given.week, self.name(given.week, data.name, scenario))
             self.warns(given.week, week_warnings(scenario, data))
-        fix = self.solution(given.fix, scenario, history) if given.fix else None
+        held = self.held(given.fix, scenario, history) if given.fix else []
         for roster in given.roster:
-            self.solution(roster, scenario, history)
+            self.roster(roster, scenario, history)
         week = Week(scenario, history, data) if history and isinstance(data, WeekData) else None
-        return week, list(fix.assignments) if fix else []
+        return week, held
+
+    def model(self, week: Week, held: List[Assignment]) -> None:
+        """Lets `inrc2pb` check the files too, if it is installed: only it can find a hard rule that a roster breaks."""
+        files = week_files(self.given)
+        try:
+            encode(files, Path("/dev/null"))
+            for roster in self.given.roster:
+                with broken_rules_explained(roster, week, held):
+                    extend(files, roster, with_report=False)
+        except (FileFault, ProgramFault) as fault:
+            if getattr(fault, "status", 0) != NO_PROGRAM:
+                self.mistakes += 1
+                print(fault)
+
+
+    def model(self, week: Week, held: List[Assignment]) -> None:
+        """Lets `inrc2pb` check the files too, if it is installed: it finds the hard rule that a roster breaks."""
+        files = week_files(self.given)
+        try:
+            encode(files, Path("/dev/null"))
+            for roster in self.given.roster:
+                try:
+                    extend(files, roster, with_report=False)
+                except ProgramFault as fault:
+                    raise explained(fault, roster, week, held) from fault
+        except ProgramFault as fault:
+            if fault.status != NO_PROGRAM:
+                self.mistakes += 1
+                print(fault)
 
 
 def _explain(number: int, week: Week, held: List[Assignment], given: argparse.Namespace) -> None:
@@ -198,16 +228,7 @@ def main() -> Optional[int]:
     if not check.mistakes and week and given.constraint is not None:
         _explain(given.constraint, week, held, given)
     elif not check.mistakes and week:
-        checked = ""
-        try:
-            encode(week_files(given), Path("/dev/null"))
-            for roster in given.roster:
-                checked = f"{roster}: "
-                extend(week_files(given), roster, with_report=False)
-        except ProgramFault as fault:
-            if fault.status != NO_PROGRAM:
-                check.mistakes += 1
-                print(f"{checked}{fault}")
+        check.model(week, held)
     if not check.mistakes and given.constraint is None:
         print("No mistake found.")
     return 1 if check.mistakes else 0

@@ -30,6 +30,7 @@ _PROGRAM_ADVICE = (
     ("UNSATISFIABLE", "the minimum numbers cannot all be met; docs/your_ward.md shows how to find out why"),
     ("UNKNOWN", "give the solver more time"),
     ("answer: ", "look at what the solver prints, or use another solver"),
+    ("roster breaks", "correct its file, or leave it out"),
     ("is not satisfied", "the solver's answer does not fit this week: use another solver"),
     (" line ", "inrc2pb-check names the word and how to correct it"),
 )

@@ -15,8 +15,8 @@ from .slots import FileFault, Limits, PathLike, Slots, Token
 
 __all__ = [
     "ANY", "Assignment", "Contract", "DAYS", "FileFault", "History", "Limits", "NONE", "Nurse", "NurseHistory", "Place",
-    "Request", "Requirement", "Scenario", "ShiftType", "Solution", "Week", "WeekData", "check_week_number", "history_text",
-    "read_files", "read_history", "read_scenario", "read_solution", "read_week", "scenario_text", "solution_text",
+    "Request", "Requirement", "Scenario", "ShiftType", "Solution", "Week", "WeekData", "check_week_number", "file_at",
+    "history_text", "read_files", "read_history", "read_scenario", "read_solution", "read_week", "scenario_text", "solution_text",
     "week_text", "write_history", "write_solution", "write_text",
 ]  # fmt: skip
 
@@ -225,16 +225,24 @@ def history_text(history: History) -> str:
     return f"HISTORY\n{history.week} {history.scenario}\n\nNURSE_HISTORY\n{rows}"
 
 
+def file_at(path: PathLike) -> Path:
+    """The file that a path names: the one that a link leads to, but for the links to open files in /dev and /proc."""
+    target = Path(path)
+    if target.is_symlink() and target.is_file() and target.absolute().parts[1] not in ("dev", "proc"):
+        return Path(os.path.realpath(target))
+    return target
+
+
 def write_text(path: PathLike, text: str) -> None:
     """Writes a text to a file, with the bytes that its reader found. A file that exists is replaced only by a whole text."""
-    target, data = Path(path), text.encode("utf-8", errors="surrogateescape")
+    target, data = file_at(path), text.encode("utf-8", errors="surrogateescape")
     try:
         if (target.exists() and not target.is_file()) or target.is_symlink() or not os.access(target.parent, os.W_OK):
             target.write_bytes(data)
         else:
             _replace(target, data)
     except OSError as fault:
-        fault.filename = str(target)
+        fault.filename = str(path)
         raise
 
 

@@ -2,6 +2,7 @@
 
 import argparse
 import contextlib
+import errno
 import os
 import shutil
 import signal
@@ -14,7 +15,8 @@ from typing import Iterator, List, Optional, Sequence, TextIO
 
 from .best_roster import BestRoster, Snapshot, read_start
 from .command import Misuse, add_week_options, parser, week_files
-from .files import read_files, read_solution
+from .files import Assignment, Week, file_at, read_files
+from .misfits import read_held
 from .program import ProgramFault, Report, WeekFiles
 from .search import Search
 from .solvers import find_solver, installed_solvers
@@ -96,14 +98,14 @@ def search(
     solution = Path(solution).absolute()
     found = [find_solver(name) for name in solvers or installed_solvers()]
     week = read_files(files.scenario, files.history, files.week)
-    fixed = read_solution(files.fix, week.scenario).assignments if files.fix else ()
-    _check_folder(solution)
+    fixed = held_rows(files.fix, week, progress) if files.fix else ()
+    _check_target(solution)
     best = BestRoster(files, solution, progress.improved)
     running = Search(files, week, fixed, best, found, seconds, progress.warn)
     folder = Path(tempfile.mkdtemp(prefix="inrc2pb-improve-"))
     try:
         if start:
-            best.offer(read_start(files, start, week.scenario), Snapshot(), None, folder, "the given roster")
+            best.offer(read_start(files, start, week, fixed), Snapshot(), None, folder, "the given roster")
         with _signals(running) as caught:
             running.run(folder, seed, jobs)
     finally:
@@ -115,10 +117,20 @@ def search(
     return Outcome(best, bool(caught))
 
 
-def _check_folder(solution: Path) -> None:
-    """The roster's folder must be writable, before the search begins."""
+def held_rows(fix: Path, week: Week, progress: Progress) -> Sequence[Assignment]:
+    """The rows of the fix file. A warning is printed if it is of another ward or week."""
+    return read_held(fix, week.scenario, week.history, lambda warning: progress.warn(f"{fix}: {warning}")).assignments
+
+
+def _check_target(solution: Path) -> None:
+    """It must be possible to write the roster, before the search begins. A device such as /dev/null shows it only when it is written."""
+    target = file_at(solution)
+    if target.is_dir():
+        raise IsADirectoryError(errno.EISDIR, os.strerror(errno.EISDIR), str(solution))
+    if target.exists() and not target.is_file():
+        return
     try:
-        handle, name = tempfile.mkstemp(prefix=f".{solution.name}.", dir=solution.parent)
+        handle, name = tempfile.mkstemp(prefix=f".{target.name}.", dir=target.parent)
     except OSError as fault:
         fault.filename = str(solution)
         raise

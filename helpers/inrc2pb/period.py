@@ -10,12 +10,13 @@ from pathlib import Path
 from typing import Callable, Dict, List, Optional, Sequence
 
 from .command import Misuse, add_solver_options, fault_line, parser, run
-from .files import History, Scenario, Week, check_week_number, read_history, read_scenario, read_solution, read_week
-from .files import scenario_text, history_text, write_history, write_text
-from .improve import Progress, search
+from .files import FileFault, History, Scenario, Week, check_week_number, read_files, read_history, read_scenario, read_solution
+from .files import history_text, read_week, scenario_text, write_history, write_text
+from .improve import Progress, held_rows, search
+from .misfits import read_held
 from .next_history import next_history
 from .processes import Processes
-from .program import SOFT_RULES, ProgramFault, Report, WeekFiles, decode, encode, extend
+from .program import SOFT_RULES, ProgramFault, Report, WeekFiles, decode, encode, extend, find_program
 from .shared_totals import shared_week
 from .solvers import Task, find_solver, installed_solvers
 
@@ -40,6 +41,9 @@ def plan_once(solver_name: str, seconds: float) -> Plan:
     solver = find_solver(solver_name).whole()[0]
 
     def plan(files: WeekFiles, solution: Path) -> bool:
+        if files.fix:
+            week = read_files(files.scenario, files.history, files.week)
+            held_rows(files.fix, week, Progress(sys.stderr))
         with tempfile.TemporaryDirectory() as folder:
             model = Path(folder, "week.opb")
             encode(files, model)
@@ -58,6 +62,8 @@ def plan_once(solver_name: str, seconds: float) -> Plan:
 
 def plan_by_improving(solvers: Sequence[str], seconds: float, seed: int, jobs: int) -> Plan:
     """Looks for a roster and improves it."""
+    for name in solvers:
+        find_solver(name)
 
     def plan(files: WeekFiles, solution: Path) -> bool:
         return search(files, None, solution, seconds, seed, jobs, solvers, Progress(sys.stderr)).stopped
@@ -85,9 +91,11 @@ class Period:
         for number, path in files.fixes.items():
             if number not in numbers:
                 raise Misuse(f"--fix {number}={path}: week {number} is not planned, the weeks are {numbers[0]} to {numbers[-1]}")
-            read_solution(path, self.scenario)
+            known = self.history if number == self.first else History(number, self.history.scenario, {})
+            read_held(path, self.scenario, known, lambda warning: None)
         for path in files.weeks:
             read_week(path, self.scenario)
+        find_program()
         folder.mkdir(parents=True, exist_ok=True)
         if not os.access(folder, os.W_OK):
             raise PermissionError(errno.EACCES, os.strerror(errno.EACCES), str(folder))
@@ -103,7 +111,7 @@ class Period:
             try:
                 stopped = self.plan_week(files, roster)
                 _, report = extend(files, roster)
-            except (Misuse, ProgramFault) as fault:
+            except (FileFault, Misuse, ProgramFault) as fault:
                 raise Misuse(f"week {number}: {fault_line(fault)}") from fault
             assert report is not None
             self.reports[number] = report

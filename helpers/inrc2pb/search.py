@@ -207,7 +207,9 @@ class Search:
         elif "UNSATISFIABLE" in fault.message and seen.version:
             self._blame(solver, "it found no roster where there is one")
         elif "UNSATISFIABLE" in fault.message and not self._best.now().version:
-            raise ProgramFault(_NO_ROSTER, f"no roster keeps the hard rules, says {solver.name}: docs/your_ward.md shows how to find out why")
+            held = f" and has the rows of {self._files.fix}" if self._files.fix else ""
+            advice = "docs/your_ward.md shows how to find out why"
+            raise ProgramFault(_NO_ROSTER, f"no roster keeps the hard rules{held}, says {solver.name}: {advice}")
 
     def _blame(self, solver: Solver, message: str) -> None:
         """Reports a fault of a solver; after some in a row the solver is not used any more."""

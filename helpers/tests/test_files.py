@@ -96,6 +96,58 @@ class Mistakes(HelperTest):
         self.assertEqual((status, printed), (1, f"{missing}: No such file or directory: look at its name and folder\n"))
 
 
+# Rows that no roster can have, the line of the fault, and its reason. Amara was on Day on Sunday, Dilek on Night.
+HELD = [
+    (("Amara Tue Day Charge", "Chen Mon Day Charge"), 6, "Chen does not have the skill Charge"),
+    (("Chen Mon Day Nurse", "Amara Tue Day Charge", "Chen Mon Late Nurse"), 7, "Chen has two places on Mon"),
+    (("Dilek Mon Late Nurse",), 5, "Dilek may not work Late on Mon after Night on the Sunday before"),
+    (("Chen Tue Day Nurse", "Chen Mon Late Nurse"), 6, "Chen may not work Day on Tue after Late on Mon"),
+    (("Chen Mon Late Nurse", "Chen Tue Day Nurse"), 6, "Chen may not work Day on Tue after Late on Mon"),
+]
+
+
+class Misfits(HelperTest):
+    other_week = "line 2 has week 3, and the history has week 0: is the file of another week?"
+    other_ward = "line 2 has 'icu', and the scenario is 'ward': is the file of another ward?"
+
+    def test_a_held_row_that_no_roster_can_have(self):
+        for rows, line, reason in HELD:
+            with self.subTest(reason):
+                fix = self.solution(*rows)
+                said = f"{fix} line {line}: {reason}: no roster can have this row"
+                self.assertEqual(run("check", *WEEK_OPTIONS, "--fix", fix), (1, said + "\n", ""))
+                fix = self.solution(*rows, week=3)
+                self.assertEqual(run("check", *WEEK_OPTIONS, "--fix", fix), (1, f"{said}; {self.other_week}\n", ""))
+
+    def test_a_file_of_another_week_or_ward(self):
+        for named, hint in (({"week": 3}, self.other_week), ({"ward": "icu"}, self.other_ward)):
+            for option in ("--fix", "--roster"):
+                with self.subTest(option, **named):
+                    path = self.solution(*ROSTER.read_text().splitlines()[4:], **named)
+                    ran = run("check", *WEEK_OPTIONS, option, path)
+                    self.assertEqual(ran, (0, f"{path}: warning: {hint}\nNo mistake found.\n", ""))
+                    path = self.solution("Amara Mon Day Charge", "Zoe Mon Day Nurse", **named)
+                    status, printed, _ = run("check", *WEEK_OPTIONS, option, path)
+                    self.assertEqual((status, printed.count("\n")), (1, 1), printed)
+                    self.assertTrue(printed.startswith(f"{path} line 6: 'Zoe' is no nurse of NURSES"), printed)
+                    self.assertTrue(printed.endswith(f"; {hint}\n"), printed)
+
+    def test_a_roster_that_breaks_a_hard_rule(self):
+        fix = self.solution("Grace Sat Day Nurse", name="fix.txt")
+        for old, new, where, reason in (
+            ("Amara Tue Day Charge", "Amara Mon Late Nurse", " line 6", "H1: Amara has two places on Mon"),
+            ("Amara Mon Day Charge", "Amara Thu Day Nurse", "", "H2: Mon Day Charge has 0 nurses and needs at least 1"),
+            ("Amara Mon Day Charge", "Amara Mon Day Nurse", "", "H2: Mon Day Charge has 0 nurses and needs at least 1"),
+            ("Bruno Mon Day Nurse", "Chen Mon Day Charge", " line 10", "H4: Chen does not have the skill Charge"),
+        ):
+            with self.subTest(reason):
+                roster = self.changed(ROSTER, old, new)
+                said = f"{roster}{where}: roster breaks {reason}\n"
+                self.assertEqual(run("check", *WEEK_OPTIONS, "--roster", roster), (1, said, ""))
+        said = f"{ROSTER}: roster breaks H5: the held row 'Grace Sat Day Nurse' is missing\n"
+        self.assertEqual(run("check", *WEEK_OPTIONS, "--fix", fix, "--roster", ROSTER), (1, said, ""))
+
+
 class Constraints(HelperTest):
     def test_the_blocks_are_the_model(self):
         model = self.folder / "week.opb"

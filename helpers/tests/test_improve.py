@@ -14,7 +14,7 @@ from pathlib import Path
 from ward import HELPERS, ROOT, ROSTER, SCENARIO, WEEK_FILES, WEEK_OPTIONS, HelperTest, files, program, run
 
 from inrc2pb.best_roster import BestRoster, Snapshot
-from inrc2pb.improve import improve
+from inrc2pb.improve import Progress, improve, search
 from inrc2pb.neighborhoods import Neighborhood, Neighborhoods
 from inrc2pb.processes import Processes
 from inrc2pb.solvers import Cbc, Task, find_solver
@@ -22,12 +22,27 @@ from inrc2pb.solvers import Cbc, Task, find_solver
 FAKE = Path(__file__).resolve().parent / "fake_solver.py"
 THIRTY = ROOT / "examples" / "thirty"
 THIRTY_FILES = program.WeekFiles(THIRTY / "Sc-thirty.txt", THIRTY / "H0-thirty-3.txt", THIRTY / "WD-thirty-3.txt")
+# A roster of this week: clasp's answer to its model with --early.
+EARLY_ANSWER = ROOT / "tests" / "thirty_clasp_early.txt"
 HAS_CLASP, HAS_CBC = (shutil.which(name) is not None for name in ("clasp", "cbc"))
 
 
 def fake(how):
     """The command of a fake solver."""
     return f"{sys.executable} {FAKE} {how}"
+
+
+class UntilBetter(Progress):
+    """Ends a search, as Ctrl-C does, when it has a better roster than the given one."""
+
+    def __init__(self):
+        super().__init__(None)
+        self.penalties = []
+
+    def improved(self, penalty, finder):
+        self.penalties.append(penalty)
+        if len(self.penalties) == 2:
+            os.kill(os.getpid(), signal.SIGINT)
 
 
 class Searches(HelperTest):
@@ -42,15 +57,22 @@ class Searches(HelperTest):
         self.assertEqual(program.penalty_of(WEEK_FILES, target), 20)
 
     @unittest.skipUnless(HAS_CLASP, "needs clasp")
-    def test_it_improves_a_roster_and_never_makes_it_worse(self):
-        target = self.folder / "best.txt"
-        answer = subprocess.run(
-            ["clasp", "--time-limit=2", str(self.model(THIRTY_FILES))], stdout=subprocess.PIPE, stderr=subprocess.DEVNULL).stdout
-        start = self.folder / "start.txt"
-        before = program.decode(THIRTY_FILES, answer.decode(), start).penalty
-        found = improve(THIRTY_FILES, start, target, 6, 3, 2, ["clasp"])
-        self.assertLessEqual(found.penalty, before)
-        self.assertEqual(program.penalty_of(THIRTY_FILES, target), found.penalty)
+    def test_it_finds_the_best_roster_of_a_small_week_from_a_worse_one(self):
+        start, target = self.swapped("Amara", "Bruno"), self.folder / "best.txt"
+        self.assertEqual(program.penalty_of(WEEK_FILES, start), 110)
+        found = improve(WEEK_FILES, start, target, 100, 3, 2, ["clasp"])
+        self.assertEqual((found.penalty, found.optimal), (20, True))
+        self.assertEqual(program.penalty_of(WEEK_FILES, target), 20)
+
+    @unittest.skipUnless(HAS_CLASP, "needs clasp")
+    def test_it_improves_a_roster_of_a_large_week(self):
+        # The search ends at the first better roster: after some seconds, or later on a machine with other work.
+        start, target, progress = self.folder / "start.txt", self.folder / "best.txt", UntilBetter()
+        before = program.decode(THIRTY_FILES, EARLY_ANSWER.read_text(), start).penalty
+        found = search(THIRTY_FILES, start, target, 300, 3, 2, ["clasp"], progress).report.penalty
+        self.assertEqual(progress.penalties[0], before)
+        self.assertLess(found, before)
+        self.assertEqual(program.penalty_of(THIRTY_FILES, target), found)
 
     def model(self, week):
         path = self.folder / "week.opb"
@@ -135,14 +157,41 @@ class BadInput(HelperTest):
     def test_one_line(self):
         target = ("--sol", self.folder / "best.txt")
         two = self.changed(ROSTER, "Amara Mon Day Charge", "Amara Tue Late Charge")
-        self.assert_refused(6, "roster breaks", *WEEK_OPTIONS, *target, "--from", two)
+        says = f"inrc2pb-improve: {two} line 6: roster breaks H1: Amara has two places on Tue: correct its file, or leave it out\n"
+        self.assert_refused(6, says, *WEEK_OPTIONS, *target, "--from", two)
         self.assert_refused(3, "missing.txt", *WEEK_OPTIONS, *target, "--from", self.folder / "missing.txt")
         self.assert_refused(3, "no_folder", *WEEK_OPTIONS, "--sol", self.folder / "no_folder" / "best.txt")
         broken = self.changed(SCENARIO, "Chen Full", "Chen Ful", "broken.txt")
         self.assert_refused(1, "line 26", "--sce", broken, *WEEK_OPTIONS[2:], *target)
         self.assertFalse((self.folder / "best.txt").exists())
 
-    @unittest.skipUnless(HAS_CLASP and os.getuid() == 0 and Path("/dev/full").exists(), "needs clasp")
+    @unittest.skipUnless(HAS_CLASP, "needs clasp")
+    def test_held_rows_that_do_not_fit(self):
+        fix, words = self.folder / "rows.txt", (*WEEK_OPTIONS, "--sol", self.folder / "best.txt", "--fix", self.folder / "rows.txt")
+        self.solution("Amara Tue Day Charge", "Chen Mon Day Charge")
+        self.assert_refused(1, f"{fix} line 6: Chen does not have the skill Charge: no roster can have this row\n", *words)
+        self.solution("Zoe Mon Day Nurse", week=2, ward="icu")
+        other = "line 2 has 'icu', and the scenario is 'ward': is the file of another ward?\n"
+        self.assert_refused(1, other, *words)
+        # Every nurse is held on the late shift of Monday, so nobody is left for the others.
+        late = [f"{nurse} Mon Late Nurse" for nurse in ("Amara", "Bruno", "Chen", "Ewa", "Finn", "Grace")]
+        self.solution(*late)
+        self.assert_refused(5, f"no roster keeps the hard rules and has the rows of {fix}, says clasp", *words, "--solver", "clasp")
+
+    @unittest.skipUnless(HAS_CLASP, "needs clasp")
+    def test_files_of_another_week(self):
+        other = self.solution(*ROSTER.read_text().splitlines()[4:], week=3)
+        target = self.folder / "best.txt"
+        words = (*WEEK_OPTIONS, "--sol", target, "--time", 60, "--jobs", 1, "--solver", "clasp")
+        status, report, said = run("improve", *words, "--fix", other)
+        self.assertEqual(status, 0, said)
+        hint = "line 2 has week 3, and the history has week 0: is the file of another week?"
+        self.assertEqual(said.splitlines()[0], f"inrc2pb-improve: {other}: {hint}")
+        self.assertIn("penalty 20\n", report)
+        self.assertEqual(run("improve", *words, "--from", other)[0], 0)
+        self.assertTrue(target.read_text().startswith("SOLUTION\n0 ward\n"))
+
+    @unittest.skipUnless(HAS_CLASP, "needs clasp")
     def test_a_week_that_no_roster_meets(self):
         eight = ROOT / "examples" / "eight"
         words = ("--sce", eight / "Sc-eight.txt", "--his", eight / "H0-eight-1.txt", "--week", eight / "WD-eight-1.txt")

@@ -2,8 +2,10 @@
 
 import os
 import shutil
+import sys
 import unittest
 from dataclasses import replace
+from pathlib import Path
 
 from ward import HISTORY, ROOT, SCENARIO, WARD, WEEK, WEEK_OPTIONS, HelperTest, files, program, run
 
@@ -77,10 +79,12 @@ class Periods(PeriodTest):
 
     def test_held_shifts_of_a_week(self):
         held = self.folder / "held.txt"
-        held.write_text("SOLUTION 1 ward ASSIGNMENTS = 1 Grace Sat Day Nurse\n")
-        status, _, said = run("period", *WARD_OPTIONS, "--fix", f"1={held}", "--out", self.folder, "--time", 5, "--once", "--solver", "clasp")
-        self.assertEqual(status, 0, said)
-        self.assertIn("Grace Sat Day Nurse\n", (self.folder / "roster-1.txt").read_text())
+        words = (*WARD_OPTIONS, "--fix", f"1={held}", "--out", self.folder, "--time", 5, "--once", "--solver", "clasp")
+        for week, hint in ((1, ""), (3, f"inrc2pb-period: {held}: line 1 has week 3, and the history has week 1: is the file of another week?\n")):
+            held.write_text(f"SOLUTION {week} ward ASSIGNMENTS = 1 Grace Sat Day Nurse\n")
+            status, _, said = run("period", *words)
+            self.assertEqual((status, said), (0, f"week 0\nweek 1\n{hint}"))
+            self.assertIn("Grace Sat Day Nurse\n", (self.folder / "roster-1.txt").read_text())
 
 
 class PeriodFaults(HelperTest):
@@ -94,9 +98,18 @@ class PeriodFaults(HelperTest):
             self.assertEqual((said.count("\n"), said.startswith("week 0\ninrc2pb-period: week 0: "), printed), (2, True, ""), said)
         self.assertEqual(list(self.folder.iterdir()), [])
 
-    def test_a_solver_that_is_missing(self):
-        _, _, said = self.period(*WARD_OPTIONS, "--once", "--solver", "nosolver")
-        self.assertIn("there is no solver nosolver", said)
+    def test_without_a_solver_or_the_program_no_folder_is_made(self):
+        out = self.folder / "planned" / "here"
+        for words, environment, status, says in (
+            (("--once", "--solver", "nosolver"), {}, 1, "there is no solver nosolver"),
+            (("--solver", sys.executable, "--solver", "nosolver"), {}, 1, "there is no solver nosolver"),
+            (("--solver", sys.executable), {"INRC2PB": "/nowhere/inrc2pb"}, 127, "there is no program /nowhere/inrc2pb"),
+        ):
+            with self.subTest(words, **environment):
+                ran = run("period", *WARD_OPTIONS, *words, "--out", out, "--time", 1, environment=environment)
+                self.assertEqual((ran[0], ran[1], ran[2].count("\n")), (status, "", 1), ran[2])
+                self.assertIn(says, ran[2])
+                self.assertEqual(list(self.folder.iterdir()), [])
 
     @unittest.skipIf(os.geteuid() == 0, "root may write everywhere")
     def test_a_folder_without_write_permission(self):
@@ -104,6 +117,12 @@ class PeriodFaults(HelperTest):
         self.assert_fault(self.period(*WARD_OPTIONS, "--once", "--solver", "false"), (
             f"inrc2pb-period: {self.folder}: Permission denied: you may not read or write it: "
             "look at its rights and those of its folder, or choose another folder"), 3)
+
+    @unittest.skipUnless(Path("/sys").is_dir(), "there is no /sys")
+    def test_a_folder_in_which_nobody_may_write(self):
+        status, printed, said = run("period", *WARD_OPTIONS, "--once", "--solver", "false", "--out", "/sys/planned")
+        self.assertEqual((status, printed, said.count("\n")), (3, "", 1), said)
+        self.assertRegex(said, "^inrc2pb-period: /sys/planned: .* choose another folder\n$")
 
     def test_a_week_without_a_roster(self):
         eight = ROOT / "examples" / "eight"
@@ -119,6 +138,10 @@ class PeriodFaults(HelperTest):
         self.assertIn("week 3 is not planned", said)
         _, _, said = self.period("--sce", SCENARIO, "--his", HISTORY, "--week", WEEK, "--fix", "held.txt")
         self.assertIn("give the week's number and its file, such as 0=promised.txt", said)
+        fix = self.solution("Chen Mon Day Charge", week=3, name="held.txt")
+        _, _, said = self.period("--sce", SCENARIO, "--his", HISTORY, "--week", WEEK, "--week", WEEK, "--fix", f"1={fix}")
+        hint = "line 2 has week 3, and the history has week 1: is the file of another week?"
+        self.assertEqual(said, f"inrc2pb-period: {fix} line 5: Chen does not have the skill Charge: no roster can have this row; {hint}\n")
         wrong = self.changed(WEEK, "Chen Any", "Chan Any")
         _, _, said = self.period("--sce", SCENARIO, "--his", HISTORY, "--week", wrong)
         self.assertIn("'Chan' is no nurse of NURSES: did you mean 'Chen'?", said)

@@ -43,6 +43,18 @@ class HelperTest(unittest.TestCase):
         target.write_text(text.replace(old, new, 1))
         return target
 
+    def solution(self, *rows, week=0, ward="ward", name="rows.txt"):
+        """A solution file with these rows, the first of them on line 5."""
+        target = self.folder / name
+        target.write_text("\n".join([f"SOLUTION\n{week} {ward}\n", f"ASSIGNMENTS = {len(rows)}", *rows]) + "\n")
+        return target
+
+    def swapped(self, one, two):
+        """The ward's roster with the weeks of two nurses swapped, in the file start.txt."""
+        names = {one: two, two: one}
+        rows = files.read_solution(ROSTER).assignments
+        return self.solution(*(row._replace(nurse=names.get(row.nurse, row.nurse)).row() for row in rows), name="start.txt")
+
     def assert_fault(self, ran, line, status=1):
         """The run printed this line on standard error and nothing else."""
         self.assertEqual(ran, (status, "", line + "\n"))

@@ -3,6 +3,7 @@
 //!
 //! `who_fits SCENARIO HISTORY WEEK` prints a line for each day, shift type and skill that needs nurses. A
 //! nurse fits if she has the skill and, on Monday, if her last shift does not forbid the shift type.
+//! `who_fits --help` prints a help text.
 #![tactic(auto)]
 
 ghost use Rattle.std.specs.Prelude.{◌≡◌, ◌<◌, IfOk};
@@ -18,13 +19,40 @@ use std::io::Write;
 use std::rt::{Env, Files};
 use std::{env, fs, io};
 
+const HELP: &str = "Prints the nurses who could fill each place of a week
+
+Usage: who_fits SCENARIO HISTORY WEEK
+
+Arguments:
+  SCENARIO  the scenario, with the ward's nurses and their skills
+  HISTORY   the history before the week
+  WEEK      the requirements and requests of the week
+
+Options:
+  -h, --help  print help
+
+A line names the day, the shift type and the skill of a place, the minimum and the best number of nurses, and each
+nurse who fits, with her variable in the week's model. A nurse fits if she has the skill and, on Monday, if her last
+shift does not forbid the shift type.
+
+The files and the exit statuses: who_fits(1), docs/formats.md.
+";
+
 fn main(rt: HostRuntime) -> Result<()> {
     let words: Vec<String> = env::args(&rt)?.collect(rt.alloc())?;
-    let [_, scenario, history, week] = words.as_slice() else {
-        bail!("give the files of a scenario, a history and a week");
-    };
-    let instance = join(&rt, scenario.as_str(), history.as_str(), week.as_str())?;
-    tell_places(&rt, &instance)
+    match words.as_slice() {
+        [_, word] if word.as_str() == "--help" || word.as_str() == "-h" => help(&rt),
+        [_, scenario, history, week] => {
+            let instance = join(&rt, scenario.as_str(), history.as_str(), week.as_str())?;
+            tell_places(&rt, &instance)
+        }
+        _ => bail!("give the files of a scenario, a history and a week, or --help"),
+    }
+}
+
+fn help(rt: &impl Print) -> Result<()> {
+    io::writer(rt).write_all(HELP.as_bytes())?;
+    Ok(())
 }
 
 // The bytes of the file. An error gives its name.

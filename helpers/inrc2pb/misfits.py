@@ -1,0 +1,117 @@
+"""Reasons why a roster or a fix file does not fit its week, in words, with the line of its file."""
+
+import re
+from pathlib import Path
+from typing import Callable, Dict, Iterable, Iterator, List, NamedTuple, Optional, Tuple
+
+from .files import DAYS, Assignment, FileFault, History, Scenario, Solution, Week, read_solution
+from .program import ProgramFault
+from .rules import numbers
+from .slots import text_of, tokens_of
+
+# The index of the week's number and of the first row among the tokens of a solution file, and the number of tokens of a row.
+_NUMBER, _ROWS, _ROW = 1, 6, 4
+Shifts = Dict[Tuple[str, int], List[str]]
+
+
+class Misfit(NamedTuple):
+    """A hard rule that a roster breaks, the line of the row that breaks it (0: no row does), and the reason."""
+
+    rule: str
+    line: int
+    reason: str
+
+
+def _lines(path: Path) -> List[int]:
+    """The line of each token."""
+    return [token.line for token in tokens_of(text_of(path))]
+
+
+def other_week(path: Path, scenario: Scenario, history: Optional[History]) -> str:
+    """The line in which the file names another ward or week than these, and the probable mistake; else nothing."""
+    try:
+        solution = read_solution(path)
+    except FileFault:
+        return ""
+    line = f"line {_lines(path)[_NUMBER]} has"
+    if solution.scenario != scenario.name:
+        return f"{line} '{solution.scenario}', and the scenario is '{scenario.name}': is the file of another ward?"
+    if history and solution.week != history.week:
+        return f"{line} week {solution.week}, and the history has week {history.week}: is the file of another week?"
+    return ""
+
+
+def _hint(path: Path, scenario: Scenario, history: Optional[History]) -> str:
+    """The same as the end of a fault."""
+    found = other_week(path, scenario, history)
+    return f"; {found}" if found else ""
+
+
+def read_roster(path: Path, scenario: Scenario, history: Optional[History]) -> Solution:
+    """Reads a roster or a fix file. If it has a mistake and is of another ward or week, the fault says both."""
+    try:
+        return read_solution(path, scenario)
+    except FileFault as fault:
+        raise FileFault(fault.path, fault.line, fault.message + _hint(path, scenario, history), fault.fault) from fault
+
+
+def _broken_by(row: Assignment, shifts: Shifts, scenario: Scenario) -> Iterator[Tuple[str, str]]:
+    """The rules that a row breaks, alone or with the shifts of rows above it, and the reasons."""
+    nurse, day = row.nurse, row.day
+    if shifts.get((nurse, day)):
+        yield "H1", f"{nurse} has two places on {DAYS[day]}"
+    for earlier in shifts.get((nurse, day - 1), ()):
+        if row.shift in scenario.shift_types[earlier].forbidden_next:
+            before = DAYS[day - 1] if day else "the Sunday before"
+            yield "H3", f"{nurse} may not work {row.shift} on {DAYS[day]} after {earlier} on {before}"
+    for later in shifts.get((nurse, day + 1), ()):
+        if later in scenario.shift_types[row.shift].forbidden_next:
+            yield "H3", f"{nurse} may not work {later} on {DAYS[day + 1]} after {row.shift} on {DAYS[day]}"
+    if row.skill not in scenario.nurses[nurse].skills:
+        yield "H4", f"{nurse} does not have the skill {row.skill}"
+
+
+def misfits(path: Path, solution: Solution, scenario: Scenario, history: Optional[History]) -> Iterator[Misfit]:
+    """The rows that break H1, H3 or H4, alone or with rows above them, in the order of the file."""
+    pasts = history.nurses.values() if history else ()
+    shifts: Shifts = {(past.nurse, -1): [past.last_shift] for past in pasts if past.last_shift is not None}
+    for line, row in zip(_lines(path)[_ROWS::_ROW], solution.assignments):
+        for rule, reason in _broken_by(row, shifts, scenario):
+            yield Misfit(rule, line, reason)
+        shifts.setdefault((row.nurse, row.day), []).append(row.shift)
+
+
+def read_held(path: Path, scenario: Scenario, history: Optional[History], warn: Callable[[str], None]) -> Solution:
+    """Reads a fix file. A row that no roster can have is a fault; `warn` gets the hint if the file is of another ward or week."""
+    solution = read_roster(path, scenario, history)
+    misfit = next(misfits(path, solution, scenario, history), None)
+    if misfit:
+        raise FileFault(path, misfit.line, f"{misfit.reason}: no roster can have this row{_hint(path, scenario, history)}")
+    found = other_week(path, scenario, history)
+    if found:
+        warn(found)
+    return solution
+
+
+def explained(fault: ProgramFault, path: Path, week: Week, held: Iterable[Assignment]) -> ProgramFault:
+    """The fault that `inrc2pb extend` found in the roster of this file; if it breaks a hard rule, with the line and the reason."""
+    rule = re.search(r"roster breaks (H[1-5])", fault.message)
+    if not rule:
+        return fault
+    solution = read_roster(path, week.scenario, week.history)
+    found = next(_misfits_of(rule.group(1), path, solution, week, held), None)
+    reason = f"{rule.group()}{f': {found.reason}' if found else ''}{_hint(path, week.scenario, week.history)}"
+    return ProgramFault(fault.status, str(FileFault(path, found.line if found else 0, reason)))
+
+
+def _misfits_of(rule: str, path: Path, solution: Solution, week: Week, held: Iterable[Assignment]) -> Iterator[Misfit]:
+    yield from (found for found in misfits(path, solution, week.scenario, week.history) if found.rule == rule)
+    if rule == "H2":
+        number = numbers(solution.assignments)
+        for place, required in week.data.requirements.items():
+            if number[place] < required.minimum:
+                named = f"{DAYS[place.day]} {place.shift} {place.skill}"
+                yield Misfit(rule, 0, f"{named} has {number[place]} nurses and needs at least {required.minimum}")
+    if rule == "H5":
+        rows = set(solution.assignments)
+        yield from (Misfit(rule, 0, f"the held row '{row.row()}' is missing") for row in held if row not in rows)
