@@ -4,7 +4,7 @@ use Rattle.rota_items.proofs.Taking.{Refused-one, Takes-then, takes_one, loop_re
 use Rattle.rota_items.proofs.Common.Definitions.{TookLiterals}
 use Rattle.rota_items.specs.Takes.{RefusedOne, TakesLiterals}
 use Rattle.rota_items.specs.SlackValues.{truths_below}
-use Rattle.rota_items.specs.declared.extended.literal_takers.LiteralTaker.{Ghosts}
+use Rattle.rota_items.specs.declared.literals.literal_takers.LiteralTaker.{Ghosts}
 
 -- the literal of an index follows the literals of the indices before it
 module _ {S F : Type 0} (T : Ghosts S F) (truth : ℕ → Bool) (index count : ℕ) (positive : Bool) (s t u : S)

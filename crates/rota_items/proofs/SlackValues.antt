@@ -12,7 +12,7 @@ use Rattle.rota_items.proofs.JudgedVerdict.{tally-driven}
 use Rattle.rota_items.proofs.Taking.{Refused-after, Refused-before}
 use Rattle.rota_items.specs.Takes.{TakesLiterals}
 use Rattle.rota_items.specs.SlackValues.{StopsAtSlacks, SlackState, first_true, slack_truths, slacks_judged, with_slacks_of, with_terms_of}
-use Rattle.rota_items.specs.declared.extended.literal_takers.LiteralTaker.{Ghosts}
+use Rattle.rota_items.specs.declared.literals.literal_takers.LiteralTaker.{Ghosts}
 
 module _ (tables : InstanceTables) (roster : RosterTables) where
   abbrev week : Problem

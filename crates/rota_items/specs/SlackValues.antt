@@ -10,7 +10,7 @@ use Rattle.rota_items.specs.JudgeState.{JudgeState, judged, lacking}
 use Rattle.rota_items.specs.Rows.{Item, Soft}
 use Rattle.rota_items.specs.Takes.{RefusedFrom}
 use Rattle.rota_items.specs.WeekModel.{assignment_of, is_slack_needed, numbered_items, slack_count}
-use Rattle.rota_items.specs.declared.extended.literal_takers.LiteralTaker.{Ghosts}
+use Rattle.rota_items.specs.declared.literals.literal_takers.LiteralTaker.{Ghosts}
 
 -- the truth values at the indices below count
 abbrev pub truths_below : ℕ → (ℕ → Bool) → List Bool

@@ -38,17 +38,17 @@ mod counting;
 // The judge: a taker that evaluates a model.
 mod judge;
 
-// The extension of a roster, variable by variable, sent to a taker of literals.
-mod extended;
+// The literals of a roster's extension, variable by variable, sent to a taker.
+mod literals;
 
 // The laws: the meaning of the model.
 pub mod laws;
 
 pub use counting::{Counter, Counts, counts, patterns_of, windows_of};
 pub use drive::drive_constraints;
-pub use extended::{LiteralTaker, drive_extension};
 pub use judge::{Judge, Verdict, verdict_of};
 pub use laws::early_excess;
+pub use literals::{LiteralTaker, drive_extension};
 pub use objective::drive_objective;
 pub use part::Part;
 pub use rules::{constant, constant_parts};

@@ -10,7 +10,7 @@ use Rattle.rota_core.specs.Limits.{DAYS, max_number, max_nurses}
 use Rattle.rota_items.specs.Rows.{Item, LinearRow}
 use Rattle.rota_items.specs.RunItems.{Runs, closed_patterns_at, edge_patterns_on, pattern_items}
 use Rattle.rota_items.specs.Takes.{TookAll}
-use Rattle.rota_items.specs.declared.extended.literal_takers.LiteralTaker as literal_taker
+use Rattle.rota_items.specs.declared.literals.literal_takers.LiteralTaker as literal_taker
 use Rattle.rota_items.specs.declared.hard.row_takers.RowTaker as row_taker
 use Rattle.rota_items.specs.declared.items.item_takers.ItemTaker as item_taker
 

@@ -2,7 +2,7 @@ use Rattle.rota_items.proofs.Common.{◌≡◌, List, Result, Ok, Err, fold, cel
 use Rattle.rota_items.specs.Events.{Event}
 use Rattle.rota_items.specs.JudgeState.{JudgeState, judged}
 use Rattle.rota_items.specs.Takes.{TakesAll}
-use Rattle.rota_items.proofs.extended.slack_values.judge_item.Goals as goal
+use Rattle.rota_items.proofs.literals.slack_values.judge_item.Goals as goal
 
 -- a judge refuses nothing
 took_every : {F : Type 0} (events : List Event) (old new : JudgeState) (r : Result (Unit {0}) F) →

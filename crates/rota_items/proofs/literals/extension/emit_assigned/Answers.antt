@@ -3,7 +3,7 @@ use Rattle.rota_core.specs.RosterTables.{set_of}
 use Rattle.rota_items.specs.WeekModel.{assignment_of}
 use Rattle.rota_items.proofs.Numbers.{assignment_of-unit, index-assigned}
 use Rattle.rota_items.proofs.LiteralTaking.{literals_end, literals_refused}
-use Rattle.rota_items.proofs.extended.extension.emit_assigned.Goals as goal
+use Rattle.rota_items.proofs.literals.extension.emit_assigned.Goals as goal
 
 pub has_index-requires : goal.has_index-requires
 has_index-requires g c =

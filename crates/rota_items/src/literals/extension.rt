@@ -6,8 +6,8 @@ ghost use Rattle.rota_items.specs.Takes.{TakesLiterals};
 ghost use Rattle.rota_items.specs.Variables.{unit_number};
 ghost use Rattle.rota_items.specs.WeekModel.{assignment_of};
 
-use crate::extended::literal_takers::LiteralTaker;
-use crate::extended::slack_values::emit_slack_values;
+use crate::literals::literal_takers::LiteralTaker;
+use crate::literals::slack_values::emit_slack_values;
 use rota_core::{Instance, Roster};
 
 // The literals of the cells, and the literal of the unit variable.

@@ -1,6 +1,6 @@
 use Rattle.rota_items.proofs.Common.{ℕ, ap, arith, exits, nat_lt}
 use Rattle.rota_items.proofs.LiteralTaking.{literals_refused}
-use Rattle.rota_items.proofs.extended.slack_values.emit_first_true.Goals as goal
+use Rattle.rota_items.proofs.literals.slack_values.emit_first_true.Goals as goal
 
 pub returns-in_err-literal : goal.returns-in_err-literal
 returns-in_err-literal g c =

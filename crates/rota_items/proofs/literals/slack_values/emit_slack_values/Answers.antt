@@ -1,6 +1,6 @@
 use Rattle.rota_items.proofs.Common.{numbered_list, rules}
 use Rattle.rota_items.proofs.SlackValues.{slacks_given}
-use Rattle.rota_items.proofs.extended.slack_values.emit_slack_values.Goals as goal
+use Rattle.rota_items.proofs.literals.slack_values.emit_slack_values.Goals as goal
 
 pub returns : goal.returns
 unfolding numbered_list

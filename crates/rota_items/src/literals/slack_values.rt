@@ -7,11 +7,11 @@ ghost use Rattle.rota_items.specs.CellSums.{IsSumOf};
 ghost use Rattle.rota_items.specs.Takes.{TakesLiterals};
 ghost use Rattle.rota_items.specs.SlackValues.{first_true, slack_truths, with_terms_of};
 
-use crate::extended::literal_takers::LiteralTaker;
 use crate::items::item_takers::ItemTaker;
 use crate::items::run_takers::RunTaker;
 use crate::items::soft_item::{NurseRuns, SoftItem};
 use crate::judge::Judge;
+use crate::literals::literal_takers::LiteralTaker;
 use crate::part::Part;
 use crate::rules::visit_soft_items;
 use crate::runs::run_visits::visit_runs;

@@ -1,4 +1,4 @@
-//! The extension of a roster, variable by variable.
+//! The literals of a roster's extension, variable by variable.
 
 mod extension;
 mod literal_takers;

@@ -2,7 +2,7 @@ use Rattle.rota_items.proofs.Common.{exits, problem_of}
 use Rattle.rota_core.specs.RosterTables.{set_of}
 use Rattle.rota_items.proofs.ExtensionTruths.{truths-parts}
 use Rattle.rota_items.proofs.Taking.{Refused-before, Takes-then}
-use Rattle.rota_items.proofs.extended.extension.drive_extension.Goals as goal
+use Rattle.rota_items.proofs.literals.extension.drive_extension.Goals as goal
 
 pub returns-in_err-emit_assigned-clause-takes : goal.returns-in_err-emit_assigned-clause-takes
 returns-in_err-emit_assigned-clause-takes g c =
