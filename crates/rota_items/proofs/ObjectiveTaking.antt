@@ -27,12 +27,8 @@ pub some_refused : (terms : List (Term ℕ)) (taken : List Event) (event : Event
     term_events terms ≡ taken ++ event ∷ rest → 0 < length terms
 unfolding term_events
 some_refused terms taken event rest are =
-    omega (
-      arith,
-      length-map terms (λ (t : Term ℕ). term t.0 t.1),
-      ap (λ (xs : List Event). length xs) are,
-      length-append taken (event ∷ rest),
-    )
+    let long = ap (λ (xs : List Event). length xs) are in
+    omega (arith, length-map terms (λ (t : Term ℕ). term t.0 t.1), length-append taken (event ∷ rest))
 
 pub told_by_refusal : {F : Type 0} (r : Result (Unit {0}) F) (terms : List (Term ℕ)) →
     MatchResult r (λ _. false ≡ fold touched false (term_events terms)) (λ _. 0 < length terms) → is_err r ≡ nat_lt 0 (length terms)

@@ -67,11 +67,8 @@ module _ (v : ℕ) where
     other-is_none within all =
         let parts = AllByRecursion-back Lacks (hard_rows problem) (item_rows (first_slack problem) (numbered_items problem)) all in
         let after : first_slack problem ≤ v = omega (arith, cell-other parts.0.1, parts.0.0.0) in
-        omega (
-          arith,
-          slack-other (first_slack problem) (numbered_items problem) after parts.1,
-          slack_count-numbered (cell_number problem) (soft_items problem),
-        )
+        let slacks = slack_count-numbered (cell_number problem) (soft_items problem) in
+        omega (arith, slack-other (first_slack problem) (numbered_items problem) after parts.1)
 
 -- ---- no other variable occurs in one
 

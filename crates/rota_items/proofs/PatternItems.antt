@@ -55,15 +55,10 @@ value_of-days : {X : Type 0} (property : Property X) (assignment : X → Bool) (
     pos (sum_by (miss (has_property property assignment)) days)
 value_of-days property assignment [] one = refl
 value_of-days property assignment (day ∷ days) one =
-    omega (
-      arith,
-      ints,
-      value_of-append assignment (day_terms property day) (flat_map (day_terms property) days),
-      sum_by-cons (λ x. cond (is_plain property x) 1 0) day days,
-      sum_by-cons (miss (has_property property assignment)) day days,
-      value_of-day property assignment day one.0,
-      value_of-days property assignment days one.1,
-    )
+    let parts = value_of-append assignment (day_terms property day) (flat_map (day_terms property) days) in
+    let plain = sum_by-cons (λ x. cond (is_plain property x) 1 0) day days in
+    let missed = sum_by-cons (miss (has_property property assignment)) day days in
+    omega (arith, ints, value_of-day property assignment day one.0, value_of-days property assignment days one.1)
 
 -- 1 if there is no miss
 misses : (has : ℕ → Bool) (days : List PatternDay) →
@@ -79,13 +74,8 @@ module _ {X : Type 0} (rule : Rule) (weight : ℕ) (property : Property X) (assi
   pub shortage-pattern_item : shortage assignment item ≡
       cond (matches (has_property property assignment) pattern.days) 1 0
   shortage-pattern_item =
-      omega (
-        arith,
-        ints,
-        positive_part-parts (item.degree -ℤ value_of assignment item.terms),
-        value_of-days property assignment pattern.days one,
-        misses (has_property property assignment) pattern.days,
-      )
+      let missed = misses (has_property property assignment) pattern.days in
+      omega (arith, ints, positive_part-parts, value_of-days property assignment pattern.days one)
 
   pub weighted-pattern_item : item.weight * shortage assignment item ≡
       weight * units_of (has_property property assignment) pattern

@@ -1,6 +1,6 @@
 -- How a taker takes the item of a pattern of days.
 use Rattle.rota_items.proofs.Common.Imports.{◌≡◌, List, [], ◌∷◌, Result, MatchResult, MatchResult-weaker, ap, ◌∙◌, subst, Problem, Pattern, DayPattern, charged_items, item_of, numbered_list}
-use Rattle.rota_items.proofs.Common.Imports.{TookAll, RefusedOne, TakesItems, TookItems}
+use Rattle.rota_items.proofs.Common.Imports.{RefusedOne, TakesItems, TookItems}
 use Rattle.rota_items.proofs.Taking.{Refused-one, Took-one, items_join, nothing}
 use Rattle.rota_items.specs.CellSums.{pattern_of}
 use Rattle.rota_items.specs.SoftItems.{numbered_item}

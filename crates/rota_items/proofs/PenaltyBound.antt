@@ -30,22 +30,18 @@ module _ (problem : Problem) (limits : IsWithinLimits problem) where
 
   -- ---- shortages
 
+  charge-few : (roster : Roster) (rule : Rule) (item : Item Cell) → IsItemSmall (max_slacks rule) item → IsItemSound problem rule item →
+      item.weight * shortage roster item ≤ max_charge
+  charge-few roster rule item small sound =
+      let light : item.weight ≤ max_weight = omega (arith, mul-le-mul_left item.weight sound.has_slack) in
+      let few : spread item.terms ≤ max_terms = omega (arith, spread-units item.terms sound.terms.units) in
+      let charged = mul-le-mul_left item.weight (shortage-minimum roster item) in
+      omega (arith, mul-le item.weight (spread item.terms) max_weight max_terms light few)
+
   pub shortages-few : (roster : Roster) (rule : Rule) → weighted_shortages roster (items_of_rule problem rule) ≤ half_limit
   shortages-few roster rule =
-      omega (
-        arith,
-        items-of_any rule,
-        items-le problem limits (λ item. item.weight * shortage roster item) (λ _. max_charge) rule
-            (each-of_rule _ rule (λ item small sound.
-            let light : item.weight ≤ max_weight = omega (arith, small.all_slacks, mul-le item.weight 1 item.weight item.slacks (omega arith) sound.has_slack) in
-            let few : spread item.terms ≤ max_terms = omega (arith, spread-units item.terms sound.terms.units, small.terms) in
-            omega (
-              arith,
-              mul-le-mul_left item.weight (shortage-minimum roster item),
-              small.degree,
-              mul-le item.weight (spread item.terms) max_weight max_terms light few,
-            ))),
-      )
+      let charged = items-le problem limits (λ item. item.weight * shortage roster item) (λ _. max_charge) rule in
+      omega (arith, items-of_any rule, charged (each-of_rule _ rule (charge-few roster rule)))
 
 pub penalty-below : (problem : Problem) (roster : Roster) → IsWithinLimits problem → penalty problem roster < penalty_limit
 penalty-below problem roster limits =

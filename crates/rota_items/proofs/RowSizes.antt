@@ -35,8 +35,5 @@ module _ (problem : Problem) (limits : IsWithinLimits problem) where
 
   pub rule_rows-few : length (rule_rows problem) ≤ length hard_rules * max_cells
   rule_rows-few =
-      omega (
-        arith,
-        length-flat_map (rows_of_hard_rule problem) hard_rules,
-        sum_by-le-sum_by (λ rule. length (rows_of_hard_rule problem rule)) (λ _. max_cells) hard_rules rows-few,
-      )
+      let few = sum_by-le-sum_by (λ rule. length (rows_of_hard_rule problem rule)) (λ _. max_cells) hard_rules rows-few in
+      omega (arith, length-flat_map (rows_of_hard_rule problem) hard_rules)

@@ -24,21 +24,15 @@ module _ (problem : Problem) (limits : IsWithinLimits problem) where
         sum_by f (items_of_rule problem rule) ≤ max_items rule * maximum rule
     items-le rule all =
         let items : List (Item Cell) = items_of_rule problem rule in
-        omega (
-          arith,
-          sum_by-le f (maximum rule) items (All-from_recursion _ items all),
-          mul-le (length items) (maximum rule) (max_items rule) (maximum rule) (small-rule rule).few (omega arith),
-        )
+        let sum = sum_by-le f (maximum rule) items (All-from_recursion _ items all) in
+        omega (arith, mul-le (length items) (maximum rule) (max_items rule) (maximum rule) (small-rule rule).few (omega arith))
 
     pub soft_items-le : ((rule : Rule) (item : Item Cell) → IsItemSmall (max_slacks rule) item → f item ≤ maximum rule) →
         sum_by f (soft_items problem) ≤ sum_by (λ rule. max_items rule * maximum rule) soft_rules
     soft_items-le each =
-        omega (
-          arith,
-          sum_by-flat_map f (items_of_rule problem) soft_rules,
-          sum_by-le-sum_by (λ rule. sum_by f (items_of_rule problem rule)) (λ rule. max_items rule * maximum rule) soft_rules
-              (λ rule. items-le rule (all-weaker (IsItemSmall (max_slacks rule)) _ (each rule) (items_of_rule problem rule) (small-rule rule).each)),
-        )
+        let small = λ (rule : Rule). items-le rule (all-weaker _ _ (each rule) (items_of_rule problem rule) (small-rule rule).each) in
+        let sum = sum_by-le-sum_by (λ rule. sum_by f (items_of_rule problem rule)) (λ rule. max_items rule * maximum rule) soft_rules small in
+        omega (arith, sum_by-flat_map f (items_of_rule problem) soft_rules)
 
   -- ---- the constant
 

@@ -1,7 +1,7 @@
 -- The number of slacks of the items of a week, and the number of rows of its model.
 use Rattle.rota_items.proofs.Common.Imports.{mul-le-mul_left, ◌≡◌, ℕ, ◌+◌, ◌<◌, ◌≤◌, List, [], ◌∷◌, length, refl, arith, sum_by, length-append, length-map, length-flat_map, sum_by-le-sum_by, mul-le-mul, Problem}
-use Rattle.rota_items.proofs.Common.Imports.{cell_number, first_slack, rule_rows, Item, numbered, linear_constraint, item_rows, slack_count, soft_rules, items_of_rule, soft_items, hard_rows, numbered_items}
-use Rattle.rota_items.proofs.Common.Imports.{numbered_row, rows_of, model_of, cell_count, IsWithinLimits, count_limit, max_cells, max_items, max_slacks, InstanceTables, IsInstance, problem_of, word_limit}
+use Rattle.rota_items.proofs.Common.Imports.{first_slack, rule_rows, Item, linear_constraint, item_rows, slack_count, soft_rules, items_of_rule, soft_items}
+use Rattle.rota_items.proofs.Common.Imports.{rows_of, model_of, cell_count, IsWithinLimits, count_limit, max_cells, max_items, max_slacks, InstanceTables, IsInstance, problem_of, word_limit}
 use Rattle.rota_items.proofs.InstanceLimits.{instance-within_limits}
 use Rattle.rota_items.proofs.RuleSizes.{small-rule, soft_items-le}
 use Rattle.rota_items.proofs.RowSizes.{rule_rows-few}
@@ -12,14 +12,7 @@ length-item_rows first (item ∷ items) = omega (arith, length-item_rows (first 
 
 -- the row of the unit variable, the rows of the hard rules, and one row for each item
 pub length-rows_of : (problem : Problem) → length (rows_of problem) ≡ 1 + length (rule_rows problem) + length (soft_items problem)
-length-rows_of problem =
-    omega (
-      arith,
-      length-append (hard_rows problem) (item_rows (first_slack problem) (numbered_items problem)),
-      length-map (rule_rows problem) (numbered_row problem),
-      length-item_rows (first_slack problem) (numbered_items problem),
-      length-map (soft_items problem) (numbered (cell_number problem)),
-    )
+length-rows_of problem = simp (length-append, length-map, length-item_rows) (omega arith)
 
 module _ (problem : Problem) (limits : IsWithinLimits problem) where
   -- ---- variables
@@ -39,11 +32,8 @@ module _ (problem : Problem) (limits : IsWithinLimits problem) where
 
   pub items-few : length (soft_items problem) ≤ sum_by max_items soft_rules
   items-few =
-      omega (
-        arith,
-        length-flat_map (items_of_rule problem) soft_rules,
-        sum_by-le-sum_by (λ rule. length (items_of_rule problem rule)) max_items soft_rules (λ rule. (small-rule problem limits rule).few),
-      )
+      let few = sum_by-le-sum_by (λ rule. length (items_of_rule problem rule)) max_items soft_rules (λ rule. (small-rule problem limits rule).few) in
+      omega (arith, length-flat_map (items_of_rule problem) soft_rules)
 
   pub rows-below : length (rows_of problem) < count_limit
   rows-below = omega (arith, length-rows_of problem, rule_rows-few problem limits, items-few)

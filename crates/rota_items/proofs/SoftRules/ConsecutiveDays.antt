@@ -55,21 +55,15 @@ module _ (problem : Problem) where
         sound-run_items problem n (shift_runs problem n s) (of_nurse-on problem n n_in s s_in) (omega arith)))
         (sound-run_items problem n (work_runs problem n) (of_nurse-work problem n n_in) (omega arith));
     charges = λ roster one n n_in.
-        omega (
-          arith,
-          sum_by-append (weighted roster) (concat_below problem.shifts (shift_items n)) (run_items (work_runs problem n)),
-          sum_by-each-times (weighted roster) problem.shifts shift_run_weight (shift_items n) (shift_run_cost problem roster n) (λ s s_in.
-              weighted-on_runs problem roster one n n_in S2 shift_run_weight (history_on problem n s) (problem.limits s) s s_in),
-          weighted-work_runs problem roster one n n_in S2 work_run_weight (problem.past n).work_run (problem.contract n).work,
-        );
+        let shifts = sum_by-each-times (weighted roster) problem.shifts shift_run_weight (shift_items n) (shift_run_cost problem roster n)
+        (λ s. weighted-on_runs problem roster one n n_in S2 shift_run_weight (history_on problem n s) (problem.limits s) s) in
+        let work = weighted-work_runs problem roster one n n_in S2 work_run_weight (problem.past n).work_run (problem.contract n).work in
+        omega (arith, shifts, sum_by-append (weighted roster) (concat_below problem.shifts (shift_items n)) (run_items (work_runs problem n)));
     alike = λ one other same n n_in.
-        rw (
-          sum_below-same problem.shifts _ _ (λ s s_in.
-              run_cost-alike (is_on problem one n s) (is_on problem other n s)
-              (λ d d_in. on-alike problem one other same n s d n_in s_in d_in) (history_on problem n s) (problem.limits s)),
-          run_cost-alike (works problem one n) (works problem other n) (λ d d_in. works-alike problem one other same n d n_in d_in)
-              (problem.past n).work_run (problem.contract n).work,
-        ) refl;
+        let shifts = sum_below-same problem.shifts (shift_run_cost problem one n) (shift_run_cost problem other n) (λ s s_in.
+        run_cost-alike _ _ (λ d d_in. on-alike problem one other same n s d n_in s_in d_in) (history_on problem n s) (problem.limits s)) in
+        let work = run_cost-alike _ _ (λ d. works-alike problem one other same n d n_in) (problem.past n).work_run (problem.contract n).work in
+        rw (shifts, work) refl;
     small = λ limits n.
         few-append (omega arith)
         (few-concat_below max_shifts limits.shifts _ (λ s _.
@@ -77,13 +71,9 @@ module _ (problem : Problem) where
         (small-runs (work_runs problem n) (λ d. omega (arith, length-work problem limits n d)) (omega arith) (limits.work_limits n));
     constant_small = λ limits n. omega arith;
     cost_small = λ limits roster n.
-        omega (
-          arith,
-          sum_below-at_most problem.shifts max_shifts (7 * (1 + max_number)) (shift_run_cost problem roster n) limits.shifts (λ s.
-              omega (arith, limits.limits s, run_cost-le (is_on problem roster n s) (history_on problem n s) (problem.limits s))),
-          run_cost-le (works problem roster n) (problem.past n).work_run (problem.contract n).work,
-          limits.work_limits n,
-        );
+        let shifts = sum_below-at_most problem.shifts max_shifts (7 * (1 + max_number)) (shift_run_cost problem roster n) limits.shifts
+        (λ s. omega (arith, limits.limits s, run_cost-le (is_on problem roster n s) (history_on problem n s) (problem.limits s))) in
+        omega (arith, run_cost-le (works problem roster n) (problem.past n).work_run (problem.contract n).work, limits.work_limits n);
   }
 
   pub sound-consecutive_days_off : IsNurseRuleSound problem S3 (consecutive_day_off_cost_of problem) days_off_runs_of (λ _ _. 0)

@@ -20,13 +20,8 @@ module _ (problem : Problem) where
   shortage-optimum_item : (roster : Roster) (d s k : ℕ) →
       shortage roster (optimum_item problem d s k) ≡ (problem.demand d s k).optimal - nurses_at problem roster d s k
   shortage-optimum_item roster d s k =
-      omega (
-        arith,
-        ints,
-        positive_part-parts,
-        value_of-sum roster false (demand_cells problem d s k),
-        count_by-each roster problem.nurses (λ n. cell n d s k),
-      )
+      let count = count_by-each roster problem.nurses (λ n. cell n d s k) in
+      omega (arith, ints, positive_part-parts, value_of-sum roster false (demand_cells problem d s k))
 
   pub weighted-optimum_items : (roster : Roster) → KeepsMinimum problem roster →
       weighted_shortages roster (optimum_items problem) ≡ optimum_cost problem roster
@@ -34,12 +29,7 @@ module _ (problem : Problem) where
       sum_by-each-times (weighted roster) 7 optimum_weight _ _ (λ d d_in.
       sum_by-each-times (weighted roster) problem.shifts optimum_weight _ _ (λ s s_in.
       sum_by-each-times (weighted roster) problem.skills optimum_weight _ _ (λ k k_in.
-      grind (
-        arith,
-        sum_by-singleton_if (weighted roster) (is_wanted d s k) (optimum_item problem d s k),
-        met d s k d_in s_in k_in,
-        shortage-optimum_item roster d s k,
-      ))))
+      rw sum_by-singleton_if (grind (arith, met d s k d_in s_in k_in, shortage-optimum_item roster d s k)))))
 
   -- ---- the items
 
@@ -72,9 +62,6 @@ module _ (problem : Problem) where
         let small = limits.optimal d s k in let few = length-demand problem limits d s k in search rules)))));
     constant_small = λ limits n. omega arith;
     cost_small = λ limits roster.
-        omega (
-          arith,
-          sum-cells problem limits max_number (λ d s k. (problem.demand d s k).optimal - nurses_at problem roster d s k)
-              (λ d s k. omega (arith, limits.optimal d s k)),
-        );
+        let missing = λ (d s k : ℕ). (problem.demand d s k).optimal - nurses_at problem roster d s k in
+        omega (arith, sum-cells problem limits max_number missing (λ d s k. omega (arith, limits.optimal d s k)));
   }

@@ -13,7 +13,7 @@ use Rattle.rota_items.proofs.Lists.{few-append, few-singleton_if, sum_by-singlet
 use Rattle.rota_items.proofs.RisingCells.{rises-nurse_cells}
 use Rattle.rota_items.proofs.SmallSums.{positive_part-parts}
 use Rattle.rota_items.proofs.SoftRules.Sizes.{length-total, sum-cells}
-use Rattle.rota_items.proofs.SoftRules.Sound.{IsItemSound, IsNurseRuleSound, weighted}
+use Rattle.rota_items.proofs.SoftRules.Sound.{IsItemSound, IsNurseRuleSound}
 use Rattle.rota_items.proofs.PatternItems.{value_of-sum}
 
 -- the charges of item and constant for the assignments below the minimum total, and for the assignments above the maximum
@@ -86,16 +86,10 @@ module _ (problem : Problem) where
         (AllByRecursion-singleton_if (IsItemSound problem S6) (is_wanted n) (min_total_item problem n) (sound-minimum n n_in))
         (AllByRecursion-singleton_if (IsItemSound problem S6) (is_limited n) (max_total_item problem n) (sound-maximum n n_in));
     charges = λ roster one n n_in.
-        omega (
-          arith,
-          sum_by-append (weighted roster) (min_totals_of problem n) (max_totals_of problem n),
-          sum_by-singleton_if (weighted roster) (is_wanted n) (min_total_item problem n),
-          sum_by-singleton_if (weighted roster) (is_limited n) (max_total_item problem n),
-          min_charged (min_totals_count problem) (problem.contract n).total.min (problem.past n).assignments _ _
-              (assignments-le roster n one n_in) (shortage-minimum roster n),
-          max_charged problem (problem.contract n).total.max (problem.past n).assignments _ _
-              (assignments-le roster n one n_in) (shortage-maximum roster n),
-        );
+        let few = assignments-le roster n one n_in in
+        let below = min_charged (min_totals_count problem) (problem.contract n).total.min (problem.past n).assignments _ _ few (shortage-minimum roster n) in
+        let above = max_charged problem (problem.contract n).total.max (problem.past n).assignments _ _ few (shortage-maximum roster n) in
+        simp (sum_by-append, sum_by-singleton_if) (omega arith);
     alike = λ one other same n n_in.
         let now : assignments_of problem one n ≡ assignments_of problem other n =
         sum_below-same 7 _ _ (λ d d_in. sum_below-same problem.shifts _ _ (λ s s_in.
@@ -107,10 +101,6 @@ module _ (problem : Problem) where
         (few-singleton_if _ (max_total_item problem n) (λ _. let few = length-total problem limits (negsuc 0) n in search rules));
     constant_small = λ limits n. grind (arith, limits.totals n, limits.assignments n);
     cost_small = λ limits roster n.
-        grind (
-          arith,
-          limits.totals n,
-          limits.assignments n,
-          sum-cells problem limits 1 (λ d s k. cond (roster (cell n d s k)) 1 0) (λ d s k. grind arith),
-        );
+        let few = sum-cells problem limits 1 (λ d s k. cond (roster (cell n d s k)) 1 0) (λ d s k. grind arith) in
+        grind (arith, limits.totals n, limits.assignments n);
   }
