@@ -4,8 +4,7 @@ use Rattle.rota_items.proofs.Common.Imports.{AllByRecursion-singleton_if, Proble
 use Rattle.rota_items.proofs.Common.Imports.{slack_weights, cell_terms, constant, soft_items, numbered_terms, numbered_items, objective_terms, model_of, IsWithinLimits, max_coefficient, ◌*◌, ◌≤◌}
 use Rattle.rota_items.proofs.Common.Imports.{ap, sum_by-cons, count_by-le-length, sum_by, count_by, mul-le-mul_left, unit_number, roster_of, max_objective, max_weight}
 use Rattle.rota_items.proofs.Lists.{all-map, all-weaker, sum_by-map}
-use Rattle.rota_items.proofs.RuleSizes.{constant-few, soft_items-le}
-use Rattle.rota_items.proofs.PenaltyBound.{each-small}
+use Rattle.rota_items.proofs.RuleSizes.{constant-few, soft_items-le, each-small}
 use Rattle.rota_items.proofs.SoftRules.EachRule.{each-item, cell_terms-are, sound-cell_terms}
 use Rattle.rota_items.proofs.SoftRules.ShiftOffRequests.{IsTermSound, request_cost-le, value_of-request_terms}
 use Rattle.rota_items.proofs.SoundTerms.{OnCoefficients, coefficients-times, coefficients-numbered}

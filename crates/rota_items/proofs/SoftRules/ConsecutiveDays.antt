@@ -1,12 +1,12 @@
 -- The items of a nurse's runs charge the cost of those runs: on the shift types, of working days and of days off.
 use Rattle.rota_items.proofs.Common.Imports.{◌≡◌, ℕ, ◌*◌, ◌<◌, Bool, not, List, arith, ap, ◌∙◌, refl, sum_by-append, AllByRecursion-append, AllByRecursion-concat_below, concat_below, KeepsOneCell}
 use Rattle.rota_items.proofs.Common.Imports.{is_off, is_on, works, Roster, Problem, Rule, Cell, Item, on_cells, work_cells, weighted_shortages, Span, Property, Present, Absent, Runs, run_items}
-use Rattle.rota_items.proofs.Common.Imports.{max_number, max_shifts, ◌+◌, run_cost, off_runs, shift_runs, work_runs}
+use Rattle.rota_items.proofs.Common.Imports.{max_number, max_shifts, ◌+◌, run_cost, shift_runs, work_runs}
 use Rattle.rota_core.specs.declared.rule.Rule.TheVariants.{S2, S3}
 use Rattle.rota_items.specs.rules.ConsecutiveAssignments.Cost.{consecutive_assignment_cost_of, history_on, shift_run_cost, shift_run_weight, work_run_weight}
 use Rattle.rota_items.specs.rules.ConsecutiveDaysOff.Cost.{consecutive_day_off_cost_of, off_run_weight}
 use Rattle.rota_items.specs.rules.ConsecutiveAssignments.Items.{assignment_runs_of}
-use Rattle.rota_items.specs.rules.ConsecutiveDaysOff.Items.{days_off_runs_of}
+use Rattle.rota_items.specs.rules.ConsecutiveDaysOff.Items.{days_off_runs_of, off_runs}
 use Rattle.rota_items.proofs.AlikeRosters.{on-alike, run_cost-alike, works-alike}
 use Rattle.rota_items.proofs.CellCounts.{any-on, any-works}
 use Rattle.rota_items.proofs.Lists.{few-append, few-concat_below, sum_by-each-times, sum_below-at_most, sum_below-same}

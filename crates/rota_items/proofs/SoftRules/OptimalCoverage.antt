@@ -1,20 +1,16 @@
 -- The items of the optimal numbers charge the missing nurses.
-use Rattle.rota_items.proofs.Common.Imports.{◌≡◌, ℕ, ◌-◌, ◌*◌, Bool, false, refl, ap, arith, nat_lt, ints, AllByRecursion-concat_below, AllByRecursion-singleton_if, nurses_at, KeepsMinimum, Roster, cell}
+use Rattle.rota_items.proofs.Common.Imports.{◌≡◌, ℕ, ◌-◌, ◌*◌, false, refl, ap, arith, ints, AllByRecursion-concat_below, AllByRecursion-singleton_if, nurses_at, KeepsMinimum, Roster, cell}
 use Rattle.rota_items.proofs.Common.Imports.{Problem, demand_cells, shortage, weighted_shortages, rules, max_number, max_shifts, max_skills, S1, optimum_cost, optimum_weight, optimum_item, optimum_items, optimum_items_at}
 use Rattle.rota_items.proofs.AlikeRosters.{nurses-alike}
 use Rattle.rota_items.proofs.ItemLists.{none_of_nurses}
 use Rattle.rota_items.specs.RuleItems.{no_charge}
 use Rattle.rota_items.proofs.Lists.{few-concat_below, few-singleton_if, sum_by-singleton_if, sum_by-each-times, count_by-each, sum_below-same, sum_below-zero}
-use Rattle.rota_items.proofs.SmallSums.{positive_part-parts}
 use Rattle.rota_items.proofs.SoftRules.Sizes.{length-demand, sum-cells}
 use Rattle.rota_items.proofs.SoftRules.Sound.{IsItemSound, IsRuleSound, weighted}
 use Rattle.rota_items.proofs.SoundTerms.{sound-demand}
-use Rattle.rota_items.proofs.PatternItems.{value_of-sum}
+use Rattle.rota_items.proofs.PatternItems.{value_of-sum, positive_part-parts}
 
 module _ (problem : Problem) where
-  abbrev is_wanted : ℕ → ℕ → ℕ → Bool
-  is_wanted d s k = nat_lt (problem.demand d s k).minimum (problem.demand d s k).optimal
-
   -- ---- the cost
 
   shortage-optimum_item : (roster : Roster) (d s k : ℕ) →
@@ -40,7 +36,7 @@ module _ (problem : Problem) where
         (AllByRecursion-concat_below (IsItemSound problem S1) 7 _ (λ d d_in.
         AllByRecursion-concat_below (IsItemSound problem S1) problem.shifts _ (λ s s_in.
         AllByRecursion-concat_below (IsItemSound problem S1) problem.skills (optimum_items_at problem d s) (λ k k_in.
-        AllByRecursion-singleton_if (IsItemSound problem S1) (is_wanted d s k) (optimum_item problem d s k) (λ wanted. record {
+        AllByRecursion-singleton_if (IsItemSound problem S1) _ (optimum_item problem d s k) (λ wanted. record {
           rule_is = refl;
           terms = sound-demand problem d s k d_in s_in k_in;
           weighs = omega arith;

@@ -11,10 +11,9 @@ use Rattle.rota_items.proofs.CellCounts.{work_count, one-work, count-work_cells}
 use Rattle.rota_items.proofs.SoundTerms.{sound-cells, AreSound, in-work_cells}
 use Rattle.rota_items.proofs.Lists.{few-append, few-singleton_if, sum_by-singleton_if, sum_by-each-is, sum_below-within, sum_below-same}
 use Rattle.rota_items.proofs.RisingCells.{rises-nurse_cells}
-use Rattle.rota_items.proofs.SmallSums.{positive_part-parts}
 use Rattle.rota_items.proofs.SoftRules.Sizes.{length-total, sum-cells}
 use Rattle.rota_items.proofs.SoftRules.Sound.{IsItemSound, IsNurseRuleSound}
-use Rattle.rota_items.proofs.PatternItems.{value_of-sum}
+use Rattle.rota_items.proofs.PatternItems.{value_of-sum, positive_part-parts}
 
 -- the charges of item and constant for the assignments below the minimum total, and for the assignments above the maximum
 min_charged : (count : Bool) (minimum before now lacks : ℕ) → now ≤ 7 → lacks ≡ min (minimum - before) 7 - now →
@@ -29,12 +28,6 @@ max_charged : (problem : Problem) (maximum before now exceeds : ℕ) → now ≤
 max_charged problem maximum before now exceeds small is = grind arith
 
 module _ (problem : Problem) where
-  abbrev is_wanted : ℕ → Bool
-  is_wanted n = min_totals_count problem && nat_lt 0 (still_wanted problem n)
-
-  abbrev is_limited : ℕ → Bool
-  is_limited n = max_totals_count problem && nat_lt (still_allowed problem n) 7
-
   -- ---- the shortages of the items
 
   module _ (roster : Roster) (n : ℕ) where
@@ -61,7 +54,7 @@ module _ (problem : Problem) where
         sound-cells problem coefficient unit _ _ (nurse_cells problem n) (AllByRecursion-concat_below (InWeek problem) 7 (work_cells problem n) (λ d d_in. in-work_cells problem n d n_in d_in))
         (rises-nurse_cells problem n)
 
-    sound-minimum : is_wanted n ≡ true → IsItemSound problem S6 (min_total_item problem n)
+    sound-minimum : (min_totals_count problem && nat_lt 0 (still_wanted problem n)) ≡ true → IsItemSound problem S6 (min_total_item problem n)
     sound-minimum wanted = record {
       rule_is = refl;
       terms = sound-sum (pos 1) (inl refl);
@@ -70,7 +63,7 @@ module _ (problem : Problem) where
       enough = λ roster _. omega (arith, shortage-minimum roster n);
     }
 
-    sound-maximum : is_limited n ≡ true → IsItemSound problem S6 (max_total_item problem n)
+    sound-maximum : (max_totals_count problem && nat_lt (still_allowed problem n) 7) ≡ true → IsItemSound problem S6 (max_total_item problem n)
     sound-maximum limited = record {
       rule_is = refl;
       terms = sound-sum (negsuc 0) (inr refl);
@@ -83,8 +76,8 @@ module _ (problem : Problem) where
   sound-total_assignments = record {
     items = λ n n_in.
         AllByRecursion-append (IsItemSound problem S6) (min_totals_of problem n) (max_totals_of problem n)
-        (AllByRecursion-singleton_if (IsItemSound problem S6) (is_wanted n) (min_total_item problem n) (sound-minimum n n_in))
-        (AllByRecursion-singleton_if (IsItemSound problem S6) (is_limited n) (max_total_item problem n) (sound-maximum n n_in));
+        (AllByRecursion-singleton_if (IsItemSound problem S6) _ (min_total_item problem n) (sound-minimum n n_in))
+        (AllByRecursion-singleton_if (IsItemSound problem S6) _ (max_total_item problem n) (sound-maximum n n_in));
     charges = λ roster one n n_in.
         let few = assignments-le roster n one n_in in
         let below = min_charged (min_totals_count problem) (problem.contract n).total.min (problem.past n).assignments _ _ few (shortage-minimum roster n) in
