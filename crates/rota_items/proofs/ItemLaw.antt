@@ -3,8 +3,7 @@ use Rattle.rota_items.proofs.Common.Imports.{map, ◌≡◌, ◌↔◌, ℕ, zer
 use Rattle.rota_items.proofs.Common.Imports.{sum_by-cons, recursion_from_All, lt-ltb, le-ltb, ints, nat_tests, AllByRecursion, All-from_recursion, All-head, All-tail, mul-le-mul_left, numbered, Item, positive_part}
 use Rattle.rota_items.proofs.Common.Imports.{shortage, weighted_shortages, Term, Constraint, Satisfies, value_of, times, AreBelow, slack_variables, item_constraint, item_constraints, slack_weights, is_slack_needed}
 use Rattle.rota_items.proofs.Common.Imports.{extension}
-use Rattle.rota_items.proofs.PatternItems.{value_of-append}
-use Rattle.rota_items.proofs.SmallSums.{positive_part-parts}
+use Rattle.rota_items.proofs.PatternItems.{value_of-append, positive_part-parts}
 use Rattle.rota_items.proofs.SoundTerms.{value_of-agree}
 
 -- variables with one coefficient add it once for each true variable

@@ -8,8 +8,7 @@ use Rattle.rota_items.proofs.ItemLaw.{IsExtension, count-front, extends-after, n
 use Rattle.rota_items.proofs.FirstUnmet.{Named}
 use Rattle.rota_items.proofs.JudgedRows.{Comes, IsJudged, covers, positive-saturated, row-comes, same, Before, counted_other, counted_slack, others-before, slacks-before, sums_of}
 use Rattle.std.proofs.lemmas.List.FromFn.{length-range_with_len as length-range}
-use Rattle.rota_items.proofs.PatternItems.{value_of-append}
-use Rattle.rota_items.proofs.SmallSums.{positive_part-parts, shortage-minimum, spread}
+use Rattle.rota_items.proofs.PatternItems.{value_of-append, positive_part-parts, shortage-minimum, spread}
 use Rattle.rota_items.proofs.SoundTerms.{value_of-agree, on-times, spread-units, units-times}
 
 -- ---- the slacks of an item

@@ -6,7 +6,7 @@ use Rattle.rota_items.proofs.Common.Imports.{RowSums, Tally, Subject, assigned, 
 use Rattle.rota_items.proofs.Common.Imports.{nat_abs, nat_lt, le-ltb, sum_by-cons, unit_number, first_slack, Term, value_of, set_of, close_row, start_row, term_events, counts_for, no_sums}
 use Rattle.rota_core.specs.declared.rule.Rule.TheVariants.{Unit as UnitRule}
 use Rattle.rota_items.proofs.FirstUnmet.{Named}
-use Rattle.rota_items.proofs.SmallSums.{positive_part-parts, spread, chosen-small}
+use Rattle.rota_items.proofs.PatternItems.{positive_part-parts, spread, chosen-small}
 use Rattle.rota_items.proofs.Extension.{extension-below}
 use Rattle.rota_items.proofs.SoundTerms.{OnTerms, value_of-agree}
 

@@ -6,8 +6,7 @@ use Rattle.rota_items.proofs.Common.Imports.{capped, counts_for, fresh, judged, 
 use Rattle.rota_items.proofs.InstanceLimits.{instance-within_limits}
 use Rattle.rota_items.proofs.JudgedModel.{charges, charges-are, few, given, model-comes, objective-judged, of_rule}
 use Rattle.rota_items.proofs.JudgedRows.{cost-raised, costs_of, or_else-none, same, counts-before}
-use Rattle.rota_items.proofs.PenaltyBound.{shortages-few}
-use Rattle.rota_items.proofs.RuleSizes.{constant_of_rule-few}
+use Rattle.rota_items.proofs.RuleSizes.{constant_of_rule-few, shortages-few}
 use Rattle.rota_items.proofs.SoftRules.ShiftOffRequests.{value_of-request_terms}
 
 abbrev pub model_events : InstanceTables → List Event

@@ -12,7 +12,7 @@ use Rattle.rota_items.proofs.Lists.{sum_below-zero}
 use Rattle.rota_items.proofs.ModelTerms.{rises-objective}
 use Rattle.rota_items.proofs.Numbers.{cell_number-below, cell_of-cell_number, cell_of_number-in, cell_number-of}
 use Rattle.rota_items.proofs.ObjectiveBound.{objective-below, objective_value-positive}
-use Rattle.rota_items.proofs.PenaltyBound.{penalty-below}
+use Rattle.rota_items.proofs.RuleSizes.{penalty-below}
 use Rattle.rota_items.proofs.RunLaw.{weighted_shortages-day_items, weighted_shortages-run_items}
 use Rattle.rota_items.proofs.SlackBound.{constraints-below, variables-below}
 use Rattle.rota_items.proofs.SoftRules.EachRule.{sound-rule}

@@ -1,6 +1,6 @@
 -- Properties of each row of the model.
 use Rattle.rota_items.proofs.Common.Imports.{◌≡◌, ℕ, ◌+◌, ◌<◌, ◌≤◌, List, [], ◌∷◌, map, arith, AllByRecursion, sum_by-cons, AllByRecursion-append, Problem, Rule, Cell, cell_number, first_slack, unit_number, rule_rows, Item}
-use Rattle.rota_items.proofs.Common.Imports.{numbered, Constraint, LinearRow, linear_constraint, item_row, item_rows, slack_count, soft_items, hard_rows, model_of, numbered_items, numbered_row, rows_of, unit_row}
+use Rattle.rota_items.proofs.Common.Imports.{numbered, LinearRow, item_row, item_rows, slack_count, soft_items, hard_rows, model_of, numbered_items, numbered_row, rows_of, unit_row}
 use Rattle.rota_items.proofs.HardRules.EachRule.{each-row}
 use Rattle.rota_items.proofs.HardRules.Sound.{IsRowSound}
 use Rattle.rota_items.proofs.Lists.{all-map}
@@ -34,8 +34,3 @@ module _ (problem : Problem) where
         (unit, all-map P (numbered_row problem) (rule_rows problem) (each-row problem (λ row. P (numbered_row problem row)) hard))
         (each-item_row (first_slack problem) (soft_items problem) (omega arith) (omega arith)
         (each-item problem HasRule (λ rule item soft sound. (rule, sound))))
-
-  -- and so for the constraints
-  pub each-constraint : (P : Constraint → Type 0) → AllByRecursion (λ row. P (linear_constraint row)) (rows_of problem) →
-      AllByRecursion P (model_of problem).constraints
-  each-constraint P all = all-map P linear_constraint (rows_of problem) all

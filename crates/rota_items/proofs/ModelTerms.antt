@@ -1,11 +1,11 @@
 -- The terms of the model are in ascending order of their variables, and the coefficients of its constraints are 1 and -1.
 use Rattle.rota_items.proofs.Common.Imports.{ℕ, inl, refl, pos, All, All-from_recursion, AllByRecursion-append, Problem, cell_number, unit_number, numbered, Term, times, LinearRow, linear_constraint}
-use Rattle.rota_items.proofs.Common.Imports.{item_row, slack_variables, numbered_row, numbered_terms, model_of, unit_row, IsUnit, HasUnitCoefficients, ◌≡◌, zero, suc, ◌+◌, ◌≤◌, List}
-use Rattle.rota_items.proofs.Common.Imports.{[], ◌∷◌, ◌++◌, arith, ℤ, nat_lt, AllByRecursion, range_with_len, sum_by-cons, first_slack, slack_count, constant_terms, cell_terms, constant}
-use Rattle.rota_items.proofs.Common.Imports.{Item, Constraint, slack_weights, soft_items, objective_terms, numbered_items, RisesFrom, HasRisingTerms}
-use Rattle.rota_items.proofs.ModelRows.{each-constraint, each-model_row}
+use Rattle.rota_items.proofs.Common.Imports.{rows_of, item_row, slack_variables, numbered_row, numbered_terms, model_of, unit_row, IsUnit, HasUnitCoefficients, ◌≡◌, zero, suc, ◌+◌, ◌≤◌, List, [], ◌∷◌}
+use Rattle.rota_items.proofs.Common.Imports.{◌++◌, arith, ℤ, nat_lt, AllByRecursion, range_with_len, sum_by-cons, first_slack, slack_count, constant_terms, cell_terms, constant, Item, Constraint}
+use Rattle.rota_items.proofs.Common.Imports.{slack_weights, soft_items, objective_terms, numbered_items, RisesFrom, HasRisingTerms}
+use Rattle.rota_items.proofs.ModelRows.{each-model_row}
 use Rattle.rota_items.proofs.SoundTerms.{AreUnits, coefficients-numbered, units-times}
-use Rattle.rota_items.proofs.Lists.{all-weaker, slack_count-numbered}
+use Rattle.rota_items.proofs.Lists.{all-map, all-weaker, slack_count-numbered}
 use Rattle.rota_core.specs.RisingLists.{RisesWithin}
 use Rattle.rota_core.proofs.LogicWords.{widen, rises-append, rises-singleton_if}
 use Rattle.rota_items.proofs.RisingCells.{rises-numbered}
@@ -16,7 +16,7 @@ use Rattle.rota_items.proofs.SoftRules.EachRule.{rise-cell_terms}
 pub units-constraints : (problem : Problem) → All HasUnitCoefficients (model_of problem).constraints
 units-constraints problem =
     All-from_recursion HasUnitCoefficients (model_of problem).constraints
-    (each-constraint problem HasUnitCoefficients
+    (all-map HasUnitCoefficients linear_constraint (rows_of problem)
     (each-model_row problem (λ row. HasUnitCoefficients (linear_constraint row)) (held (unit_row (unit_number problem)) (inl refl, tt))
     (λ rule row sound. held (numbered_row problem row) (coefficients-numbered IsUnit (cell_number problem) row.terms sound.terms.units))
     (λ rule item first sound after up_to.
@@ -51,7 +51,7 @@ module _ (problem : Problem) where
   pub rises-to_last : AllByRecursion (RisesTo ((model_of problem).variables + 1)) (model_of problem).constraints
   rises-to_last =
       let end : ℕ = (model_of problem).variables + 1 in
-      each-constraint problem (RisesTo end)
+      all-map (RisesTo end) linear_constraint (rows_of problem)
       (each-model_row problem (λ row. RisesTo end (linear_constraint row)) (omega arith, omega arith)
       (λ rule row sound.
       widen variable_of 1 (unit_number problem) end _ (omega arith) (rises-numbered problem 1 _ row.terms sound.terms.rise))

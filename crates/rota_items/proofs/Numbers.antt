@@ -7,8 +7,7 @@ pub cell_number-below : (problem : Problem) (one : Cell) → InWeek problem one 
 cell_number-below problem one inside =
     omega (arith, cell_index-lt problem.nurses problem.shifts problem.skills one inside.nurse_in inside.day_in inside.shift_in inside.skill_in)
 
-pub cell_of-cell_number : (problem : Problem) (one : Cell) → InWeek problem one →
-    cell_of_number problem (cell_number problem one) ≡ one
+pub cell_of-cell_number : (problem : Problem) (one : Cell) → InWeek problem one → cell_of_number problem (cell_number problem one) ≡ one
 cell_of-cell_number problem one inside =
     let index : cell_number problem one - 1 ≡ cell_index problem.shifts problem.skills one = omega arith in
     ap (cell_at problem.shifts problem.skills) index ∙
@@ -19,8 +18,7 @@ module _ (problem : Problem) (v : ℕ) (some : 0 < v) (below : v < unit_number p
   cell_of_number-in = cell_at-in problem (v - 1) (omega arith)
 
   pub cell_number-of : cell_number problem (cell_of_number problem v) ≡ v
-  cell_number-of =
-      omega (arith, index-cell_at problem.shifts problem.skills (v - 1))
+  cell_number-of = omega (arith, index-cell_at problem.shifts problem.skills (v - 1))
 
 -- ---- the assignment of a roster
 

@@ -4,11 +4,9 @@ use Rattle.rota_items.proofs.Common.Imports.{AllByRecursion-singleton_if, Proble
 use Rattle.rota_items.proofs.Common.Imports.{slack_weights, cell_terms, constant, soft_items, numbered_terms, numbered_items, objective_terms, model_of, IsWithinLimits, max_coefficient, ◌*◌, ◌≤◌}
 use Rattle.rota_items.proofs.Common.Imports.{ap, sum_by-cons, count_by-le-length, sum_by, count_by, mul-le-mul_left, unit_number, roster_of, max_objective, max_weight}
 use Rattle.rota_items.proofs.Lists.{all-map, all-weaker, sum_by-map}
-use Rattle.rota_items.proofs.RuleSizes.{constant-few, soft_items-le}
-use Rattle.rota_items.proofs.PenaltyBound.{each-small}
-use Rattle.rota_items.proofs.SoftRules.ShiftOffRequests.{request_cost-le}
+use Rattle.rota_items.proofs.RuleSizes.{constant-few, soft_items-le, each-small}
 use Rattle.rota_items.proofs.SoftRules.EachRule.{each-item, cell_terms-are, sound-cell_terms}
-use Rattle.rota_items.proofs.SoftRules.ShiftOffRequests.{IsTermSound, value_of-request_terms}
+use Rattle.rota_items.proofs.SoftRules.ShiftOffRequests.{IsTermSound, request_cost-le, value_of-request_terms}
 use Rattle.rota_items.proofs.SoundTerms.{OnCoefficients, coefficients-times, coefficients-numbered}
 use Rattle.std.proofs.lemmas.List.FromFn.{length-range_with_len as length-range}
 use Rattle.rota_items.proofs.Extension.{value_of-objective}
@@ -85,14 +83,9 @@ module _ (problem : Problem) (assignment : ℕ → Bool) where
       pos (request_cost problem (roster_of problem assignment) + cond (assignment (unit_number problem)) (constant problem) 0) +ℤ
       value_of assignment (slack_weights (first_slack problem) (numbered_items problem))
   objective-is =
-      omega (
-        arith,
-        ints,
-        value_of-objective problem assignment,
-        value_of-numbered (cell_number problem) assignment (cell_terms problem),
-        ap (value_of (roster_of problem assignment)) (cell_terms-are problem),
-        value_of-request_terms problem (roster_of problem assignment),
-      )
+      let numbered_are = value_of-numbered (cell_number problem) assignment (cell_terms problem) in
+      let terms_are = ap (value_of (roster_of problem assignment)) (cell_terms-are problem) in
+      omega (arith, ints, value_of-objective problem assignment, value_of-request_terms problem (roster_of problem assignment))
 
   pub objective_value-positive : pos 0 ≤ℤ objective_value assignment (model_of problem)
   objective_value-positive =
@@ -101,13 +94,7 @@ module _ (problem : Problem) (assignment : ℕ → Bool) where
   pub objective-below : IsWithinLimits problem → value_of assignment (objective_terms problem) ≤ℤ pos max_objective
   objective-below limits =
       let at_unit : cond (assignment (unit_number problem)) (constant problem) 0 ≤ constant problem = grind arith in
-      omega (
-        arith,
-        ints,
-        objective-is,
-        request_cost-le problem limits (roster_of problem assignment),
-        constant-few problem limits,
-        (value_of-slack_weights assignment (first_slack problem) (numbered_items problem)).1,
-        sum_by-map all_slacks (numbered (cell_number problem)) (soft_items problem),
-        soft_items-le problem limits all_slacks (λ _. max_weight) (λ rule item small. small.all_slacks),
-      )
+      let slacks = (value_of-slack_weights assignment (first_slack problem) (numbered_items problem)).1 in
+      let weights = sum_by-map all_slacks (numbered (cell_number problem)) (soft_items problem) in
+      let small = soft_items-le problem limits all_slacks (λ _. max_weight) (λ rule item small. small.all_slacks) in
+      omega (arith, ints, objective-is, request_cost-le problem limits (roster_of problem assignment), constant-few problem limits)

@@ -1,17 +1,13 @@
 -- How a taker takes the objective, term by term.
-use Rattle.rota_items.proofs.Common.Imports.{◌≡◌, ℕ, zero, suc, ◌<◌, Bool, true, false, nat_lt, List, [], ◌∷◌, ◌++◌, length, length-append, Result, MatchResult, refl}
-use Rattle.rota_items.proofs.Common.Imports.{sym, ap, ◌∙◌, arith, lt-ltb, true≢false, length-map, fold, pos, Ok, Err, is_err, singleton_if-fails, concat_below, singleton_if, Problem}
+use Rattle.rota_items.proofs.Common.Imports.{◌≡◌, ℕ, ◌<◌, Bool, true, false, nat_lt, List, [], ◌∷◌, ◌++◌, length, length-append, Result, MatchResult, refl}
+use Rattle.rota_items.proofs.Common.Imports.{sym, ap, ◌∙◌, arith, lt-ltb, true≢false, length-map, fold, pos, Ok, Err, is_err, concat_below, singleton_if, Problem}
 use Rattle.rota_items.proofs.Common.Imports.{Cell, Term, LinearRow, objective_rows, cell_term_events, Event, term, term_events, Took, Objective, Ghosts}
+use Rattle.rota_items.proofs.ItemLists.{none-concat_below}
 use Rattle.rota_items.proofs.Taking.{nothing, terms_join}
 
 -- the objective's row with these terms
 abbrev pub row_of : List (Term ℕ) → LinearRow ℕ
 row_of terms = record { part = Objective; terms = terms; degree = pos 0 }
-
-concat_below-nowhere : {A : Type 0} (test : Bool) (n : ℕ) (f : ℕ → A) → test ≡ false → concat_below n (λ k. singleton_if test (f k)) ≡ []
-unfolding concat_below
-concat_below-nowhere test zero f fails = refl
-concat_below-nowhere test (suc n) f fails = rw (concat_below-nowhere test n f fails, singleton_if-fails test (f n) fails) refl
 
 -- ---- whether the objective has a term
 
@@ -27,12 +23,8 @@ pub some_refused : (terms : List (Term ℕ)) (taken : List Event) (event : Event
     term_events terms ≡ taken ++ event ∷ rest → 0 < length terms
 unfolding term_events
 some_refused terms taken event rest are =
-    omega (
-      arith,
-      length-map terms (λ (t : Term ℕ). term t.0 t.1),
-      ap (λ (xs : List Event). length xs) are,
-      length-append taken (event ∷ rest),
-    )
+    let long = ap (λ (xs : List Event). length xs) are in
+    omega (arith, length-map terms (λ (t : Term ℕ). term t.0 t.1), length-append taken (event ∷ rest))
 
 pub told_by_refusal : {F : Type 0} (r : Result (Unit {0}) F) (terms : List (Term ℕ)) →
     MatchResult r (λ _. false ≡ fold touched false (term_events terms)) (λ _. 0 < length terms) → is_err r ≡ nat_lt 0 (length terms)
@@ -55,4 +47,5 @@ no_row (first ∷ others) none = absurd (true≢false (sym (lt-ltb 0 (length (fi
 module _ {S F : Type 0} (T : Ghosts S F) (problem : Problem) where
   pub cell_terms_nowhere : (test : Bool) (n : ℕ) (f : ℕ → Term Cell) (s : S) → test ≡ false →
       Took T (cell_term_events problem (concat_below n (λ k. singleton_if test (f k)))) s s
-  cell_terms_nowhere test n f s fails = rw (concat_below-nowhere test n f fails) (nothing (terms_join problem) s)
+  unfolding singleton_if
+  cell_terms_nowhere test n f s fails = rw (fails, ← none-concat_below {A = Term Cell} n) (nothing (terms_join problem) s)

@@ -38,8 +38,7 @@ module _ (v : ℕ) where
   range-other : (first count : ℕ) (coefficient : ℤ) → first ≤ v → OnTerms IsOther (times coefficient (range_with_len first count)) →
       first + count ≤ v
   range-other first zero coefficient from all = omega arith
-  range-other first (suc n) coefficient from all =
-      omega (arith, range-other (first + 1) n coefficient (omega (arith, all.0)) all.1)
+  range-other first (suc n) coefficient from all = omega (arith, range-other (first + 1) n coefficient (omega (arith, all.0)) all.1)
 
   slack-other : (first : ℕ) (items : List (Item ℕ)) → first ≤ v → AllByRecursion Lacks (item_rows first items) →
       first + slack_count items ≤ v
@@ -67,11 +66,8 @@ module _ (v : ℕ) where
     other-is_none within all =
         let parts = AllByRecursion-back Lacks (hard_rows problem) (item_rows (first_slack problem) (numbered_items problem)) all in
         let after : first_slack problem ≤ v = omega (arith, cell-other parts.0.1, parts.0.0.0) in
-        omega (
-          arith,
-          slack-other (first_slack problem) (numbered_items problem) after parts.1,
-          slack_count-numbered (cell_number problem) (soft_items problem),
-        )
+        let slacks = slack_count-numbered (cell_number problem) (soft_items problem) in
+        omega (arith, slack-other (first_slack problem) (numbered_items problem) after parts.1)
 
 -- ---- no other variable occurs in one
 
@@ -81,8 +77,7 @@ from-passing : {X : Type 0} (p : X → Bool) (P : X → Type 0) (Q : Type 0) →
 from-passing p P Q each xs all passes =
     let found = Any-from_list_any p xs passes in each found.1 (subst P found.3 (All-from_recursion P xs all found.0 found.1 found.2)) found.4
 
-pub occurs-exactly : (problem : Problem) (v : ℕ) →
-    OccursInSome (model_of problem) v ↔ ((0 < v) × (v ≤ (model_of problem).variables))
+pub occurs-exactly : (problem : Problem) (v : ℕ) → OccursInSome (model_of problem) v ↔ ((0 < v) × (v ≤ (model_of problem).variables))
 occurs-exactly problem v =
     let end : ℕ = (model_of problem).variables + 1 in (
       from-passing (occurs_in v) (RisesTo end) _ (λ constraint rises.

@@ -18,8 +18,7 @@ rises-between number first end (x ∷ xs) rises = (
 
 module _ (problem : Problem) where
   pub in-cell : (n d s k : ℕ) → n < problem.nurses → d < 7 → s < problem.shifts → k < problem.skills → InWeek problem (cell n d s k)
-  in-cell n d s k n_in d_in s_in k_in =
-      record { nurse_in = n_in; day_in = d_in; shift_in = s_in; skill_in = k_in }
+  in-cell n d s k n_in d_in s_in k_in = record { nurse_in = n_in; day_in = d_in; shift_in = s_in; skill_in = k_in }
 
   pub on-are : (n s d : ℕ) → Are (on_cells problem n s d) (λ P. (k : ℕ) → k < problem.skills → P (cell n d s k))
   on-are n s d = in-turns (λ k. alone)
@@ -45,16 +44,13 @@ module _ (problem : Problem) where
       rises-blocks (cell_number problem) _ _ problem.skills (λ k. cell n d s k ∷ []) (λ k. shift_start n d s + k)
       (omega arith) (omega arith) (λ k k_in. (omega arith, omega arith))
 
-  pub rises-work_cells : (n d : ℕ) →
-      RisesWithin (cell_number problem) (day_start n d) (day_start n (d + 1)) (work_cells problem n d)
+  pub rises-work_cells : (n d : ℕ) → RisesWithin (cell_number problem) (day_start n d) (day_start n (d + 1)) (work_cells problem n d)
   rises-work_cells n d =
       rises-blocks (cell_number problem) _ _ problem.shifts (λ s. on_cells problem n s d) (shift_start n d)
       (omega arith) (omega arith) (λ s s_in. rises-on_cells n s d)
 
-  pub rises-nurse_cells : (n : ℕ) →
-      RisesWithin (cell_number problem) (day_start n 0) (day_start n 7) (nurse_cells problem n)
-  rises-nurse_cells n =
-      rises-each (cell_number problem) 7 (λ d. work_cells problem n d) (day_start n) (λ d d_in. rises-work_cells n d)
+  pub rises-nurse_cells : (n : ℕ) → RisesWithin (cell_number problem) (day_start n 0) (day_start n 7) (nurse_cells problem n)
+  rises-nurse_cells n = rises-each (cell_number problem) 7 (λ d. work_cells problem n d) (day_start n) (λ d d_in. rises-work_cells n d)
 
   pub on-keeps : (n s d : ℕ) → s < problem.shifts →
       RisesWithin (cell_number problem) (day_start n d) (day_start n (d + 1)) (on_cells problem n s d)
@@ -150,8 +146,7 @@ module _ (problem : Problem) where
   -- ---- patterns
 
   abbrev KeepsToDays : ℕ → Property Cell → Type 0
-  KeepsToDays n property =
-      (d : ℕ) → RisesWithin (cell_number problem) (day_start n d) (day_start n (d + 1)) (variables_on property d)
+  KeepsToDays n property = (d : ℕ) → RisesWithin (cell_number problem) (day_start n d) (day_start n (d + 1)) (variables_on property d)
 
   pub rises-days : (n : ℕ) (property : Property Cell) → KeepsToDays n property → (first end : ℕ) (days : List PatternDay) →
       map (λ (day : PatternDay). day.day) days ≡ range_with_len first (length days) → end ≡ first + length days →

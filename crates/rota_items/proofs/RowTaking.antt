@@ -1,6 +1,6 @@
 -- The results of sending the rows of the hard rules to a taker of events and to a counter.
-use Rattle.rota_items.proofs.Common.Imports.{◌≡◌, ℕ, ◌+◌, ◌≤◌, min, List, [], ◌∷◌, length, refl, sym, ◌∙◌, arith, fold, fold-append, LinearRow, Event, events, Result, MatchResult, MatchResult-weaker, Takes}
-use Rattle.rota_items.proofs.Common.Imports.{row_events, max_count, RefusedFrom, TookAll, RefusedOne, Took, Refused, one_row_more, with_row, Ghosts}
+use Rattle.rota_items.proofs.Common.Imports.{◌≡◌, ℕ, ◌+◌, ◌≤◌, min, List, [], ◌∷◌, length, refl, sym, ◌∙◌, arith, fold, fold-append, LinearRow, Event, events, Result, MatchResult, MatchResult-weaker}
+use Rattle.rota_items.proofs.Common.Imports.{Takes, row_events, max_count, RefusedFrom, TookAll, RefusedOne, Took, Refused, one_row_more, with_row, Ghosts}
 use Rattle.rota_items.proofs.Taking.{events_join, Refused-before, Refused-after}
 
 -- it refused one of the row's events
@@ -30,7 +30,6 @@ pub takes_row : {S F R : Type 0} (T : Ghosts S F) (row : LinearRow ℕ) (s t : S
     MatchResult r (λ _. T.value t ≡ with_row T.step (T.value s) row) (λ _. RefusesRow T (T.value s) row t)
 takes_row T row s t r takes = MatchResult-weaker r takes (λ _ took. took.value_is) (λ _ refused. record { old = s; old_is = refl; refused = refused })
 
-pub rows-counted : (rows : List (LinearRow ℕ)) (n : ℕ) → n ≤ max_count →
-    fold one_row_more n rows ≡ min (n + length rows) max_count
+pub rows-counted : (rows : List (LinearRow ℕ)) (n : ℕ) → n ≤ max_count → fold one_row_more n rows ≡ min (n + length rows) max_count
 rows-counted [] n fits = omega arith
 rows-counted (row ∷ rows) n fits = rows-counted rows (one_row_more n row) (omega arith) ∙ omega arith

@@ -1,11 +1,11 @@
 -- The items of a property's runs charge the cost of the runs.
-use Rattle.rota_items.proofs.Common.Imports.{◌≡◌, ℕ, ◌*◌, ◌<◌, ◌≤◌, Bool, cond, List, [], ◌∷◌, ◌++◌, refl, ap, arith, All, count_by, sum_below, AllByRecursion, sum_by-cons, sum_by-append, All-from_recursion}
-use Rattle.rota_items.proofs.Common.Imports.{Item, shortage, weighted_shortages, Span, Runs, variables_on, pattern_item, run_items, pattern_items, Pattern, windows_on, patterns_on, windows}
-use Rattle.rota_items.proofs.Common.Imports.{patterns, has_property, day_items, AtMostOneADay, DaysFollow, day_cost, is_over, missing_on, run_over, run_under, run_cost}
+use Rattle.rota_items.proofs.Common.Imports.{◌≡◌, ℕ, ◌*◌, ◌<◌, ◌≤◌, Bool, List, [], ◌∷◌, refl, ap, arith, count_by, sum_below, AllByRecursion, sum_by-cons, sum_by-append}
+use Rattle.rota_items.proofs.Common.Imports.{Item, weighted_shortages, Span, Runs, variables_on, run_items, pattern_items, Pattern, windows_on, patterns_on}
+use Rattle.rota_items.proofs.Common.Imports.{has_property, day_items, AtMostOneADay, DaysFollow, day_cost, run_over, run_under, run_cost}
 use Rattle.rota_items.proofs.DayLaw.{units_of, units, units-windows_on, units-patterns_on}
-use Rattle.rota_items.proofs.EachPattern.{IsRunPattern, each-on, each-pattern, on-pattern, each-run_item}
+use Rattle.rota_items.proofs.EachPattern.{IsRunPattern, each-on, each-pattern, on-pattern}
 use Rattle.rota_items.proofs.Lists.{sum_by-each-is}
-use Rattle.rota_items.proofs.PatternItems.{AtMostOneOn, weighted-pattern_item, shortage-pattern_item}
+use Rattle.rota_items.proofs.PatternItems.{AtMostOneOn, weighted-pattern_item}
 
 module _ {X : Type 0} (runs : Runs X) (assignment : X → Bool) (one : AtMostOneADay runs.property assignment) where
   abbrev has : ℕ → Bool
@@ -24,35 +24,19 @@ module _ {X : Type 0} (runs : Runs X) (assignment : X → Bool) (one : AtMostOne
       weighted_shortages assignment (pattern_items runs all) ≡ runs.weight * units has all
   weighted_shortages-pattern_items [] are = omega arith
   weighted_shortages-pattern_items (p ∷ ps) are =
-      omega (
-        arith,
-        sum_by-cons (λ (item : Item X). item.weight * shortage assignment item)
-            (pattern_item runs.rule runs.weight runs.property p) (pattern_items runs ps),
-        ap (λ n. runs.weight * n) (sum_by-cons (units_of has) p ps),
-        weighted-pattern_item runs.rule runs.weight runs.property assignment p (at_most_one p are.0.follows),
-        weighted_shortages-pattern_items ps are.1,
-      )
+      let here = weighted-pattern_item runs.rule runs.weight runs.property assignment p (at_most_one p are.0.follows) in
+      let sum = ap (λ n. runs.weight * n) (sum_by-cons (units_of has) p ps) in
+      omega (arith, sum_by-cons {X = Item X}, weighted_shortages-pattern_items ps are.1)
 
   pub weighted_shortages-run_items : weighted_shortages assignment (run_items runs) ≡ runs.weight * run_cost has history limits
   unfolding run_over run_under sum_below
   weighted_shortages-run_items =
-      rw (
-        weighted_shortages-pattern_items (windows history limits ++ patterns history limits) (each-pattern history limits),
-        sum_by-append (units_of has) (windows history limits) (patterns history limits),
-        sum_by-each-is (units_of has) 7 (windows_on history limits) (λ d. cond (is_over has history limits.max d) 1 0)
-            (λ d _. units-windows_on has history d limits),
-        sum_by-each-is (units_of has) 7 (patterns_on history limits) (missing_on has history limits.min)
-            (λ d _. units-patterns_on has history d limits),
-      )
-      refl
+      let over = sum_by-each-is (units_of has) 7 (windows_on history limits) _ (λ d _. units-windows_on has history d limits) in
+      let under = sum_by-each-is (units_of has) 7 (patterns_on history limits) _ (λ d _. units-patterns_on has history d limits) in
+      rw (weighted_shortages-pattern_items _ (each-pattern history limits), sum_by-append, over, under) refl
 
   pub weighted_shortages-day_items : (d : ℕ) → d < 7 →
       weighted_shortages assignment (day_items runs d) ≡ runs.weight * day_cost has history limits d
   weighted_shortages-day_items d d_in =
-      rw (
-        weighted_shortages-pattern_items (windows_on history limits d ++ patterns_on history limits d) (each-on history limits d d_in),
-        sum_by-append (units_of has) (windows_on history limits d) (patterns_on history limits d),
-        units-windows_on has history d limits,
-        units-patterns_on has history d limits,
-      )
-      refl
+      let charged = weighted_shortages-pattern_items _ (each-on history limits d d_in) in
+      rw (charged, sum_by-append, units-windows_on has history d limits, units-patterns_on has history d limits) refl

@@ -1,7 +1,7 @@
 -- An assignment satisfies the model if and only if the unit variable is true, its roster keeps the hard rules, and the items' rows hold.
 use Rattle.rota_items.proofs.Common.Imports.{◌≡◌, ◌↔◌, ℕ, Bool, true, List, [], ◌∷◌, map, map-append, sym, subst, All, AllByRecursion, AllByRecursion-append, AllByRecursion-back, All-from_recursion}
-use Rattle.rota_items.proofs.Common.Imports.{recursion_from_All, KeepsHardRules, Problem, Cell, first_slack, unit_number, rule_rows, Constraint, Satisfies, SatisfiesModel, LinearRow, linear_constraint}
-use Rattle.rota_items.proofs.Common.Imports.{item_constraints, item_rows, hard_rows, numbered_items, numbered_row, hard_constraints, model_of, roster_of, cell_number}
+use Rattle.rota_items.proofs.Common.Imports.{recursion_from_All, KeepsHardRules, Problem, Cell, first_slack, unit_number, rule_rows, Constraint, Satisfies, SatisfiesModel, LinearRow}
+use Rattle.rota_items.proofs.Common.Imports.{linear_constraint, item_constraints, item_rows, hard_rows, numbered_items, numbered_row, hard_constraints, model_of, roster_of, cell_number}
 use Rattle.rota_items.proofs.HardRules.EachRule.{rule_rows-hold, rule_rows-mean}
 use Rattle.rota_items.proofs.HardRules.Sound.{AllHold, one-where_true}
 use Rattle.rota_items.proofs.ItemLaw.{value_of-numbered}

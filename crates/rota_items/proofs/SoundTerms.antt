@@ -1,10 +1,10 @@
 -- Terms: properties of their variables and coefficients, and rising terms within the week with coefficients of 1 and -1.
-use Rattle.rota_items.proofs.Common.Imports.{◌≡◌, ℕ, ◌<◌, Bool, List, [], ◌∷◌, refl, ℤ, pos, All, AllByRecursion, flat_map, All-from_recursion, recursion_from_All, AllByRecursion-append, ◌≤◌, true, false}
-use Rattle.rota_items.proofs.Common.Imports.{inl, inr, map, length, arith, negsuc, nat_abs, if◌then◌else◌, sum_by-cons, max, AllByRecursion-concat_below, ◌+◌, Item, Term, times, value_of, AreBelow, IsUnit}
-use Rattle.rota_items.proofs.Common.Imports.{InWeek, Problem, on_cells, work_cells, demand_cells, Cell, cell_number, unit_number, Property, Runs, variables_on, day_terms, run_items, PatternDay, is_plain}
-use Rattle.rota_items.proofs.EachPattern.{OnDays, on-pattern, each-run_item}
+use Rattle.rota_items.proofs.Common.Imports.{◌≡◌, ℕ, ◌<◌, Bool, List, [], ◌∷◌, refl, ℤ, pos, AllByRecursion, flat_map, AllByRecursion-append, ◌≤◌, true, false}
+use Rattle.rota_items.proofs.Common.Imports.{inl, inr, map, length, arith, negsuc, nat_abs, if◌then◌else◌, sum_by-cons, max, AllByRecursion-concat_below, ◌+◌, Term, times, value_of, IsUnit}
+use Rattle.rota_items.proofs.Common.Imports.{InWeek, Problem, on_cells, work_cells, demand_cells, Cell, cell_number, unit_number, Property, variables_on, day_terms, PatternDay, is_plain}
+use Rattle.rota_items.proofs.EachPattern.{OnDays}
 use Rattle.rota_items.proofs.Lists.{all-flat_map, all-map}
-use Rattle.rota_items.proofs.SmallSums.{spread}
+use Rattle.rota_items.proofs.PatternItems.{spread}
 use Rattle.rota_core.specs.RisingLists.{RisesWithin}
 use Rattle.rota_core.proofs.LogicWords.{length-rising}
 use Rattle.rota_items.proofs.Numbers.{cell_number-below}
@@ -96,11 +96,7 @@ module _ (problem : Problem) where
   -- the number of terms with a coefficient of 1 or -1 at rising cells is at most the number of cells
   pub spread-sound : (terms : List (Term Cell)) → AreSound problem terms → spread terms ≤ unit_number problem
   spread-sound terms sound =
-      omega (
-        arith,
-        spread-units terms sound.units,
-        length-rising (at problem) 1 (unit_number problem) terms sound.rise,
-      )
+      omega (arith, spread-units terms sound.units, length-rising (at problem) 1 (unit_number problem) terms sound.rise)
 
   -- rising terms are within the week's numbers if their cells are the week's
   pub rises-inside : (from first end : ℕ) (terms : List (Term Cell)) → from ≤ unit_number problem → from ≤ max first 1 →

@@ -1,9 +1,16 @@
 -- How the list taken by a taker grows, call by call and loop by loop.
-use Rattle.rota_items.proofs.Common.Imports.{◌≡◌, ℕ, ◌<◌, List, [], ◌∷◌, ◌++◌, Result, MatchResult, refl, sym, ap, ◌∙◌, append_assoc, append-nil, map-append, flat_map-append, fold-append, MatchResult-from_err}
-use Rattle.rota_items.proofs.Common.Imports.{MatchResult-weaker, fold, ℤ, IsErr, concat_below-zero, concat_below-more, concat_below, Problem, Cell, cell_number, Term, times, LinearRow, numbered_row, numbered_terms}
-use Rattle.rota_items.proofs.Common.Imports.{cell_term_events, numbered_rows, coefficient_of, sum_events, start_row, term, close_row, row_events, term_events, events, TookAll, RefusedOne, TakesAll, Took, Refused}
-use Rattle.rota_items.proofs.Common.Imports.{Takes, Sign, Ghosts, in_turn, Event, Part, suc, map, get_or, take, drop, length, subst, take-append-drop, flat_map, h5_row, numbered, numbered_list}
+use Rattle.rota_items.proofs.Common.Imports.{◌≡◌, ℕ, ◌<◌, List, [], ◌∷◌, ◌++◌, Result, MatchResult, refl, sym, ap, ◌∙◌, append_assoc, append-nil, map-append, flat_map-append, fold-append}
+use Rattle.rota_items.proofs.Common.Imports.{MatchResult-from_err, MatchResult-weaker, fold, ℤ, IsErr, concat_below-zero, concat_below-more, concat_below, Problem, Cell, cell_number, Term, times}
+use Rattle.rota_items.proofs.Common.Imports.{LinearRow, numbered_row, numbered_terms, cell_term_events, numbered_rows, coefficient_of, sum_events, start_row, term, close_row, row_events, term_events}
+use Rattle.rota_items.proofs.Common.Imports.{events, TookAll, RefusedOne, TakesAll, Took, Refused, Takes, Sign, Ghosts, in_turn, Event, Part, suc, map, get_or, take, drop, length, subst}
+use Rattle.rota_items.proofs.Common.Imports.{take-append-drop, flat_map, h5_row, numbered, numbered_list, zero, ◌+◌, arith, range_with_len, to_z-of_z, map-range_with_len_more, Pattern, DayPattern}
+use Rattle.rota_items.proofs.Common.Imports.{charged_items, item_of, TakesItems, TookItems}
 use Rattle.std.proofs.Math.Seq.{drop-cons}
+use Rattle.rota_items.specs.CellSums.{pattern_of}
+use Rattle.rota_items.specs.SoftItems.{numbered_item}
+use Rattle.rota_items.specs.declared.items.soft_item.RunCharge.{RunCharge}
+use Rattle.rota_items.specs.declared.items.soft_item.SoftItem.{SoftItem}
+use Rattle.rota_items.specs.declared.items.item_takers.ItemTaker as item_taker
 
 -- ---- functions that make the events of a list, element by element
 
@@ -193,3 +200,60 @@ module _ {S F : Type 0} (T : Ghosts S F) where
             MatchResult r (λ _. T.value v ≡ T.step (T.value u) (close_row degree)) (λ _. T.left (T.value u) (close_row degree) v) →
             Takes T all s v r
         row_closed r closes = MatchResult-weaker r closes (λ _. row_taken) (λ _. row_unclosed)
+
+-- ---- a taker of the terms of variables that follow one another
+
+-- one variable, at this distance from the first
+abbrev slack_term : ℤ → ℕ → ℕ → List (Term ℕ)
+slack_term coefficient first i = (coefficient, first + i) ∷ []
+
+slack_terms-are : (coefficient : ℤ) (first n : ℕ) →
+    times coefficient (range_with_len first n) ≡ concat_below n (slack_term coefficient first)
+unfolding concat_below
+slack_terms-are coefficient first zero = refl
+slack_terms-are coefficient first (suc n) =
+    (let more : suc n ≡ n + 1 = omega arith in ap (λ m. times coefficient (range_with_len first m)) more) ∙
+    map-range_with_len_more {X = Term ℕ} (λ v. (coefficient, v)) first n (first + n) refl ∙
+    ap (λ xs. xs ++ slack_term coefficient first n) (slack_terms-are coefficient first n)
+
+pub range_terms-more : (coefficient : ℤ) (first n : ℕ) →
+    times coefficient (range_with_len first (n + 1)) ≡ times coefficient (range_with_len first n) ++ (coefficient, first + n) ∷ []
+range_terms-more coefficient first n = map-range_with_len_more {X = Term ℕ} (λ v. (coefficient, v)) first n (first + n) refl
+
+-- the rules that a loop over variables that follow one another needs
+pub ruleset ranges = (range_terms-more, map-append, fold-append, to_z-of_z)
+
+pub range_refused : {S F : Type 0} (T : Ghosts S F) (coefficient : ℤ) (first i n : ℕ) (s t u : S) → i < n →
+    Took T (term_events (times coefficient (range_with_len first i))) s t →
+    T.left (T.value t) (term coefficient (first + i)) u → Refused T (term_events (times coefficient (range_with_len first n))) s u
+unfolding term_events
+range_refused T coefficient first i n s t u below p refused =
+    rw (slack_terms-are coefficient first n)
+    (loop_refused numbers_join i n (slack_term coefficient first) s t u below
+    (rw (slack_terms-are coefficient first i) at p) (Refused-one _ t u refused))
+
+-- ---- a taker of items: the item of a pattern of days
+
+module _ {S F : Type 0} (T : item_taker.Ghosts S F) (problem : Problem) (charge : RunCharge) where
+  -- no pattern has no item
+  pub no_pattern : (given : List Pattern) → [] ≡ given → (s : S) → TookItems T problem (charged_items problem charge given) s s
+  no_pattern given none s = subst (λ ps. TookItems T problem (charged_items problem charge ps) s s) none (nothing (items_join problem) s)
+
+  -- the item of the pattern that is given
+  module _ (item : SoftItem) (pattern : DayPattern) (given : List Pattern) (is : item_of problem item ∷ [] ≡ charged_items problem charge (pattern_of pattern ∷ []))
+      (are : pattern_of pattern ∷ [] ≡ given) (s t : S) where
+    pub pattern_took : T.value t ≡ T.step (T.value s) (numbered_item problem item) → TookItems T problem (charged_items problem charge given) s t
+    unfolding numbered_list
+    pattern_took took = subst (λ items. TookItems T problem items s t) (is ∙ ap (charged_items problem charge) are) (Took-one _ s t took)
+
+    pub pattern_refused : T.left (T.value s) (numbered_item problem item) t →
+        RefusedOne T.value T.step T.left (numbered_list problem (charged_items problem charge given)) s t
+    unfolding numbered_list
+    pattern_refused refused =
+        subst (λ items. RefusedOne T.value T.step T.left (numbered_list problem items) s t) (is ∙ ap (charged_items problem charge) are)
+        (Refused-one _ s t refused)
+
+    pub pattern_takes : (r : Result (Unit {0}) F) →
+        MatchResult r (λ _. T.value t ≡ T.step (T.value s) (numbered_item problem item)) (λ _. T.left (T.value s) (numbered_item problem item) t) →
+        TakesItems T problem (charged_items problem charge given) s t r
+    pattern_takes r takes = MatchResult-weaker r takes (λ _. pattern_took) (λ _. pattern_refused)

@@ -31,7 +31,7 @@ fn coefficient(sign: Sign) -> i64
 }
 
 /// The `count` variables that follow one another from the first on, each with the coefficient.
-#[tactic(auto, using(crate::proofs::SlackTerms::ranges), unfolding(crate::specs::Events::term_events))]
+#[tactic(auto, using(crate::proofs::Taking::ranges), unfolding(crate::specs::Events::term_events))]
 #[inline(always)]
 pub fn emit_range<T: Taker>(
     taker: &mut T,

@@ -1,12 +1,10 @@
 -- Definitions that only proofs cite: the lists that takers took, the items of a day's patterns, and bounds.
-use Rattle.std.specs.Prelude.{ℕ, ◌+◌, ◌*◌, ◌^◌, Bool, List}
-use Rattle.rota_core.specs.declared.rule.Rule.{Rule}
+use Rattle.std.specs.Prelude.{◌+◌, ◌*◌, ◌^◌}
 use Rattle.rota_core.specs.declared.rule.Rule.TheVariants.{S1}
-use Rattle.rota_core.specs.declared.values.Cell.{Cell}
-use Rattle.rota_core.specs.Problem.{Problem}
+use Rattle.rota_items.specs.Imports.{ℕ, Bool, List, Cell, Problem, Rule, DAYS}
 use Rattle.rota_items.specs.Bounds.{max_cost_of_nurse, max_terms, max_weight}
 use Rattle.rota_items.specs.SoftItems.{numbered_list, numbered_rows}
-use Rattle.rota_core.specs.Limits.{DAYS, max_number, max_nurses}
+use Rattle.rota_core.specs.Limits.{max_number, max_nurses}
 use Rattle.rota_items.specs.Rows.{Item, LinearRow}
 use Rattle.rota_items.specs.RunItems.{Runs, closed_patterns_at, edge_patterns_on, pattern_items}
 use Rattle.rota_items.specs.Takes.{TookAll}

@@ -1,11 +1,11 @@
 -- The words that the proofs use, by subject.
 -- of the logic that the lemmas use: numbers, truth values, lists, and their properties
 pub use Rattle.std.proofs.Common.{arith, ◌≡◌, ℕ, [], List, refl, ◌∙◌, ◌∷◌, ap, ◌+◌, ◌≤◌, ◌<◌, true, Bool, ◌*◌, ◌++◌, map, sym, false, length, cond, suc, rules, inl, zero, inr, ◌-◌, subst, w64, take}
-pub use Rattle.std.proofs.Common.{◌↔◌, of_z, to_z, ◌&&◌, not, Result, None, Some, ◌⊎◌, MatchResult, min, Option, append_assoc, get_or, ltb, add-one, add-zero, max, drop, leb, zero-add, ◌||◌}
+pub use Rattle.std.proofs.Common.{◌↔◌, ◌&&◌, not, Result, None, Some, ◌⊎◌, MatchResult, min, Option, append_assoc, get_or, ltb, add-one, add-zero, max, drop, leb, zero-add, ◌||◌}
+pub use Rattle.std.proofs.Common.{ℤ, pos, negsuc, ◌+ℤ◌, ◌-ℤ◌, ◌≤ℤ◌, ◌<ℤ◌, nat_abs, nat_lt, nat_le, int_le, ◌==◌, if◌then◌else◌, slice_index_or, Ok, Err, IsErr, is_err, IfSome, IsSomeAnd, MatchOption}
+pub use Rattle.std.proofs.Common.{le_trans, mul-le-mul, mul-le-mul_left, mul-le-mul_right, one-mul, zero-mul}
 pub use Rattle.std.proofs.Math.Bool.{or-false}
-pub use Rattle.std.proofs.Math.Nat.{le_trans, mul-le-mul_left, mul-le-mul, mul-le-mul_right, one-mul, zero-mul}
-pub use Rattle.std.proofs.Math.Seq.{take-suc}
-pub use Rattle.std.proofs.lemmas.Bool.{cases_Bool, lt-ltb, true≢false, le-ltb, ltb-false, ltb-true, and_parts, cases_lt, eq-eqb, eqb-true, false_from_ne_true, ne_eqb, not-true}
+pub use Rattle.std.proofs.lemmas.Bool.{cases_Bool, lt-ltb, true≢false, le-ltb, ltb-false, ltb-true, and_parts, eq-eqb, eqb-true, false_from_ne_true, ne_eqb, not-true}
 pub use Rattle.std.proofs.lemmas.Bool.Decides.{nat_tests, leb_tells}
 pub use Rattle.std.proofs.lemmas.Grind.{take_at_read}
 pub use Rattle.std.proofs.lemmas.Int.{ints, to_z-of_z, to_z_pos}
@@ -21,28 +21,23 @@ pub use Rattle.std.proofs.lemmas.Simd.{map-map}
 pub use Rattle.std.specs.Int.{saturate_signed}
 pub use Rattle.std.specs.List.{AllByRecursion, flat_map, count_by, sum_by, range_with_len, fold, All, list_any, sum, list_all}
 pub use Rattle.std.specs.Option.{option_or}
-pub use Rattle.std.specs.Prelude.{pos, nat_lt, ℤ, ◌+ℤ◌, negsuc, if◌then◌else◌, ◌≤ℤ◌, ◌-ℤ◌, nat_abs, nat_le, int_le, slice_index_or, ◌==◌, Err, IfSome, MatchOption, Ok, ◌<ℤ◌, IsSomeAnd}
-pub use Rattle.std.specs.Result.{IsErr, is_err}
 pub use borrow.Author.Differences.{down, up}
 pub use mir.Val.{bool_byte}
 pub use Rattle.rota_core.proofs.LogicWords.{AllByRecursion-append, AllByRecursion-concat_below, AllByRecursion-singleton_if, singleton_if-holds, AllByRecursion-back, concat_below-more}
 pub use Rattle.rota_core.proofs.LogicWords.{length-singleton_if, singleton_if-fails, AllByRecursion-at, concat_below-zero, length-concat_below, holds-where, in_turn}
-pub use Rattle.rota_core.specs.SumsBelow.{count_below}
 unfoldable pub use Rattle.rota_core.specs.SumsBelow.{sum_below, any_below}
 unfoldable pub use Rattle.rota_core.specs.Lists.{concat_below, singleton_if}
 -- of the model: weeks, rosters and rules, rows, items and their numbers
-pub use Rattle.rota_core.specs.HardRules.{KeepsOneCell, KeepsCompetitionRules, KeepsHardRules, is_on, works, nurses_at, is_off, KeepsHeld, KeepsMinimum, KeepsSkills, KeepsSuccession}
+pub use Rattle.rota_items.specs.Imports.{Cell, Rule, Span, count_below, hard_rules, soft_rules, is_off, is_on, nurses_at, works}
+pub use Rattle.rota_items.specs.Imports.{KeepsCompetitionRules, KeepsHardRules, KeepsHeld, KeepsMinimum, KeepsOneCell, KeepsSkills, KeepsSuccession}
 pub use Rattle.rota_core.specs.InstanceTables.{problem_of, InstanceTables, IsInstance}
 pub use Rattle.rota_core.specs.Roster.{Roster, cell, InWeek, Has}
 pub use Rattle.rota_core.specs.RosterCells.{cell_at}
 unfoldable pub use Rattle.rota_core.specs.RosterCells.{cells_of}
-pub use Rattle.rota_core.specs.RosterTables.{set_of, cell_index, HasShapeOf, RosterTables}
-pub use Rattle.rota_core.specs.Rules.{soft_rules, hard_rules}
+pub use Rattle.rota_core.specs.RosterTables.{set_of, cell_count, cell_index, HasShapeOf, RosterTables}
 pub use Rattle.rota_core.specs.ScenarioTables.{AreLimits, IsContract}
 pub use Rattle.rota_core.specs.Problem.{Problem, no_demand, no_past, no_span}
 pub use Rattle.rota_core.specs.WeekTables.{IsDemand, IsPast}
-pub use Rattle.rota_core.specs.declared.rule.Rule.{Rule}
-pub use Rattle.rota_core.specs.declared.values.Cell.{Cell}
 pub use Rattle.rota_items.specs.RuleItems.{soft_items, items_of_rule, constant, constant_of_rule, cell_terms, nurse_constant, nurse_items, cell_terms_of_rule}
 pub use Rattle.rota_items.specs.Coefficients.{IsUnit, HasUnitCoefficients}
 pub use Rattle.rota_items.specs.Counting.{counted, counts_of, maximum, is_constraint, no_counts, variables_in, counts_of_model}
@@ -61,7 +56,6 @@ pub use Rattle.rota_items.specs.ModelCosts.{weighted_shortages, model_cost}
 pub use Rattle.rota_items.specs.Occurrence.{occurs_in, OccursInSome, without_held}
 pub use Rattle.rota_items.specs.Truths.{truth_of}
 pub use Rattle.rota_items.specs.Variables.{cell_number, unit_number, roster_of}
-pub use Rattle.rota_core.specs.RosterTables.{cell_count}
 pub use Rattle.rota_items.specs.WeekModel.{model_of, first_slack, numbered_items, numbered_terms, rows_of, slack_count, item_rows, numbered_row, objective_terms, slack_weights, hard_rows}
 pub use Rattle.rota_items.specs.WeekModel.{slack_variables, extension_of, item_row, assignment_of, cell_of_number, constant_terms, hard_constraints, unit_row, extension, is_slack_needed}
 -- of the rules: each by its name, its cost, its items, and the bounds on them
@@ -74,13 +68,11 @@ pub use Rattle.rota_items.specs.EarlyWeeks.{CountedTotal, FollowEarly, RosteredW
 pub use Rattle.rota_core.specs.Limits.{max_skills, max_nurses, max_shifts, max_number}
 pub use Rattle.rota_items.specs.MachineBounds.{signed_limit, word_limit, max_count}
 pub use Rattle.rota_items.specs.rules.ConsecutiveAssignments.Items.{shift_runs, work_runs}
-pub use Rattle.rota_items.specs.rules.ConsecutiveDaysOff.Items.{off_runs}
 pub use Rattle.rota_items.specs.rules.OptimalCoverage.Cost.{optimum_cost, optimum_weight}
 pub use Rattle.rota_items.specs.rules.OptimalCoverage.Items.{optimum_item, optimum_items_at, optimum_items}
 pub use Rattle.rota_items.specs.rules.ShiftOffRequests.Cost.{request_cost, request_weight}
 pub use Rattle.rota_items.specs.rules.ShiftOffRequests.Terms.{request_terms_on, request_terms}
 -- of runs: their days, their windows and patterns, and the items that charge them
-pub use Rattle.rota_core.specs.declared.values.Span.{Span}
 pub use Rattle.rota_items.specs.CellSums.{day_after, day_before, days_of, property_of, is_plain_of}
 pub use Rattle.rota_items.specs.SoftItems.{runs_of, item_of, charged_items}
 pub use Rattle.rota_items.specs.RunItemParts.{DaysFollow, has_property, pattern_items_on, window_items_on, AtMostOneADay, day_cost, day_items}

@@ -69,14 +69,10 @@ module _ (problem : Problem) where
               terms = sound-cells problem (negsuc 0) (inr refl) _ _ (skill_cells problem n k)
                   ((skill-are problem n k).all (InWeek problem) inside) (rises-skill_cells problem n k k_in);
               holds = λ roster _ skilled.
-                  (at_most roster (skill_cells problem n k) 0).1
-                  (omega (
-                    arith,
-                    count-none roster (skill_cells problem n k)
-                        ((skill-are problem n k).all (λ c. roster c ≡ false) (λ d d_in s s_in. false_from_ne_true _ (λ has.
-                        true≢false (sym (skilled (cell n d s k) (record { in_week = inside d d_in s s_in; in_roster = has })) ∙
-                        not-true (problem.has_skill n k) lacks)))),
-                  ));
+                  let fails = (skill-are problem n k).all (λ c. roster c ≡ false) (λ d d_in s s_in. false_from_ne_true _ (λ has.
+                  let skill = skilled (cell n d s k) (record { in_week = inside d d_in s s_in; in_roster = has }) in
+                  true≢false (sym skill ∙ not-true (problem.has_skill n k) lacks))) in
+                  (at_most roster (skill_cells problem n k) 0).1 (omega (arith, count-none roster (skill_cells problem n k) fails));
             });
         mean = λ roster all one has.
             elim (cases_Bool (problem.has_skill one.nurse one.skill)) [

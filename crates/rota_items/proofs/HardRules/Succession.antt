@@ -1,6 +1,6 @@
 -- H3: no shift type after one that it may not follow.
-use Rattle.rota_items.proofs.Common.Imports.{◌≡◌, ℕ, ◌+◌, ◌<◌, ◌≤◌, ◌++◌, true, false, cond, inl, inr, refl, ap, ◌∙◌, arith, count_by, negsuc, Option, Some, None, cases_Bool, sum_by-append, AllByRecursion-append}
-use Rattle.rota_items.proofs.Common.Imports.{KeepsOneCell, KeepsSuccession, is_on, InWeek, Roster, Problem, cell_number, on_cells, h3_monday_row, h3_row, is_forbidden_after, H3}
+use Rattle.rota_items.proofs.Common.Imports.{◌≡◌, ℕ, ◌+◌, ◌<◌, ◌≤◌, ◌++◌, true, false, cond, inl, inr, refl, ap, ◌∙◌, arith, count_by, negsuc, Option, Some, None, cases_Bool, sum_by-append}
+use Rattle.rota_items.proofs.Common.Imports.{AllByRecursion-append, KeepsOneCell, KeepsSuccession, is_on, InWeek, Roster, Problem, cell_number, on_cells, h3_monday_row, h3_row, is_forbidden_after, H3}
 use Rattle.rota_core.proofs.LogicWords.{rises-append}
 use Rattle.rota_items.proofs.CellCounts.{any-on_cells, one-on}
 use Rattle.rota_items.proofs.HardRules.Sound.{at_most, Holds, IsHardRuleSound, IsRowSound}
@@ -30,17 +30,12 @@ module _ (problem : Problem) where
         n < problem.nurses → d < 6 → s < problem.shifts → t < problem.shifts → problem.is_forbidden s t ≡ true →
         count_by roster (on_cells problem n s d ++ on_cells problem n t (d + 1)) ≤ 1
     row-few one kept n d s t n_in d_in s_in t_in forbidden =
-        grind (
-          arith,
-          sum_by-append (λ c. cond (roster c) 1 0) (on_cells problem n s d) (on_cells problem n t (d + 1)),
-          any_or_none roster (on_cells problem n s d),
-          any-on_cells problem roster n s d,
-          any_or_none roster (on_cells problem n t (d + 1)),
-          any-on_cells problem roster n t (d + 1),
-          kept.in_week n d s t n_in d_in s_in t_in,
-          one-on problem roster one n d n_in (omega arith) s s_in,
-          one-on problem roster one n (d + 1) n_in (omega arith) t t_in,
-        )
+        let parts = sum_by-append (λ c. cond (roster c) 1 0) (on_cells problem n s d) (on_cells problem n t (d + 1)) in
+        let first = any_or_none roster (on_cells problem n s d) in
+        let second = any_or_none roster (on_cells problem n t (d + 1)) in
+        let one_first = one-on problem roster one n d n_in (omega arith) s s_in in
+        let one_second = one-on problem roster one n (d + 1) n_in (omega arith) t t_in in
+        grind (arith, any-on_cells problem roster n s d, any-on_cells problem roster n t (d + 1), kept.in_week n d s t n_in d_in s_in t_in)
 
   pub succession : IsHardRuleSound problem H3
   succession =
@@ -80,13 +75,9 @@ module _ (problem : Problem) where
                   elim (cases_Bool (problem.is_forbidden s t)) [
                     | inl forbidden ↦
                         let row = (each n n_in).1 d d_in s s_in t t_in forbidden in
-                        absurd (omega (
-                          arith,
-                          sum_by-append (λ c. cond (roster c) 1 0) (on_cells problem n s d) (on_cells problem n t (d + 1)),
-                          some-on roster n s d first,
-                          some-on roster n t (d + 1) second,
-                          (at_most roster (on_cells problem n s d ++ on_cells problem n t (d + 1)) 1).0 row,
-                        ))
+                        let parts = sum_by-append (λ c. cond (roster c) 1 0) (on_cells problem n s d) (on_cells problem n t (d + 1)) in
+                        let few = (at_most roster (on_cells problem n s d ++ on_cells problem n t (d + 1)) 1).0 row in
+                        absurd (omega (arith, some-on roster n s d first, some-on roster n t (d + 1) second))
                     | inr allowed ↦ allowed
                   ];
             };

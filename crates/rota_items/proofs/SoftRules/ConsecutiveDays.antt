@@ -1,12 +1,12 @@
 -- The items of a nurse's runs charge the cost of those runs: on the shift types, of working days and of days off.
 use Rattle.rota_items.proofs.Common.Imports.{◌≡◌, ℕ, ◌*◌, ◌<◌, Bool, not, List, arith, ap, ◌∙◌, refl, sum_by-append, AllByRecursion-append, AllByRecursion-concat_below, concat_below, KeepsOneCell}
 use Rattle.rota_items.proofs.Common.Imports.{is_off, is_on, works, Roster, Problem, Rule, Cell, Item, on_cells, work_cells, weighted_shortages, Span, Property, Present, Absent, Runs, run_items}
-use Rattle.rota_items.proofs.Common.Imports.{max_number, max_shifts, ◌+◌, run_cost, off_runs, shift_runs, work_runs}
+use Rattle.rota_items.proofs.Common.Imports.{max_number, max_shifts, ◌+◌, run_cost, shift_runs, work_runs}
 use Rattle.rota_core.specs.declared.rule.Rule.TheVariants.{S2, S3}
 use Rattle.rota_items.specs.rules.ConsecutiveAssignments.Cost.{consecutive_assignment_cost_of, history_on, shift_run_weight, work_run_weight}
 use Rattle.rota_items.specs.rules.ConsecutiveDaysOff.Cost.{consecutive_day_off_cost_of, off_run_weight}
 use Rattle.rota_items.specs.rules.ConsecutiveAssignments.Items.{assignment_runs_of}
-use Rattle.rota_items.specs.rules.ConsecutiveDaysOff.Items.{days_off_runs_of}
+use Rattle.rota_items.specs.rules.ConsecutiveDaysOff.Items.{days_off_runs_of, off_runs}
 use Rattle.rota_items.proofs.AlikeRosters.{on-alike, run_cost-alike, works-alike}
 use Rattle.rota_items.proofs.CellCounts.{any-on, any-works}
 use Rattle.rota_items.proofs.Lists.{few-append, few-concat_below, sum_by-each-times, sum_below-at_most, sum_below-same}
@@ -59,21 +59,15 @@ module _ (problem : Problem) where
         sound-run_items problem n (shift_runs problem n s) (of_nurse-on problem n n_in s s_in) (omega arith)))
         (sound-run_items problem n (work_runs problem n) (of_nurse-work problem n n_in) (omega arith));
     charges = λ roster one n n_in.
-        omega (
-          arith,
-          sum_by-append (weighted roster) (concat_below problem.shifts (shift_items n)) (run_items (work_runs problem n)),
-          sum_by-each-times (weighted roster) problem.shifts shift_run_weight (shift_items n) (shift_run_cost roster n) (λ s s_in.
-              weighted-on_runs problem roster one n n_in S2 shift_run_weight (history_on problem n s) (problem.limits s) s s_in),
-          weighted-work_runs problem roster one n n_in S2 work_run_weight (problem.past n).work_run (problem.contract n).work,
-        );
+        let shifts = sum_by-each-times (weighted roster) problem.shifts shift_run_weight (shift_items n) (shift_run_cost roster n)
+        (λ s. weighted-on_runs problem roster one n n_in S2 shift_run_weight (history_on problem n s) (problem.limits s) s) in
+        let work = weighted-work_runs problem roster one n n_in S2 work_run_weight (problem.past n).work_run (problem.contract n).work in
+        omega (arith, shifts, sum_by-append (weighted roster) (concat_below problem.shifts (shift_items n)) (run_items (work_runs problem n)));
     alike = λ one other same n n_in.
-        rw (
-          sum_below-same problem.shifts _ _ (λ s s_in.
-              run_cost-alike (is_on problem one n s) (is_on problem other n s)
-              (λ d d_in. on-alike problem one other same n s d n_in s_in d_in) (history_on problem n s) (problem.limits s)),
-          run_cost-alike (works problem one n) (works problem other n) (λ d d_in. works-alike problem one other same n d n_in d_in)
-              (problem.past n).work_run (problem.contract n).work,
-        ) refl;
+        let shifts = sum_below-same problem.shifts (shift_run_cost one n) (shift_run_cost other n) (λ s s_in.
+        run_cost-alike _ _ (λ d d_in. on-alike problem one other same n s d n_in s_in d_in) (history_on problem n s) (problem.limits s)) in
+        let work = run_cost-alike _ _ (λ d. works-alike problem one other same n d n_in) (problem.past n).work_run (problem.contract n).work in
+        rw (shifts, work) refl;
     small = λ limits n.
         few-append (omega arith)
         (few-concat_below max_shifts limits.shifts _ (λ s _.
@@ -81,13 +75,9 @@ module _ (problem : Problem) where
         (small-runs (work_runs problem n) (λ d. omega (arith, length-work problem limits n d)) (omega arith) (limits.work_limits n));
     constant_small = λ limits n. omega arith;
     cost_small = λ limits roster n.
-        omega (
-          arith,
-          sum_below-at_most problem.shifts max_shifts (7 * (1 + max_number)) (shift_run_cost roster n) limits.shifts (λ s.
-              omega (arith, limits.limits s, run_cost-le (is_on problem roster n s) (history_on problem n s) (problem.limits s))),
-          run_cost-le (works problem roster n) (problem.past n).work_run (problem.contract n).work,
-          limits.work_limits n,
-        );
+        let shifts = sum_below-at_most problem.shifts max_shifts (7 * (1 + max_number)) (shift_run_cost roster n) limits.shifts
+        (λ s. omega (arith, limits.limits s, run_cost-le (is_on problem roster n s) (history_on problem n s) (problem.limits s))) in
+        omega (arith, run_cost-le (works problem roster n) (problem.past n).work_run (problem.contract n).work, limits.work_limits n);
   }
 
   pub sound-consecutive_days_off : IsNurseRuleSound problem S3 (consecutive_day_off_cost_of problem) days_off_runs_of (λ _ _. 0)

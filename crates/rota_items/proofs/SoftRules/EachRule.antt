@@ -103,16 +103,11 @@ module _ (problem : Problem) where
       pos (sum_by (rule_cost problem roster) rules)
   charges-of roster keeps [] = refl
   charges-of roster keeps (rule ∷ rules) =
-      omega (
-        arith,
-        ints,
-        sum_by-append (weighted roster) (items_of_rule problem rule) (flat_map (items_of_rule problem) rules),
-        sum_by-cons (constant_of_rule problem) rule rules,
-        sum_by-cons (rule_cost problem roster) rule rules,
-        value_of-append roster (cell_terms_of_rule problem rule) (flat_map (cell_terms_of_rule problem) rules),
-        (sound-rule rule).charges roster (charged_on roster keeps rule),
-        charges-of roster keeps rules,
-      )
+      let items = sum_by-append (weighted roster) (items_of_rule problem rule) (flat_map (items_of_rule problem) rules) in
+      let terms = value_of-append roster (cell_terms_of_rule problem rule) (flat_map (cell_terms_of_rule problem) rules) in
+      let costs = sum_by-cons (rule_cost problem roster) rule rules in
+      let charged = (sound-rule rule).charges roster (charged_on roster keeps rule) in
+      omega (arith, ints, sum_by-cons (constant_of_rule problem) rule rules, charges-of roster keeps rules)
 
   pub charges-penalty : (roster : Roster) → KeepsCompetitionRules problem roster →
       pos (weighted_shortages roster (soft_items problem) + constant problem) +ℤ value_of roster (cell_terms problem) ≡

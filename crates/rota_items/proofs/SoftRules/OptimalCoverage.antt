@@ -1,32 +1,23 @@
 -- The items of the optimal numbers charge the missing nurses.
-use Rattle.rota_items.proofs.Common.Imports.{◌≡◌, ℕ, ◌-◌, ◌*◌, Bool, false, refl, ap, arith, nat_lt, ints, AllByRecursion-concat_below, AllByRecursion-singleton_if, nurses_at, KeepsMinimum, Roster, cell}
+use Rattle.rota_items.proofs.Common.Imports.{◌≡◌, ℕ, ◌-◌, ◌*◌, false, refl, ap, arith, ints, AllByRecursion-concat_below, AllByRecursion-singleton_if, nurses_at, KeepsMinimum, Roster, cell}
 use Rattle.rota_items.proofs.Common.Imports.{Problem, demand_cells, shortage, weighted_shortages, rules, max_number, max_shifts, max_skills, S1, optimum_cost, optimum_weight, optimum_item, optimum_items, optimum_items_at}
 use Rattle.rota_items.proofs.AlikeRosters.{nurses-alike}
 use Rattle.rota_items.proofs.ItemLists.{none_of_nurses}
 use Rattle.rota_items.specs.RuleItems.{no_charge}
 use Rattle.rota_items.proofs.Lists.{few-concat_below, few-singleton_if, sum_by-singleton_if, sum_by-each-times, count_by-each, sum_below-same, sum_below-zero}
-use Rattle.rota_items.proofs.SmallSums.{positive_part-parts}
 use Rattle.rota_items.proofs.SoftRules.Sizes.{length-demand, sum-cells}
 use Rattle.rota_items.proofs.SoftRules.Sound.{IsItemSound, IsRuleSound, weighted}
 use Rattle.rota_items.proofs.SoundTerms.{sound-demand}
-use Rattle.rota_items.proofs.PatternItems.{value_of-sum}
+use Rattle.rota_items.proofs.PatternItems.{value_of-sum, positive_part-parts}
 
 module _ (problem : Problem) where
-  abbrev is_wanted : ℕ → ℕ → ℕ → Bool
-  is_wanted d s k = nat_lt (problem.demand d s k).minimum (problem.demand d s k).optimal
-
   -- ---- the cost
 
   shortage-optimum_item : (roster : Roster) (d s k : ℕ) →
       shortage roster (optimum_item problem d s k) ≡ (problem.demand d s k).optimal - nurses_at problem roster d s k
   shortage-optimum_item roster d s k =
-      omega (
-        arith,
-        ints,
-        positive_part-parts,
-        value_of-sum roster false (demand_cells problem d s k),
-        count_by-each roster problem.nurses (λ n. cell n d s k),
-      )
+      let count = count_by-each roster problem.nurses (λ n. cell n d s k) in
+      omega (arith, ints, positive_part-parts, value_of-sum roster false (demand_cells problem d s k))
 
   pub weighted-optimum_items : (roster : Roster) → KeepsMinimum problem roster →
       weighted_shortages roster (optimum_items problem) ≡ optimum_cost problem roster
@@ -34,12 +25,7 @@ module _ (problem : Problem) where
       sum_by-each-times (weighted roster) 7 optimum_weight _ _ (λ d d_in.
       sum_by-each-times (weighted roster) problem.shifts optimum_weight _ _ (λ s s_in.
       sum_by-each-times (weighted roster) problem.skills optimum_weight _ _ (λ k k_in.
-      grind (
-        arith,
-        sum_by-singleton_if (weighted roster) (is_wanted d s k) (optimum_item problem d s k),
-        met d s k d_in s_in k_in,
-        shortage-optimum_item roster d s k,
-      ))))
+      rw sum_by-singleton_if (grind (arith, met d s k d_in s_in k_in, shortage-optimum_item roster d s k)))))
 
   -- ---- the items
 
@@ -50,7 +36,7 @@ module _ (problem : Problem) where
         (AllByRecursion-concat_below (IsItemSound problem S1) 7 _ (λ d d_in.
         AllByRecursion-concat_below (IsItemSound problem S1) problem.shifts _ (λ s s_in.
         AllByRecursion-concat_below (IsItemSound problem S1) problem.skills (optimum_items_at problem d s) (λ k k_in.
-        AllByRecursion-singleton_if (IsItemSound problem S1) (is_wanted d s k) (optimum_item problem d s k) (λ wanted. record {
+        AllByRecursion-singleton_if (IsItemSound problem S1) _ (optimum_item problem d s k) (λ wanted. record {
           rule_is = refl;
           terms = sound-demand problem d s k d_in s_in k_in;
           weighs = omega arith;
@@ -72,9 +58,6 @@ module _ (problem : Problem) where
         let small = limits.optimal d s k in let few = length-demand problem limits d s k in search rules)))));
     constant_small = λ limits n. omega arith;
     cost_small = λ limits roster.
-        omega (
-          arith,
-          sum-cells problem limits max_number (λ d s k. (problem.demand d s k).optimal - nurses_at problem roster d s k)
-              (λ d s k. omega (arith, limits.optimal d s k)),
-        );
+        let missing = λ (d s k : ℕ). (problem.demand d s k).optimal - nurses_at problem roster d s k in
+        omega (arith, sum-cells problem limits max_number missing (λ d s k. omega (arith, limits.optimal d s k)));
   }

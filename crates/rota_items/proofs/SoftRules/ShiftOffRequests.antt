@@ -74,21 +74,13 @@ module _ (problem : Problem) where
       sum_by-each-times (worth roster) 7 request_weight _ _ (λ d _.
       sum_by-each-times (worth roster) problem.shifts request_weight _ _ (λ s _.
       sum_by-each-times (worth roster) problem.skills request_weight _ _ (λ k _.
-      grind (
-        arith,
-        nat_tests,
-        sum_by-singleton_if (worth roster) (nat_lt 0 (problem.requests n d s))
-            (pos (request_weight * problem.requests n d s), cell n d s k),
-      ))))))
+      rw sum_by-singleton_if (grind (arith, nat_tests)))))))
 
   pub request_cost-le : (limits : IsWithinLimits problem) (roster : Roster) → request_cost problem roster ≤ request_weight * (max_cells * max_number)
   request_cost-le limits roster =
-      omega (
-        arith,
-        sum_below-at_most problem.nurses max_nurses _ _ limits.nurses (λ n.
-            sum-cells problem limits max_number (λ d s k. cond (roster (cell n d s k)) (problem.requests n d s) 0) (λ d s k.
-            grind (arith, limits.requests n d s))),
-      )
+      let of_nurse = λ (n : ℕ). sum-cells problem limits max_number (λ d s k. cond (roster (cell n d s k)) (problem.requests n d s) 0)
+      (λ d s k. grind (arith, limits.requests n d s)) in
+      omega (arith, sum_below-at_most problem.nurses max_nurses _ _ limits.nurses of_nurse)
 
   pub sound-shift_off_requests : IsRuleSound problem S4 (request_cost problem) (record no_charge { cell_terms = request_terms })
   sound-shift_off_requests = record {

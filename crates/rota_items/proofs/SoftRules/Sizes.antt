@@ -1,11 +1,11 @@
 -- The size of items, sums of cells and costs in a week within the limits.
-use Rattle.rota_items.proofs.Common.Imports.{ℕ, ◌+◌, ◌*◌, ◌≤◌, Bool, List, [], ◌∷◌, length, arith, if◌then◌else◌, ints, mul-le, Problem, ℤ, pos, negsuc, flat_map, sum_below, count_by-le-length, sum_by-le-sum_by}
-use Rattle.rota_items.proofs.Common.Imports.{Rule, Cell, Item, positive_part, Property, Runs, Pattern, pattern_item, run_items, work_cells, IsWithinLimits, max_unit_weight, max_run_items, max_weight, max_number}
-use Rattle.rota_items.proofs.Common.Imports.{max_nurses, max_shifts, max_skills, length-append, length-map, day_terms, is_plain, variables_on, PatternDay, Term, times, nurse_cells, on_cells, demand_cells, max_terms}
-use Rattle.rota_items.proofs.Common.Imports.{max_cells_of_day, Span, is_over, missing_on, run_cost, run_over, run_under, week_days}
+use Rattle.rota_items.proofs.Common.Imports.{ℕ, ◌+◌, ◌*◌, ◌≤◌, Bool, List, [], ◌∷◌, length, arith, ints, mul-le, Problem, ℤ, pos, flat_map, sum_below, count_by-le-length, sum_by-le-sum_by, Rule, Cell}
+use Rattle.rota_items.proofs.Common.Imports.{Item, positive_part, Property, Runs, Pattern, pattern_item, run_items, work_cells, IsWithinLimits, max_unit_weight, max_run_items, max_weight, max_number}
+use Rattle.rota_items.proofs.Common.Imports.{max_nurses, max_shifts, max_skills, length-append, length-map, day_terms, variables_on, PatternDay, Term, times, nurse_cells, on_cells, demand_cells}
+use Rattle.rota_items.proofs.Common.Imports.{max_terms, max_cells_of_day, Span, is_over, missing_on, run_cost, run_over, run_under, week_days}
 use Rattle.rota_items.proofs.EachPattern.{each-run_item, run_counting}
 use Rattle.rota_items.proofs.Lists.{AreFew, length-at_most, sum_below-at_most}
-use Rattle.rota_items.proofs.SmallSums.{positive_part-parts}
+use Rattle.rota_items.proofs.PatternItems.{positive_part-parts}
 
 -- an item with few slacks and terms, and with a small total weight of its slacks and of its degree
 pub record IsItemSmall (maximum : ℕ) (item : Item Cell) : Type 0 where
@@ -19,14 +19,7 @@ pub record IsItemSmall (maximum : ℕ) (item : Item Cell) : Type 0 where
 module _ (property : Property Cell) (few : (d : ℕ) → length (variables_on property d) ≤ max_cells_of_day) where
   length-days : (days : List PatternDay) → length (flat_map (day_terms property) days) ≤ length days * max_cells_of_day
   length-days [] = omega arith
-  length-days (day ∷ days) =
-      omega (
-        arith,
-        length-append (day_terms property day) (flat_map (day_terms property) days),
-        length-map {B = Term Cell} (variables_on property day.day) (λ c. (if is_plain property day then negsuc 0 else pos 1, c)),
-        few day.day,
-        length-days days,
-      )
+  length-days (day ∷ days) = simp (length-append, length-map) (omega (arith, few day.day, length-days days))
 
   pub small-pattern : (rule : Rule) (weight : ℕ) (pattern : Pattern) → weight ≤ max_unit_weight → pattern.units ≤ max_number → length pattern.days ≤ 7 →
       IsItemSmall 7 (pattern_item rule weight property pattern)
@@ -54,12 +47,8 @@ small-runs runs few light small = record {
 pub run_cost-le : (has : ℕ → Bool) (history : ℕ) (limits : Span) → run_cost has history limits ≤ 7 * (1 + limits.min)
 unfolding run_over run_under
 run_cost-le has history limits =
-    omega (
-      arith,
-      count_by-le-length (is_over has history limits.max) week_days,
-      sum_by-le-sum_by (missing_on has history limits.min) (λ _. limits.min) week_days
-          (λ d. grind arith),
-    )
+    let over = count_by-le-length (is_over has history limits.max) week_days in
+    omega (arith, sum_by-le-sum_by (missing_on has history limits.min) (λ _. limits.min) week_days (λ d. grind arith))
 
 module _ (problem : Problem) (limits : IsWithinLimits problem) where
   -- ---- sums of cells

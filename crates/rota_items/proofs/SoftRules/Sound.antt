@@ -62,30 +62,15 @@ pub record IsNurseRuleSound (problem : Problem) (rule : Rule) (cost : Roster →
 
 module _ {problem : Problem} {rule : Rule} {cost : Roster → ℕ → ℕ} {items : Problem → ℕ → List (Item Cell)} {constant : Problem → ℕ → ℕ}
     (sound : IsNurseRuleSound problem rule cost items constant) where
-  module _ (roster : Roster) (one : KeepsOneCell problem roster) where
-    -- the nurses' items and constants charge the cost of the nurses
-    charges-nurses :
-        weighted_shortages roster (concat_below problem.nurses (items problem)) + sum_below problem.nurses (constant problem) ≡
-        sum_below problem.nurses (cost roster)
-    charges-nurses =
-        omega (
-          arith,
-          sum_by-each (weighted roster) problem.nurses (items problem),
-          sum_below-plus problem.nurses (λ n. weighted_shortages roster (items problem n)) (constant problem),
-          sum_below-same problem.nurses _ _ (sound.charges roster one),
-        )
-
-    charged-nurses :
-        pos (weighted_shortages roster (concat_below problem.nurses (items problem)) + sum_below problem.nurses (constant problem)) +ℤ pos 0 ≡
-        pos (sum_below problem.nurses (cost roster))
-    charged-nurses = omega (arith, ints, charges-nurses)
-
   pub by_nurse : ((roster : Roster) → IsChargedOn problem roster rule → KeepsOneCell problem roster) →
       max_items rule ≡ max_nurses * max_items_of_nurse rule →
       IsRuleSound problem rule (λ roster. sum_below problem.nurses (cost roster)) (of_nurses items constant)
   by_nurse one_cell maximum = record {
     items = AllByRecursion-concat_below (IsItemSound problem rule) problem.nurses (items problem) sound.items;
-    charges = λ roster keeps. charged-nurses roster (one_cell roster keeps);
+    charges = λ roster keeps.
+        let parts = sum_below-plus problem.nurses (λ n. weighted_shortages roster (items problem n)) (constant problem) in
+        let items = sum_by-each (weighted roster) problem.nurses (items problem) in
+        omega (arith, ints, sum_below-same problem.nurses _ _ (sound.charges roster (one_cell roster keeps)));
     alike = λ one other same. sum_below-same problem.nurses _ _ (sound.alike one other same);
     small = λ limits. rw maximum (few-concat_below max_nurses limits.nurses (items problem) (λ n _. sound.small limits n));
     constant_small = sound.constant_small;

@@ -11,10 +11,9 @@ use Rattle.rota_items.proofs.CellCounts.{work_count, one-work, count-work_cells}
 use Rattle.rota_items.proofs.SoundTerms.{sound-cells, AreSound, in-work_cells}
 use Rattle.rota_items.proofs.Lists.{few-append, few-singleton_if, sum_by-singleton_if, sum_by-each-is, sum_below-within, sum_below-same}
 use Rattle.rota_items.proofs.RisingCells.{rises-nurse_cells}
-use Rattle.rota_items.proofs.SmallSums.{positive_part-parts}
 use Rattle.rota_items.proofs.SoftRules.Sizes.{length-total, sum-cells}
-use Rattle.rota_items.proofs.SoftRules.Sound.{IsItemSound, IsNurseRuleSound, weighted}
-use Rattle.rota_items.proofs.PatternItems.{value_of-sum}
+use Rattle.rota_items.proofs.SoftRules.Sound.{IsItemSound, IsNurseRuleSound}
+use Rattle.rota_items.proofs.PatternItems.{value_of-sum, positive_part-parts}
 
 -- the charges of item and constant for the assignments below the minimum total, and for the assignments above the maximum
 min_charged : (count : Bool) (minimum before now lacks : ℕ) → now ≤ 7 → lacks ≡ min (minimum - before) 7 - now →
@@ -29,12 +28,6 @@ max_charged : (problem : Problem) (maximum before now exceeds : ℕ) → now ≤
 max_charged problem maximum before now exceeds small is = grind arith
 
 module _ (problem : Problem) where
-  abbrev is_wanted : ℕ → Bool
-  is_wanted n = problem.is_last && nat_lt 0 (still_wanted problem n)
-
-  abbrev is_limited : ℕ → Bool
-  is_limited n = max_totals_count problem && nat_lt (still_allowed problem n) 7
-
   -- ---- the shortages of the items
 
   module _ (roster : Roster) (n : ℕ) where
@@ -61,7 +54,7 @@ module _ (problem : Problem) where
         sound-cells problem coefficient unit _ _ (nurse_cells problem n) (AllByRecursion-concat_below (InWeek problem) 7 (work_cells problem n) (λ d d_in. in-work_cells problem n d n_in d_in))
         (rises-nurse_cells problem n)
 
-    sound-minimum : is_wanted n ≡ true → IsItemSound problem S6 (min_total_item problem n)
+    sound-minimum : (min_totals_count problem && nat_lt 0 (still_wanted problem n)) ≡ true → IsItemSound problem S6 (min_total_item problem n)
     sound-minimum wanted = record {
       rule_is = refl;
       terms = sound-sum (pos 1) (inl refl);
@@ -70,7 +63,7 @@ module _ (problem : Problem) where
       enough = λ roster _. omega (arith, shortage-minimum roster n);
     }
 
-    sound-maximum : is_limited n ≡ true → IsItemSound problem S6 (max_total_item problem n)
+    sound-maximum : (max_totals_count problem && nat_lt (still_allowed problem n) 7) ≡ true → IsItemSound problem S6 (max_total_item problem n)
     sound-maximum limited = record {
       rule_is = refl;
       terms = sound-sum (negsuc 0) (inr refl);
@@ -83,19 +76,13 @@ module _ (problem : Problem) where
   sound-total_assignments = record {
     items = λ n n_in.
         AllByRecursion-append (IsItemSound problem S6) (min_totals_of problem n) (max_totals_of problem n)
-        (AllByRecursion-singleton_if (IsItemSound problem S6) (is_wanted n) (min_total_item problem n) (sound-minimum n n_in))
-        (AllByRecursion-singleton_if (IsItemSound problem S6) (is_limited n) (max_total_item problem n) (sound-maximum n n_in));
+        (AllByRecursion-singleton_if (IsItemSound problem S6) _ (min_total_item problem n) (sound-minimum n n_in))
+        (AllByRecursion-singleton_if (IsItemSound problem S6) _ (max_total_item problem n) (sound-maximum n n_in));
     charges = λ roster one n n_in.
-        omega (
-          arith,
-          sum_by-append (weighted roster) (min_totals_of problem n) (max_totals_of problem n),
-          sum_by-singleton_if (weighted roster) (is_wanted n) (min_total_item problem n),
-          sum_by-singleton_if (weighted roster) (is_limited n) (max_total_item problem n),
-          min_charged problem.is_last (problem.contract n).total.min (problem.past n).assignments _ _
-              (assignments-le roster n one n_in) (shortage-minimum roster n),
-          max_charged problem (problem.contract n).total.max (problem.past n).assignments _ _
-              (assignments-le roster n one n_in) (shortage-maximum roster n),
-        );
+        let few = assignments-le roster n one n_in in
+        let below = min_charged problem.is_last (problem.contract n).total.min (problem.past n).assignments _ _ few (shortage-minimum roster n) in
+        let above = max_charged problem (problem.contract n).total.max (problem.past n).assignments _ _ few (shortage-maximum roster n) in
+        simp (sum_by-append, sum_by-singleton_if) (omega arith);
     alike = λ one other same n n_in.
         let now : assignments_of problem one n ≡ assignments_of problem other n =
         sum_below-same 7 _ _ (λ d d_in. sum_below-same problem.shifts _ _ (λ s s_in.
@@ -107,10 +94,6 @@ module _ (problem : Problem) where
         (few-singleton_if _ (max_total_item problem n) (λ _. let few = length-total problem limits (negsuc 0) n in search rules));
     constant_small = λ limits n. grind (arith, limits.totals n, limits.assignments n);
     cost_small = λ limits roster n.
-        grind (
-          arith,
-          limits.totals n,
-          limits.assignments n,
-          sum-cells problem limits 1 (λ d s k. cond (roster (cell n d s k)) 1 0) (λ d s k. grind arith),
-        );
+        let few = sum-cells problem limits 1 (λ d s k. cond (roster (cell n d s k)) 1 0) (λ d s k. grind arith) in
+        grind (arith, limits.totals n, limits.assignments n);
   }

@@ -1,6 +1,6 @@
 -- The items of a nurse's weekend charge the nurses who work on only one of its days, and the weekends above the maximum.
-use Rattle.rota_items.proofs.Common.Imports.{◌≡◌, ℕ, ◌+◌, ◌*◌, ◌<◌, ◌≤◌, Bool, true, false, cond, List, [], ◌∷◌, refl, ap, ◌∙◌, arith, if◌then◌else◌, ◌&&◌, nat_le, AllByRecursion}
-use Rattle.rota_items.proofs.Common.Imports.{sum_by-cons, KeepsOneCell, works, Roster, Problem, Rule, Cell, work_cells, Item, weighted_shortages, Present, pattern_item, Pattern, saturday}
+use Rattle.rota_items.proofs.Common.Imports.{◌≡◌, ℕ, ◌+◌, ◌*◌, ◌<◌, ◌≤◌, Bool, true, false, cond, List, [], refl, ap, ◌∙◌, arith, if◌then◌else◌, ◌&&◌, nat_le, AllByRecursion}
+use Rattle.rota_items.proofs.Common.Imports.{KeepsOneCell, works, Roster, Problem, Rule, Cell, work_cells, Item, weighted_shortages, Present, pattern_item, Pattern, saturday}
 use Rattle.rota_items.proofs.Common.Imports.{max_unit_weight, IsWithinLimits, max_run_items, only_sunday, weekend_items, DaysFollow, max_totals_count}
 use Rattle.rota_core.specs.declared.rule.Rule.TheVariants.{S5, S7}
 use Rattle.rota_items.specs.rules.CompleteWeekends.Cost.{complete_weekend_cost_of, complete_weekend_weight}
@@ -47,13 +47,7 @@ module _ (problem : Problem) (rule : Rule) (weight n : ℕ) (alone : Bool) (n_in
         cond test (weight * units_of (works problem roster n) (saturday alone) + weight * units_of (works problem roster n) only_sunday) 0
     weighted-items_where false = refl
     weighted-items_where true =
-        omega (
-          arith,
-          sum_by-cons (weighted roster) (item (saturday alone)) (item only_sunday ∷ []),
-          sum_by-cons (weighted roster) (item only_sunday) [],
-          weighted-item (saturday alone) (saturday-follows alone),
-          weighted-item only_sunday sunday-follows,
-        )
+        omega (arith, weighted-item (saturday alone) (saturday-follows alone), weighted-item only_sunday sunday-follows)
 
 module _ (problem : Problem) (limits : IsWithinLimits problem) where
   small-weekend : (rule : Rule) (weight n : ℕ) (alone test : Bool) → weight ≤ max_unit_weight →

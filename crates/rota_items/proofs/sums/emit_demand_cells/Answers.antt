@@ -1,4 +1,4 @@
-use Rattle.rota_items.proofs.Common.{arith, exits, cell_refused, cells_join, loop_refused, Plus, cell_term_events, term_events, taking}
+use Rattle.rota_items.proofs.Common.{arith, exits, cell_refused, cells_join, loop_refused, Plus}
 use Rattle.rota_items.proofs.sums.emit_demand_cells.Goals as goal
 
 pub returns-in_err-term : goal.returns-in_err-term
@@ -6,7 +6,3 @@ returns-in_err-term g c =
     exits _ _ _ _ c.from_residual.ensures.0
     (loop_refused (cells_join _ Plus) _ _ _ _ _ _ (omega arith) c.loop-nurse.invariant
     (cell_refused g.T.Taker _ Plus _ _ _ _ c.cell_var.ensures c.in_err-term.ensures))
-
-pub loop-nurse-preserved : goal.loop-nurse-preserved
-unfolding cell_term_events term_events
-loop-nurse-preserved g c = grind (arith, taking)

@@ -1,5 +1,4 @@
-use Rattle.rota_items.proofs.Common.{w64, rules, arith, to_z-of_z, exits}
-use Rattle.rota_items.proofs.SlackTerms.{range_refused}
+use Rattle.rota_items.proofs.Common.{w64, rules, arith, to_z-of_z, exits, range_refused}
 use Rattle.rota_items.proofs.sums.emit_range.Goals as goal
 
 pub returns-in_err-term : goal.returns-in_err-term

@@ -1,4 +1,4 @@
-use Rattle.rota_items.proofs.Common.{arith, exits, cell_refused, cells_join, loop_refused, Minus, cell_term_events, term_events, taking}
+use Rattle.rota_items.proofs.Common.{arith, exits, cell_refused, cells_join, loop_refused, Minus}
 use Rattle.rota_items.proofs.sums.emit_skill_cells.Goals as goal
 
 pub returns-in_err-term : goal.returns-in_err-term
@@ -7,11 +7,3 @@ returns-in_err-term g c =
     (loop_refused (cells_join _ Minus) _ _ _ _ _ _ (omega arith) c.loop-day.invariant
     (loop_refused (cells_join _ Minus) _ _ _ _ _ _ (omega arith) c.loop-shift.invariant
     (cell_refused g.T.Taker _ Minus _ _ _ _ c.cell_var.ensures c.in_err-term.ensures)))
-
-pub loop-shift-preserved : goal.loop-shift-preserved
-unfolding cell_term_events term_events
-loop-shift-preserved g c = grind (arith, taking)
-
-pub loop-day-preserved : goal.loop-day-preserved
-unfolding cell_term_events term_events
-loop-day-preserved g c = grind (arith, taking)

@@ -1,5 +1,5 @@
 use Rattle.rota_items.proofs.Common.{◌∙◌, arith, length-map, problem_of, instance-within_limits, numbered_row, numbered_rows, rule_rows}
-use Rattle.rota_items.proofs.RowSizes.{rule_rows-few}
+use Rattle.rota_items.proofs.SlackBound.{rule_rows-few}
 use Rattle.rota_items.proofs.RowTaking.{rows-counted}
 use Rattle.rota_items.proofs.hard.row_counts.count_rule_rows.Goals as goal
 

@@ -4,10 +4,8 @@ use Rattle.rota_items.proofs.laws.model_laws.min_objective_is_min_penalty.Goals 
 
 pub returns-clause-minimum : goal.returns-clause-minimum
 returns-clause-minimum c = λ week minimum. (
-  λ bound roster keeps.
-      omega (arith, ints, bound _ (extension-satisfies week roster keeps), extension-objective week roster keeps),
-  λ bound assignment all.
-      omega (arith, ints, bound _ (satisfying-keeps week assignment all), satisfying-objective week assignment all),
+  λ bound roster keeps. omega (arith, ints, bound _ (extension-satisfies week roster keeps), extension-objective week roster keeps),
+  λ bound assignment all. omega (arith, ints, bound _ (satisfying-keeps week assignment all), satisfying-objective week assignment all),
 )
 
 pub returns-clause-none : goal.returns-clause-none

@@ -1,6 +1,5 @@
-use Rattle.rota_items.proofs.Common.{arith, problem_of, runs_of, both, exits, goes_on, loop_ended, loop_refused, stop, items_join}
+use Rattle.rota_items.proofs.Common.{arith, problem_of, runs_of, both, exits, goes_on, loop_ended, loop_refused, stop, items_join, no_pattern, pattern_refused, pattern_takes}
 use Rattle.rota_items.proofs.ItemLists.{pattern_items-on}
-use Rattle.rota_items.proofs.PatternTaking.{no_pattern, pattern_refused, pattern_takes}
 use Rattle.rota_items.proofs.runs.run_visits.visit_patterns_on.Goals as goal
 
 pub returns-in_err-item : goal.returns-in_err-item

@@ -1,5 +1,4 @@
-use Rattle.rota_items.proofs.Common.{arith, problem_of, exits, loop_refused, items_join}
-use Rattle.rota_items.proofs.PatternTaking.{pattern_refused}
+use Rattle.rota_items.proofs.Common.{arith, problem_of, exits, loop_refused, items_join, pattern_refused}
 use Rattle.rota_items.proofs.runs.run_visits.visit_windows.Goals as goal
 
 pub returns-in_err-item : goal.returns-in_err-item
