@@ -14,8 +14,7 @@ module _ (t : InstanceTables) (limits : IsInstance t) where
   contract-small n = search (rules, AllByRecursion-or_default, limits.scenario.contracts.1)
 
   past-small : (n : ℕ) → IsPast t.history.shifts ((problem_of t).past n)
-  past-small n =
-      AllByRecursion-or_default (IsPast t.history.shifts) t.history.past n no_past limits.history.past.1 (search rules)
+  past-small n = AllByRecursion-or_default (IsPast t.history.shifts) t.history.past n no_past limits.history.past.1 (search rules)
 
   pub instance-within_limits : IsWithinLimits (problem_of t)
   instance-within_limits = record {

@@ -1,11 +1,10 @@
 -- The words that the proofs use, by subject.
 -- of the logic that the lemmas use: numbers, truth values, lists, and their properties
 pub use Rattle.std.proofs.Common.{arith, ◌≡◌, ℕ, [], List, refl, ◌∙◌, ◌∷◌, ap, ◌+◌, ◌≤◌, ◌<◌, true, Bool, ◌*◌, ◌++◌, map, sym, false, length, cond, suc, rules, inl, zero, inr, ◌-◌, subst, w64, take}
-pub use Rattle.std.proofs.Common.{◌↔◌, of_z, to_z, ◌&&◌, not, Result, None, Some, ◌⊎◌, MatchResult, min, Option, append_assoc, get_or, ltb, add-one, add-zero, max, drop, leb, zero-add, ◌||◌}
+pub use Rattle.std.proofs.Common.{◌↔◌, ◌&&◌, not, Result, None, Some, ◌⊎◌, MatchResult, min, Option, append_assoc, get_or, ltb, add-one, add-zero, max, drop, leb, zero-add, ◌||◌}
 pub use Rattle.std.proofs.Math.Bool.{or-false}
 pub use Rattle.std.proofs.Math.Nat.{le_trans, mul-le-mul_left, mul-le-mul, mul-le-mul_right, one-mul, zero-mul}
-pub use Rattle.std.proofs.Math.Seq.{take-suc}
-pub use Rattle.std.proofs.lemmas.Bool.{cases_Bool, lt-ltb, true≢false, le-ltb, ltb-false, ltb-true, and_parts, cases_lt, eq-eqb, eqb-true, false_from_ne_true, ne_eqb, not-true}
+pub use Rattle.std.proofs.lemmas.Bool.{cases_Bool, lt-ltb, true≢false, le-ltb, ltb-false, ltb-true, and_parts, eq-eqb, eqb-true, false_from_ne_true, ne_eqb, not-true}
 pub use Rattle.std.proofs.lemmas.Bool.Decides.{nat_tests, leb_tells}
 pub use Rattle.std.proofs.lemmas.Grind.{take_at_read}
 pub use Rattle.std.proofs.lemmas.Int.{ints, to_z-of_z, to_z_pos}
@@ -36,13 +35,11 @@ pub use Rattle.rota_core.specs.InstanceTables.{problem_of, InstanceTables, IsIns
 pub use Rattle.rota_core.specs.Roster.{Roster, cell, InWeek, Has}
 pub use Rattle.rota_core.specs.RosterCells.{cell_at}
 unfoldable pub use Rattle.rota_core.specs.RosterCells.{cells_of}
-pub use Rattle.rota_core.specs.RosterTables.{set_of, cell_index, HasShapeOf, RosterTables}
-pub use Rattle.rota_core.specs.Rules.{soft_rules, hard_rules}
+pub use Rattle.rota_core.specs.RosterTables.{set_of, cell_count, cell_index, HasShapeOf, RosterTables}
 pub use Rattle.rota_core.specs.ScenarioTables.{AreLimits, IsContract}
 pub use Rattle.rota_core.specs.Problem.{Problem, no_demand, no_past, no_span}
 pub use Rattle.rota_core.specs.WeekTables.{IsDemand, IsPast}
-pub use Rattle.rota_core.specs.declared.rule.Rule.{Rule}
-pub use Rattle.rota_core.specs.declared.values.Cell.{Cell}
+pub use Rattle.rota_items.specs.Imports.{soft_rules, hard_rules, Rule, Cell, Span}
 pub use Rattle.rota_items.specs.RuleItems.{soft_items, items_of_rule, constant, constant_of_rule, cell_terms, nurse_constant, nurse_items, cell_terms_of_rule}
 pub use Rattle.rota_items.specs.Coefficients.{IsUnit, HasUnitCoefficients}
 pub use Rattle.rota_items.specs.Counting.{counted, counts_of, maximum, is_constraint, no_counts, variables_in, counts_of_model}
@@ -61,7 +58,6 @@ pub use Rattle.rota_items.specs.ModelCosts.{weighted_shortages, model_cost}
 pub use Rattle.rota_items.specs.Occurrence.{occurs_in, OccursInSome, without_held}
 pub use Rattle.rota_items.specs.Truths.{truth_of}
 pub use Rattle.rota_items.specs.Variables.{cell_number, unit_number, roster_of}
-pub use Rattle.rota_core.specs.RosterTables.{cell_count}
 pub use Rattle.rota_items.specs.WeekModel.{model_of, first_slack, numbered_items, numbered_terms, rows_of, slack_count, item_rows, numbered_row, objective_terms, slack_weights, hard_rows}
 pub use Rattle.rota_items.specs.WeekModel.{slack_variables, extension_of, item_row, assignment_of, cell_of_number, constant_terms, hard_constraints, unit_row, extension, is_slack_needed}
 -- of the rules: each by its name, its cost, its items, and the bounds on them
@@ -80,9 +76,7 @@ pub use Rattle.rota_items.specs.rules.OptimalCoverage.Items.{optimum_item, optim
 pub use Rattle.rota_items.specs.rules.ShiftOffRequests.Cost.{request_cost, request_weight}
 pub use Rattle.rota_items.specs.rules.ShiftOffRequests.Terms.{request_terms_on, request_terms}
 -- of runs: their days, their windows and patterns, and the items that charge them
-pub use Rattle.rota_core.specs.declared.values.Span.{Span}
 pub use Rattle.rota_items.specs.CellSums.{day_after, day_before, days_of, property_of, is_plain_of}
-pub use Rattle.rota_items.specs.SoftItems.{runs_of, item_of, charged_items}
 pub use Rattle.rota_items.specs.RunItemParts.{DaysFollow, has_property, pattern_items_on, window_items_on, AtMostOneADay, day_cost, day_items}
 pub use Rattle.rota_items.specs.RunItems.{run_items, Runs, Pattern, PatternDay, pattern_item, variables_on, Property, day_terms, Present, patterns, windows, with_property, without_property, days_with, is_plain}
 pub use Rattle.rota_items.specs.RunItems.{patterns_on, windows_on, closed_patterns_at, closed_patterns_on, edge_patterns_on, saturday, Absent, closed_pattern, edge_pattern, only_sunday, weekend_items, window}
@@ -98,9 +92,10 @@ unfoldable pub use Rattle.rota_items.specs.CellEvents.{cell_term_events}
 pub use Rattle.rota_items.specs.Events.{row_events, close_row, start_row, term, Event}
 unfoldable pub use Rattle.rota_items.specs.Events.{term_events, events}
 pub use Rattle.rota_items.specs.RowsOfItems.{row_of_item, RowsState, StopsAtRow, slacks_within, weights_of_item, with_item, with_row, within_numbers}
+pub use Rattle.rota_items.specs.SoftItems.{runs_of, item_of, charged_items}
 unfoldable pub use Rattle.rota_items.specs.SoftItems.{numbered_list, numbered_rows}
 pub use Rattle.rota_items.specs.Takes.{Took, Refused, RefusedFrom, Takes, RefusedOne, TookAll, TakesAll, TakesItems}
-pub use Rattle.rota_items.proofs.Common.Definitions.{TookItems, TookRows, closed_items_at, edge_items_on, half_limit, max_charge, max_cost, max_slacks}
+pub use Rattle.rota_items.proofs.Common.Definitions.{TookItems, TookLiterals, TookRows, closed_items_at, half_limit, max_charge, max_cost, max_slacks}
 pub use Rattle.rota_items.specs.declared.part.Part.{Part}
 pub use Rattle.rota_items.specs.declared.part.Part.TheVariants.{Objective, Hard, Soft}
 pub use Rattle.rota_items.specs.declared.sums.Sign.{Sign}
