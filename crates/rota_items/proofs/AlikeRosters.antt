@@ -29,8 +29,7 @@ run_cost-alike p q same history limits =
 
 module _ (problem : Problem) (one other : Roster) (same : AreAlike problem one other) where
   pub same_cell : (n d s k : ℕ) → n < problem.nurses → d < 7 → s < problem.shifts → k < problem.skills → one (cell n d s k) ≡ other (cell n d s k)
-  same_cell n d s k n_in d_in s_in k_in =
-      same (cell n d s k) (in-cell problem n d s k n_in d_in s_in k_in)
+  same_cell n d s k n_in d_in s_in k_in = same (cell n d s k) (in-cell problem n d s k n_in d_in s_in k_in)
 
   pub on-alike : (n s d : ℕ) → n < problem.nurses → s < problem.shifts → d < 7 → is_on problem one n s d ≡ is_on problem other n s d
   on-alike n s d n_in s_in d_in = any_below-same problem.skills _ _ (λ k k_in. same_cell n d s k n_in d_in s_in k_in)

@@ -10,8 +10,7 @@ use Rattle.rota_items.proofs.RisingCells.{in-cell, on-are, rises-between, rises-
 module _ {X : Type 0} (p : X → Bool) where
   pub none-pass : (xs : List X) → count_by p xs ≡ 0 → AllByRecursion (λ x. p x ≡ false) xs
   none-pass [] none = tt
-  none-pass (x ∷ xs) none =
-      let more = sum_by-cons (λ x. cond (p x) 1 0) x xs in (grind arith, none-pass xs (omega arith))
+  none-pass (x ∷ xs) none = let more = sum_by-cons (λ x. cond (p x) 1 0) x xs in (grind arith, none-pass xs (omega arith))
 
   pub count-none : (xs : List X) → AllByRecursion (λ x. p x ≡ false) xs → count_by p xs ≡ 0
   count-none [] fail = refl

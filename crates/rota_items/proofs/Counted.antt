@@ -1,8 +1,8 @@
 -- The counts of a counter for a list of rows, and for the rows of a week's model.
 use Rattle.rota_items.proofs.Common.Imports.{◌≡◌, ℕ, ◌+◌, ◌≤◌, min, max, Bool, true, cond, List, [], ◌∷◌, ◌++◌, map, length, refl, ap, ◌∙◌, arith, fold-append, sum_by-cons, AllByRecursion}
 use Rattle.rota_items.proofs.Common.Imports.{fold, count_by, Term, LinearRow, counted, counts_of, maximum, is_constraint, no_counts, variables_in, max_count, start_row, close_row}
-use Rattle.rota_items.proofs.Common.Imports.{term_events, row_events, events, Part, Objective, Hard, Soft, ◌<◌, sym, pos, list_any, true≢false, length-map, ◌||◌, inl, inr, ◌==◌, cases_Bool}
-use Rattle.rota_items.proofs.Common.Imports.{eqb-true, Problem, objective_rows, linear_constraint, rows_of, objective_terms, model_of, counts_of_model, occurs_in, IsWithinLimits}
+use Rattle.rota_items.proofs.Common.Imports.{term_events, row_events, events, Part, Objective, Hard, Soft, ◌<◌, sym, pos, list_any, true≢false, length-map, nat_tests}
+use Rattle.rota_items.proofs.Common.Imports.{Problem, objective_rows, linear_constraint, rows_of, objective_terms, model_of, counts_of_model, occurs_in, IsWithinLimits}
 use Rattle.rota_items.specs.declared.counting.counter.Counts.{Counts}
 use Rattle.rota_items.proofs.ModelRows.{each-model_row}
 use Rattle.rota_core.specs.RisingLists.{RisesWithin}
@@ -45,6 +45,10 @@ pub all-counted : (rows : List (LinearRow ℕ)) → AllByRecursion (λ row. coun
 all-counted [] all = refl
 all-counted (row ∷ rows) all = omega (arith, ap one_if all.0, count-more row rows, all-counted rows all.1)
 
+-- the counts with a variable and some more constraints
+abbrev counted_with : Counts → ℕ → ℕ → Counts
+counted_with counts v more = record { variables = max counts.variables v; constraints = min (counts.constraints + more) max_count }
+
 counted-start : (counts : Counts) (part : Part) → counts.constraints ≤ max_count →
     counted counts (start_row part) ≡
     record counts { constraints = min (counts.constraints + one_if (is_constraint part)) max_count }
@@ -53,11 +57,7 @@ counted-start counts (Hard rule) fits = refl
 counted-start counts (Soft rule weight) fits = refl
 
 counted-row : (counts : Counts) (row : LinearRow ℕ) → counts.constraints ≤ max_count →
-    fold counted counts (row_events row) ≡
-    record {
-      variables = max counts.variables (maximum (variables_of row.terms));
-      constraints = min (counts.constraints + one_if (counts_row row)) max_count;
-    }
+    fold counted counts (row_events row) ≡ counted_with counts (maximum (variables_of row.terms)) (one_if (counts_row row))
 counted-row counts row fits =
     let started : Counts =
     record counts { constraints = min (counts.constraints + one_if (counts_row row)) max_count } in
@@ -65,18 +65,11 @@ counted-row counts row fits =
     (fold-append counted started (term_events row.terms) (close_row row.degree ∷ []) ∙ counted-terms started row.terms)
 
 counted-from : (counts : Counts) (rows : List (LinearRow ℕ)) → counts.constraints ≤ max_count →
-    fold counted counts (events rows) ≡
-    record {
-      variables = max counts.variables (maximum (variables_in rows));
-      constraints = min (counts.constraints + count_by counts_row rows) max_count;
-    }
+    fold counted counts (events rows) ≡ counted_with counts (maximum (variables_in rows)) (count_by counts_row rows)
 unfolding events
 counted-from counts [] fits = same_counts _ _ _ _ (omega arith) (omega arith)
 counted-from counts (row ∷ rows) fits =
-    let after : Counts = record {
-      variables = max counts.variables (maximum (variables_of row.terms));
-      constraints = min (counts.constraints + one_if (counts_row row)) max_count;
-    } in
+    let after : Counts = counted_with counts (maximum (variables_of row.terms)) (one_if (counts_row row)) in
     fold-append counted counts (row_events row) (events rows) ∙
     (ap (λ (k : Counts). fold counted k (events rows)) (counted-row counts row fits) ∙
     (counted-from after rows (omega arith) ∙
@@ -116,27 +109,13 @@ maximum-below end some (row ∷ rows) rise =
 
 maximum-occurs : (v : ℕ) (terms : List (Term ℕ)) → list_any (at_variable v) terms ≡ true → v ≤ maximum (variables_of terms)
 maximum-occurs v [] occurs = absurd (true≢false (sym occurs))
-maximum-occurs v (t ∷ ts) occurs =
-    elim (cases_Bool (t.1 == v)) [
-      | inl here ↦ let same : t.1 ≡ v = eqb-true t.1 v here in omega arith
-      | inr other ↦ omega (arith, maximum-occurs v ts (sym (ap (λ b. b || list_any (at_variable v) ts) other) ∙ occurs))
-    ]
+maximum-occurs v (t ∷ ts) occurs = grind (arith, nat_tests, maximum-occurs v ts)
 
 maximum-occurs_in : (v : ℕ) (rows : List (LinearRow ℕ)) → list_any (occurs_in v) (map linear_constraint rows) ≡ true →
     v ≤ maximum (variables_in rows)
 maximum-occurs_in v [] occurs = absurd (true≢false (sym occurs))
 maximum-occurs_in v (row ∷ rows) occurs =
-    let both = maximum-append (variables_of row.terms) (variables_in rows) in
-    elim (cases_Bool (list_any (at_variable v) row.terms)) [
-      | inl here ↦ omega (arith, both, maximum-occurs v row.terms here)
-      | inr other ↦
-          omega (
-            arith,
-            both,
-            maximum-occurs_in v rows
-                (sym (ap (λ b. b || list_any (occurs_in v) (map linear_constraint rows)) other) ∙ occurs),
-          )
-    ]
+    grind (arith, maximum-append (variables_of row.terms) (variables_in rows), maximum-occurs v row.terms, maximum-occurs_in v rows)
 
 maximum-rows_of : (problem : Problem) → maximum (variables_in (rows_of problem)) ≡ (model_of problem).variables
 maximum-rows_of problem =
@@ -161,11 +140,7 @@ module _ (problem : Problem) (limits : IsWithinLimits problem) where
   counts-objective (first ∷ others) below =
       let row : LinearRow ℕ = record { part = Objective; terms = first ∷ others; degree = pos 0 } in
       same_counts _ _ _ _
-      (omega (
-        arith,
-        maximum-append (variables_of (first ∷ others)) (variables_in (rows_of problem)),
-        maximum-rows_of problem,
-      ))
+      (omega (arith, maximum-append (variables_of (first ∷ others)) (variables_in (rows_of problem)), maximum-rows_of problem))
       (omega (
         arith,
         count-more row (rows_of problem),

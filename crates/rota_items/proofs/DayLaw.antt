@@ -48,8 +48,7 @@ module _ (has : ℕ → Bool) (history : ℕ) where
       let count : d - first ≡ k = omega arith in
       rw (count, list_all-append (matches_day has) (map with_property (range_with_len first k)), matches-run first k d same) refl
 
-  pub units-windows_on : (d : ℕ) (limits : Span) →
-      units has (windows_on history limits d) ≡ cond (is_over has history limits.max d) 1 0
+  pub units-windows_on : (d : ℕ) (limits : Span) → units has (windows_on history limits d) ≡ cond (is_over has history limits.max d) 1 0
   units-windows_on d limits =
       rw (sum_by-singleton_if, matches-run (d - limits.max) (d + 1 - (d - limits.max)) (suc d) (omega arith))
       (grind (arith, nat_tests, is_run (suc d)))
@@ -65,8 +64,7 @@ module _ (has : ℕ → Bool) (history : ℕ) where
       rw (sum_by-append, units-closed minimum d k (omega arith), sum_by-singleton_if, matches-ended (d - k) k d (omega arith))
       (grind (arith, nat_tests, longer (d - k - 1) k d (omega arith)))
 
-  pub units-patterns_on : (d : ℕ) (limits : Span) →
-      units has (patterns_on history limits d) ≡ missing_on has history limits.min d
+  pub units-patterns_on : (d : ℕ) (limits : Span) → units has (patterns_on history limits d) ≡ missing_on has history limits.min d
   units-patterns_on d limits =
       rw (sum_by-append, units-closed limits.min d d (omega arith), sum_by-singleton_if, matches-ended 0 d d (omega arith))
       (grind (arith, nat_tests, is_run d))

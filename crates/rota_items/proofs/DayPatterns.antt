@@ -23,8 +23,7 @@ module _ (plain : Bool → Bool) where
       cond (plain false) (bool_byte pattern.off_before + bool_byte pattern.off_after) 0 +
       cond (plain true) (pattern.end - pattern.first) 0
   unfolding singleton_if
-  count-plain pattern =
-      grind (arith, sum_by-append {X = PatternDay}, count-with)
+  count-plain pattern = grind (arith, sum_by-append {X = PatternDay}, count-with)
 
 -- the sums that are plain by a property
 pub plain-of_property : (problem : Problem) (n : ℕ) (property : DayProperty) (days : List PatternDay) →

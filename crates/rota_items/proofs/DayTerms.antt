@@ -1,8 +1,8 @@
 -- The terms of a pattern's days, part by part.
-use Rattle.rota_items.proofs.Common.Imports.{◌≡◌, ℕ, ◌+◌, ◌-◌, ◌≤◌, ◌<◌, List, [], ◌∷◌, ◌++◌, Result, length, ap, ◌∙◌, arith, flat_map, append-nil, flat_map-append, get_or-map-range_with_len}
-use Rattle.rota_items.proofs.Common.Imports.{length-map-range_with_len, map-range_with_len_more, take-map-range_with_len, Problem, Cell, Term, days_of, PatternDay, with_property}
-use Rattle.rota_items.proofs.Common.Imports.{day_after, day_before, days_with, DayPattern, cell_term_events, Event, Took, Refused, Takes, Ghosts}
-use Rattle.rota_items.proofs.Taking.{Joins, list_refused, terms_join, taking, nothing, both, stop, go_on, goes_on}
+use Rattle.rota_items.proofs.Common.Imports.{◌≡◌, ℕ, ◌+◌, ◌-◌, ◌≤◌, ◌<◌, List, [], ◌∷◌, ◌++◌, length, ap, ◌∙◌, arith, flat_map, append-nil, flat_map-append, get_or-map-range_with_len}
+use Rattle.rota_items.proofs.Common.Imports.{length-map-range_with_len, map-range_with_len_more, take-map-range_with_len, Problem, Cell, Term, PatternDay, with_property}
+use Rattle.rota_items.proofs.Common.Imports.{days_with, cell_term_events, Event, Took, Refused, Ghosts}
+use Rattle.rota_items.proofs.Taking.{Joins, list_refused, terms_join, taking, nothing, both}
 
 -- the rules that an optional day needs
 pub ruleset day_taking = (taking, append-nil)
@@ -17,29 +17,6 @@ module _ (problem : Problem) (f : PatternDay → List (Term Cell)) where
     none = (terms_join problem).none;
     append = λ xs ys. ap (cell_term_events problem) (flat_map-append f xs ys) ∙ (terms_join problem).append (flat_map f xs) (flat_map f ys);
   }
-
-  -- the days of a pattern
-  module _ (pattern : DayPattern) {S F : Type 0} (T : Ghosts S F) where
-    abbrev before : List PatternDay
-    before = day_before pattern
-
-    abbrev held : List PatternDay
-    held = days_with pattern.first pattern.end
-
-    abbrev after : List PatternDay
-    after = day_after pattern
-
-    pub refused_before : (s t : S) → Refused T (day_events before) s t → Refused T (day_events (days_of pattern)) s t
-    refused_before s t p = stop days_join before (held ++ after) s t p
-
-    pub refused_held : (s t u : S) → Took T (day_events before) s t → Refused T (day_events held) t u →
-        Refused T (day_events (days_of pattern)) s u
-    refused_held s t u p q = go_on days_join before (held ++ after) s t u p (stop days_join held after t u q)
-
-    pub takes_after : {R : Type 0} (s t u v : S) (r : Result R F) → Took T (day_events before) s t → Took T (day_events held) t u →
-        Takes T (day_events after) u v r → Takes T (day_events (days_of pattern)) s v r
-    takes_after s t u v r p q o =
-        goes_on days_join before (held ++ after) s t v r p (goes_on days_join held after t u v r q o)
 
   module _ {S F : Type 0} (T : Ghosts S F) (first day : ℕ) where
     pub days_none : (s : S) → Took T (day_events (days_with first first)) s s

@@ -2,17 +2,13 @@
 use Rattle.rota_items.proofs.Common.Imports.{◌≡◌, ℕ, zero, suc, ◌+◌, ◌-◌, ◌<◌, ◌≤◌, List, [], ◌∷◌, ◌++◌, length, map, refl, sym, ap, subst, true, arith, length-append, nat_lt, nat_le, max, ◌&&◌, All, AllByRecursion}
 use Rattle.rota_items.proofs.Common.Imports.{range_with_len, length-map, All-from_recursion, length-range_with_len, AllByRecursion-append, AllByRecursion-concat_below, AllByRecursion-singleton_if, length-concat_below}
 use Rattle.rota_items.proofs.Common.Imports.{length-singleton_if, concat_below, Item, Span, PatternDay, Pattern, with_property, without_property, window, windows_on, windows, closed_pattern, closed_patterns_at}
-use Rattle.rota_items.proofs.Common.Imports.{closed_patterns_on, edge_pattern, edge_patterns_on, patterns_on, patterns, DaysFollow, Runs, pattern_item, run_items, max_run_items}
+use Rattle.rota_items.proofs.Common.Imports.{closed_patterns_on, edge_pattern, edge_patterns_on, patterns_on, patterns, map-id, map-map, ◌∙◌, DaysFollow, Runs, pattern_item, run_items, max_run_items}
 use Rattle.rota_items.proofs.Lists.{length-each_below_both, all-back, all-map, all-weaker}
 
 -- ---- the days
 
 abbrev number : PatternDay → ℕ
 number day = day.day
-
-numbers-with : (first n : ℕ) → map number (map with_property (range_with_len first n)) ≡ range_with_len first n
-numbers-with first zero = refl
-numbers-with first (suc n) = ap (λ xs. first ∷ xs) (numbers-with (first + 1) n)
 
 -- days with the property and a last one without it
 numbers-ended : (first n end : ℕ) → first + n ≡ end →
@@ -45,7 +41,7 @@ module _ (history : ℕ) (limits : Span) where
     each-windows_on : AllByRecursion Is (windows_on history limits d)
     each-windows_on =
         AllByRecursion-singleton_if Is _ (window limits.max d) (λ _.
-        is_run (window limits.max d) (d - limits.max) _ (numbers-with _ _) (omega arith) (omega arith) (omega arith))
+        is_run (window limits.max d) (d - limits.max) _ (map-map number with_property _ ∙ map-id _) (omega arith) (omega arith) (omega arith))
 
     is-closed : (k : ℕ) → k < d → (nat_le 1 k && nat_lt k limits.min) ≡ true → Is (closed_pattern limits.min d k)
     is-closed k room test =
@@ -67,8 +63,7 @@ module _ (history : ℕ) (limits : Span) where
         (AllByRecursion-singleton_if Is _ (edge_pattern history limits.min d) is-edge)
 
     pub each-on : AllByRecursion Is (windows_on history limits d ++ patterns_on history limits d)
-    each-on =
-        AllByRecursion-append Is (windows_on history limits d) (patterns_on history limits d) each-windows_on each-patterns_on
+    each-on = AllByRecursion-append Is (windows_on history limits d) (patterns_on history limits d) each-windows_on each-patterns_on
 
   pub each-pattern : AllByRecursion Is (windows history limits ++ patterns history limits)
   each-pattern =

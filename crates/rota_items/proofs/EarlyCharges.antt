@@ -17,8 +17,7 @@ module _ (total : CountedTotal) where
 
   pub charges-sum : (one : RosteredWeek) (later : List RosteredWeek) → FollowEarly total one later →
       sum_by charged_in (one ∷ later) ≡ added_by_all total one later
-  charges-sum one [] early =
-      omega (arith, sum_by-cons charged_in one [], sum_by-cons (added_in total) one [], pays_added one early)
+  charges-sum one [] early = omega (arith, sum_by-cons charged_in one [], sum_by-cons (added_in total) one [], pays_added one early)
   charges-sum one (next ∷ later) (early, continues, follow) =
       omega (
         arith,

@@ -61,8 +61,7 @@ module _ (problem : Problem) (assignment : ℕ → Bool) (roster : Roster)
 
   pub shortage-of_item : (item : Item Cell) → ItemIn problem item →
       shortage assignment (numbered (cell_number problem) item) ≡ shortage roster item
-  shortage-of_item item inside =
-      ap (λ z. positive_part (item.degree -ℤ z)) (value_of-of_terms item.terms inside)
+  shortage-of_item item inside = ap (λ z. positive_part (item.degree -ℤ z)) (value_of-of_terms item.terms inside)
 
   weighted-of_items : weighted_shortages assignment (numbered_items problem) ≡ weighted_shortages roster (soft_items problem)
   weighted-of_items =

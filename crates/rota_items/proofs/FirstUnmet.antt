@@ -23,8 +23,7 @@ abbrev pub AllSatisfied : (ℕ → Bool) → List (LinearRow ℕ) → Type 0
 AllSatisfied assignment rows = AllByRecursion (Satisfies assignment) (map linear_constraint rows)
 
 abbrev pub Decided : (ℕ → Bool) → List (LinearRow ℕ) → Named → Type 0
-Decided assignment rows unmet =
-    MatchOption unmet (AllSatisfied assignment rows) (λ _. AllSatisfied assignment rows → ⊥)
+Decided assignment rows unmet = MatchOption unmet (AllSatisfied assignment rows) (λ _. AllSatisfied assignment rows → ⊥)
 
 pub first_unmet-decides : (assignment : ℕ → Bool) (rows : List (LinearRow ℕ)) → Decided assignment rows (first_unmet assignment rows)
 first_unmet-decides assignment [] = tt

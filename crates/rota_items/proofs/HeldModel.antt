@@ -1,10 +1,10 @@
 -- Holding cells adds to the model only that each of them is true.
 use Rattle.rota_items.proofs.Common.Imports.{◌≡◌, ◌↔◌, ℕ, ◌+◌, Bool, false, [], map, length, ap, arith, rules, length-map, length-flat_map, KeepsCompetitionRules, KeepsHeld, Has, Roster, hard_rules, Problem, Cell}
-use Rattle.rota_items.proofs.Common.Imports.{rows_of_hard_rule, SatisfiesModel, linear_constraint, model_of, roster_of, rows_of, cells_of, h5_row, h5_rows, without_held, List, ◌∷◌, sym, refl, true≢false, AllByRecursion}
+use Rattle.rota_items.proofs.Common.Imports.{rows_of_hard_rule, SatisfiesModel, model_of, roster_of, cells_of, h5_row, h5_rows, without_held, List, ◌∷◌, sym, refl, true≢false, AllByRecursion}
 use Rattle.rota_items.proofs.Common.Imports.{◌<◌, true, KeepsHardRules, KeepsOneCell, KeepsSkills, KeepsSuccession, cell, is_on}
 use Rattle.rota_items.proofs.Lists.{any_below-more}
 use Rattle.rota_items.proofs.RisingCells.{in-cell}
-use Rattle.rota_items.proofs.SlackBound.{length-rows_of}
+use Rattle.rota_items.proofs.SlackBound.{length-constraints}
 use Rattle.rota_items.proofs.HardRules.EachRule.{cells-are}
 use Rattle.rota_items.proofs.Satisfied.{model-means}
 
@@ -51,10 +51,8 @@ module _ (problem : Problem) where
   length-with_held =
       omega (
         arith,
-        length-map (rows_of problem) linear_constraint,
-        length-rows_of problem,
-        length-map (rows_of (without_held problem)) linear_constraint,
-        length-rows_of (without_held problem),
+        length-constraints problem,
+        length-constraints (without_held problem),
         length-flat_map (rows_of_hard_rule problem) hard_rules,
         length-flat_map (rows_of_hard_rule (without_held problem)) hard_rules,
         ap length (no-held_rows problem),

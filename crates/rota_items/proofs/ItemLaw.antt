@@ -11,18 +11,12 @@ pub value_of-weight : (assignment : ℕ → Bool) (w : ℕ) (variables : List �
     value_of assignment (times (pos w) variables) ≡ pos (w * count_by assignment variables)
 value_of-weight assignment w [] = omega (arith, ints)
 value_of-weight assignment w (v ∷ vs) =
-    grind (
-      arith,
-      ints,
-      ap (λ k. w * k) (sum_by-cons (λ x. cond (assignment x) 1 0) v vs),
-      value_of-weight assignment w vs,
-    )
+    grind (arith, ints, ap (λ k. w * k) (sum_by-cons (λ x. cond (assignment x) 1 0) v vs), value_of-weight assignment w vs)
 
 pub value_of-item_constraint : (assignment : ℕ → Bool) (item : Item ℕ) (first : ℕ) →
     value_of assignment (item_constraint item first).terms ≡
     value_of assignment item.terms +ℤ pos (count_by assignment (slack_variables item first))
-value_of-item_constraint assignment item first =
-    rw (value_of-append, value_of-weight) (omega (arith, ints))
+value_of-item_constraint assignment item first = rw (value_of-append, value_of-weight) (omega (arith, ints))
 
 pub item_law : (assignment : ℕ → Bool) (item : Item ℕ) (first : ℕ) →
     Satisfies assignment (item_constraint item first) ↔

@@ -1,6 +1,6 @@
 -- The items of rules that charge each nurse, and of runs, in the order of the loops that send them.
 use Rattle.rota_items.proofs.Common.Imports.{◌≡◌, ℕ, ◌++◌, map, ap, ◌∙◌, map-append, concat_below, Item, Runs, pattern_item, run_items, Pattern, closed_patterns_at, closed_patterns_on}
-use Rattle.rota_items.proofs.Common.Imports.{edge_patterns_on, patterns, patterns_on, windows, windows_on, window_items_on, closed_items_at, edge_items_on, pattern_items_on, zero, suc}
+use Rattle.rota_items.proofs.Common.Imports.{edge_patterns_on, patterns, patterns_on, windows, windows_on, window_items_on, closed_items_at, pattern_items, pattern_items_on, zero, suc}
 use Rattle.rota_items.proofs.Common.Imports.{List, [], ◌∷◌, length, refl, arith, AllByRecursion, sum_by-cons, Problem, Rule, Cell, nurse_items, items_of_rule, slack_count, S1, optimum_items, append-nil}
 use Rattle.rota_items.proofs.Lists.{map-concat_below}
 use Rattle.rota_items.proofs.EachPattern.{each-run_item}
@@ -11,10 +11,11 @@ module _ {X : Type 0} (runs : Runs X) where
   abbrev item : Pattern → Item X
   item = pattern_item runs.rule runs.weight runs.property
 
-  pub pattern_items-on : (d : ℕ) → pattern_items_on runs d ≡ concat_below d (closed_items_at runs d) ++ edge_items_on runs d
+  pub pattern_items-on : (d : ℕ) →
+      pattern_items_on runs d ≡ concat_below d (closed_items_at runs d) ++ pattern_items runs (edge_patterns_on runs.history runs.limits.min d)
   pattern_items-on d =
       map-append item (closed_patterns_on runs.limits.min d) (edge_patterns_on runs.history runs.limits.min d) ∙
-      ap (λ xs. xs ++ edge_items_on runs d) (map-concat_below item d (closed_patterns_at runs.limits.min d))
+      ap (λ xs. xs ++ map item (edge_patterns_on runs.history runs.limits.min d)) (map-concat_below item d (closed_patterns_at runs.limits.min d))
 
   pub run_items-are : run_items runs ≡ concat_below 7 (window_items_on runs) ++ concat_below 7 (pattern_items_on runs)
   run_items-are =
@@ -49,8 +50,7 @@ HasOneSlack item = item.slacks ≡ 1
 
 pub one_slack-each : (items : List (Item Cell)) → AllByRecursion HasOneSlack items → slack_count items ≡ length items
 one_slack-each [] all = refl
-one_slack-each (item ∷ items) all =
-    omega (arith, sum_by-cons (λ (i : Item Cell). i.slacks) item items, all.0, one_slack-each items all.1)
+one_slack-each (item ∷ items) all = omega (arith, sum_by-cons (λ (i : Item Cell). i.slacks) item items, all.0, one_slack-each items all.1)
 
 pub have_one-runs : (runs : Runs Cell) → AllByRecursion HasOneSlack (run_items runs)
 have_one-runs runs = each-run_item runs HasOneSlack (λ pattern is. refl)

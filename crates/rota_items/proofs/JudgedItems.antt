@@ -2,7 +2,7 @@
 use Rattle.rota_items.proofs.Common.Imports.{length-map, ◌≡◌, ℕ, zero, suc, ◌+◌, ◌*◌, ◌<◌, ◌≤◌, Bool, List, [], ◌∷◌, refl, sym, ap, ◌∙◌, arith, min, w64, pos, nat_abs, ◌-ℤ◌, int_le, nat_le, AllByRecursion, count_by}
 use Rattle.rota_items.proofs.Common.Imports.{count_by-le-length, range_with_len, sum_by, fold, fold-append, lt-ltb, ints, sum_by-append, sum_by-cons, Roster, set_of, Problem, Rule, unit_number, Item, positive_part}
 use Rattle.rota_items.proofs.Common.Imports.{shortage, Term, value_of, times, LinearRow, item_row, item_rows, slack_count, slack_variables, slack_weights, assignment_of, extension_of, model_of, saturate_signed}
-use Rattle.rota_items.proofs.Common.Imports.{nat_tests, RosterTables, Subject, assigned, extended, assignment_in, roster_in, tallied, true_slacks, truth_of, Tally, row_events, events, half_limit}
+use Rattle.rota_items.proofs.Common.Imports.{nat_tests, RosterTables, Subject, assigned, extended, assignment_in, roster_in, tallied, true_slacks, truth_of, Tally, row_events, events, half_limit, length-range_with_len}
 use Rattle.rota_items.proofs.Extension.{extension-below}
 use Rattle.rota_items.proofs.ItemLaw.{IsExtension, count-front, extends-after, needed-first, value_of-item_constraint, value_of-weight}
 use Rattle.rota_items.proofs.FirstUnmet.{Named}
@@ -117,7 +117,7 @@ module _ (problem : Problem) (subject : Subject) where
             sum_by-append (λ (term : Term ℕ). nat_abs term.0) item.terms (times (pos 1) (slack_variables item first)),
             spread-units (times (pos 1) (slack_variables item first)) (units-times (slack_variables item first)),
             length-map {B = Term ℕ} (slack_variables item first) (λ v. (pos 1, v)),
-            length-range first item.slacks,
+            length-range_with_len first item.slacks,
             fit.small,
           );
           lacks_is = ap (λ z. positive_part (saturate_signed w64 (item.degree -ℤ z))) others ∙ not_cut;
@@ -125,7 +125,7 @@ module _ (problem : Problem) (subject : Subject) where
           met =
               ap (λ lacks. nat_le lacks paid_slacks) (sym not_cut) ∙
               covers item.degree (value_of A item.terms) paid_slacks
-              (omega (arith, fit.small, count_by-le-length A (slack_variables item first), length-range first item.slacks)) ∙
+              (omega (arith, fit.small, count_by-le-length A (slack_variables item first), length-range_with_len first item.slacks)) ∙
               ap (int_le item.degree) (sym (value_of-item_constraint A item first));
         }
 

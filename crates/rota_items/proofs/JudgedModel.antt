@@ -34,8 +34,7 @@ spread-positive ((negsuc n, v) ∷ ts) all = absurd (omega (arith, ints, all.0))
 
 sum_by-times : {X : Type 0} (w : ℕ) (f : X → ℕ) (xs : List X) → sum_by (λ x. w * f x) xs ≡ w * sum_by f xs
 sum_by-times w f [] = omega arith
-sum_by-times w f (x ∷ xs) =
-    omega (arith, sum_by-cons (λ x. w * f x) x xs, ap (λ n. w * n) (sum_by-cons f x xs), sum_by-times w f xs)
+sum_by-times w f (x ∷ xs) = omega (arith, sum_by-cons (λ x. w * f x) x xs, ap (λ n. w * n) (sum_by-cons f x xs), sum_by-times w f xs)
 
 -- the part of each soft rule alone
 abbrev pub of_rule : (Rule → ℕ) → Rule → ℕ

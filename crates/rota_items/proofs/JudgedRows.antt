@@ -36,10 +36,8 @@ term-tallied : (above counts : Bool) (tally : Tally) (x y c : ℤ) → nat_abs x
     }
     else with_sums tally x y) ≡
     with_sums tally (x +ℤ chosen (not above && counts) c) (y +ℤ chosen (above && counts) c)
-term-tallied true true tally x y c x_small y_small =
-    λ i. with_sums tally (and_none x i) (saturated (y +ℤ c) (omega (arith, ints)) i)
-term-tallied false true tally x y c x_small y_small =
-    λ i. with_sums tally (saturated (x +ℤ c) (omega (arith, ints)) i) (and_none y i)
+term-tallied true true tally x y c x_small y_small = λ i. with_sums tally (and_none x i) (saturated (y +ℤ c) (omega (arith, ints)) i)
+term-tallied false true tally x y c x_small y_small = λ i. with_sums tally (saturated (x +ℤ c) (omega (arith, ints)) i) (and_none y i)
 term-tallied true false tally x y c x_small y_small = λ i. with_sums tally (and_none x i) (and_none y i)
 term-tallied false false tally x y c x_small y_small = λ i. with_sums tally (and_none x i) (and_none y i)
 
@@ -151,8 +149,7 @@ later-zero (Some (number, rule)) = let same : 0 + number ≡ number = omega arit
 
 later-later : (m n : ℕ) (found : Named) → later m (later n found) ≡ later (m + n) found
 later-later m n None = refl
-later-later m n (Some (number, rule)) =
-    let same : m + (n + number) ≡ m + n + number = omega arith in ap (λ (n : ℕ). Some (n, rule)) same
+later-later m n (Some (number, rule)) = let same : m + (n + number) ≡ m + n + number = omega arith in ap (λ (n : ℕ). Some (n, rule)) same
 
 pub or_else-none : (found : Named) → option_or found None ≡ found
 or_else-none (Some x) = refl

@@ -10,16 +10,14 @@ use Rattle.rota_items.proofs.RuleSizes.{constant_of_rule-few, shortages-few}
 use Rattle.rota_items.proofs.SoftRules.ShiftOffRequests.{value_of-request_terms}
 
 abbrev pub model_events : InstanceTables → List Event
-model_events instance =
-    events (objective_rows (objective_terms (problem_of instance))) ++ events (rows_of (problem_of instance))
+model_events instance = events (objective_rows (objective_terms (problem_of instance))) ++ events (rows_of (problem_of instance))
 
 -- the objective in the tally, if the objective gives this at the unit variable
 abbrev pub objective_in : Tally → ℕ
 objective_in tally = capped (tally.requests_and_constant + tally.slacks)
 
 abbrev pub costs_in : Problem → Tally → ℕ → List ℕ
-costs_in problem tally at_unit =
-    with_constants problem soft_rules (with_cost S4 (tally.requests_and_constant - at_unit) tally.shortages)
+costs_in problem tally at_unit = with_constants problem soft_rules (with_cost S4 (tally.requests_and_constant - at_unit) tally.shortages)
 
 abbrev pub at_unit_in : Problem → Subject → ℕ
 at_unit_in problem subject = if counts_for problem subject (unit_number problem) then constant problem else 0

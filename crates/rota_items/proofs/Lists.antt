@@ -9,8 +9,7 @@ use Rattle.std.proofs.lemmas.List.Sums.{sum_by_push}
 
 -- ---- properties of each element of a list
 
-pub all-map : {X Y : Type 0} (P : Y → Type 0) (f : X → Y) (xs : List X) → AllByRecursion (λ x. P (f x)) xs →
-    AllByRecursion P (map f xs)
+pub all-map : {X Y : Type 0} (P : Y → Type 0) (f : X → Y) (xs : List X) → AllByRecursion (λ x. P (f x)) xs → AllByRecursion P (map f xs)
 all-map P f [] all = tt
 all-map P f (x ∷ xs) all = (all.0, all-map P f xs all.1)
 
@@ -52,22 +51,18 @@ module _ {X : Type 0} {P : X → Type 0} where
 
 -- ---- sums and tests over lists
 
-pub sum_by-map : {X Y : Type 0} (f : Y → ℕ) (g : X → Y) (xs : List X) →
-    sum_by f (map g xs) ≡ sum_by (λ x. f (g x)) xs
+pub sum_by-map : {X Y : Type 0} (f : Y → ℕ) (g : X → Y) (xs : List X) → sum_by f (map g xs) ≡ sum_by (λ x. f (g x)) xs
 sum_by-map f g xs = fold-map (λ sum y. sum + f y) g 0 xs
 
 -- two sums whose terms are the same
-pub sum_by-same : {X : Type 0} (f g : X → ℕ) (xs : List X) →
-    AllByRecursion (λ x. f x ≡ g x) xs → sum_by f xs ≡ sum_by g xs
+pub sum_by-same : {X : Type 0} (f g : X → ℕ) (xs : List X) → AllByRecursion (λ x. f x ≡ g x) xs → sum_by f xs ≡ sum_by g xs
 sum_by-same f g [] same = refl
-sum_by-same f g (x ∷ xs) same =
-    omega (arith, sum_by-cons f x xs, sum_by-cons g x xs, same.0, sum_by-same f g xs same.1)
+sum_by-same f g (x ∷ xs) same = omega (arith, sum_by-cons f x xs, sum_by-cons g x xs, same.0, sum_by-same f g xs same.1)
 
 pub sum_by-each-same : {X : Type 0} (f g : X → ℕ) → ((x : X) → f x ≡ g x) → (xs : List X) → sum_by f xs ≡ sum_by g xs
 sum_by-each-same f g each xs = ap (λ h. sum_by h xs) (λ i x. each x i)
 
-pub sum_by-singleton_if : {X : Type 0} (f : X → ℕ) (test : Bool) (x : X) →
-    sum_by f (singleton_if test x) ≡ cond test (f x) 0
+pub sum_by-singleton_if : {X : Type 0} (f : X → ℕ) (test : Bool) (x : X) → sum_by f (singleton_if test x) ≡ cond test (f x) 0
 unfolding singleton_if
 sum_by-singleton_if f true x = zero-add (f x)
 sum_by-singleton_if f false x = refl
@@ -85,11 +80,6 @@ unfolding sum_below
 sum_below-same zero f g same = refl
 sum_below-same (suc n) f g same = rw (sum_below-same n f g (λ i below. same i (omega arith)), same n (omega arith)) refl
 
-pub sum_below-times : (n w : ℕ) (f : ℕ → ℕ) → sum_below n (λ i. w * f i) ≡ w * sum_below n f
-unfolding sum_below
-sum_below-times zero w f = omega arith
-sum_below-times (suc n) w f = omega (arith, sum_below-times n w f)
-
 pub sum_below-plus : (n : ℕ) (f g : ℕ → ℕ) → sum_below n (λ i. f i + g i) ≡ sum_below n f + sum_below n g
 unfolding sum_below
 sum_below-plus zero f g = refl
@@ -106,8 +96,7 @@ sum_below-zero n f none = omega (arith, sum_below-within n 0 f (λ i below. omeg
 -- ---- sizes
 
 pub sum_below-at_most : (n maximum m : ℕ) (f : ℕ → ℕ) → n ≤ maximum → ((i : ℕ) → f i ≤ m) → sum_below n f ≤ maximum * m
-sum_below-at_most n maximum m f few small =
-    omega (arith, sum_below-within n m f (λ i _. small i), mul-le n m maximum m few (omega arith))
+sum_below-at_most n maximum m f few small = omega (arith, sum_below-within n m f (λ i _. small i), mul-le n m maximum m few (omega arith))
 
 -- the length of the lists that loops make
 pub length-at_most : {A : Type 0} {n m : ℕ} (maximum : ℕ) → n ≤ maximum → (f : ℕ → List A) → ((i : ℕ) → length (f i) ≤ m) →
@@ -117,8 +106,7 @@ length-at_most {A} {n} {m} maximum few f small =
 
 -- ---- lists made by loops
 
-pub sum_by-each : {X : Type 0} (f : X → ℕ) (n : ℕ) (g : ℕ → List X) →
-    sum_by f (concat_below n g) ≡ sum_below n (λ i. sum_by f (g i))
+pub sum_by-each : {X : Type 0} (f : X → ℕ) (n : ℕ) (g : ℕ → List X) → sum_by f (concat_below n g) ≡ sum_below n (λ i. sum_by f (g i))
 unfolding concat_below sum_below
 sum_by-each f zero g = refl
 sum_by-each f (suc n) g = omega (arith, sum_by-append f (concat_below n g) (g n), sum_by-each f n g)
@@ -130,7 +118,10 @@ sum_by-each-is f n g h each = sum_by-each f n g ∙ sum_below-same n (λ i. sum_
 -- and the same with a factor
 pub sum_by-each-times : {X : Type 0} (f : X → ℕ) (n w : ℕ) (g : ℕ → List X) (h : ℕ → ℕ) →
     ((i : ℕ) → i < n → sum_by f (g i) ≡ w * h i) → sum_by f (concat_below n g) ≡ w * sum_below n h
-sum_by-each-times f n w g h each = sum_by-each-is f n g (λ i. w * h i) each ∙ sum_below-times n w h
+unfolding concat_below sum_below
+sum_by-each-times f zero w g h each = omega arith
+sum_by-each-times f (suc n) w g h each =
+    omega (arith, sum_by-append f (concat_below n g) (g n), each n (omega arith), sum_by-each-times f n w g h (λ i below. each i (omega arith)))
 
 pub count_by-each : {X : Type 0} (test : X → Bool) (n : ℕ) (x : ℕ → X) →
     count_by test (concat_below n (λ i. x i ∷ [])) ≡ count_below n (λ i. test (x i))
@@ -147,8 +138,7 @@ any_below-same (suc n) p q same = rw (any_below-same n p q (λ i below. same i (
 pub any_below-more : (n : ℕ) (p q : ℕ → Bool) → ((i : ℕ) → i < n → p i ≡ true → q i ≡ true) → any_below n p ≡ true → any_below n q ≡ true
 unfolding any_below
 any_below-more zero p q more some = some
-any_below-more (suc n) p q more some =
-    grind (arith, any_below-more n p q (λ i below. more i (omega arith)), more n (omega arith))
+any_below-more (suc n) p q more some = grind (arith, any_below-more n p q (λ i below. more i (omega arith)), more n (omega arith))
 
 pub list_any-each : {X : Type 0} (p : X → Bool) (n : ℕ) (g : ℕ → List X) →
     list_any p (concat_below n g) ≡ any_below n (λ i. list_any p (g i))

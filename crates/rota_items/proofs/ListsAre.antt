@@ -18,10 +18,7 @@ module _ {A : Type 0} where
   }
 
   pub where-holds : {test : Bool} {x : A} → Are (singleton_if test x) (λ P. test ≡ true → P x)
-  where-holds {test} {x} = record {
-    all = λ P each. AllByRecursion-singleton_if P test x each;
-    each = λ P all. holds-where P test x all;
-  }
+  where-holds {test} {x} = record { all = λ P each. AllByRecursion-singleton_if P test x each; each = λ P all. holds-where P test x all }
 
   pub listed : (xs : List A) → Are xs (λ P. AllByRecursion P xs)
   listed xs = record { all = λ P each. each; each = λ P all. all }

@@ -1,8 +1,7 @@
 -- How the list of literals taken by a taker grows, literal by literal.
-use Rattle.rota_items.proofs.Common.Imports.{◌≡◌, ℕ, ◌+◌, ◌<◌, Bool, List, [], ◌∷◌, Result, MatchResult, refl, concat_below-more}
+use Rattle.rota_items.proofs.Common.Imports.{◌≡◌, ℕ, ◌+◌, ◌<◌, Bool, List, [], ◌∷◌, Result, MatchResult, refl, concat_below-more, RefusedOne, TookLiterals}
 use Rattle.rota_items.proofs.Taking.{Refused-one, Takes-then, takes_one, loop_refused}
-use Rattle.rota_items.proofs.Common.Definitions.{TookLiterals}
-use Rattle.rota_items.specs.Takes.{RefusedOne, TakesLiterals}
+use Rattle.rota_items.specs.Takes.{TakesLiterals}
 use Rattle.rota_items.specs.SlackValues.{truths_below}
 use Rattle.rota_items.specs.declared.literals.literal_takers.LiteralTaker.{Ghosts}
 

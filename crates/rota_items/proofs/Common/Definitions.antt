@@ -6,7 +6,7 @@ use Rattle.rota_items.specs.Bounds.{max_cost_of_nurse, max_terms, max_weight}
 use Rattle.rota_items.specs.SoftItems.{numbered_list, numbered_rows}
 use Rattle.rota_core.specs.Limits.{max_number, max_nurses}
 use Rattle.rota_items.specs.Rows.{Item, LinearRow}
-use Rattle.rota_items.specs.RunItems.{Runs, closed_patterns_at, edge_patterns_on, pattern_items}
+use Rattle.rota_items.specs.RunItems.{Runs, closed_patterns_at, pattern_items}
 use Rattle.rota_items.specs.Takes.{TookAll}
 use Rattle.rota_items.specs.declared.literals.literal_takers.LiteralTaker as literal_taker
 use Rattle.rota_items.specs.declared.hard.row_takers.RowTaker as row_taker
@@ -23,13 +23,10 @@ TookItems T problem items old new = TookAll T.value T.step T.left (numbered_list
 abbrev pub TookLiterals : {S F : Type 0} → literal_taker.Ghosts S F → List Bool → S → S → Type 0
 TookLiterals T truths old new = TookAll T.value T.step T.left truths old new
 
--- ---- the items of a closed pattern, and of the edge pattern
+-- ---- the items of a closed pattern
 
 abbrev pub closed_items_at : {X : Type 0} → Runs X → ℕ → ℕ → List (Item X)
 closed_items_at runs d count = pattern_items runs (closed_patterns_at runs.limits.min d count)
-
-abbrev pub edge_items_on : {X : Type 0} → Runs X → ℕ → List (Item X)
-edge_items_on runs d = pattern_items runs (edge_patterns_on runs.history runs.limits.min d)
 
 -- ---- bounds
 

@@ -38,6 +38,7 @@ pub use Rattle.rota_core.specs.RosterTables.{set_of, cell_count, cell_index, Has
 pub use Rattle.rota_core.specs.ScenarioTables.{AreLimits, IsContract}
 pub use Rattle.rota_core.specs.Problem.{Problem, no_demand, no_past, no_span}
 pub use Rattle.rota_core.specs.WeekTables.{IsDemand, IsPast}
+pub use Rattle.rota_items.specs.Imports.{soft_rules, hard_rules, Rule, Cell, Span}
 pub use Rattle.rota_items.specs.RuleItems.{soft_items, items_of_rule, constant, constant_of_rule, cell_terms, nurse_constant, nurse_items, cell_terms_of_rule}
 pub use Rattle.rota_items.specs.Coefficients.{IsUnit, HasUnitCoefficients}
 pub use Rattle.rota_items.specs.Counting.{counted, counts_of, maximum, is_constraint, no_counts, variables_in, counts_of_model}
@@ -74,7 +75,6 @@ pub use Rattle.rota_items.specs.rules.ShiftOffRequests.Cost.{request_cost, reque
 pub use Rattle.rota_items.specs.rules.ShiftOffRequests.Terms.{request_terms_on, request_terms}
 -- of runs: their days, their windows and patterns, and the items that charge them
 pub use Rattle.rota_items.specs.CellSums.{day_after, day_before, days_of, property_of, is_plain_of}
-pub use Rattle.rota_items.specs.SoftItems.{runs_of, item_of, charged_items}
 pub use Rattle.rota_items.specs.RunItemParts.{DaysFollow, has_property, pattern_items_on, window_items_on, AtMostOneADay, day_cost, day_items}
 pub use Rattle.rota_items.specs.RunItems.{run_items, Runs, Pattern, PatternDay, pattern_item, variables_on, Property, day_terms, Present, patterns, windows, with_property, without_property, days_with, is_plain}
 pub use Rattle.rota_items.specs.RunItems.{patterns_on, windows_on, closed_patterns_at, closed_patterns_on, edge_patterns_on, saturday, Absent, closed_pattern, edge_pattern, only_sunday, weekend_items, window}
@@ -90,9 +90,10 @@ unfoldable pub use Rattle.rota_items.specs.CellEvents.{cell_term_events}
 pub use Rattle.rota_items.specs.Events.{row_events, close_row, start_row, term, Event}
 unfoldable pub use Rattle.rota_items.specs.Events.{term_events, events}
 pub use Rattle.rota_items.specs.RowsOfItems.{row_of_item, RowsState, StopsAtRow, slacks_within, weights_of_item, with_item, with_row, within_numbers}
+pub use Rattle.rota_items.specs.SoftItems.{runs_of, item_of, charged_items}
 unfoldable pub use Rattle.rota_items.specs.SoftItems.{numbered_list, numbered_rows}
 pub use Rattle.rota_items.specs.Takes.{Took, Refused, RefusedFrom, Takes, RefusedOne, TookAll, TakesAll, TakesItems}
-pub use Rattle.rota_items.proofs.Common.Definitions.{TookItems, TookRows, closed_items_at, edge_items_on, half_limit, max_charge, max_cost, max_slacks}
+pub use Rattle.rota_items.proofs.Common.Definitions.{TookItems, TookLiterals, TookRows, closed_items_at, half_limit, max_charge, max_cost, max_slacks}
 pub use Rattle.rota_items.specs.declared.part.Part.{Part}
 pub use Rattle.rota_items.specs.declared.part.Part.TheVariants.{Objective, Hard, Soft}
 pub use Rattle.rota_items.specs.declared.sums.Sign.{Sign}

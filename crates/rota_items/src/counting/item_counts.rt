@@ -41,6 +41,7 @@ impl ItemTaker for ItemCounts {
 
 impl RunTaker for ItemCounts {
     // Each window and each pattern is an item with one slack.
+    #[tactic(auto, using(crate::proofs::EachPattern::run_counting))]
     fn runs(&mut self, _instance: &Instance, runs: NurseRuns) -> Result<(), Infallible> {
         let items = windows_of(runs.history, runs.limits) + patterns_of(runs.history, runs.limits);
         self.items = self.items.saturating_add(items);

@@ -1,4 +1,4 @@
-use Rattle.rota_items.proofs.Common.{◌∷◌, [], map, subst, problem_of, h5_row, arith, exits, go_on, stop, numbered_rows, RefusedOne, Refused-one, held_join, taking_held}
+use Rattle.rota_items.proofs.Common.{◌∷◌, [], map, subst, problem_of, h5_row, exits, go_on, stop, numbered_rows, RefusedOne, Refused-one, held_join}
 use Rattle.rota_items.proofs.hard.held.visit.Goals as goal
 
 pub returns-in_err-row : goal.returns-in_err-row
@@ -11,7 +11,3 @@ returns-in_err-row g c =
     (subst (λ cells. RefusedOne T.value T.step T.left (numbered_rows problem (map h5_row cells)) c.args.taker.now c.row.new.self) left
     (go_on (held_join problem) c.loop-cell.yielded (c.in-Some.cell ∷ c.next.new.self) _ _ _ c.loop-cell.invariant.taken
     (stop (held_join problem) (c.in-Some.cell ∷ []) c.next.new.self _ _ (Refused-one _ _ _ c.in_err-row.ensures))))
-
-pub loop-cell-preserved : goal.loop-cell-preserved
-unfolding numbered_rows
-loop-cell-preserved g c = grind (arith, taking_held)

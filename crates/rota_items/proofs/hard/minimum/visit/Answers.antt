@@ -1,4 +1,4 @@
-use Rattle.rota_items.proofs.Common.{rules, w64, to_z-of_z, arith, exits, loop_refused, rows_join, numbered_rows, taking}
+use Rattle.rota_items.proofs.Common.{rules, w64, to_z-of_z, arith, exits, loop_refused, rows_join}
 use Rattle.rota_items.proofs.hard.minimum.visit.Goals as goal
 
 pub returns-in_err-emit_row_if : goal.returns-in_err-emit_row_if
@@ -7,15 +7,3 @@ returns-in_err-emit_row_if g c =
     (loop_refused (rows_join _) _ _ _ _ _ _ (omega arith) c.loop-day.invariant
     (loop_refused (rows_join _) _ _ _ _ _ _ (omega arith) c.loop-shift.invariant
     (loop_refused (rows_join _) _ _ _ _ _ _ (omega arith) c.loop-skill.invariant (rw (to_z-of_z w64 c.from.result (search rules), c.from.ensures, c.demand-minimum.ensures) at c.in_err-emit_row_if.ensures))))
-
-pub loop-skill-preserved : goal.loop-skill-preserved
-unfolding numbered_rows
-loop-skill-preserved g c = grind (arith, taking)
-
-pub loop-shift-preserved : goal.loop-shift-preserved
-unfolding numbered_rows
-loop-shift-preserved g c = grind (arith, taking)
-
-pub loop-day-preserved : goal.loop-day-preserved
-unfolding numbered_rows
-loop-day-preserved g c = grind (arith, taking)

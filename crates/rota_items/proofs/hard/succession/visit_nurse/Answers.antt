@@ -1,4 +1,4 @@
-use Rattle.rota_items.proofs.Common.{arith, exits, go_on, loop_refused, rows_join, stop, numbered_rows, taking}
+use Rattle.rota_items.proofs.Common.{arith, exits, go_on, loop_refused, rows_join, stop}
 use Rattle.rota_items.proofs.hard.succession.visit_nurse.Goals as goal
 
 pub returns-in_err-visit_monday : goal.returns-in_err-visit_monday
@@ -9,7 +9,3 @@ returns-in_err-visit_between g c =
     exits _ _ _ _ c.from_residual-in_err-visit_between.ensures.0
     (go_on (rows_join _) _ _ _ _ _ c.in_ok-visit_monday.ensures
     (loop_refused (rows_join _) _ _ _ _ _ _ (omega arith) c.loop-day.invariant c.in_err-visit_between.ensures))
-
-pub loop-day-preserved : goal.loop-day-preserved
-unfolding numbered_rows
-loop-day-preserved g c = grind (arith, taking)

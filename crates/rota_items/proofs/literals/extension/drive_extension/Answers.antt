@@ -1,5 +1,4 @@
-use Rattle.rota_items.proofs.Common.{exits, problem_of}
-use Rattle.rota_core.specs.RosterTables.{set_of}
+use Rattle.rota_items.proofs.Common.{exits, problem_of, set_of}
 use Rattle.rota_items.proofs.ExtensionTruths.{truths-parts}
 use Rattle.rota_items.proofs.Taking.{Refused-before, Takes-then}
 use Rattle.rota_items.proofs.literals.extension.drive_extension.Goals as goal

@@ -1,6 +1,4 @@
-use Rattle.rota_items.proofs.Common.{◌≡◌, ◌+◌, ◌∙◌, ap, sym, refl, true, arith, exits, unit_number, problem_of, taking}
-use Rattle.rota_core.specs.RosterTables.{set_of}
-use Rattle.rota_items.specs.WeekModel.{assignment_of}
+use Rattle.rota_items.proofs.Common.{◌≡◌, ◌+◌, ◌∙◌, ap, sym, refl, true, arith, exits, unit_number, problem_of, taking, set_of, assignment_of}
 use Rattle.rota_items.proofs.Numbers.{assignment_of-unit, index-assigned}
 use Rattle.rota_items.proofs.LiteralTaking.{literals_end, literals_refused}
 use Rattle.rota_items.proofs.literals.extension.emit_assigned.Goals as goal

@@ -1,8 +1,5 @@
-use Rattle.rota_items.proofs.Common.{problem_of}
-use Rattle.rota_core.specs.RosterTables.{set_of}
+use Rattle.rota_items.proofs.Common.{problem_of, set_of, assignment_of, TookLiterals}
 use Rattle.rota_items.specs.ExtensionTruths.{truths_to}
-use Rattle.rota_items.proofs.Common.Definitions.{TookLiterals}
-use Rattle.rota_items.specs.WeekModel.{assignment_of}
 use Rattle.rota_items.proofs.literals.extension.emit_assigned.Given as goal
 
 abbrev pub invariant-loop-index : goal.invariant-loop-index

@@ -1,5 +1,4 @@
-use Rattle.rota_items.proofs.Common.{nat_lt}
-use Rattle.rota_items.proofs.Common.Definitions.{TookLiterals}
+use Rattle.rota_items.proofs.Common.{nat_lt, TookLiterals}
 use Rattle.rota_items.specs.SlackValues.{truths_below}
 use Rattle.rota_items.proofs.literals.slack_values.emit_first_true.Given as goal
 

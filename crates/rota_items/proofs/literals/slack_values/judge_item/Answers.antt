@@ -1,7 +1,4 @@
-use Rattle.rota_items.proofs.Common.{◌≡◌, List, Result, Ok, Err, fold, cell_term_events}
-use Rattle.rota_items.specs.Events.{Event}
-use Rattle.rota_items.specs.JudgeState.{JudgeState, judged}
-use Rattle.rota_items.specs.Takes.{TakesAll}
+use Rattle.rota_items.proofs.Common.{◌≡◌, List, Result, Ok, Err, fold, cell_term_events, Event, JudgeState, judged, TakesAll}
 use Rattle.rota_items.proofs.literals.slack_values.judge_item.Goals as goal
 
 -- a judge refuses nothing

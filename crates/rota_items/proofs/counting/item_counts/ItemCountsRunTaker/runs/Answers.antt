@@ -1,12 +1,6 @@
 use Rattle.rota_items.proofs.Common.{◌≡◌, ◌∙◌, ◌+◌, sym, arith, rules, problem_of, runs_of, ItemNumbers, sum_within}
-use Rattle.rota_items.proofs.EachPattern.{few-run_patterns}
 use Rattle.rota_items.proofs.ItemCounting.{counted-runs}
 use Rattle.rota_items.proofs.counting.item_counts.ItemCountsRunTaker.runs.Goals as goal
-
-pub overflow_add-items : goal.overflow_add-items
-overflow_add-items c =
-    let runs = c.args.runs in
-    omega (arith, few-run_patterns runs.history runs.limits, c.windows_of.ensures, c.patterns_of.ensures)
 
 pub returns : goal.returns
 returns c =
