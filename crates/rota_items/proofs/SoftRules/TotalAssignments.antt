@@ -54,7 +54,7 @@ module _ (problem : Problem) where
         sound-cells problem coefficient unit _ _ (nurse_cells problem n) (AllByRecursion-concat_below (InWeek problem) 7 (work_cells problem n) (λ d d_in. in-work_cells problem n d n_in d_in))
         (rises-nurse_cells problem n)
 
-    sound-minimum : (min_totals_count problem && nat_lt 0 (still_wanted problem n)) ≡ true → IsItemSound problem S6 (min_total_item problem n)
+    sound-minimum : (problem.is_last && nat_lt 0 (still_wanted problem n)) ≡ true → IsItemSound problem S6 (min_total_item problem n)
     sound-minimum wanted = record {
       rule_is = refl;
       terms = sound-sum (pos 1) (inl refl);
