@@ -49,8 +49,7 @@ all-counted (row ∷ rows) all = omega (arith, ap one_if all.0, count-more row r
 abbrev counted_with : Counts → ℕ → ℕ → Counts
 counted_with counts v more = record { variables = max counts.variables v; constraints = min (counts.constraints + more) max_count }
 
-counted-start : (counts : Counts) (part : Part) → counts.constraints ≤ max_count →
-    counted counts (start_row part) ≡
+counted-start : (counts : Counts) (part : Part) → counts.constraints ≤ max_count → counted counts (start_row part) ≡
     record counts { constraints = min (counts.constraints + one_if (is_constraint part)) max_count }
 counted-start counts Objective fits = same_counts _ _ _ _ refl (omega arith)
 counted-start counts (Hard rule) fits = refl

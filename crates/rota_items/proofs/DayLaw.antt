@@ -54,9 +54,7 @@ module _ (has : ℕ → Bool) (history : ℕ) where
       (grind (arith, nat_tests, is_run (suc d)))
 
   -- the closed patterns of runs below a number of days charge the shortage of the run, if it is one of these
-  units-closed : (minimum d n : ℕ) → n ≤ d →
-      units has (concat_below n (closed_patterns_at minimum d)) ≡
-      cond (ltb (length_at d) n)
+  units-closed : (minimum d n : ℕ) → n ≤ d → units has (concat_below n (closed_patterns_at minimum d)) ≡ cond (ltb (length_at d) n)
       (cond (nat_le 1 (length_at d) && nat_lt (length_at d) minimum) (cond (not (has d)) (minimum - length_at d) 0) 0) 0
   unfolding concat_below
   units-closed minimum d zero inside = grind (arith, nat_tests)

@@ -18,8 +18,7 @@ module _ (plain : Bool → Bool) where
         count-with (first + 1) n,
       )
 
-  pub count-plain : (pattern : DayPattern) →
-      count_by is (days_of pattern) ≡
+  pub count-plain : (pattern : DayPattern) → count_by is (days_of pattern) ≡
       cond (plain false) (bool_byte pattern.off_before + bool_byte pattern.off_after) 0 +
       cond (plain true) (pattern.end - pattern.first) 0
   unfolding singleton_if

@@ -1,6 +1,6 @@
 -- Properties of each window and pattern that charges a property's runs. Their days follow one another.
-use Rattle.rota_items.proofs.Common.Imports.{◌≡◌, ℕ, zero, suc, ◌+◌, ◌-◌, ◌<◌, ◌≤◌, List, [], ◌∷◌, ◌++◌, length, map, refl, sym, ap, subst, true, arith, length-append, nat_lt, nat_le, max, ◌&&◌, All, AllByRecursion}
-use Rattle.rota_items.proofs.Common.Imports.{range_with_len, length-map, All-from_recursion, length-range_with_len, AllByRecursion-append, AllByRecursion-concat_below, AllByRecursion-singleton_if, length-concat_below}
+use Rattle.rota_items.proofs.Common.Imports.{◌≡◌, ℕ, zero, suc, ◌+◌, ◌-◌, ◌<◌, ◌≤◌, List, [], ◌∷◌, ◌++◌, length, map, refl, sym, ap, subst, true, arith, length-append, nat_lt, nat_le, max, ◌&&◌, AllByRecursion}
+use Rattle.rota_items.proofs.Common.Imports.{range_with_len, length-map, length-range_with_len, AllByRecursion-append, AllByRecursion-concat_below, AllByRecursion-singleton_if, length-concat_below}
 use Rattle.rota_items.proofs.Common.Imports.{length-singleton_if, concat_below, Item, Span, PatternDay, Pattern, with_property, without_property, window, windows_on, windows, closed_pattern, closed_patterns_at}
 use Rattle.rota_items.proofs.Common.Imports.{closed_patterns_on, edge_pattern, edge_patterns_on, patterns_on, patterns, map-id, map-map, ◌∙◌, DaysFollow, Runs, pattern_item, run_items, max_run_items}
 use Rattle.rota_items.proofs.Lists.{length-each_below_both, all-back, all-map, all-weaker}
@@ -96,8 +96,7 @@ each-run_item runs P each =
     (all-weaker (IsRunPattern runs.limits) _ each _ (each-pattern runs.history runs.limits))
 
 -- the closed patterns of the week and its edge patterns
-pub length-patterns : (history : ℕ) (limits : Span) →
-    length (patterns history limits) ≡
+pub length-patterns : (history : ℕ) (limits : Span) → length (patterns history limits) ≡
     length (concat_below 7 (closed_patterns_on limits.min)) + length (concat_below 7 (edge_patterns_on history limits.min))
 length-patterns history limits = length-each_below_both 7 (closed_patterns_on limits.min) (edge_patterns_on history limits.min)
 

@@ -15,16 +15,14 @@ module _ (total : CountedTotal) where
       charged_in one ≡ added_excess (total.maximum one.week) (total.before one.week) (added_in total one)
   pays_added one early = grind (arith, early)
 
-  pub charges-sum : (one : RosteredWeek) (later : List RosteredWeek) → FollowEarly total one later →
+  pub charges_sum : (one : RosteredWeek) (later : List RosteredWeek) → FollowEarly total one later →
       sum_by charged_in (one ∷ later) ≡ added_by_all total one later
-  charges-sum one [] early = omega (arith, sum_by-cons charged_in one [], sum_by-cons (added_in total) one [], pays_added one early)
-  charges-sum one (next ∷ later) (early, continues, follow) =
+  charges_sum one [] early = omega (arith, sum_by-cons charged_in one [], sum_by-cons (added_in total) one [], pays_added one early)
+  charges_sum one (next ∷ later) (early, continues, follow) =
       omega (
         arith,
         sum_by-cons charged_in one (next ∷ later),
         sum_by-cons (added_in total) one (next ∷ later),
         pays_added one early,
-        continues.before,
-        continues.maximum,
-        charges-sum next later follow,
+        charges_sum next later follow,
       )

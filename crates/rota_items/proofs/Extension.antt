@@ -33,8 +33,7 @@ at_unit : (b : Bool) (n : ℕ) → cond (nat_lt 0 n) (cond b (pos n) (pos 0) +�
 at_unit true n = grind (arith, ints, nat_tests)
 at_unit false n = grind (arith, ints, nat_tests)
 
-pub value_of-objective : (problem : Problem) (assignment : ℕ → Bool) →
-    value_of assignment (objective_terms problem) ≡
+pub value_of-objective : (problem : Problem) (assignment : ℕ → Bool) → value_of assignment (objective_terms problem) ≡
     value_of assignment (numbered_terms problem (cell_terms problem)) +ℤ
     (pos (cond (assignment (unit_number problem)) (constant problem) 0) +ℤ
     value_of assignment (slack_weights (first_slack problem) (numbered_items problem)))

@@ -51,8 +51,7 @@ module _ (problem : Problem) (roster : Roster) (assignment : ℕ → Bool)
 
     -- The rows of a rule leave the rest if it is kept, and decide if it is broken.
     step : (rule : Rule) (rest : List (LinearRow Cell)) → IsHardRuleSound problem rule →
-        (Keeps problem roster rule → KeepsOneCell problem roster) →
-        ((Keeps problem roster rule → ⊥) → FirstBroken problem roster rule) →
+        (Keeps problem roster rule → KeepsOneCell problem roster) → ((Keeps problem roster rule → ⊥) → FirstBroken problem roster rule) →
         (Keeps problem roster rule → QIn rest) → QIn (rows_of_hard_rule problem rule ++ rest)
     step rule rest sound one first kept =
         each (rows_of_hard_rule problem rule) sound.rows (λ hold. kept (sound.mean roster hold))

@@ -30,8 +30,7 @@ keeps-holding problem is_held roster keeps =
     }
 
 module _ (problem : Problem) where
-  pub held-add : (assignment : ℕ → Bool) →
-      SatisfiesModel assignment (model_of problem) ↔
+  pub held-add : (assignment : ℕ → Bool) → SatisfiesModel assignment (model_of problem) ↔
       (SatisfiesModel assignment (model_of (without_held problem)) × KeepsHeld problem (roster_of problem assignment))
   held-add assignment =
       let bare = without_held problem in

@@ -31,7 +31,6 @@ counted-runs problem runs counts n within are =
     let listed : length (run_items runs) ≡ n =
     omega (
       arith,
-      are,
       length-map (windows runs.history runs.limits ++ patterns runs.history runs.limits) (pattern_item runs.rule runs.weight runs.property),
       length-append (windows runs.history runs.limits) (patterns runs.history runs.limits),
     ) in
@@ -40,12 +39,10 @@ counted-runs problem runs counts n within are =
     (ap (sum_within counts.slacks) (one_slack-each (run_items runs) (have_one-runs runs) ∙ listed))
 
 -- a counter that took the items of a week has their numbers, which do not overflow
-pub counted-week : (tables : InstanceTables) → IsInstance tables → let items = soft_items (problem_of tables) in
+pub week_counted : (tables : InstanceTables) → IsInstance tables → let items = soft_items (problem_of tables) in
     fold with_one (record { items = 0; slacks = 0 }) (numbered_list (problem_of tables) items) ≡ record { items = length items; slacks = slack_count items }
-counted-week tables valid =
+week_counted tables valid =
     let problem = problem_of tables in
     let limits = instance-within_limits tables valid in
     counted-all problem (soft_items problem) (record { items = 0; slacks = 0 }) (record { items = omega arith; slacks = omega arith }) ∙
     same_numbers _ _ _ _ (omega (arith, items-few problem limits)) (omega (arith, variables_fit problem limits))
-
-pub ruleset week_counted = (counted-week)

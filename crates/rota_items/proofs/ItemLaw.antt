@@ -1,8 +1,7 @@
 -- Items and their slacks.
 use Rattle.rota_items.proofs.Common.Imports.{map, ◌≡◌, ◌↔◌, ℕ, zero, suc, ◌+◌, ◌-◌, ◌*◌, ◌<◌, ◌≤◌, Bool, cond, List, [], ◌∷◌, refl, ap, ◌∙◌, arith, add-zero, ltb, pos, ◌+ℤ◌, ◌-ℤ◌, ◌≤ℤ◌, All, count_by, range_with_len}
-use Rattle.rota_items.proofs.Common.Imports.{sum_by-cons, recursion_from_All, lt-ltb, le-ltb, ints, nat_tests, AllByRecursion, All-from_recursion, All-head, All-tail, mul-le-mul_left, numbered, Item, positive_part}
+use Rattle.rota_items.proofs.Common.Imports.{sum_by-cons, recursion_from_All, lt-ltb, le-ltb, ints, nat_tests, AllByRecursion, All-from_recursion, All-head, All-tail, mul-le-mul_left, extension, Item, positive_part}
 use Rattle.rota_items.proofs.Common.Imports.{shortage, weighted_shortages, Term, Constraint, Satisfies, value_of, times, AreBelow, slack_variables, item_constraint, item_constraints, slack_weights, is_slack_needed}
-use Rattle.rota_items.proofs.Common.Imports.{extension}
 use Rattle.rota_items.proofs.PatternItems.{value_of-append, positive_part-parts}
 use Rattle.rota_items.proofs.SoundTerms.{value_of-agree}
 
@@ -18,8 +17,7 @@ pub value_of-item_constraint : (assignment : ℕ → Bool) (item : Item ℕ) (fi
     value_of assignment item.terms +ℤ pos (count_by assignment (slack_variables item first))
 value_of-item_constraint assignment item first = rw (value_of-append, value_of-weight) (omega (arith, ints))
 
-pub item_law : (assignment : ℕ → Bool) (item : Item ℕ) (first : ℕ) →
-    Satisfies assignment (item_constraint item first) ↔
+pub item_law : (assignment : ℕ → Bool) (item : Item ℕ) (first : ℕ) → Satisfies assignment (item_constraint item first) ↔
     (shortage assignment item ≤ count_by assignment (slack_variables item first))
 item_law assignment item first =
     let parts = positive_part-parts (item.degree -ℤ value_of assignment item.terms) in
@@ -49,8 +47,7 @@ weighted_shortages-le assignment first (item ∷ items) holds =
 -- ---- the slacks that are needed
 
 -- if exactly the first k of n variables are true, their number is k
-pub count-front : (assignment : ℕ → Bool) (first n k : ℕ) → k ≤ n →
-    ((o : ℕ) → o < n → assignment (first + o) ≡ ltb o k) →
+pub count-front : (assignment : ℕ → Bool) (first n k : ℕ) → k ≤ n → ((o : ℕ) → o < n → assignment (first + o) ≡ ltb o k) →
     count_by assignment (range_with_len first n) ≡ k
 count-front assignment first zero k within each = omega arith
 count-front assignment first (suc n) k within each =
@@ -116,7 +113,6 @@ module _ (other assignment : ℕ → Bool) (end : ℕ) (agree : (v : ℕ) → v 
           value_of-append other (times (pos item.weight) (slack_variables item first)) (slack_weights (first + item.slacks) items),
           value_of-weight other item.weight (slack_variables item first),
           ap (λ n. item.weight * n) count,
-          rest.1,
         ),
       )
 
@@ -139,7 +135,6 @@ module _ (assignment : ℕ → Bool) (first : ℕ) (items : List (Item ℕ)) (be
   value_of-extension = extension-outcome.1
 
 pub value_of-numbered : {X : Type 0} (number : X → ℕ) (assignment : ℕ → Bool) (terms : List (Term X)) →
-    value_of assignment (map (λ (term : Term X). (term.0, number term.1)) terms) ≡
-    value_of (λ x. assignment (number x)) terms
+    value_of assignment (map (λ (term : Term X). (term.0, number term.1)) terms) ≡ value_of (λ x. assignment (number x)) terms
 value_of-numbered number assignment [] = refl
 value_of-numbered number assignment (t ∷ ts) = rw (value_of-numbered number assignment ts) refl

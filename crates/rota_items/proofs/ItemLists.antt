@@ -35,10 +35,10 @@ none-concat_below {A} (suc n) = rw (← none-concat_below {A = A} n) refl
 pub none_of_nurses : {A : Type 0} (problem : Problem) (xs : List A) → xs ++ concat_below problem.nurses (λ _. []) ≡ xs
 none_of_nurses problem xs = rw (← none-concat_below problem.nurses) (append-nil xs)
 
-pub rule_items-are : (problem : Problem) (rule : Rule) → (rule ≡ S1 → ⊥) →
+pub items_of_nurses : (problem : Problem) (rule : Rule) → (rule ≡ S1 → ⊥) →
     items_of_rule problem rule ≡ concat_below problem.nurses (nurse_items problem rule)
-rule_items-are problem S1 other = absurd (other refl)
-rule_items-are problem _ other = refl
+items_of_nurses problem S1 other = absurd (other refl)
+items_of_nurses problem _ other = refl
 
 pub demand_items-are : (problem : Problem) (rule : Rule) → rule ≡ S1 → items_of_rule problem rule ≡ optimum_items problem
 demand_items-are problem rule is = rw is (none_of_nurses problem (optimum_items problem))
@@ -54,5 +54,3 @@ one_slack-each (item ∷ items) all = omega (arith, sum_by-cons (λ (i : Item Ce
 
 pub have_one-runs : (runs : Runs Cell) → AllByRecursion HasOneSlack (run_items runs)
 have_one-runs runs = each-run_item runs HasOneSlack (λ pattern is. refl)
-
-pub ruleset items_of_nurses = (rule_items-are)

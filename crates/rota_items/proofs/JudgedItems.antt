@@ -1,12 +1,12 @@
 -- How a judge changes with the rows of items.
-use Rattle.rota_items.proofs.Common.Imports.{length-map, ◌≡◌, ℕ, zero, suc, ◌+◌, ◌*◌, ◌<◌, ◌≤◌, Bool, List, [], ◌∷◌, refl, sym, ap, ◌∙◌, arith, min, w64, pos, nat_abs, ◌-ℤ◌, int_le, nat_le, AllByRecursion, count_by}
+use Rattle.rota_items.proofs.Common.Imports.{false, length-map, ◌≡◌, ℕ, zero, suc, ◌+◌, ◌*◌, ◌<◌, ◌≤◌, Bool, List, [], ◌∷◌, refl, sym, ap, ◌∙◌, arith, min, w64, pos, nat_abs, ◌-ℤ◌, int_le, nat_le, AllByRecursion, count_by}
 use Rattle.rota_items.proofs.Common.Imports.{count_by-le-length, range_with_len, sum_by, fold, fold-append, lt-ltb, ints, sum_by-append, sum_by-cons, Roster, set_of, Problem, Rule, unit_number, Item, positive_part}
 use Rattle.rota_items.proofs.Common.Imports.{shortage, Term, value_of, times, LinearRow, item_row, item_rows, slack_count, slack_variables, slack_weights, assignment_of, extension_of, model_of, saturate_signed}
 use Rattle.rota_items.proofs.Common.Imports.{nat_tests, RosterTables, Subject, assigned, extended, assignment_in, roster_in, tallied, true_slacks, truth_of, Tally, row_events, events, half_limit, length-range_with_len}
 use Rattle.rota_items.proofs.Extension.{extension-below}
 use Rattle.rota_items.proofs.ItemLaw.{IsExtension, count-front, extends-after, needed-first, value_of-item_constraint, value_of-weight}
 use Rattle.rota_items.proofs.FirstUnmet.{Named}
-use Rattle.rota_items.proofs.JudgedRows.{Comes, IsJudged, covers, positive-saturated, row-comes, same, Before, counted_other, counted_slack, others-before, slacks-before, sums_of}
+use Rattle.rota_items.proofs.JudgedRows.{Comes, IsJudged, covers, positive-saturated, row-comes, same, Before, counted_other, counted_slack, others-before, slacks-before, sums_of, value_of-none}
 use Rattle.std.proofs.lemmas.List.FromFn.{length-range_with_len as length-range}
 use Rattle.rota_items.proofs.PatternItems.{value_of-append, positive_part-parts, shortage-minimum, spread}
 use Rattle.rota_items.proofs.SoundTerms.{value_of-agree, on-times, spread-units, units-times}
@@ -70,12 +70,10 @@ module _ (problem : Problem) (subject : Subject) where
   -- no slack is one of the other terms
   no-others : (w first n : ℕ) → unit_number problem < first → value_of (counted_other problem subject) (times (pos w) (range_with_len first n)) ≡ pos 0
   no-others w first n after =
-      omega (
-        arith,
-        ints,
-        value_of-weight (counted_other problem subject) w (range_with_len first n),
-        ap (λ k. w * k) (count-front (counted_other problem subject) first n 0 (omega arith) (λ o within. grind (arith, nat_tests))),
-      )
+      value_of-agree (counted_other problem subject) (λ v. false) (λ v. unit_number problem < v) (times (pos w) (range_with_len first n))
+      (λ v above. rw (lt-ltb (unit_number problem) v above) refl)
+      (on-times (λ v. unit_number problem < v) (pos w) (range_with_len first n) (range-above problem first n after)) ∙
+      value_of-none (times (pos w) (range_with_len first n))
 
   pub no-weights : (first : ℕ) (items : List (Item ℕ)) → unit_number problem < first →
       value_of (counted_other problem subject) (slack_weights first items) ≡ pos 0
@@ -118,7 +116,6 @@ module _ (problem : Problem) (subject : Subject) where
             spread-units (times (pos 1) (slack_variables item first)) (units-times (slack_variables item first)),
             length-map {B = Term ℕ} (slack_variables item first) (λ v. (pos 1, v)),
             length-range_with_len first item.slacks,
-            fit.small,
           );
           lacks_is = ap (λ z. positive_part (saturate_signed w64 (item.degree -ℤ z))) others ∙ not_cut;
           slacks_are = slacks-paid problem subject item items first fit.before after in_model follows;

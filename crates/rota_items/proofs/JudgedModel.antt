@@ -136,9 +136,7 @@ module _ (problem : Problem) (subject : Subject) (limits : IsWithinLimits proble
               spread-sound problem item.terms sound.terms,
               variables-below problem limits,
               mul-le-mul_right item.slacks sound.weighs,
-              small.all_slacks,
               mul-le-mul_right (positive_part item.degree) sound.weighs,
-              small.degree,
             );
       }))
 

@@ -47,7 +47,7 @@ counts-before problem (assigned bits) v before = refl
 counts-before problem (extended roster) v before =
     rw (le-ltb (unit_number problem) v (omega arith), extension-below problem (set_of roster) v before) refl
 
-value_of-none : (terms : List (Term ℕ)) → value_of (λ v. false) terms ≡ pos 0
+pub value_of-none : (terms : List (Term ℕ)) → value_of (λ v. false) terms ≡ pos 0
 value_of-none [] = refl
 value_of-none (t ∷ ts) = omega (arith, ints, value_of-none ts)
 
@@ -225,8 +225,7 @@ module _ (problem : Problem) (subject : Subject) where
       pub requests_are : tally.requests_and_constant ≡ requests
 
     pub row-comes : (tally : Tally) (row : LinearRow ℕ) (weight lacks slacks : ℕ) (rows : List (LinearRow ℕ))
-        (pays all_pay : ℕ) (charges all_charge : Rule → ℕ) → IsJudged row weight lacks slacks →
-        all_pay ≡ weight * slacks + pays →
+        (pays all_pay : ℕ) (charges all_charge : Rule → ℕ) → IsJudged row weight lacks slacks → all_pay ≡ weight * slacks + pays →
         ((other : Rule) → all_charge other ≡ same (rule_of_part row.part) other * (weight * lacks) + charges other) →
         Comes tally (row ∷ rows) all_pay all_charge → Comes (fold (tallied problem subject) tally (row_events row)) rows pays charges
     row-comes tally row weight lacks slacks rows pays all_pay charges all_charge judged pays_is charges_are comes =

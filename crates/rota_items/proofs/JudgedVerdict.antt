@@ -63,7 +63,6 @@ module _ (problem : Problem) (within : IsWithinLimits problem) (subject : Subjec
   costs-last tally before given_is before_is are =
       let own : tally.requests_and_constant - at_unit_in problem subject ≡ capped requests = omega (
         arith,
-        given_is,
         few problem subject within,
         ap (λ (b : Bool). if b then constant problem else 0) (counts-before problem subject (unit_number problem) (omega arith)),
       ) in
@@ -94,8 +93,7 @@ driven-judges judge_state limits driven objective costs objective_is costs_are =
 -- ---- a fresh judge that took the model
 
 -- only the tally changes
-pub tally-driven : (judge_state : JudgeState) (all : List Event) →
-    fold judged judge_state all ≡
+pub tally-driven : (judge_state : JudgeState) (all : List Event) → fold judged judge_state all ≡
     record judge_state { tally = fold (tallied (problem_of judge_state.instance) judge_state.subject) judge_state.tally all }
 tally-driven judge_state [] = refl
 tally-driven judge_state (event ∷ all) = tally-driven (judged judge_state event) all

@@ -2,7 +2,6 @@
 use Rattle.rota_items.proofs.Common.Imports.{◌≡◌, pos, Roster, Rule, Problem, model_cost, rule_cost}
 use Rattle.rota_items.proofs.CellCounts.{count-on_cells, count-work_cells, one-on, one-work}
 use Rattle.rota_items.proofs.Counted.{counted-rows, counted-constraints, counted-model}
-use Rattle.rota_items.proofs.EarlyCharges.{charges-sum}
 use Rattle.rota_items.proofs.Extension.{charges, extension-objective, extension-roster}
 use Rattle.rota_items.proofs.FirstUnmet.{extension-first_broken, first_broken}
 use Rattle.rota_items.proofs.HeldModel.{length-with_held}
@@ -25,8 +24,6 @@ module _ (problem : Problem) (roster : Roster) where
   charged-rule rule on = (sound-rule problem rule).charges roster on
 
 pub ruleset counts = (counted-rows, counted-constraints, counted-model)
-
-pub ruleset early = (charges-sum)
 
 pub ruleset items = (extension_satisfies, item_law, value_of-extension, weighted_shortages-le)
 

@@ -1,5 +1,5 @@
 //! The costs, with `--early`, of the excess above a maximum total in consecutive weeks.
-#![tactic(auto, using(crate::proofs::LawProofs::early))]
+#![tactic(auto, using(crate::proofs::EarlyCharges::charges_sum))]
 
 ghost use Rattle.std.specs.Prelude.{◌≡◌, ℕ, ◌≤◌, List, ◌∷◌, All, length, sum};
 ghost use Rattle.std.specs.List.{sum_by};

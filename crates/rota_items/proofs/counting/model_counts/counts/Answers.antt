@@ -3,10 +3,4 @@ use Rattle.rota_items.proofs.SlackBound.{length-constraints}
 use Rattle.rota_items.proofs.counting.model_counts.counts.Goals as goal
 
 pub returns-clause-constraints : goal.returns-clause-constraints
-returns-clause-constraints c =
-    omega (
-      arith,
-      length-constraints (problem_of c.args.instance.now),
-      c.count_rule_rows.ensures.number,
-      c.count_soft_items-soft.ensures.items,
-    )
+returns-clause-constraints c = omega (arith, length-constraints (problem_of c.args.instance.now))
