@@ -188,6 +188,7 @@ if [ -z "$ending" ]; then
     table week_read 7
     table solution_read 1
     table new_roster 0
+    table rosters_held_in_turn 0
     table new_bits '(65, false)'
     table new_answer 'an answer'
     table whole_answer 'Ok(Said { status: Optimum, last_o: Some(5), values: [true, false, false, false, false, false, false, true] })'

@@ -116,6 +116,22 @@ fn new_roster(rt: HostRuntime) -> io::Result<()> {
     print(&rt, &cells(rt.alloc(), Origin::New))
 }
 
+// The number of held cells, after a roster without cells has replaced a roster with one.
+fn hold_twice(alloc: Global, instance: Instance) -> Result<u32, FileFault> {
+    let first = read_solution(alloc, &instance, SOLUTION)?;
+    let second = Roster::new(alloc, &instance)?;
+    Ok(instance.hold(first).hold(second).held_count())
+}
+
+// The roster that was held before is freed.
+#[test]
+fn rosters_held_in_turn(rt: HostRuntime) -> io::Result<()> {
+    match instance_of(rt.alloc(), &one_nurse_one_shift()) {
+        Ok(instance) => print(&rt, &hold_twice(rt.alloc(), instance)),
+        Err(fault) => print::<u32>(&rt, &Err(fault)),
+    }
+}
+
 // The number of truth values, and whether the last one is true.
 fn bits(alloc: Global) -> Result<(u32, bool), FileFault> {
     let bits = Bits::new(alloc, 65)?;
