@@ -13,7 +13,7 @@ use Rattle.inrc2pb_job.specs.Jobs.{output_path_of}
 use Rattle.inrc2pb_job.specs.Paths.{Path}
 use Rattle.inrc2pb_job.specs.declared.job.Job.{Job}
 use Rattle.rota_core.specs.declared.ports.Target.{Ghosts}
-use Rattle.rota_pb.specs.RunPorts.{Reader, Writer, writer_of}
+use Rattle.rota_pb.specs.RunPorts.{IsUntouched, Reader, Writer, writer_of}
 use Rattle.rota_pb.specs.declared.fault.Fault.{Fault}
 use Rattle.rota_pb.specs.declared.fault.Fault.TheVariants.{Memory}
 use Rattle.inrc2pb.specs.Exits.{IsExitOf, PrinterState}
@@ -68,7 +68,7 @@ IsEndOf (Err fault) ended = ended ≡ Err (stops.Job fault)
 pub data RunOutcome {F G X Z : Type 0} (opener : Opener F) (files : OutputFiles G) (words : Given X Z) (input : Reader) (output : Writer)
     (ended : Result (Unit {0}) Stop) : Type 0 where
   stopped : (stop : Stop) → ended ≡ Err stop → IsStopGiven words stop → opener.log ≡ opener.log_before →
-      input.untouched → output.untouched → RunOutcome opener files words input output ended
+      IsUntouched input → IsUntouched output → RunOutcome opener files words input output ended
   performed : (job : Job) → IsJobGiven words job → (before after : G) → files.path before ≡ output_path_of job →
       files.port.has_failed before ≡ false →
       (result : Result (Unit {0}) Fault) → JobOutcome opener job input (writer_of files.port before after) output result →

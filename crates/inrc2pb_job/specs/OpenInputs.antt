@@ -1,7 +1,7 @@
 -- The inputs of a job, open.
 use Rattle.std.specs.Prelude.{⊤, false, [], Option, Some, None, option_map, string_bytes}
 use Rattle.rota_core.specs.declared.ports.Source.{Ghosts}
-use Rattle.rota_pb.specs.RunPorts.{WeekReaders, reader_of, week_readers}
+use Rattle.rota_pb.specs.RunPorts.{WeekReaders, reader_of}
 use Rattle.inrc2pb_job.specs.Jobs.{IsChoiceOf}
 use Rattle.inrc2pb_job.specs.Paths.{IsNew, Path, FileAt}
 use Rattle.inrc2pb_job.specs.declared.fix_file.FixFile.{FixFile}
@@ -34,5 +34,9 @@ pub record AreOpen {F : Type 0} (port : Ghosts F) (at : Path → FileAt) (inputs
 
 -- the readers of the inputs that are `old` before a run and `new` after it
 abbrev pub readers_of : {F : Type 0} → Ghosts F → OpenInputs F → OpenInputs F → WeekReaders
-readers_of port old new = week_readers (reader_of port old.sce new.sce) (reader_of port old.his new.his)
-    (reader_of port old.week new.week) (reader_of (fix_port port) old.fix new.fix)
+readers_of port old new = record {
+  scenario = reader_of port old.sce new.sce;
+  history = reader_of port old.his new.his;
+  week = reader_of port old.week new.week;
+  fix = reader_of (fix_port port) old.fix new.fix;
+}

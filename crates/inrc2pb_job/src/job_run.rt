@@ -3,7 +3,7 @@ ghost use Rattle.std.specs.Prelude.{◌≡◌, None, option_map, string_bytes};
 ghost use Rattle.inrc2pb_job.specs.JobOutcomes.{Decodes, Encodes, EncodesTo, Extends, JobOutcome, opener_of};
 ghost use Rattle.inrc2pb_job.specs.Jobs.{output_path_of};
 ghost use Rattle.inrc2pb_job.specs.OpenInputs.{readers_of};
-ghost use Rattle.rota_pb.specs.Decoding.{DecodeOutcome};
+ghost use Rattle.rota_pb.specs.Decoding.{decode_run};
 ghost use Rattle.rota_pb.specs.RunPorts.{reader_of, writer_of};
 
 use crate::job::{Inputs, Job};
@@ -121,9 +121,9 @@ fn decode_opened<F: Source, A: Source, W: Target, R: Target>(
     sol: &mut W,
     report: &mut R,
 ) -> Result<(), Fault>
-    ensures { DecodeOutcome opened.old.choice (readers_of F.Source opened.old opened.new)
+    ensures { (decode_run opened.old.choice (readers_of F.Source opened.old opened.new)
         (reader_of A.Source answer.old answer.new)
-        (writer_of W.Target sol.old sol.new) (writer_of R.Target report.old report.new) result }
+        (writer_of W.Target sol.old sol.new) (writer_of R.Target report.old report.new)).ends result }
 {
     run_decode(
         alloc,

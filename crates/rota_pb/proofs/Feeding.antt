@@ -15,7 +15,7 @@ use Rattle.rota_pb.specs.declared.fault.Fault.{Fault}
 use Rattle.rota_pb.specs.declared.fault.Fault.TheVariants.{Read, Answer}
 use Rattle.rota_pb.specs.AnswerPieces.{FailsAnswer, IsSolved}
 use Rattle.rota_pb.specs.Feeding.{HasTaken, HasTakenAll, FaultTaken, StopsTaking}
-use Rattle.rota_pb.specs.RunPorts.{IsEnded, Reader}
+use Rattle.rota_pb.specs.RunPorts.{IfKnown, IsEnded, IsTaken, Reader}
 use Rattle.rota_pb.proofs.WholeFiles.{known_are}
 
 pub prepend_known-append : (xs ys : List ℕ) (known : KnownBytes) → prepend_known (xs ++ ys) known ≡ prepend_known xs (prepend_known ys known)
@@ -61,22 +61,25 @@ module _ (given before left : KnownBytes) (old middle new : AnswerState) (pieces
   }
 
   -- a fault was found in one more piece
-  pub fault_taken : (reader : Reader) (fault : AnswerFault) → result ≡ Err fault → reader.given ≡ given → reader.left ≡ left →
-      reader.failed ≡ reader.failed_before → FaultTaken reader old fault
+  pub fault_taken : (reader : Reader) (fault : AnswerFault) → result ≡ Err fault →
+      reader.port.left reader.old ≡ given → reader.port.left reader.new ≡ left →
+      reader.port.has_failed reader.new ≡ reader.port.has_failed reader.old → FaultTaken reader old fault
   fault_taken reader fault is given_is left_is sound = record {
     taken = so_far.taken ++ piece;
-    front = given_is ∙ front-more ∙ ap (λ (known : KnownBytes). prepend_known (so_far.taken ++ piece) known) (sym left_is);
+    took = record {
+      front = given_is ∙ front-more ∙ ap (λ (known : KnownBytes). prepend_known (so_far.taken ++ piece) known) (sym left_is);
+      sound = sound;
+    };
     judged = λ variables from. sym (judged variables so_far.taken (so_far.leads variables from)) ∙ is;
-    sound = sound;
   }
 
 -- ---- the answer that the pieces give
 
 -- the bytes that were taken up to the end are all bytes
-all_taken : (reader : Reader) (taken bytes : List ℕ) → reader.given ≡ prepend_known taken reader.left → IsEnded reader →
-    reader.given ≡ Some bytes → taken ≡ bytes
-all_taken reader taken bytes front at_end known =
-    let parts : (rest : List ℕ) × (reader.left ≡ Some rest) × (taken ++ rest ≡ bytes) = known_are reader.given reader.left taken bytes front known in
+all_taken : (reader : Reader) (taken : List ℕ) → IsTaken reader taken → IsEnded reader → IfKnown reader (λ bytes. taken ≡ bytes)
+all_taken reader taken took at_end bytes known =
+    let parts : (rest : List ℕ) × (reader.port.left reader.new ≡ Some rest) × (taken ++ rest ≡ bytes) =
+    known_are (reader.port.left reader.old) (reader.port.left reader.new) taken bytes took.front known in
     let none : parts.0 ≡ [] = subst IsAtEnd parts.1 at_end.none_left in
     sym (append-nil taken) ∙ ap (λ (rest : List ℕ). taken ++ rest) (sym none) ∙ parts.2
 
@@ -85,18 +88,13 @@ module _ (variables : ℕ) (reader : Reader) (old : AnswerState) (from : LeadsTo
   pub fails_answer : FaultStays → (fault : Fault) → StopsTaking reader old fault → FailsAnswer variables reader fault
   fails_answer stays (Answer fault) stops = record {
     means = λ bytes known.
-        let parts : (rest : List ℕ) × (reader.left ≡ Some rest) × (stops.taken ++ rest ≡ bytes) =
-        known_are reader.given reader.left stops.taken bytes stops.front known in
+        let parts : (rest : List ℕ) × (reader.port.left reader.new ≡ Some rest) × (stops.taken ++ rest ≡ bytes) =
+        known_are (reader.port.left reader.old) (reader.port.left reader.new) stops.taken bytes stops.took.front known in
         subst (λ (text : List ℕ). outcome variables text ≡ Err fault) parts.2
         (stays.whole variables stops.taken parts.0 fault from.few (stops.judged variables from));
-    sound = stops.sound;
+    sound = stops.took.sound;
   }
-  fails_answer stays Read stops = record {
-    taken = stops.taken;
-    front = stops.front;
-    unjudged = stops.unjudged variables from;
-    no_end = stops.no_end;
-  }
+  fails_answer stays Read stops = (stops.taken, stops.unjudged variables from, stops.no_end)
   fails_answer stays _ stops = absurd stops
 
   module _ (new : AnswerState) (all : HasTakenAll reader old new) where
@@ -106,19 +104,18 @@ module _ (variables : ℕ) (reader : Reader) (old : AnswerState) (from : LeadsTo
         FailsAnswer variables reader (Answer fault)
     fails_at_end fault ends = record {
       means = λ bytes known.
-          subst (λ (text : List ℕ). outcome variables text ≡ Err fault) (all_taken reader all.taken bytes all.front all.at_end known)
+          subst (λ (text : List ℕ). outcome variables text ≡ Err fault) (all_taken reader all.taken all.took all.at_end bytes known)
           (ends all.taken (all.leads variables from));
-      sound = all.sound;
+      sound = all.took.sound;
     }
 
     pub is_solved : (solved : Solved) →
         ((text : List ℕ) → LeadsTo variables text new → outcome variables text ≡ Ok solved) →
         ((text : List ℕ) → LeadsTo variables text new → length solved.bits ≡ variables) →
         IsSolved variables reader solved
-    is_solved solved ends bits = record {
-      means = λ bytes known.
-          subst (λ (text : List ℕ). outcome variables text ≡ Ok solved)
-          (all_taken reader all.taken bytes all.front all.at_end known) (ends all.taken (all.leads variables from));
-      to_end = record { taken = all.taken; front = all.front; ended = all.at_end; sound = all.sound };
-      bits = bits all.taken (all.leads variables from);
-    }
+    is_solved solved ends bits =
+        let means : IfKnown reader (λ bytes. outcome variables bytes ≡ Ok solved) =
+        λ bytes known.
+        subst (λ (text : List ℕ). outcome variables text ≡ Ok solved)
+        (all_taken reader all.taken all.took all.at_end bytes known) (ends all.taken (all.leads variables from)) in
+        ((means, (all.taken, all.took, all.at_end)), bits all.taken (all.leads variables from))

@@ -1,8 +1,8 @@
 -- The meaning of an answer for a week: its roster with the costs, or the reason why it has none.
 use Rattle.std.specs.Prelude.{◌≡◌, ℕ, ◌≤◌, pos, Bool, map, sum, Some}
-use Rattle.rota_pb.specs.Imports.{Cell, Fault, HasShapeOf, InWeek, KeepsHardRules, NoRoster, objective_value, penalty, roster_of, Rule}
+use Rattle.rota_pb.specs.Imports.{Cell, Fault, HasShapeOf, InWeek, KeepsHardRules, NoRoster, objective_value, roster_of, Rule}
 use Rattle.rota_pb.specs.Imports.{SatisfiesModel, set_of, soft_rules, Unmet, Problem}
-use Rattle.rota_items.specs.Penalty.{rule_cost}
+use Rattle.rota_items.specs.Penalty.{penalty, rule_cost}
 use Rattle.rota_items.specs.FirstUnmet.{first_unmet}
 use Rattle.rota_items.specs.Truths.{truth_of}
 use Rattle.rota_items.specs.WeekModel.{model_of, rows_of}

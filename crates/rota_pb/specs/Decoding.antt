@@ -1,6 +1,6 @@
 -- The files that a decoding run reads and writes.
-use Rattle.std.specs.Prelude.{ℕ, Result}
-use Rattle.rota_pb.specs.Imports.{Choice, Fault, InstanceTables, set_of, problem_of}
+use Rattle.std.specs.Prelude.{ℕ}
+use Rattle.rota_pb.specs.Imports.{Choice, InstanceTables, set_of, problem_of}
 use Rattle.rota_items.specs.WeekModel.{model_of}
 use Rattle.rota_read.specs.SolutionText.{solution_text}
 use Rattle.rota_pb.specs.AnswerPieces.{read_answer}
@@ -23,10 +23,7 @@ decode_answer tables answer sol report = do
   send report (report_text decoded)
 
 -- the files of a week are read, and then an answer to its model
-abbrev pub decode_run : Choice → WeekReaders → Reader → Writer → Writer → Step (Unit {0})
+unfoldable pub decode_run : Choice → WeekReaders → Reader → Writer → Writer → Step (Unit {0})
 decode_run choice readers answer sol report = do
   tables ← read_week choice readers
   decode_answer tables answer sol report
-
-unfoldable pub DecodeOutcome : Choice → WeekReaders → Reader → Writer → Writer → Result (Unit {0}) Fault → Type 0
-DecodeOutcome choice readers answer sol report = (decode_run choice readers answer sol report).ends

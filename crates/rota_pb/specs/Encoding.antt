@@ -1,6 +1,6 @@
 -- The text that an encoding run writes.
-use Rattle.std.specs.Prelude.{◌≡◌, ℕ, List, Result}
-use Rattle.rota_pb.specs.Imports.{Choice, Fault, Model, Problem, problem_of}
+use Rattle.std.specs.Prelude.{◌≡◌, ℕ, List}
+use Rattle.rota_pb.specs.Imports.{Choice, Model, Problem, problem_of}
 use Rattle.opb_text.specs.ModelText.{opb_text}
 use Rattle.rota_pb.specs.ExactModel.{IsExactModel}
 use Rattle.rota_pb.specs.Meaning.{MeansRules}
@@ -17,12 +17,8 @@ pub record IsModelText (problem : Problem) (text : List ℕ) : Type 0 where
   pub exact : IsExactModel problem model
 
 -- the files of a week are read, and the text of its model is sent
-abbrev pub encode_run : Choice → WeekReaders → Writer → Step (Unit {0})
+unfoldable pub encode_run : Choice → WeekReaders → Writer → Step (Unit {0})
 encode_run choice readers out = do
   tables ← read_week choice readers
   text ← find (IsModelText (problem_of tables))
   send out text
-
--- an encoding run with this result left its readers and its writer like this
-unfoldable pub EncodeOutcome : Choice → WeekReaders → Writer → Result (Unit {0}) Fault → Type 0
-EncodeOutcome choice readers out = (encode_run choice readers out).ends

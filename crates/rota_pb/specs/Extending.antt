@@ -1,5 +1,5 @@
 -- The text that an extending run writes.
-use Rattle.std.specs.Prelude.{◌≡◌, ℕ, ◌<◌, ◌≤◌, pos, List, Some, Result, Ok}
+use Rattle.std.specs.Prelude.{◌≡◌, ℕ, ◌<◌, ◌≤◌, pos, List, Some, Ok}
 use Rattle.rota_core.specs.Problem.{Problem}
 use Rattle.rota_core.specs.InstanceTables.{InstanceTables, IsInstance, problem_of}
 use Rattle.rota_core.specs.RosterTables.{set_of}
@@ -43,14 +43,11 @@ extend_roster problem roster out = do
   send out (extension_text problem roster)
 
 -- the files of a week are read, then a roster, and its extension is sent
-abbrev pub extend_run : Choice → WeekReaders → Reader → Writer → Step (Unit {0})
+unfoldable pub extend_run : Choice → WeekReaders → Reader → Writer → Step (Unit {0})
 extend_run choice readers given out = do
   tables ← read_week choice readers
   roster ← read_roster names.Solution tables given
   extend_roster (problem_of tables) (set_of roster) out
-
-unfoldable pub ExtendOutcome : Choice → WeekReaders → Reader → Writer → Result (Unit {0}) Fault → Type 0
-ExtendOutcome choice readers given out = (extend_run choice readers given out).ends
 
 -- the meaning of the answer of a roster's extension, for the week's model and for the roster
 pub record IsReadBack (problem : Problem) (roster : Roster) : Type 0 where

@@ -1,14 +1,11 @@
 -- The words that describe the runs: weeks and rosters, tables, files, models and faults.
 pub use Rattle.rota_core.specs.InstanceTables.{InstanceTables, IsInstance, holding, problem_of}
 pub use Rattle.rota_core.specs.Limits.{max_file_len}
-pub use Rattle.rota_core.specs.Ports.{KnownBytes, known_len, Begins}
 pub use Rattle.rota_core.specs.RosterTables.{RosterTables, HasShapeOf, set_of}
 pub use Rattle.rota_core.specs.ScenarioTables.{ScenarioTables}
 pub use Rattle.rota_core.specs.WeekTables.{HistoryTables, WeekTables}
-pub use Rattle.rota_core.specs.declared.fault.FileFault.{FileFault}
 pub use Rattle.rota_core.specs.declared.fault.FileName.{FileName}
 pub use Rattle.rota_items.specs.Linear.{Constraint, Model, Satisfies, SatisfiesModel, objective_value}
-pub use Rattle.rota_items.specs.Penalty.{penalty}
 pub use Rattle.rota_items.specs.Variables.{roster_of, unit_number}
 pub use Rattle.rota_items.specs.Imports.{Cell, InWeek, KeepsHardRules, Roster, Rule, Problem, soft_rules}
 pub use Rattle.rota_read.specs.Files.{HasFault, Spells}

@@ -1,7 +1,8 @@
 -- The parts of a run: a file is read whole, and a file's fault becomes a fault of the run.
 use Rattle.std.specs.Prelude.{ℕ}
-use Rattle.rota_pb.specs.Imports.{Fault, File, FileFault, Memory, Read}
-use Rattle.rota_pb.specs.RunPorts.{Reader, IsReadInPart, FailsWithin}
+use Rattle.rota_pb.specs.Imports.{Fault, File, Memory, Read}
+use Rattle.rota_pb.specs.RunPorts.{FailsWithin, IsReadInPart, Reader}
+use Rattle.rota_core.specs.declared.fault.FileFault.{FileFault}
 use Rattle.rota_core.specs.declared.fault.FileFault.TheVariants as refusals
 
 -- why a source is not read up to its end or `limit` bytes: it failed before, or there was no memory for the bytes

@@ -1,48 +1,36 @@
 -- A run's readers and writers, before and after it.
-use Rattle.std.specs.Prelude.{◌≡◌, Bool, true, List, ℕ, ◌⊎◌, ◌<◌, ◌≤◌, length, Option}
+use Rattle.std.specs.Prelude.{◌≡◌, true, List, ℕ, ◌⊎◌, ◌<◌, ◌≤◌, length, Some}
 use Rattle.std.specs.Io.KnownBytes.{IsAtEnd, prepend_known, append_known}
-use Rattle.rota_pb.specs.Imports.{Begins, KnownBytes, known_len}
-use Rattle.rota_core.specs.declared.ports.Source.{Ghosts}
+use Rattle.rota_core.specs.Ports.{Begins, known_len}
+use Rattle.rota_core.specs.declared.ports.Source.{Ghosts as SourceGhosts}
 use Rattle.rota_core.specs.declared.ports.Target.{Ghosts as TargetGhosts}
 
--- A reader before and after a run: its bytes, whether it has failed, whether it has reported its end; `untouched`: nothing changed.
-pub record Reader : Type 1 where
-  pub given : KnownBytes
-  pub left : KnownBytes
-  pub failed_before : Bool
-  pub failed : Bool
-  pub ended_before : Bool
-  pub ended : Bool
-  pub untouched : Type 0
+-- A port of a run: its state before and after the run, and its ghosts, which describe a state.
+pub record RunPort (Ghosts : Type 0 → Type 1) : Type 1 where
+  pub State : Type 0
+  pub port : Ghosts State
+  pub old : State
+  pub new : State
 
--- the reader that is `old` before a run and `new` after it
-abbrev pub reader_of : {S : Type 0} → Ghosts S → S → S → Reader
-reader_of port old new = record {
-  given = port.left old;
-  left = port.left new;
-  failed_before = port.has_failed old;
-  failed = port.has_failed new;
-  ended_before = port.has_ended old;
-  ended = port.has_ended new;
-  untouched = new ≡ old;
-}
+-- the run did not touch the port
+abbrev pub IsUntouched : {Ghosts : Type 0 → Type 1} → RunPort Ghosts → Type 0
+IsUntouched port = port.new ≡ port.old
 
--- it reported its end: no byte is left
-pub record IsEnded (reader : Reader) : Type 0 where
-  pub none_left : IsAtEnd reader.left
-  pub reported : reader.ended ≡ true
+-- a source that a run may read
+abbrev pub Reader : Type 1
+Reader = RunPort SourceGhosts
 
--- all bytes were read, up to its end, and it did not fail during the run
-pub record IsReadToEnd (reader : Reader) : Type 0 where
-  pub taken : List ℕ
-  pub front : reader.given ≡ prepend_known taken reader.left
-  pub ended : IsEnded reader
-  pub sound : reader.failed ≡ reader.failed_before
+-- the source that is `old` before a run and `new` after it
+abbrev pub reader_of : {S : Type 0} → SourceGhosts S → S → S → Reader
+reader_of {S} port old new = record { State = S; port = port; old = old; new = new }
 
--- it failed before its end: no read of the run reported the end
-pub record FailsBeforeEnd (reader : Reader) : Type 0 where
-  pub failure : reader.failed ≡ true
-  pub unended : reader.ended ≡ reader.ended_before
+-- a target that a run may write
+abbrev pub Writer : Type 1
+Writer = RunPort TargetGhosts
+
+-- the target that is `old` before a run and `new` after it
+abbrev pub writer_of : {W : Type 0} → TargetGhosts W → W → W → Writer
+writer_of {W} port old new = record { State = W; port = port; old = old; new = new }
 
 -- the readers of a week's files; the reader of the held cells is the last
 pub record WeekReaders : Type 1 where
@@ -51,59 +39,53 @@ pub record WeekReaders : Type 1 where
   pub week : Reader
   pub fix : Reader
 
--- the readers of the scenario, the history, the week and the held cells
-abbrev pub week_readers : Reader → Reader → Reader → Reader → WeekReaders
-week_readers scenario history week fix = record { scenario = scenario; history = history; week = week; fix = fix }
+-- the bytes that the reader had left before the run, if they are known, are such
+abbrev pub IfKnown : Reader → (List ℕ → Type 0) → Type 0
+IfKnown reader Are = (bytes : List ℕ) → reader.port.left reader.old ≡ Some bytes → Are bytes
 
--- these bytes were taken from the source, up to its end or `limit` of them, and it did not fail during the run
-pub record IsReadUpTo (limit : ℕ) (reader : Reader) (taken : List ℕ) : Type 0 where
-  pub front : reader.given ≡ prepend_known taken reader.left
-  pub at_most : length taken ≤ limit
-  pub ended : length taken < limit → IsEnded reader
-  pub sound : reader.failed ≡ reader.failed_before
+-- these bytes were taken from the reader, and it did not fail during the run
+pub record IsTaken (reader : Reader) (taken : List ℕ) : Type 0 where
+  pub front : reader.port.left reader.old ≡ prepend_known taken (reader.port.left reader.new)
+  pub sound : reader.port.has_failed reader.new ≡ reader.port.has_failed reader.old
 
--- some bytes were taken from the source, or it reported its end, and it did not fail during the run
-pub record IsReadInPart (reader : Reader) : Type 0 where
-  pub taken : List ℕ
-  pub front : reader.given ≡ prepend_known taken reader.left
-  pub begun : (0 < length taken) ⊎ IsEnded reader
-  pub sound : reader.failed ≡ reader.failed_before
+-- it reported its end: no byte is left
+pub record IsEnded (reader : Reader) : Type 0 where
+  pub none_left : IsAtEnd (reader.port.left reader.new)
+  pub reported : reader.port.has_ended reader.new ≡ true
 
--- the source failed before its end, and before `limit` bytes were taken
-pub record FailsWithin (limit : ℕ) (reader : Reader) : Type 0 where
-  pub taken : List ℕ
-  pub front : reader.given ≡ prepend_known taken reader.left
-  pub short : length taken < limit
-  pub fails : FailsBeforeEnd reader
+-- it failed after these bytes, before its end: no read of the run reported the end
+pub record FailsAfter (reader : Reader) (taken : List ℕ) : Type 0 where
+  pub front : reader.port.left reader.old ≡ prepend_known taken (reader.port.left reader.new)
+  pub failure : reader.port.has_failed reader.new ≡ true
+  pub unended : reader.port.has_ended reader.new ≡ reader.port.has_ended reader.old
 
--- A writer before and after a run: the bytes sent to it, the number of them that are flushed, whether it has failed; `untouched`: nothing
--- changed.
-pub record Writer : Type 1 where
-  pub before : KnownBytes
-  pub sent : KnownBytes
-  pub flushed : Option ℕ
-  pub failed_before : Bool
-  pub failed : Bool
-  pub untouched : Type 0
+-- all its bytes were taken, up to its end
+abbrev pub IsReadToEnd : Reader → Type 0
+IsReadToEnd reader = (taken : List ℕ) × IsTaken reader taken × IsEnded reader
 
--- the writer that is `old` before a run and `new` after it
-abbrev pub writer_of : {W : Type 0} → TargetGhosts W → W → W → Writer
-writer_of port old new = record {
-  before = port.sent old;
-  sent = port.sent new;
-  flushed = port.flushed new;
-  failed_before = port.has_failed old;
-  failed = port.has_failed new;
-  untouched = new ≡ old;
-}
+-- it was read to its end, and its bytes, if they are known, spell the value
+abbrev pub IsRead : {V : Type 0} → (List ℕ → V → Type 0) → Reader → V → Type 0
+IsRead Spells reader value = IfKnown reader (λ bytes. Spells bytes value) × IsReadToEnd reader
+
+-- these bytes were taken, up to its end or `limit` of them
+abbrev pub IsReadUpTo : ℕ → Reader → List ℕ → Type 0
+IsReadUpTo limit reader taken = IsTaken reader taken × (length taken ≤ limit) × (length taken < limit → IsEnded reader)
+
+-- some bytes were taken, or it reported its end
+abbrev pub IsReadInPart : Reader → Type 0
+IsReadInPart reader = (taken : List ℕ) × IsTaken reader taken × ((0 < length taken) ⊎ IsEnded reader)
+
+-- it failed before its end, and before `limit` bytes were taken
+abbrev pub FailsWithin : ℕ → Reader → Type 0
+FailsWithin limit reader = (taken : List ℕ) × FailsAfter reader taken × (length taken < limit)
 
 -- the whole text was sent, and is flushed
 pub record WritesText (writer : Writer) (text : List ℕ) : Type 0 where
-  pub written : writer.sent ≡ append_known writer.before text
-  pub flushed : writer.flushed ≡ known_len writer.sent
-  pub sound : writer.failed ≡ writer.failed_before
+  pub written : writer.port.sent writer.new ≡ append_known (writer.port.sent writer.old) text
+  pub flushed : writer.port.flushed writer.new ≡ known_len (writer.port.sent writer.new)
+  pub sound : writer.port.has_failed writer.new ≡ writer.port.has_failed writer.old
 
 -- the writer failed after a prefix of the text, which may be all of it
 pub record WritesBeginning (writer : Writer) (text : List ℕ) : Type 0 where
-  pub begun : Begins writer.sent (append_known writer.before text)
-  pub failure : writer.failed ≡ true
+  pub begun : Begins (writer.port.sent writer.new) (append_known (writer.port.sent writer.old) text)
+  pub failure : writer.port.has_failed writer.new ≡ true

@@ -1,7 +1,7 @@
 -- The steps of a run: the readers it reads, their order, the steps at which it may stop, and the texts it sends to the writers.
-use Rattle.std.specs.Prelude.{◌≡◌, ℕ, Bool, true, false, List, MatchResult, Result, Ok, Err}
+use Rattle.std.specs.Prelude.{◌≡◌, ℕ, Bool, List, MatchBool, MatchResult, Result, Ok, Err}
 use Rattle.rota_pb.specs.Imports.{Fault, Write}
-use Rattle.rota_pb.specs.RunPorts.{Reader, Writer, WritesBeginning, WritesText}
+use Rattle.rota_pb.specs.RunPorts.{IsUntouched, RunPort, Writer, WritesBeginning, WritesText}
 
 -- A run, or a step of one, finds a value or ends with a fault. `ends` describes its readers and writers afterwards; `untouched` says that
 -- it was not started: they are unchanged.
@@ -26,11 +26,11 @@ infixl 10 ◌>>◌
 abbrev pub ◌>>◌ : {B : Type 0} → Step (Unit {0}) → Step B → Step B
 step >> next = step >>= λ _. next
 
--- reads from a reader: it finds such a value, or stops with such a fault
-abbrev pub read : {A : Type 0} → Reader → (A → Type 0) → (Fault → Type 0) → Step A
-read reader Finds Stops = record { ends = λ result. MatchResult result Finds Stops; untouched = reader.untouched }
+-- calls one port: it finds such a value, or stops with such a fault
+abbrev pub call : {Ghosts : Type 0 → Type 1} {A : Type 0} → RunPort Ghosts → (A → Type 0) → (Fault → Type 0) → Step A
+call port Finds Stops = record { ends = λ result. MatchResult result Finds Stops; untouched = IsUntouched port }
 
--- touches no reader and no writer: it finds such a value, or stops with such a fault
+-- calls no port: it finds such a value, or stops with such a fault
 abbrev pub check : {A : Type 0} → (A → Type 0) → (Fault → Type 0) → Step A
 check Finds Stops = record { ends = λ result. MatchResult result Finds Stops; untouched = Unit {0} }
 
@@ -40,16 +40,9 @@ find Finds = check Finds (λ fault. ⊥)
 
 -- sends a text: all of it is written and flushed, or the writer fails after a prefix of it
 abbrev pub send : Writer → List ℕ → Step (Unit {0})
-send writer text = record {
-  ends = λ result. MatchResult result (λ _. WritesText writer text) (λ fault. (fault ≡ Write) × WritesBeginning writer text);
-  untouched = writer.untouched;
-}
+send writer text = call writer (λ _. WritesText writer text) (λ fault. (fault ≡ Write) × WritesBeginning writer text)
 
 -- a step that is run only if it is asked for; otherwise it is not started, and the given value is found
-pub data EndsIfAsked {A : Type 0} (asked : Bool) (given : A) (step : Step A) (result : Result A Fault) : Type 0 where
-  taken : asked ≡ true → step.ends result → EndsIfAsked asked given step result
-  left_out : asked ≡ false → step.untouched → result ≡ Ok given → EndsIfAsked asked given step result
-
--- the step if it is asked for, otherwise the given value
 abbrev pub only_if_asked : {A : Type 0} → Bool → A → Step A → Step A
-only_if_asked asked given step = record { ends = EndsIfAsked asked given step; untouched = step.untouched }
+only_if_asked asked given step =
+    record step { ends = λ result. MatchBool asked (step.ends result) (step.untouched × (result ≡ Ok given)) }

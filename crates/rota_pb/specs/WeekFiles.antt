@@ -1,52 +1,36 @@
 -- The files of a week, checked one after the other, and why one is refused.
-use Rattle.std.specs.Prelude.{◌≡◌, ℕ, ◌≤◌, Bool, List, Some, None, ◌+◌}
-use Rattle.rota_pb.specs.Imports.{Choice, Fault, File, FileFault, FileName, HasFault, HasShapeOf, HistoryTables, holding, InstanceTables}
-use Rattle.rota_pb.specs.Imports.{IsInstance, Layout, max_file_len, Memory, Read, RosterTables, ScenarioTables, solution, Spells}
-use Rattle.rota_pb.specs.Imports.{SpellsRoster}
-use Rattle.rota_pb.specs.Imports.{KnownBytes, problem_of, WeekTables}
+use Rattle.std.specs.Prelude.{◌≡◌, ℕ, ◌≤◌, Bool, List, None, ◌+◌}
+use Rattle.rota_pb.specs.Imports.{Choice, Fault, File, FileName, HasFault, HasShapeOf, HistoryTables, holding, InstanceTables, IsInstance}
+use Rattle.rota_pb.specs.Imports.{Layout, max_file_len, Memory, problem_of, Read, RosterTables, ScenarioTables, solution, Spells}
+use Rattle.rota_pb.specs.Imports.{SpellsRoster, WeekTables}
+use Rattle.rota_core.specs.declared.fault.FileFault.TheVariants as refusals
 use Rattle.rota_core.specs.declared.fault.FileName.TheVariants as names
 use Rattle.rota_core.specs.declared.fault.Kind.TheVariants.{LateWeek}
 use Rattle.rota_read.specs.ScenarioLayout.{scenario}
 use Rattle.rota_read.specs.HistoryLayout.{history}
 use Rattle.rota_read.specs.WeekLayout.{week}
-use Rattle.rota_pb.specs.RunPorts.{IsReadToEnd, Reader, WeekReaders, FailsWithin, IsReadInPart, IsReadUpTo}
-use Rattle.rota_pb.specs.Steps.{Step, ◌>>=◌, check, find, only_if_asked, read}
-use Rattle.rota_core.specs.declared.fault.FileFault.TheVariants as refusals
-
--- the file was read to its end, and its known bytes spell the value
-pub record IsRead {V : Type 0} (layout : Layout V) (reader : Reader) (value : V) : Type 0 where
-  pub spelled : (bytes : List ℕ) → reader.given ≡ Some bytes → Spells layout bytes value
-  pub to_end : IsReadToEnd reader
-
--- the file was read to its end, and its known bytes spell the roster
-pub record IsRosterRead (tables : InstanceTables) (reader : Reader) (roster : RosterTables) : Type 0 where
-  pub spelled : (bytes : List ℕ) → reader.given ≡ Some bytes → SpellsRoster tables bytes roster
-  pub shape : HasShapeOf (problem_of tables) roster
-  pub to_end : IsReadToEnd reader
-
--- the known bytes have this fault, and it names the file
-abbrev pub IsRefused : {V : Type 0} → FileName → Layout V → KnownBytes → FileFault → Type 0
-IsRefused name layout given (refusals.Bad kind file line) =
-    (file ≡ name) ×
-    ((bytes : List ℕ) → given ≡ Some bytes → HasFault layout bytes (record { kind = kind; line = line }))
-IsRefused name layout given refusals.Memory = ⊥
+use Rattle.rota_pb.specs.RunPorts.{FailsWithin, IfKnown, IsRead, IsReadInPart, IsReadUpTo, Reader, WeekReaders}
+use Rattle.rota_pb.specs.Steps.{Step, ◌>>=◌, call, check, find, only_if_asked}
 
 -- Why a file is refused: it was read to its end, or to one byte more than a file may have, and its bytes have the fault; or memory ran
 -- out after some of it was read, and its source did not fail during the run; or its source failed before its end, and before that byte.
 abbrev pub FailsCheck : {V : Type 0} → FileName → Layout V → Reader → Fault → Type 0
-FailsCheck name layout reader (File file) =
-    IsRefused name layout reader.given file × ((taken : List ℕ) × IsReadUpTo (max_file_len + 1) reader taken)
+FailsCheck name layout reader (File (refusals.Bad kind file line)) =
+    (file ≡ name) × IfKnown reader (λ bytes. HasFault layout bytes (record { kind = kind; line = line })) ×
+    ((taken : List ℕ) × IsReadUpTo (max_file_len + 1) reader taken)
 FailsCheck name layout reader Memory = IsReadInPart reader
 FailsCheck name layout reader Read = FailsWithin (max_file_len + 1) reader
 FailsCheck name layout reader _ = ⊥
 
 -- a file with this layout is read: its value is found, or its check fails
 abbrev pub read_file : {V : Type 0} → FileName → Layout V → Reader → Step V
-read_file name layout reader = read reader (IsRead layout reader) (FailsCheck name layout reader)
+read_file name layout reader = call reader (IsRead (Spells layout) reader) (FailsCheck name layout reader)
 
 -- a solution file is read: the roster that it spells is found, or its check fails
 abbrev pub read_roster : FileName → InstanceTables → Reader → Step RosterTables
-read_roster name tables reader = read reader (IsRosterRead tables reader) (FailsCheck name (solution tables.scenario) reader)
+read_roster name tables reader =
+    call reader (λ roster. IsRead (SpellsRoster tables) reader roster × HasShapeOf (problem_of tables) roster)
+    (FailsCheck name (solution tables.scenario) reader)
 
 -- The tables of the three files, with no cell held, within their limits. The week must be one of the scenario's: the history's week
 -- number is late if it is not below the scenario's number of weeks.

@@ -1,6 +1,6 @@
 //! The run that turns a solver's answer into a solution file and a report.
-ghost use Rattle.rota_pb.specs.Decoding.{DecodeOutcome, decode_answer};
-ghost use Rattle.rota_pb.specs.RunPorts.{reader_of, week_readers, writer_of};
+ghost use Rattle.rota_pb.specs.Decoding.{decode_answer, decode_run};
+ghost use Rattle.rota_pb.specs.RunPorts.{reader_of, writer_of};
 
 use crate::answer_pieces::read_answer;
 use crate::decoded::decode;
@@ -65,12 +65,15 @@ pub fn run_decode<S: Source, H: Source, K: Source, F: Source, A: Source, W: Targ
     sol: &mut W,
     report: &mut R,
 ) -> Result<(), Fault>
-    ensures outcome { DecodeOutcome choice
-        (week_readers
-        (reader_of S.Source sce.old sce.new) (reader_of H.Source his.old his.new)
-        (reader_of K.Source week.old week.new) (reader_of F.Source fix_file.old fix_file.new))
+    ensures outcome { (decode_run choice
+        (record {
+          scenario = reader_of S.Source sce.old sce.new;
+          history = reader_of H.Source his.old his.new;
+          week = reader_of K.Source week.old week.new;
+          fix = reader_of F.Source fix_file.old fix_file.new;
+        })
         (reader_of A.Source answer.old answer.new)
-        (writer_of W.Target sol.old sol.new) (writer_of R.Target report.old report.new) result }
+        (writer_of W.Target sol.old sol.new) (writer_of R.Target report.old report.new)).ends result }
 {
     let instance = read_instance(alloc, choice, sce, his, week, fix_file)?;
     decode_answer(alloc, &instance, answer, sol, report)

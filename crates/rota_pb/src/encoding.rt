@@ -2,8 +2,8 @@
 ghost use Rattle.rota_core.specs.InstanceTables.{problem_of};
 ghost use Rattle.rota_items.specs.WeekModel.{model_of};
 ghost use Rattle.opb_text.specs.ModelText.{opb_text};
-ghost use Rattle.rota_pb.specs.Encoding.{EncodeOutcome};
-ghost use Rattle.rota_pb.specs.RunPorts.{reader_of, week_readers, writer_of};
+ghost use Rattle.rota_pb.specs.Encoding.{encode_run};
+ghost use Rattle.rota_pb.specs.RunPorts.{reader_of, writer_of};
 ghost use Rattle.rota_pb.specs.Steps.{send};
 
 use crate::fault::Fault;
@@ -55,11 +55,14 @@ pub fn run_encode<S: Source, H: Source, K: Source, F: Source, W: Target>(
     fix_file: &mut F,
     out: &mut W,
 ) -> Result<(), Fault>
-    ensures outcome { EncodeOutcome choice
-        (week_readers
-        (reader_of S.Source sce.old sce.new) (reader_of H.Source his.old his.new)
-        (reader_of K.Source week.old week.new) (reader_of F.Source fix_file.old fix_file.new))
-        (writer_of W.Target out.old out.new) result }
+    ensures outcome { (encode_run choice
+        (record {
+          scenario = reader_of S.Source sce.old sce.new;
+          history = reader_of H.Source his.old his.new;
+          week = reader_of K.Source week.old week.new;
+          fix = reader_of F.Source fix_file.old fix_file.new;
+        })
+        (writer_of W.Target out.old out.new)).ends result }
 {
     model_text_means_the_rules();
     let instance = read_instance(alloc, choice, sce, his, week, fix_file)?;

@@ -1,8 +1,8 @@
 //! Runs that extend a roster to an answer of its week's model.
 ghost use Rattle.rota_core.specs.InstanceTables.{problem_of};
 ghost use Rattle.rota_core.specs.RosterTables.{HasShapeOf, set_of};
-ghost use Rattle.rota_pb.specs.Extending.{ExtendOutcome, extend_roster};
-ghost use Rattle.rota_pb.specs.RunPorts.{reader_of, week_readers, writer_of};
+ghost use Rattle.rota_pb.specs.Extending.{extend_roster, extend_run};
+ghost use Rattle.rota_pb.specs.RunPorts.{reader_of, writer_of};
 
 use crate::extension_answer::put_answer;
 use crate::fault::Fault;
@@ -64,11 +64,14 @@ pub fn run_extend<S: Source, H: Source, K: Source, F: Source, G: Source, W: Targ
     given: &mut G,
     out: &mut W,
 ) -> Result<(), Fault>
-    ensures outcome { ExtendOutcome choice
-        (week_readers
-        (reader_of S.Source sce.old sce.new) (reader_of H.Source his.old his.new)
-        (reader_of K.Source week.old week.new) (reader_of F.Source fix_file.old fix_file.new))
-        (reader_of G.Source given.old given.new) (writer_of W.Target out.old out.new) result }
+    ensures outcome { (extend_run choice
+        (record {
+          scenario = reader_of S.Source sce.old sce.new;
+          history = reader_of H.Source his.old his.new;
+          week = reader_of K.Source week.old week.new;
+          fix = reader_of F.Source fix_file.old fix_file.new;
+        })
+        (reader_of G.Source given.old given.new) (writer_of W.Target out.old out.new)).ends result }
 {
     let instance = read_instance(alloc, choice, sce, his, week, fix_file)?;
     let roster = read_roster(alloc, &instance, given)?;

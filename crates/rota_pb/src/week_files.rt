@@ -5,7 +5,7 @@ ghost use Rattle.rota_core.specs.ScenarioTables.{numbers_of};
 ghost use Rattle.rota_read.specs.ScenarioLayout.{scenario as scenario_layout};
 ghost use Rattle.rota_read.specs.HistoryLayout.{history as history_layout};
 ghost use Rattle.rota_read.specs.WeekLayout.{week as week_layout};
-ghost use Rattle.rota_pb.specs.RunPorts.{reader_of, week_readers};
+ghost use Rattle.rota_pb.specs.RunPorts.{reader_of};
 ghost use Rattle.rota_pb.specs.WeekFiles.{join as joining, read_file as file_reading, read_tables as tables_reading, read_week as week_reading};
 
 use crate::fault::Fault;
@@ -92,9 +92,13 @@ pub(crate) fn read_instance<S: Source, H: Source, K: Source, F: Source>(
     week: &mut K,
     fix_file: &mut F,
 ) -> Result<Instance, Fault>
-    ensures { (week_reading choice (week_readers
-        (reader_of S.Source sce.old sce.new) (reader_of H.Source his.old his.new)
-        (reader_of K.Source week.old week.new) (reader_of F.Source fix_file.old fix_file.new))).ends result }
+    ensures { (week_reading choice
+        (record {
+          scenario = reader_of S.Source sce.old sce.new;
+          history = reader_of H.Source his.old his.new;
+          week = reader_of K.Source week.old week.new;
+          fix = reader_of F.Source fix_file.old fix_file.new;
+        })).ends result }
 {
     let instance = read_tables(alloc, choice.early, sce, his, week)?;
     if choice.fixed {

@@ -1,5 +1,5 @@
 use Rattle.std.proofs.Common.{refl}
-use Rattle.rota_pb.specs.Steps.{left_out, taken, went_on}
+use Rattle.rota_pb.specs.Steps.{went_on}
 use Rattle.rota_pb.proofs.Steps.{stopped_by}
 use Rattle.rota_pb.proofs.week_files.read_instance.Goals as goal
 
@@ -9,17 +9,17 @@ returns-in_err-instance g c = stopped_by _ _ c.from_residual.ensures.1 c.in_err-
 pub returns-in_err-held : goal.returns-in_err-held
 returns-in_err-held g c =
     went_on c.in_ok-instance.instance c.in_ok-instance.ensures
-    (taken c.if-choice.true (stopped_by _ _ c.from_residual-in_err-held.ensures.1 c.in_err-held.ensures (λ roster. tt)))
+    (rw c.if-choice.true (stopped_by _ _ c.from_residual-in_err-held.ensures.1 c.in_err-held.ensures (λ roster. tt)))
 
 pub hold-requires : goal.hold-requires
-hold-requires g c = c.in_ok-held.ensures.shape
+hold-requires g c = c.in_ok-held.ensures.1
 
 pub returns-then-choice : goal.returns-then-choice
 returns-then-choice g c =
     went_on c.in_ok-instance.instance c.in_ok-instance.ensures
-    (taken c.if-choice.true
+    (rw c.if-choice.true
     (went_on c.in_ok-held.held c.in_ok-held.ensures (c.hold.ensures.holds, c.hold.ensures.limits)))
 
 pub returns : goal.returns
 returns g c =
-    went_on c.in_ok-instance.instance c.in_ok-instance.ensures (left_out c.if-choice.false (refl, λ roster. tt) refl)
+    went_on c.in_ok-instance.instance c.in_ok-instance.ensures (rw c.if-choice.false ((refl, λ roster. tt), refl))
