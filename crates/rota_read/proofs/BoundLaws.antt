@@ -1,13 +1,12 @@
 -- Each row of requirements uses a pair of a shift type and a skill that had none, so a larger bound on the rows changes nothing.
 use Rattle.std.proofs.Common.{◌≡◌, ℕ, zero, suc, ◌+◌, ◌*◌, ◌<◌, ◌≤◌, Bool, true, false, if◌then◌else◌, refl, ap, ◌∙◌, arith}
-use Rattle.std.proofs.Common.{List, Option, Some, None, Result, Ok, Err, length, get_or, is_some, slice_set, codes}
+use Rattle.std.proofs.Common.{List, Option, Some, None, Ok, length, get_or, is_some, slice_set, codes}
 use Rattle.std.specs.List.{count_by}
 use Rattle.std.proofs.lemmas.List.{length-replicate, length-set}
 use Rattle.std.proofs.lemmas.List.Sums.{count_by-le-length, sum_by-set}
 use Rattle.std.proofs.lemmas.Nat.{mul-add-lt}
 use Rattle.rota_core.specs.ScenarioTables.{ScenarioTables}
 use Rattle.rota_core.specs.declared.values.Demand.{Demand}
-use Rattle.rota_read.specs.declared.fault.Fault.{Fault}
 use Rattle.rota_read.specs.Tokens.{Token}
 use Rattle.rota_read.specs.Reading.{Reading, then_read, read_layout}
 use Rattle.rota_read.specs.Layout.{Layout, shift_or}
@@ -15,6 +14,7 @@ use Rattle.rota_read.specs.Files.{Fills}
 use Rattle.rota_read.specs.WeekLayout.{Requirements, is_listed, requirement, requirement_of, requirement_row}
 use Rattle.rota_read.specs.WeekLayout.{after_row, repeat_until, max_rows, no_requirements, requirement_rows}
 use Rattle.rota_read.specs.WeekBound.{BoundEndsNoRows}
+use Rattle.rota_read.proofs.EndLemmas.{then_read-same}
 use Rattle.rota_read.proofs.FileLaws.{fills-read}
 use Rattle.rota_read.proofs.SlotLaws.{known_name-below, known_name-free, shift_or-below}
 
@@ -76,11 +76,6 @@ requirement_row-takes t rows front next size h = by h.0 h.1 h.4 h.2 h.5
 
 -- ---- two bounds
 
-and_then-same : {A B : Type 0} (r : Result A Fault) (f g : A → Result B Fault) → ((a : A) → r ≡ Ok a → f a ≡ g a) →
-    then_read r f ≡ then_read r g
-and_then-same (Ok a) f g same = same a refl
-and_then-same (Err e) f g same = refl
-
 after_row-same : (rows rows' : Requirements → Layout Requirements) (more : Bool) (state : Requirements) (left : Reading) →
     (more ≡ true → read_layout (rows state) left ≡ read_layout (rows' state) left) →
     read_layout (after_row rows more state) left ≡ read_layout (after_row rows' more state) left
@@ -95,7 +90,7 @@ unfolding read_layout repeat_until
 bounds_agree t zero m rows left size few few' = absurd (omega arith)
 bounds_agree t (suc n) zero rows left size few few' = absurd (omega arith)
 bounds_agree t (suc n) (suc m) rows left size few few' =
-    and_then-same (read_layout (requirement_row t rows) left)
+    then_read-same (read_layout (requirement_row t rows) left)
     (λ x. read_layout (after_row (repeat_until n (requirement_row t)) x.0.0 x.0.1) x.1)
     (λ x. read_layout (after_row (repeat_until m (requirement_row t)) x.0.0 x.0.1) x.1)
     (λ x is.

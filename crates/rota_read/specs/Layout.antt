@@ -1,6 +1,6 @@
 -- A file as a list of slots, which its tokens fill in order; and the slots that several files share.
 use Rattle.std.specs.Prelude.{ℕ, zero, suc, ◌==◌, nat_le, Bool, false, ◌&&◌, if◌then◌else◌}
-use Rattle.std.specs.Prelude.{List, [], ◌∷◌, Option, Some, None, unwrap_or, codes, bytes_eq}
+use Rattle.std.specs.Prelude.{List, [], ◌∷◌, ◌++◌, Option, Some, None, unwrap_or, codes, bytes_eq}
 use Rattle.std.specs.List.{list_any}
 use Rattle.std.specs.Option.{option_map_or}
 use Rattle.rota_core.specs.Limits.{max_number}
@@ -81,10 +81,24 @@ known_name names is_taken = do
   name ← slot (wants_known names is_taken)
   end (unwrap_or (index_of names name) 0)
 
+-- a known name, once: its index is none of these
+unfoldable pub known_once : List (List ℕ) → List ℕ → Layout ℕ
+known_once names indices = known_name names (is_one_of indices)
+
 -- the rows, one after the other, each read in the state that the rows before it leave
 unfoldable pub repeat : {S : Type 0} → ℕ → (S → Layout S) → S → Layout S
 repeat zero row state = end state
 repeat (suc n) row state = row state >>= repeat n row
+
+-- these rows and one more
+unfoldable pub one_more : {A : Type 0} → (List A → Layout A) → List A → Layout (List A)
+one_more row rows = do
+  next ← row rows
+  end (rows ++ next ∷ [])
+
+-- the given number of rows, each of which may depend on the rows before it
+unfoldable pub many : {A : Type 0} → ℕ → (List A → Layout A) → Layout (List A)
+many count row = repeat count (one_more row) []
 
 -- a minimum and a maximum
 unfoldable pub pair : Layout Span

@@ -1,11 +1,10 @@
 //! Reads the nurses of a scenario file.
 
-ghost use Rattle.std.specs.Prelude.{◌≡◌, ◌≤◌, length};
+ghost use Rattle.std.specs.Prelude.{◌≡◌, ◌≤◌, codes, length};
 ghost use Rattle.rota_core.specs.Parts.{bytes_of};
 ghost use Rattle.rota_read.specs.Layout.{repeat, known_name, none_taken};
 ghost use Rattle.rota_read.specs.Reading.{read_layout, Reads};
-ghost use Rattle.rota_read.specs.ScenarioLayout.{nurse_row, nurses_part};
-ghost use Rattle.rota_read.specs.ScenarioRows.{nurses_of, no_nurses};
+ghost use Rattle.rota_read.specs.ScenarioRows.{columns, nurse_row, nurses_of, no_nurses};
 
 use crate::cursor::Cursor;
 use crate::fault::Stop;
@@ -31,7 +30,7 @@ impl<'a> Cursor<'a> {
         Ok(contract as u8)
     }
 
-    #[tactic(auto, unfolding(crate::specs::ScenarioLayout::nurse_row, crate::specs::Reading::read_layout))]
+    #[tactic(auto, unfolding(crate::specs::ScenarioRows::nurse_row, crate::specs::ScenarioLayout::named, crate::specs::ScenarioLayout::nurse, crate::specs::Reading::read_layout))]
     fn nurse_row(
         &mut self,
         alloc: Global,
@@ -41,8 +40,9 @@ impl<'a> Cursor<'a> {
         rows: &mut NurseRows,
     ) -> Result<(), Stop>
         requires maximum { maximum ≤ MAX_NUMBER }
+        requires count { length (bytes_of skills.now) ≡ maximum }
         requires few { length (bytes_of contracts.now) ≤ MAX_CONTRACTS }
-        ensures { Reads (λ _. nurses_of rows.new) result self.new (read_layout (nurse_row (bytes_of contracts.now) (bytes_of skills.now) maximum (nurses_of rows.old)) self.old) }
+        ensures { Reads (λ _. nurses_of rows.new) result self.new (read_layout (nurse_row (bytes_of contracts.now) (bytes_of skills.now) (nurses_of rows.old)) self.old) }
     {
         let name = self.new_name(&rows.names)?;
         let contract = self.known_contract(contracts)?;
@@ -63,8 +63,9 @@ impl<'a> Cursor<'a> {
         rows: &mut NurseRows,
     ) -> Result<(), Stop>
         requires maximum { maximum ≤ MAX_NUMBER }
+        requires count { length (bytes_of skills.now) ≡ maximum }
         requires few { length (bytes_of contracts.now) ≤ MAX_CONTRACTS }
-        ensures { Reads (λ _. nurses_of rows.new) result self.new (read_layout (repeat count (nurse_row (bytes_of contracts.now) (bytes_of skills.now) maximum) (nurses_of rows.old)) self.old) }
+        ensures { Reads (λ _. nurses_of rows.new) result self.new (read_layout (repeat count (nurse_row (bytes_of contracts.now) (bytes_of skills.now)) (nurses_of rows.old)) self.old) }
     {
         for _ in 0..count {
             self.nurse_row(alloc, contracts, skills, maximum, rows)?;
@@ -72,7 +73,7 @@ impl<'a> Cursor<'a> {
         Ok(())
     }
 
-    #[tactic(auto, unfolding(crate::specs::ScenarioLayout::nurses_part, crate::specs::Reading::read_layout))]
+    #[tactic(auto, unfolding(crate::specs::ScenarioRows::columns, crate::specs::Reading::read_layout))]
     pub fn nurses_part(
         &mut self,
         alloc: Global,
@@ -82,9 +83,10 @@ impl<'a> Cursor<'a> {
         rows: &mut NurseRows,
     ) -> Result<(), Stop>
         requires maximum { maximum ≤ MAX_NUMBER }
+        requires count { length (bytes_of skills.now) ≡ maximum }
         requires few { length (bytes_of contracts.now) ≤ MAX_CONTRACTS }
         requires none { nurses_of rows.old ≡ no_nurses }
-        ensures { Reads (λ _. nurses_of rows.new) result self.new (read_layout (nurses_part (bytes_of contracts.now) (bytes_of skills.now) maximum) self.old) }
+        ensures { Reads (λ _. nurses_of rows.new) result self.new (read_layout (columns (codes "NURSES") MAX_NURSES (nurse_row (bytes_of contracts.now) (bytes_of skills.now)) no_nurses) self.old) }
     {
         let count = self.setting(b"NURSES", 1, MAX_NURSES)?;
         self.nurse_rows(alloc, contracts, skills, maximum, count, rows)

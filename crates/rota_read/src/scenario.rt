@@ -1,10 +1,11 @@
 //! Reads a scenario file.
 
-ghost use Rattle.std.specs.Prelude.{◌≡◌, ◌≤◌, [], IfOk};
+ghost use Rattle.std.specs.Prelude.{◌≡◌, ◌≤◌, [], codes, length, IfOk};
 ghost use Rattle.rota_core.specs.Parts.{bytes_of, scenario_of};
 ghost use Rattle.rota_read.specs.Reading.{read_layout, read_text, Reads, ReadsFile};
-ghost use Rattle.rota_read.specs.ScenarioRows.{tables_of, IsEmpty};
-ghost use Rattle.rota_read.specs.ScenarioLayout.{heading, skills_part, scenario};
+ghost use Rattle.rota_read.specs.ScenarioRows.{scenario_by_column, tables_of, IsEmpty};
+ghost use Rattle.rota_read.specs.Layout.{new_name};
+ghost use Rattle.rota_read.specs.ScenarioLayout.{section, scenario};
 
 use crate::contracts::{ContractRows, no_contracts};
 use crate::cursor::Cursor;
@@ -85,21 +86,11 @@ impl ScenarioRows {
 }
 
 impl<'a> Cursor<'a> {
-    #[tactic(auto, unfolding(crate::specs::ScenarioLayout::heading, crate::specs::Reading::read_layout))]
-    fn heading(&mut self, name: &mut Vec<u8>) -> Result<u16, Stop>
-        requires { name.old.items ≡ [] }
-        ensures { Reads (λ weeks. (name.new.items, weeks)) result self.new (read_layout heading self.old) }
-    {
-        self.exactly(b"SCENARIO")?;
-        self.exactly(b"=")?;
-        name.extend_from_slice(self.word()?.word)?;
-        self.setting(b"WEEKS", 1, MAX_WEEKS)
-    }
-
-    #[tactic(auto, unfolding(crate::specs::ScenarioLayout::skills_part, crate::specs::Reading::read_layout))]
+    #[tactic(auto, unfolding(crate::specs::ScenarioLayout::section, crate::specs::Layout::many, crate::specs::Reading::read_layout))]
     fn skills_part(&mut self, alloc: Global, names: &mut IndexSet<Vec<u8>>) -> Result<u16, Stop>
         requires { bytes_of names.old ≡ [] }
-        ensures read { Reads (λ count. (count, bytes_of names.new)) result self.new (read_layout skills_part self.old) }
+        ensures read { Reads (λ _. bytes_of names.new) result self.new (read_layout (section (codes "SKILLS") MAX_SKILLS new_name) self.old) }
+        ensures count { IfOk result (λ count. length (bytes_of names.new) ≡ count) }
         ensures maximum { IfOk result (λ count. count ≤ MAX_NUMBER) }
     {
         let count = self.setting(b"SKILLS", 1, MAX_SKILLS)?;
@@ -108,12 +99,15 @@ impl<'a> Cursor<'a> {
     }
 
     // Reads each section into rows that one caller owns.
-    #[tactic(auto, unfolding(crate::specs::ScenarioLayout::scenario, crate::specs::Reading::read_layout))]
+    #[tactic(auto, unfolding(crate::specs::ScenarioRows::scenario_by_column, crate::specs::Reading::read_layout))]
     fn sections(&mut self, alloc: Global, rows: &mut ScenarioRows) -> Result<(), Stop>
         requires { IsEmpty rows.old }
-        ensures { Reads (λ _. tables_of rows.new) result self.new (read_layout scenario self.old) }
+        ensures { Reads (λ _. tables_of rows.new) result self.new (read_layout scenario_by_column self.old) }
     {
-        rows.weeks = self.heading(&mut rows.name)?;
+        self.exactly(b"SCENARIO")?;
+        self.exactly(b"=")?;
+        rows.name.extend_from_slice(self.word()?.word)?;
+        rows.weeks = self.setting(b"WEEKS", 1, MAX_WEEKS)?;
         let skill_count = self.skills_part(alloc, &mut rows.skills)?;
         let shift_count = self.shifts_part(alloc, &mut rows.shifts)?;
         let shifts = &rows.shifts.names;
@@ -131,7 +125,7 @@ impl<'a> Cursor<'a> {
 }
 
 /// The parts of a scenario, from the whole text.
-#[tactic(auto, using(crate::proofs::EndLemmas::front_fails), unfolding(crate::specs::Reading::read_text))]
+#[tactic(auto, using(crate::proofs::EndLemmas::front_fails, crate::proofs::ScenarioColumns::read_by_column), unfolding(crate::specs::Reading::read_text))]
 pub fn scenario_parts(alloc: Global, text: &[u8]) -> Result<ScenarioParts, Stop>
     ensures { ReadsFile scenario_of result (read_text scenario text.now) }
 {

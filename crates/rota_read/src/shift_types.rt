@@ -1,11 +1,12 @@
 //! Reads the shift types and the forbidden successions of a scenario file.
 
-ghost use Rattle.std.specs.Prelude.{◌≡◌, ◌==◌, ◌≤◌, [], position, IfOk, OnOk};
+ghost use Rattle.std.specs.Prelude.{◌≡◌, ◌==◌, ◌≤◌, ◌+◌, [], codes, length, position, IfOk, OnOk};
 ghost use Rattle.rota_core.specs.Parts.{bytes_of};
 ghost use Rattle.rota_read.specs.Layout.{repeat};
 ghost use Rattle.rota_read.specs.Reading.{read_layout, Reads};
-ghost use Rattle.rota_read.specs.ScenarioLayout.{after_shift as after, forbidden_table, shift_row, succession_row, shifts_part, successions_part};
-ghost use Rattle.rota_read.specs.ScenarioRows.{no_shift_types, shifts_of, successions_of};
+ghost use Rattle.rota_read.specs.ScenarioLayout.{forbidden_table};
+ghost use Rattle.rota_read.specs.ScenarioRows.{column_after, columns, shift_row, succession_row, successions_part};
+ghost use Rattle.rota_read.specs.ScenarioRows.{no_shift_types, no_successions, shifts_of, successions_of};
 
 use crate::cursor::Cursor;
 use crate::fault::Stop;
@@ -28,9 +29,10 @@ struct SuccessionRows {
 }
 
 impl<'a> Cursor<'a> {
-    #[tactic(auto, unfolding(crate::specs::ScenarioLayout::shift_row, crate::specs::Reading::read_layout))]
+    #[tactic(auto, unfolding(crate::specs::ScenarioRows::shift_row, crate::specs::ScenarioLayout::named, crate::specs::Reading::read_layout))]
     fn shift_row(&mut self, alloc: Global, rows: &mut ShiftRows) -> Result<(), Stop>
-        ensures { Reads (λ _. shifts_of rows.new) result self.new (read_layout (shift_row (shifts_of rows.old)) self.old) }
+        ensures read { Reads (λ _. shifts_of rows.new) result self.new (read_layout (shift_row (shifts_of rows.old)) self.old) }
+        ensures longer { OnOk result (length (bytes_of rows.new.names) ≡ length (bytes_of rows.old.names) + 1) }
     {
         let name = self.new_shift_name(&rows.names)?;
         let limit = self.pair()?;
@@ -40,7 +42,8 @@ impl<'a> Cursor<'a> {
 
     #[tactic(auto, using(crate::proofs::RowSteps::row_steps))]
     fn shift_rows(&mut self, alloc: Global, count: u16, rows: &mut ShiftRows) -> Result<(), Stop>
-        ensures { Reads (λ _. shifts_of rows.new) result self.new (read_layout (repeat count shift_row (shifts_of rows.old)) self.old) }
+        ensures read { Reads (λ _. shifts_of rows.new) result self.new (read_layout (repeat count shift_row (shifts_of rows.old)) self.old) }
+        ensures longer { OnOk result (length (bytes_of rows.new.names) ≡ length (bytes_of rows.old.names) + count) }
     {
         for _ in 0..count {
             self.shift_row(alloc, rows)?;
@@ -48,10 +51,11 @@ impl<'a> Cursor<'a> {
         Ok(())
     }
 
-    #[tactic(auto, unfolding(crate::specs::ScenarioLayout::shifts_part, crate::specs::Reading::read_layout))]
+    #[tactic(auto, unfolding(crate::specs::ScenarioRows::columns, crate::specs::Reading::read_layout))]
     pub fn shifts_part(&mut self, alloc: Global, rows: &mut ShiftRows) -> Result<u16, Stop>
         requires { shifts_of rows.old ≡ no_shift_types }
-        ensures read { Reads (λ count. (count, shifts_of rows.new)) result self.new (read_layout shifts_part self.old) }
+        ensures read { Reads (λ _. shifts_of rows.new) result self.new (read_layout (columns (codes "SHIFT_TYPES") MAX_SHIFTS shift_row no_shift_types) self.old) }
+        ensures count { IfOk result (λ count. length (bytes_of rows.new.names) ≡ count) }
         ensures maximum { IfOk result (λ count. count ≤ MAX_NUMBER) }
     {
         let count = self.setting(b"SHIFT_TYPES", 1, MAX_SHIFTS)?;
@@ -59,7 +63,7 @@ impl<'a> Cursor<'a> {
         Ok(count)
     }
 
-    #[tactic(auto, using(crate::proofs::NameSteps::known_taken, std::proofs::lemmas::Grind::common_steps), unfolding(crate::specs::ScenarioLayout::succession_row, crate::specs::Reading::read_layout))]
+    #[tactic(auto, using(crate::proofs::NameSteps::known_taken, std::proofs::lemmas::Grind::common_steps), unfolding(crate::specs::ScenarioRows::succession_row, crate::specs::ScenarioLayout::succession, crate::specs::Layout::known_once, crate::specs::Reading::read_layout))]
     fn succession_row(
         &mut self,
         alloc: Global,
@@ -67,8 +71,9 @@ impl<'a> Cursor<'a> {
         count: u16,
         rows: &mut SuccessionRows,
     ) -> Result<(), Stop>
-        requires { count ≤ MAX_NUMBER }
-        ensures { Reads (λ _. successions_of rows.new) result self.new (read_layout (succession_row (bytes_of names.now) count (successions_of rows.old)) self.old) }
+        requires maximum { count ≤ MAX_NUMBER }
+        requires count { length (bytes_of names.now) ≡ count }
+        ensures { Reads (λ _. successions_of rows.new) result self.new (read_layout (succession_row (bytes_of names.now) (successions_of rows.old)) self.old) }
     {
         let shift = self.known_name(names)?;
         self.unless_taken(is_taken(&rows.shifts, shift))?;
@@ -85,8 +90,9 @@ impl<'a> Cursor<'a> {
         count: u16,
         rows: &mut SuccessionRows,
     ) -> Result<(), Stop>
-        requires { count ≤ MAX_NUMBER }
-        ensures { Reads (λ _. successions_of rows.new) result self.new (read_layout (repeat count (succession_row (bytes_of names.now) count) (successions_of rows.old)) self.old) }
+        requires maximum { count ≤ MAX_NUMBER }
+        requires count { length (bytes_of names.now) ≡ count }
+        ensures { Reads (λ _. successions_of rows.new) result self.new (read_layout (repeat count (succession_row (bytes_of names.now)) (successions_of rows.old)) self.old) }
     {
         for _ in 0..count {
             self.succession_row(alloc, names, count, rows)?;
@@ -94,7 +100,7 @@ impl<'a> Cursor<'a> {
         Ok(())
     }
 
-    #[tactic(auto, unfolding(crate::specs::ScenarioLayout::successions_part, crate::specs::Reading::read_layout))]
+    #[tactic(auto, unfolding(crate::specs::ScenarioRows::successions_part, crate::specs::Reading::read_layout))]
     pub fn successions_part(
         &mut self,
         alloc: Global,
@@ -103,8 +109,9 @@ impl<'a> Cursor<'a> {
         table: &mut Vec<bool>,
     ) -> Result<(), Stop>
         requires maximum { count ≤ MAX_NUMBER }
+        requires count { length (bytes_of names.now) ≡ count }
         requires none { table.old.items ≡ [] }
-        ensures { Reads (λ _. table.new.items) result self.new (read_layout (successions_part (bytes_of names.now) count) self.old) }
+        ensures { Reads (λ _. table.new.items) result self.new (read_layout (successions_part (bytes_of names.now)) self.old) }
     {
         self.exactly(b"FORBIDDEN_SHIFT_TYPES_SUCCESSIONS")?;
         let mut rows = no_successions(alloc);
@@ -125,7 +132,7 @@ pub fn no_shift_types(alloc: Global) -> ShiftRows
 
 // The rows before the first row of successions.
 fn no_successions(alloc: Global) -> SuccessionRows
-    ensures { successions_of result ≡ record { shifts = []; after = [] } }
+    ensures { successions_of result ≡ no_successions }
 {
     SuccessionRows {
         shifts: Vec::new(alloc),
@@ -141,7 +148,7 @@ fn index_of_shift(shifts: &[usize], shift: usize) -> Option<usize>
 
 // The shift types that may not follow a shift type.
 fn after_shift(rows: &SuccessionRows, shift: usize) -> &[usize]
-    ensures { result.now ≡ after (successions_of rows.now) shift }
+    ensures { result.now ≡ column_after (successions_of rows.now) shift }
 {
     let Some(index) = index_of_shift(&rows.shifts, shift) else {
         return &[];
@@ -159,7 +166,7 @@ fn append_forbidden(
     rows: &SuccessionRows,
 ) -> Result<(), AllocError>
     requires { table.old.items ≡ [] }
-    ensures { OnOk result (table.new.items ≡ forbidden_table size (successions_of rows.now)) }
+    ensures { OnOk result (table.new.items ≡ forbidden_table size (column_after (successions_of rows.now))) }
 {
     for shift in 0..size {
         append_marks(table, after_shift(rows, usize::from(shift)), size)?;

@@ -1,8 +1,8 @@
 use Rattle.std.proofs.Common.{◌≡◌, ◌-◌}
 use Rattle.rota_core.specs.Parts.{bytes_of}
 use Rattle.rota_read.specs.Layout.{repeat}
+use Rattle.rota_read.specs.ScenarioRows.{index_row}
 use Rattle.rota_read.specs.Reading.{read_layout}
-use Rattle.rota_read.specs.ScenarioLayout.{index_row}
 use Rattle.rota_read.proofs.cursor.Cursor.indices.Given as goal
 
 abbrev pub invariant-loop : goal.invariant-loop
