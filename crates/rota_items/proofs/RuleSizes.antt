@@ -1,4 +1,4 @@
--- The size of each soft rule in a week within the limits: its items, their slacks, the weight of all these, its shortages and its constant.
+-- The size of each soft rule in a week within the limits: its items, their slacks, the weight of these, its shortages and its constant.
 use Rattle.rota_items.proofs.Common.Imports.{ℕ, ◌*◌, ◌≤◌, List, length, arith, sum_by, sum_by-le, sum_by-le-sum_by, All-from_recursion, AllByRecursion, mul-le, Problem, Rule, Cell, Item}
 use Rattle.rota_items.proofs.Common.Imports.{items_of_rule, soft_items, soft_rules, IsWithinLimits, max_items, max_slacks, max_nurses, nurse_constant, constant_of_rule, constant, max_constant}
 use Rattle.rota_items.proofs.Common.Imports.{max_constant_of_nurse, max_constant_of_rule, InstanceTables, IsInstance, problem_of, ◌<◌, Roster, shortage, weighted_shortages, penalty, rule_cost}
@@ -36,7 +36,8 @@ module _ (problem : Problem) (limits : IsWithinLimits problem) where
         sum_by f (soft_items problem) ≤ sum_by (λ rule. max_items rule * maximum rule) soft_rules
     soft_items-le each =
         let small = λ (rule : Rule). items-le rule (all-weaker _ _ (each rule) (items_of_rule problem rule) (small-rule rule).each) in
-        let sum = sum_by-le-sum_by (λ rule. sum_by f (items_of_rule problem rule)) (λ rule. max_items rule * maximum rule) soft_rules small in
+        let sum = sum_by-le-sum_by (λ rule. sum_by f (items_of_rule problem rule)) (λ rule. max_items rule * maximum rule)
+        soft_rules small in
         omega (arith, sum_by-flat_map f (items_of_rule problem) soft_rules)
 
   -- ---- the constant

@@ -69,7 +69,8 @@ module _ (problem : Problem) (limits : IsWithinLimits problem) where
 
   pub items-few : length (soft_items problem) ≤ sum_by max_items soft_rules
   items-few =
-      let few = sum_by-le-sum_by (λ rule. length (items_of_rule problem rule)) max_items soft_rules (λ rule. (small-rule problem limits rule).few) in
+      let few = sum_by-le-sum_by (λ rule. length (items_of_rule problem rule)) max_items soft_rules
+      (λ rule. (small-rule problem limits rule).few) in
       omega (arith, length-flat_map (items_of_rule problem) soft_rules)
 
   pub rows-below : length (rows_of problem) < count_limit

@@ -35,7 +35,8 @@ module _ (problem : Problem) where
         let second = any_or_none roster (on_cells problem n t (d + 1)) in
         let one_first = one-on problem roster one n d n_in (omega arith) s s_in in
         let one_second = one-on problem roster one n (d + 1) n_in (omega arith) t t_in in
-        grind (arith, any-on_cells problem roster n s d, any-on_cells problem roster n t (d + 1), kept.in_week n d s t n_in d_in s_in t_in)
+        let kept_in = kept.in_week n d s t n_in d_in s_in t_in in
+        grind (arith, any-on_cells problem roster n s d, any-on_cells problem roster n t (d + 1), kept_in)
 
   pub succession : IsHardRuleSound problem H3
   succession =

@@ -62,11 +62,13 @@ module _ (problem : Problem) where
         let shifts = sum_by-each-times (weighted roster) problem.shifts shift_run_weight (shift_items n) (shift_run_cost roster n)
         (λ s. weighted-on_runs problem roster one n n_in S2 shift_run_weight (history_on problem n s) (problem.limits s) s) in
         let work = weighted-work_runs problem roster one n n_in S2 work_run_weight (problem.past n).work_run (problem.contract n).work in
-        omega (arith, shifts, sum_by-append (weighted roster) (concat_below problem.shifts (shift_items n)) (run_items (work_runs problem n)));
+        let parts = sum_by-append (weighted roster) (concat_below problem.shifts (shift_items n)) (run_items (work_runs problem n)) in
+        omega arith;
     alike = λ one other same n n_in.
         let shifts = sum_below-same problem.shifts (shift_run_cost one n) (shift_run_cost other n) (λ s s_in.
-        run_cost-alike _ _ (λ d d_in. on-alike problem one other same n s d n_in s_in d_in) (history_on problem n s) (problem.limits s)) in
-        let work = run_cost-alike _ _ (λ d. works-alike problem one other same n d n_in) (problem.past n).work_run (problem.contract n).work in
+        run_cost-alike _ _ (λ d. on-alike problem one other same n s d n_in s_in) (history_on problem n s) (problem.limits s)) in
+        let work = run_cost-alike _ _ (λ d. works-alike problem one other same n d n_in)
+        (problem.past n).work_run (problem.contract n).work in
         rw (shifts, work) refl;
     small = λ limits n.
         few-append (omega arith)

@@ -54,7 +54,8 @@ module _ (problem : Problem) where
         sound-cells problem coefficient unit _ _ (nurse_cells problem n) (AllByRecursion-concat_below (InWeek problem) 7 (work_cells problem n) (λ d d_in. in-work_cells problem n d n_in d_in))
         (rises-nurse_cells problem n)
 
-    sound-minimum : (problem.is_last && nat_lt 0 (still_wanted problem n)) ≡ true → IsItemSound problem S6 (min_total_item problem n)
+    sound-minimum : (problem.is_last && nat_lt 0 (still_wanted problem n)) ≡ true →
+        IsItemSound problem S6 (min_total_item problem n)
     sound-minimum wanted = record {
       rule_is = refl;
       terms = sound-sum (pos 1) (inl refl);
@@ -63,7 +64,8 @@ module _ (problem : Problem) where
       enough = λ roster _. omega (arith, shortage-minimum roster n);
     }
 
-    sound-maximum : (max_totals_count problem && nat_lt (still_allowed problem n) 7) ≡ true → IsItemSound problem S6 (max_total_item problem n)
+    sound-maximum : (max_totals_count problem && nat_lt (still_allowed problem n) 7) ≡ true →
+        IsItemSound problem S6 (max_total_item problem n)
     sound-maximum limited = record {
       rule_is = refl;
       terms = sound-sum (negsuc 0) (inr refl);
@@ -80,7 +82,8 @@ module _ (problem : Problem) where
         (AllByRecursion-singleton_if (IsItemSound problem S6) _ (max_total_item problem n) (sound-maximum n n_in));
     charges = λ roster one n n_in.
         let few = assignments-le roster n one n_in in
-        let below = min_charged problem.is_last (problem.contract n).total.min (problem.past n).assignments _ _ few (shortage-minimum roster n) in
+        let below = min_charged problem.is_last (problem.contract n).total.min (problem.past n).assignments _ _ few
+        (shortage-minimum roster n) in
         let above = max_charged problem (problem.contract n).total.max (problem.past n).assignments _ _ few (shortage-maximum roster n) in
         simp (sum_by-append, sum_by-singleton_if) (omega arith);
     alike = λ one other same n n_in.
