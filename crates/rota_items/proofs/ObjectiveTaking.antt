@@ -1,38 +1,83 @@
--- How a taker takes the objective, term by term.
-use Rattle.rota_items.proofs.Common.Imports.{◌≡◌, ℕ, ◌<◌, Bool, true, false, nat_lt, List, [], ◌∷◌, ◌++◌, length, length-append, Result, MatchResult, refl}
-use Rattle.rota_items.proofs.Common.Imports.{sym, ap, ◌∙◌, arith, lt-ltb, true≢false, length-map, fold, pos, Ok, Err, is_err, concat_below, singleton_if, Problem}
-use Rattle.rota_items.proofs.Common.Imports.{Cell, Term, LinearRow, objective_rows, cell_term_events, Event, term, term_events, Took, Objective, Ghosts}
-use Rattle.rota_items.proofs.ItemLists.{none-concat_below}
+-- How a taker takes the objective, term by term, and whether the objective has a term.
+use Rattle.rota_items.proofs.Common.Imports.{◌≡◌, ℕ, zero, suc, ◌<◌, ◌+◌, Bool, true, false, cond, nat_lt, List, [], ◌∷◌, ◌++◌, length, length-append, refl}
+use Rattle.rota_items.proofs.Common.Imports.{sym, ap, ◌∙◌, arith, lt-ltb, true≢false, length-map, length-map-range_with_len, pos, singleton_if-fails, singleton_if-holds, concat_below, concat_below-zero, concat_below-more, singleton_if, in_turn, Problem}
+use Rattle.rota_items.proofs.Common.Imports.{Cell, Term, LinearRow, Item, objective_rows, cell_term_events, Took, Objective, Ghosts, request_terms_on, slack_weights, slack_count, slack_variables, times}
+use Rattle.rota_items.proofs.Common.Imports.{objective_terms, cell_terms, constant, constant_terms, soft_items, unit_number, nat_tests, ◌≤◌, first_slack, numbered_items, numbered_terms, cell_number}
 use Rattle.rota_items.proofs.Taking.{nothing, terms_join}
+use Rattle.rota_items.proofs.Lists.{length-each-is, slack_count-cons, slack_count-numbered}
 
 -- the objective's row with these terms
 abbrev pub row_of : List (Term ℕ) → LinearRow ℕ
 row_of terms = record { part = Objective; terms = terms; degree = pos 0 }
 
--- ---- whether the objective has a term
+concat_below-nowhere : {A : Type 0} (test : Bool) (n : ℕ) (f : ℕ → A) → test ≡ false → concat_below n (λ k. singleton_if test (f k)) ≡ []
+unfolding concat_below
+concat_below-nowhere test zero f fails = refl
+concat_below-nowhere test (suc n) f fails = rw (concat_below-nowhere test n f fails, singleton_if-fails test (f n) fails) refl
 
--- the abstract value of a taker that took an event, if it refuses each
-abbrev touched : Bool → Event → Bool
-touched before event = true
+-- ---- the terms of a day's requests
 
-stays_touched : (some : List Event) → fold touched true some ≡ true
-stays_touched [] = refl
-stays_touched (event ∷ some) = stays_touched some
+length-turns_if : {A : Type 0} (test : Bool) (n : ℕ) (f : ℕ → A) → length (concat_below n (λ k. singleton_if test (f k))) ≡ cond test n 0
+length-turns_if true n f = omega (arith, length-each-is n 1 _ (λ i _. ap length (singleton_if-holds true (f i) refl)))
+length-turns_if false n f = omega (arith, length-each-is n 0 _ (λ i _. ap length (singleton_if-fails false (f i) refl)))
 
-pub some_refused : (terms : List (Term ℕ)) (taken : List Event) (event : Event) (rest : List Event) →
-    term_events terms ≡ taken ++ event ∷ rest → 0 < length terms
-unfolding term_events
-some_refused terms taken event rest are =
-    let long = ap (λ (xs : List Event). length xs) are in
-    omega (arith, length-map terms (λ (t : Term ℕ). term t.0 t.1), length-append taken (event ∷ rest))
+-- a day has a term on a shift type for each skill, if a request row matches
+pub length-request_terms_on : (problem : Problem) (n d s : ℕ) →
+    length (request_terms_on problem n d s) ≡ cond (nat_lt 0 (problem.requests n d s)) problem.skills 0
+length-request_terms_on problem n d s = length-turns_if (nat_lt 0 (problem.requests n d s)) problem.skills _
 
-pub told_by_refusal : {F : Type 0} (r : Result (Unit {0}) F) (terms : List (Term ℕ)) →
-    MatchResult r (λ _. false ≡ fold touched false (term_events terms)) (λ _. 0 < length terms) → is_err r ≡ nat_lt 0 (length terms)
-unfolding term_events
-told_by_refusal (Ok done) [] untouched = refl
-told_by_refusal (Ok done) (first ∷ others) untouched = absurd (true≢false (sym (untouched ∙ stays_touched (term_events others))))
-told_by_refusal (Err refusal) [] some = absurd (omega arith)
-told_by_refusal (Err refusal) (first ∷ others) some = sym (lt-ltb 0 (length (first ∷ others)) some)
+-- the rules that count the terms of requests, turn by turn
+pub ruleset request_counting = (concat_below-zero, concat_below-more, length-append, nat_tests)
+
+-- if a turn adds an element, the list of the loop is not empty
+pub some_below : {A : Type 0} (i n : ℕ) (f : ℕ → List A) → i < n → 0 < length (f i) → 0 < length (concat_below n f)
+some_below i n f below some =
+    in_turn (λ xs. 0 < length xs) (λ xs ys has. omega (arith, length-append xs ys)) i n f below
+    (omega (arith, length-append (concat_below i f) (f i)))
+
+-- ---- the terms of the objective
+
+length-slack_weights : (first : ℕ) (items : List (Item ℕ)) → length (slack_weights first items) ≡ slack_count items
+length-slack_weights first [] = refl
+length-slack_weights first (item ∷ items) =
+    omega (
+      arith,
+      slack_count-cons item items,
+      length-append (times (pos item.weight) (slack_variables item first)) (slack_weights (first + item.slacks) items),
+      length-map-range_with_len {X = Term ℕ} (λ v. (pos item.weight, v)) first item.slacks,
+      length-slack_weights (first + item.slacks) items,
+    )
+
+length-if : {A : Type 0} (test : Bool) (x : A) → length (singleton_if test x) ≡ cond test 1 0
+unfolding singleton_if
+length-if true x = refl
+length-if false x = refl
+
+length-objective_terms : (problem : Problem) →
+    length (objective_terms problem) ≡
+    length (cell_terms problem) + (cond (nat_lt 0 (constant problem)) 1 0 + slack_count (soft_items problem))
+length-objective_terms problem =
+    let slacks = slack_weights (first_slack problem) (numbered_items problem) in
+    omega (
+      arith,
+      length-append (numbered_terms problem (cell_terms problem)) (constant_terms problem ++ slacks),
+      length-map {B = Term ℕ} (cell_terms problem) (λ (t : Term Cell). (t.0, cell_number problem t.1)),
+      length-append (constant_terms problem) slacks,
+      length-if {A = Term ℕ} (nat_lt 0 (constant problem)) (pos (constant problem), unit_number problem),
+      length-slack_weights (first_slack problem) (numbered_items problem),
+      slack_count-numbered (cell_number problem) (soft_items problem),
+    )
+
+-- terms at cells and the constant are terms of the objective
+pub some_terms : (problem : Problem) (result : Bool) → result ≡ true → 0 < length (cell_terms problem) + constant problem →
+    result ≡ nat_lt 0 (length (objective_terms problem))
+some_terms problem result is some =
+    is ∙ sym (lt-ltb 0 _ (grind (arith, nat_tests, length-objective_terms problem)))
+
+-- without them the terms are those of the slacks, whose variables follow the unit variable
+pub only_slacks : (problem : Problem) (unit variables : ℕ) → length (cell_terms problem) + constant problem ≤ 0 →
+    variables ≡ unit + slack_count (soft_items problem) → nat_lt unit variables ≡ nat_lt 0 (length (objective_terms problem))
+only_slacks problem unit variables none counted = grind (arith, nat_tests, length-objective_terms problem)
 
 -- ---- the row, if the objective has a term
 
@@ -47,5 +92,4 @@ no_row (first ∷ others) none = absurd (true≢false (sym (lt-ltb 0 (length (fi
 module _ {S F : Type 0} (T : Ghosts S F) (problem : Problem) where
   pub cell_terms_nowhere : (test : Bool) (n : ℕ) (f : ℕ → Term Cell) (s : S) → test ≡ false →
       Took T (cell_term_events problem (concat_below n (λ k. singleton_if test (f k)))) s s
-  unfolding singleton_if
-  cell_terms_nowhere test n f s fails = rw (fails, ← none-concat_below {A = Term Cell} n) (nothing (terms_join problem) s)
+  cell_terms_nowhere test n f s fails = rw (concat_below-nowhere test n f fails) (nothing (terms_join problem) s)

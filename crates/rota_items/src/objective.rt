@@ -1,50 +1,19 @@
 //! The objective: the request rows that cells match, the cost that no roster can avoid, and the slacks with
 //! their weights.
-ghost use Rattle.std.specs.Prelude.{◌≡◌, nat_lt, true, false, Bool, length};
+ghost use Rattle.std.specs.Prelude.{◌≡◌, nat_lt, length};
 ghost use Rattle.rota_core.specs.InstanceTables.{problem_of};
 ghost use Rattle.rota_items.specs.Events.{events, term_events};
 ghost use Rattle.rota_items.specs.WeekModel.{constant_terms, objective_terms};
 ghost use Rattle.rota_items.specs.Objective.{objective_rows};
 ghost use Rattle.rota_items.specs.Takes.{Takes};
 
+use crate::counting::counts;
 use crate::items::slack_weights::emit_slack_weights;
 use crate::part::Part;
-use crate::rules::{constant, emit_cell_terms};
+use crate::rules::{constant, emit_cell_terms, has_cell_terms};
 use crate::takers::Taker;
 use crate::variables::unit_var;
 use rota_core::Instance;
-
-// The refusal of a taker that refuses everything.
-#[derive(Drop)]
-struct Closed;
-
-// A taker that refuses each event: its drive fails if and only if there is an event to send.
-#[derive(Drop)]
-struct ClosedTaker;
-
-impl Taker for ClosedTaker {
-    type Fault = Closed;
-
-    ghost Value = { Bool };
-
-    ghost value = { λ _. false };
-
-    ghost step = { λ _ _. true };
-
-    ghost left = { λ _ _ _. Unit };
-
-    fn start_row(&mut self, _part: Part) -> Result<(), Closed> {
-        Err(Closed)
-    }
-
-    fn term(&mut self, _coefficient: i64, _variable: u32) -> Result<(), Closed> {
-        Err(Closed)
-    }
-
-    fn close_row(&mut self, _degree: i64) -> Result<(), Closed> {
-        Err(Closed)
-    }
-}
 
 // The constant, at the unit variable, if it is not 0.
 #[tactic(auto, using(crate::proofs::RuleSizes::few_constants))]
@@ -70,11 +39,13 @@ fn emit_terms<T: Taker>(instance: &Instance, taker: &mut T) -> Result<(), T::Fau
     emit_slack_weights(instance, taker)
 }
 
-// Whether the objective has a term. Stops at the first one.
+// Whether the objective has a term: at a cell, the cost that no roster can avoid, or a slack.
 fn has_term(instance: &Instance) -> bool
     ensures { result ≡ nat_lt 0 (length (objective_terms (problem_of instance.now))) }
 {
-    emit_terms(instance, &mut ClosedTaker).is_err()
+    has_cell_terms(instance)
+        || constant(instance) > 0
+        || counts(instance).variables > unit_var(instance)
 }
 
 /// Sends the taker the objective as one row, or nothing if it has no term.

@@ -1,5 +1,5 @@
 //! The soft rules. Each rule has a file; this one selects the file by the rule.
-ghost use Rattle.std.specs.Prelude.{◌≡◌, ◌<◌, ◌≤◌, IfSome, [], ◌∷◌, length};
+ghost use Rattle.std.specs.Prelude.{◌≡◌, ◌<◌, ◌≤◌, IfSome, [], ◌∷◌, length, nat_lt};
 ghost use Rattle.rota_core.specs.InstanceTables.{IsInstance, problem_of};
 ghost use Rattle.rota_core.specs.Lists.{concat_below};
 ghost use Rattle.rota_core.specs.Rules.{soft_rules};
@@ -117,6 +117,13 @@ pub fn emit_cell_terms<T: Taker>(instance: &Instance, taker: &mut T) -> Result<(
         emit_cell_terms_of_rule(instance, taker, rule)?;
     }
     Ok(())
+}
+
+/// Whether the soft rules have a term at a cell. Only requests have.
+pub fn has_cell_terms(instance: &Instance) -> bool
+    ensures { result ≡ nat_lt 0 (length (cell_terms (problem_of instance.now))) }
+{
+    shift_off_requests::has_terms(instance)
 }
 
 // The cost of a rule at a nurse that no roster of the week can avoid, because of the history. It is 0 except

@@ -1,6 +1,6 @@
 //! S4, requests: cells that request rows ask to leave free. The objective charges them at their cells, and
 //! they have no items.
-ghost use Rattle.std.specs.Prelude.{◌≡◌, ◌*◌, ◌<◌};
+ghost use Rattle.std.specs.Prelude.{◌≡◌, ◌*◌, ◌<◌, length, nat_lt};
 ghost use Rattle.rota_core.specs.InstanceTables.{problem_of};
 ghost use Rattle.rota_items.specs.CellEvents.{cell_term_events};
 ghost use Rattle.rota_items.specs.Takes.{Takes};
@@ -66,4 +66,31 @@ pub fn emit_terms<T: Taker>(instance: &Instance, taker: &mut T) -> Result<(), T:
         }
     }
     Ok(())
+}
+
+// Whether a nurse's day has terms on a shift type.
+fn has_terms_on(instance: &Instance, nurse: u16, day: u8, shift: u8) -> bool
+    requires nurse_in { nurse < (problem_of instance.now).nurses }
+    requires day_in { day < DAYS }
+    requires shift_in { shift < (problem_of instance.now).shifts }
+    ensures { result ≡ nat_lt 0 (length (request_terms_on (problem_of instance.now) nurse day shift)) }
+{
+    instance.requests(nurse, day, shift) > 0 && instance.skills() > 0
+}
+
+/// Whether a request row matches a cell.
+#[tactic(auto, using(crate::proofs::ObjectiveTaking::request_counting))]
+pub fn has_terms(instance: &Instance) -> bool
+    ensures { result ≡ nat_lt 0 (length (request_terms (problem_of instance.now))) }
+{
+    for nurse in 0..instance.nurses() {
+        for day in 0..DAYS {
+            for shift in 0..instance.shifts() {
+                if has_terms_on(instance, nurse, day, shift) {
+                    return true;
+                }
+            }
+        }
+    }
+    false
 }
