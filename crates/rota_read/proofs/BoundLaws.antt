@@ -9,13 +9,12 @@ use Rattle.rota_core.specs.ScenarioTables.{ScenarioTables}
 use Rattle.rota_core.specs.declared.values.Demand.{Demand}
 use Rattle.rota_read.specs.Tokens.{Token}
 use Rattle.rota_read.specs.Reading.{Reading, then_read, read_layout}
-use Rattle.rota_read.specs.Layout.{Layout, shift_or}
+use Rattle.rota_read.specs.Layout.{◌>>=◌, has_row, shift_or}
 use Rattle.rota_read.specs.Files.{Fills}
-use Rattle.rota_read.specs.WeekLayout.{Requirements, is_listed, requirement, requirement_of, requirement_row}
-use Rattle.rota_read.specs.WeekLayout.{after_row, repeat_until, max_rows, no_requirements, requirement_rows}
+use Rattle.rota_read.specs.WeekLayout.{Requirements, pair_index, requirement, part_or, max_rows, no_requirements, requirement_rows}
 use Rattle.rota_read.specs.WeekBound.{BoundEndsNoRows}
 use Rattle.rota_read.proofs.EndLemmas.{then_read-same}
-use Rattle.rota_read.proofs.FileLaws.{fills-read}
+use Rattle.rota_read.proofs.FileLaws.{Found, fills-read}
 use Rattle.rota_read.proofs.SlotLaws.{known_name-below, known_name-free, shift_or-below}
 
 -- ---- the number of pairs without a row
@@ -35,7 +34,7 @@ vacant_at None h = refl
 vacant_at (Some days) h = absurd (cc)
 
 -- a row was put at an index that had none
-one_less : (rows : Requirements) (index : ℕ) (days : List Demand) → index < length rows → is_listed rows index ≡ false →
+one_less : (rows : Requirements) (index : ℕ) (days : List Demand) → index < length rows → has_row rows index ≡ false →
     vacant rows ≡ suc (vacant (slice_set rows index (Some days)))
 one_less rows index days lt free =
     let e = sum_by-set as_number rows index (Some days) None lt in
@@ -51,9 +50,9 @@ requirement-takes : (shifts skills : List (List ℕ)) (shift : ℕ) (rows : Requ
     Fills (requirement skills shift rows) front next → OneLess rows next
 unfolding Fills requirement
 requirement-takes shifts skills shift rows front next lt size h =
-    let index = shift * length skills + h.0 in
+    let index = pair_index (length skills) shift h.0 in
     let days = h.5.0 in
-    let listed : ℕ → Bool = λ k. is_listed rows (shift * length skills + k) in
+    let listed : ℕ → Bool = λ k. has_row rows (pair_index (length skills) shift k) in
     let skill = known_name-below skills listed h.1 h.0 h.4 in
     let turned : index < length skills * length shifts = mul-add-lt shift (length skills) h.0 (length shifts) lt skill in
     let same : length skills * length shifts ≡ length shifts * length skills = omega arith in
@@ -61,48 +60,35 @@ requirement-takes shifts skills shift rows front next lt size h =
     let free = known_name-free skills listed h.1 h.0 h.4 in
     rw h.5.5.1 (length-set rows index (Some days), one_less rows index days within free)
 
-requirement_row-takes : (t : ScenarioTables) (rows : Requirements) (front : List Token) (next : Requirements) →
-    length rows ≡ length t.shifts * length t.skills → Fills (requirement_row t rows) front (true, next) → OneLess rows next
-unfolding Fills requirement_row
-requirement_row-takes t rows front next size h = by h.0 h.1 h.4 h.2 h.5
-  where
-    by : (shift : Option ℕ) (first : List Token) → Fills (shift_or (codes "SHIFT_OFF_REQUESTS") t.shifts) first shift →
-        (second : List Token) → Fills (requirement_of t.skills rows shift) second (true, next) → OneLess rows next
-    by None first f second h = absurd (let e : true ≡ false = ap (λ (x : Bool × Requirements). x.0) h.1 in cc)
-    by (Some shift) first f second h =
-        let e : next ≡ h.0 = ap (λ (x : Bool × Requirements). x.1) h.5.1 in
-        let below = shift_or-below (codes "SHIFT_OFF_REQUESTS") t.shifts first (Some shift) f shift refl in
-        rw e (requirement-takes t.shifts t.skills shift rows h.1 h.0 below size h.4)
-
 -- ---- two bounds
-
-after_row-same : (rows rows' : Requirements → Layout Requirements) (more : Bool) (state : Requirements) (left : Reading) →
-    (more ≡ true → read_layout (rows state) left ≡ read_layout (rows' state) left) →
-    read_layout (after_row rows more state) left ≡ read_layout (after_row rows' more state) left
-after_row-same rows rows' true state left same = same refl
-after_row-same rows rows' false state left same = refl
 
 -- two bounds above the number of pairs without a row give the same result
 bounds_agree : (t : ScenarioTables) (n m : ℕ) (rows : Requirements) (left : Reading) →
     length rows ≡ length t.shifts * length t.skills → vacant rows < n → vacant rows < m →
-    read_layout (repeat_until n (requirement_row t) rows) left ≡ read_layout (repeat_until m (requirement_row t) rows) left
-unfolding read_layout repeat_until
+    read_layout (requirement_rows t n rows) left ≡ read_layout (requirement_rows t m rows) left
+unfolding read_layout requirement_rows
 bounds_agree t zero m rows left size few few' = absurd (omega arith)
 bounds_agree t (suc n) zero rows left size few few' = absurd (omega arith)
 bounds_agree t (suc n) (suc m) rows left size few few' =
-    then_read-same (read_layout (requirement_row t rows) left)
-    (λ x. read_layout (after_row (repeat_until n (requirement_row t)) x.0.0 x.0.1) x.1)
-    (λ x. read_layout (after_row (repeat_until m (requirement_row t)) x.0.0 x.0.1) x.1)
-    (λ x is.
-    after_row-same (repeat_until n (requirement_row t)) (repeat_until m (requirement_row t)) x.0.0 x.0.1 x.1
-    (λ more.
-    let found : read_layout (requirement_row t rows) left ≡ Ok ((true, x.0.1), x.1) = is ∙ ap (λ (b : Bool). Ok ((b, x.0.1), x.1)) more in
-    let fills = fills-read (requirement_row t rows) left.last left.rest (true, x.0.1) x.1 found in
-    let less = requirement_row-takes t rows fills.0 x.0.1 size fills.3 in
-    bounds_agree t n m x.0.1 x.1 (less.0 ∙ size) (omega (arith, less.1)) (omega (arith, less.1))))
+    let word = shift_or (codes "SHIFT_OFF_REQUESTS") t.shifts in
+    then_read-same (read_layout word left) _ _ (λ x is.
+    by (λ rows left size few few'. bounds_agree t n m rows left size few few') x.0 x.1
+    (fills-read word left.last left.rest x.0 x.1 is))
+  where
+    by : ((rows : Requirements) (left : Reading) → length rows ≡ length t.shifts * length t.skills → vacant rows < n → vacant rows < m →
+        read_layout (requirement_rows t n rows) left ≡ read_layout (requirement_rows t m rows) left) →
+        (shift : Option ℕ) (middle : Reading) → Found (shift_or (codes "SHIFT_OFF_REQUESTS") t.shifts) left.last left.rest shift middle →
+        read_layout (part_or (λ shift. requirement t.skills shift rows >>= requirement_rows t n) shift rows) middle ≡
+        read_layout (part_or (λ shift. requirement t.skills shift rows >>= requirement_rows t m) shift rows) middle
+    by later None middle found = refl
+    by later (Some shift) middle found =
+        then_read-same (read_layout (requirement t.skills shift rows) middle) _ _ (λ x is.
+        let below = shift_or-below (codes "SHIFT_OFF_REQUESTS") t.shifts found.0 (Some shift) found.3 shift refl in
+        let fills = fills-read (requirement t.skills shift rows) middle.last middle.rest x.0 x.1 is in
+        let less = requirement-takes t.shifts t.skills shift rows fills.0 x.0 below size fills.3 in
+        later x.0 x.1 (less.0 ∙ size) (omega (arith, less.1)) (omega (arith, less.1)))
 
 pub bound_ends_no_rows : BoundEndsNoRows
-unfolding requirement_rows
 bound_ends_no_rows t more left =
     let pairs = length t.shifts * length t.skills in
     let size = length-replicate {A = Option (List Demand)} pairs None in

@@ -10,8 +10,8 @@ use Rattle.rota_core.specs.ScenarioTables.{ScenarioTables, numbers_of}
 use Rattle.rota_core.specs.Problem.{no_past}
 use Rattle.rota_core.specs.WeekTables.{HistoryTables, IsHistory, IsPast}
 use Rattle.rota_read.specs.Tokens.{Token, tokens}
-use Rattle.rota_read.specs.Layout.{repeat}
-use Rattle.rota_read.specs.HistoryLayout.{past, Pasts, has_past, past_row, past_rows, history_heading, history}
+use Rattle.rota_read.specs.Layout.{has_row, repeat}
+use Rattle.rota_read.specs.HistoryLayout.{past, past_row, past_rows, history}
 use Rattle.rota_read.specs.HistoryRows.{GivesEachPast}
 use Rattle.rota_read.specs.Files.{Fills, Spells}
 use Rattle.rota_read.proofs.SlotLaws.{number-within, known_name-below, known_name-free, shift_or-below}
@@ -45,7 +45,7 @@ all_set P (y ∷ xs) zero x all p = (p, all.1)
 all_set P (y ∷ xs) (suc i) x all p = (all.0, all_set P xs i x all.1 p)
 
 -- the pasts of the nurses, if i nurses have one
-abbrev Kept : ℕ → ℕ → ℕ → Pasts → Type 0
+abbrev Kept : ℕ → ℕ → ℕ → List (Option Past) → Type 0
 Kept nurses shifts i pasts =
     (length pasts ≡ nurses)
     × AllByRecursion (λ one. IsPast shifts (unwrap_or one no_past)) pasts
@@ -54,22 +54,22 @@ Kept nurses shifts i pasts =
 abbrev number_of : Bool → ℕ
 number_of b = cond b 1 0
 
-one_more : (pasts : Pasts) (nurse : ℕ) (one : Past) → nurse < length pasts → has_past pasts nurse ≡ false →
+one_more : (pasts : List (Option Past)) (nurse : ℕ) (one : Past) → nurse < length pasts → has_row pasts nurse ≡ false →
     count_by is_some (set pasts nurse (Some one)) ≡ suc (count_by is_some pasts)
 one_more pasts nurse one lt free =
     let e = sum_by-set (λ (o : Option Past). number_of (is_some o)) pasts nurse (Some one) None lt in
     let none = ap (λ (b : Bool). number_of b) free in
     omega (arith, e, none)
 
-past_row-keeps : (tables : ScenarioTables) (i : ℕ) (pasts : Pasts) (front : List Token) (next : Pasts) →
+past_row-keeps : (tables : ScenarioTables) (i : ℕ) (pasts : List (Option Past)) (front : List Token) (next : List (Option Past)) →
     Fills (past_row tables pasts) front next →
     Kept (length tables.nurses) (length tables.shifts) i pasts → Kept (length tables.nurses) (length tables.shifts) (suc i) next
 unfolding Fills past_row
 past_row-keeps tables i pasts front next h k =
     let nurse = h.0 in
     let one = h.5.0 in
-    let below = known_name-below tables.nurses (has_past pasts) h.1 nurse h.4 in
-    let free = known_name-free tables.nurses (has_past pasts) h.1 nurse h.4 in
+    let below = known_name-below tables.nurses (has_row pasts) h.1 nurse h.4 in
+    let free = known_name-free tables.nurses (has_row pasts) h.1 nurse h.4 in
     rw h.5.5.1 (
       length-set pasts nurse (Some one) ∙ k.0,
       all_set (λ one. IsPast (length tables.shifts) (unwrap_or one no_past)) pasts nurse (Some one) k.1
@@ -93,7 +93,7 @@ none_counted zero = refl
 none_counted (suc n) = none_counted n
 
 -- a property that each row keeps holds after all of them
-rows-keep : (tables : ScenarioTables) (n i : ℕ) (pasts : Pasts) (front : List Token) (last : Pasts) →
+rows-keep : (tables : ScenarioTables) (n i : ℕ) (pasts : List (Option Past)) (front : List Token) (last : List (Option Past)) →
     Fills (repeat n (past_row tables) pasts) front last →
     Kept (length tables.nurses) (length tables.shifts) i pasts → Kept (length tables.nurses) (length tables.shifts) (n + i) last
 unfolding Fills repeat
@@ -105,7 +105,7 @@ rows-keep tables (suc n) i pasts front last h k =
     let e : n + suc i ≡ suc n + i = omega arith in
     subst (λ j. Kept (length tables.nurses) (length tables.shifts) j last) e (rows-keep tables n (suc i) h.0 h.2 last h.5 one)
 
-past_rows-kept : (tables : ScenarioTables) (front : List Token) (pasts : Pasts) → Fills (past_rows tables) front pasts →
+past_rows-kept : (tables : ScenarioTables) (front : List Token) (pasts : List (Option Past)) → Fills (past_rows tables) front pasts →
     Kept (length tables.nurses) (length tables.shifts) (length tables.nurses) pasts
 unfolding past_rows
 past_rows-kept tables front pasts h =
@@ -118,7 +118,7 @@ past_rows-kept tables front pasts h =
     subst (λ n. Kept nurses shifts n pasts) e kept
 
 -- if the number of nurses with a past is the number of nurses, each has one
-all_given : (pasts : Pasts) → count_by is_some pasts ≡ length pasts → pasts ≡ map Some (map (λ past. unwrap_or past no_past) pasts)
+all_given : (pasts : List (Option Past)) → count_by is_some pasts ≡ length pasts → pasts ≡ map Some (map (λ past. unwrap_or past no_past) pasts)
 all_given [] h = refl
 all_given (None ∷ pasts) h =
     let few = count_by-le-length (is_some {T = Past}) pasts in
@@ -130,16 +130,10 @@ all_given (Some one ∷ pasts) h =
 
 -- ---- whole histories
 
-all_past : (shifts : ℕ) (pasts : Pasts) → AllByRecursion (λ one. IsPast shifts (unwrap_or one no_past)) pasts →
+all_past : (shifts : ℕ) (pasts : List (Option Past)) → AllByRecursion (λ one. IsPast shifts (unwrap_or one no_past)) pasts →
     AllByRecursion (IsPast shifts) (map (λ past. unwrap_or past no_past) pasts)
 all_past shifts [] h = tt
 all_past shifts (one ∷ pasts) h = (h.0, all_past shifts pasts h.1)
-
-heading-within : (front : List Token) (week : ℕ) → Fills history_heading front week → week ≤ max_number
-unfolding Fills history_heading
-heading-within front week h =
-    let number = h.5 in
-    rw number.5.5.5.1 (number-within 0 max_number number.1 number.0 number.4).1
 
 -- the rows give the past of each nurse
 pub gives_each_past : (tables : ScenarioTables) → GivesEachPast tables
@@ -151,11 +145,12 @@ history-is_history : (tables : ScenarioTables) (front : List Token) (spelled : H
     AreLimited (numbers_of tables) → Fills (history tables) front spelled → IsHistory spelled
 unfolding Fills history
 history-is_history tables front spelled numbers h =
-    let rows = h.5 in
+    let week = h.5 in
+    let rows = week.5.5.5 in
     let kept = past_rows-kept tables rows.1 rows.0 rows.4 in
     rw rows.5.1 (record {
       numbers = numbers;
-      week = heading-within h.1 h.0 h.4;
+      week = (number-within 0 max_number week.1 week.0 week.4).1;
       past = (length-map rows.0 (λ past. unwrap_or past no_past) ∙ kept.0, all_past (length tables.shifts) rows.0 kept.1);
     })
 
@@ -168,4 +163,4 @@ spells-is_history tables text spelled numbers h = history-is_history tables (tok
 pub spells-numbers : (tables : ScenarioTables) (text : List ℕ) (spelled : HistoryTables) →
     Spells (history tables) text spelled → spelled.numbers ≡ numbers_of tables
 unfolding Fills history
-spells-numbers tables text spelled h = rw h.filled.5.5.1 refl
+spells-numbers tables text spelled h = rw h.filled.5.5.5.5.5.1 refl

@@ -19,9 +19,11 @@ use Rattle.rota_core.proofs.LogicWords.{AllByRecursion-append, all-weaker}
 use Rattle.rota_core.specs.CellLists.{ListsCells}
 use Rattle.rota_core.specs.NumeralLaws.{ReadsBack}
 use Rattle.rota_core.specs.RisingLists.{RisesWithin}
-use Rattle.rota_read.specs.Layout.{day_names, setting, Layout, end, exactly, number, any_word, known_name, none_taken, repeat}
+use Rattle.rota_read.specs.Layout.{day_names, setting, Layout, end, ◌>>=◌, exactly, number, any_word, known_name, none_taken}
+use Rattle.rota_read.specs.Layout.{many, one_more, repeat}
 use Rattle.rota_read.specs.Files.{Fills}
-use Rattle.rota_read.specs.SolutionLayout.{is_same_cell, is_one_cell, assignment_row, solution_heading, solution, SpellsRoster}
+use Rattle.rota_read.specs.RosterReading.{assignment_row}
+use Rattle.rota_read.specs.SolutionLayout.{is_same_cell, is_one_cell, assignment, solution, SpellsRoster}
 use Rattle.rota_read.specs.SolutionText.{name_at, spaced, ended, heading_text, assignment_text, text_of_cells, solution_text}
 use Rattle.rota_read.specs.Tokens.{tokens_from, tokens}
 use Rattle.rota_core.specs.RosterCells.{cells_of}
@@ -95,10 +97,10 @@ module _ (reads_back : (n : ℕ) → ReadsBack n) (tables : InstanceTables) (val
   abbrev named : (names : List (List ℕ)) (is_taken : ℕ → Bool) (index b : ℕ) → Type 0
   named names is_taken index b = FillsAsPiece (known_name names is_taken) (name_at names index ++ b ∷ []) index
 
-  row-spelled : (rows : List Cell) (one : Cell) → InWeek (problem_of tables) one → is_one_cell rows one ≡ false →
-      FillsAsPiece (assignment_row scenario rows) (assignment_text scenario one) (rows ++ one ∷ [])
-  unfolding assignment_row assignment_text
-  row-spelled rows one in_week is_new =
+  assignment-spelled : (rows : List Cell) (one : Cell) → InWeek (problem_of tables) one → is_one_cell rows one ≡ false →
+      FillsAsPiece (assignment scenario rows) (assignment_text scenario one) one
+  unfolding assignment assignment_text
+  assignment-spelled rows one in_week is_new =
       let nurses = valid.scenario.nurses in
       let shifts = valid.scenario.shifts in
       let skills = valid.scenario.skills in
@@ -120,13 +122,20 @@ module _ (reads_back : (n : ℕ) → ReadsBack n) (tables : InstanceTables) (val
       piece-known_name scenario.skills taken (name_at scenario.skills one.skill) one.skill 10
       (holds-name_at IsWord scenario.skills one.skill skills.1 in_week.skill_in) refl
       (index_of-name_at scenario.skills one.skill skills.2 in_week.skill_in) is_new in
-      subst (λ text. FillsAsPiece (assignment_row scenario rows) text (rows ++ one ∷ []))
+      subst (λ text. FillsAsPiece (assignment scenario rows) text one)
       (sym (cut_row (name_at scenario.nurses one.nurse) (name_at day_names one.day) (name_at scenario.shifts one.shift)
       (name_at scenario.skills one.skill)))
-      (piece-bind (known_name scenario.nurses none_taken) _ _ _ one.nurse (rows ++ one ∷ []) nurse
-      (piece-bind (known_name day_names none_taken) _ _ _ one.day (rows ++ one ∷ []) day
-      (piece-bind (known_name scenario.shifts none_taken) _ _ _ one.shift (rows ++ one ∷ []) shift
-      (piece-map (known_name scenario.skills taken) (λ k. rows ++ cell one.nurse one.day one.shift k ∷ []) _ one.skill skill))))
+      (piece-bind (known_name scenario.nurses none_taken) _ _ _ one.nurse one nurse
+      (piece-bind (known_name day_names none_taken) _ _ _ one.day one day
+      (piece-bind (known_name scenario.shifts none_taken) _ _ _ one.shift one shift
+      (piece-map (known_name scenario.skills taken) (λ k. cell one.nurse one.day one.shift k) _ one.skill skill))))
+
+  row-spelled : (rows : List Cell) (one : Cell) → InWeek (problem_of tables) one → is_one_cell rows one ≡ false →
+      FillsAsPiece (assignment_row scenario rows) (assignment_text scenario one) (rows ++ one ∷ [])
+  unfolding assignment_row one_more
+  row-spelled rows one in_week is_new =
+      piece-map (assignment scenario rows) (λ one. rows ++ one ∷ []) (assignment_text scenario one) one
+      (assignment-spelled rows one in_week is_new)
 
   -- ---- all assignments
 
@@ -177,34 +186,46 @@ module _ (reads_back : (n : ℕ) → ReadsBack n) (tables : InstanceTables) (val
 
   -- ---- the lines before them
 
-  heading-spelled : (count : ℕ) → count ≤ max_number → FillsAsPiece solution_heading (heading_text tables count) count
-  unfolding solution_heading setting heading_text
-  heading-spelled count few =
+  -- the slots of the lines before the assignments, and the slots of the assignments
+  abbrev after_heading : (ℕ → Layout (List Cell)) → Layout (List Cell)
+  after_heading rows =
+      exactly (codes "SOLUTION") >>= λ _. number 0 max_number >>= λ _. any_word >>= λ _. setting (codes "ASSIGNMENTS") 0 max_number >>= rows
+
+  heading-spelled : (count : ℕ) (rows : ℕ → Layout (List Cell)) (text : List ℕ) (cells : List Cell) → count ≤ max_number →
+      FillsAsPiece (rows count) text cells → FillsAsPiece (after_heading rows) (heading_text tables count ++ text) cells
+  unfolding setting heading_text
+  heading-spelled count rows text cells few then_rows =
       let name : List ℕ = scenario.name in
-      let problem : List ℕ = numeral tables.history.week in
+      let week : List ℕ = numeral tables.history.week in
       let number_line : List ℕ = 32 ∷ (numeral count ++ 10 ∷ []) in
+      let first : List ℕ = codes "SOLUTION" ++ 10 ∷ [] in
       let count_line : List ℕ = (10 ∷ (codes "ASSIGNMENTS" ++ 32 ∷ [])) ++ ((61 ∷ []) ++ number_line) in
-      subst (λ text. FillsAsPiece solution_heading text count) (sym (cut_heading problem name (numeral count)))
-      (piece-bind (exactly (codes "SOLUTION")) _ (codes "SOLUTION" ++ 10 ∷ [])
-      ((problem ++ 32 ∷ []) ++ ((name ++ 10 ∷ []) ++ count_line)) (codes "SOLUTION") count
+      let cut : heading_text tables count ++ text ≡ first ++ ((week ++ 32 ∷ []) ++ ((name ++ 10 ∷ []) ++ (count_line ++ text))) =
+      ap (λ h. h ++ text) (cut_heading week name (numeral count))
+      ∙ append_assoc first ((week ++ 32 ∷ []) ++ ((name ++ 10 ∷ []) ++ count_line)) text
+      ∙ ap (λ rest. first ++ rest) (append_assoc (week ++ 32 ∷ []) ((name ++ 10 ∷ []) ++ count_line) text)
+      ∙ ap (λ rest. first ++ ((week ++ 32 ∷ []) ++ rest)) (append_assoc (name ++ 10 ∷ []) count_line text) in
+      subst (λ whole. FillsAsPiece (after_heading rows) whole cells) (sym cut)
+      (piece-bind (exactly (codes "SOLUTION")) _ first _ (codes "SOLUTION") cells
       (piece-exactly (codes "SOLUTION") 10 (omega arith, refl) refl refl)
-      (piece-bind (number 0 max_number) _ (problem ++ 32 ∷ []) ((name ++ 10 ∷ []) ++ count_line) tables.history.week count
+      (piece-bind (number 0 max_number) _ (week ++ 32 ∷ []) _ tables.history.week cells
       (piece-number reads_back 0 max_number tables.history.week 32 (omega arith) valid.history.week refl)
-      (piece-bind any_word _ (name ++ 10 ∷ []) count_line name count (piece-any_word name 10 valid.scenario.name refl)
+      (piece-bind any_word _ (name ++ 10 ∷ []) _ name cells (piece-any_word name 10 valid.scenario.name refl)
+      (piece-bind (setting (codes "ASSIGNMENTS") 0 max_number) rows count_line text count cells
       (piece-bind (exactly (codes "ASSIGNMENTS")) _ (10 ∷ (codes "ASSIGNMENTS" ++ 32 ∷ [])) ((61 ∷ []) ++ number_line)
       (codes "ASSIGNMENTS") count
       (piece-blank (exactly (codes "ASSIGNMENTS")) 10 (codes "ASSIGNMENTS" ++ 32 ∷ []) (codes "ASSIGNMENTS") refl
       (piece-exactly (codes "ASSIGNMENTS") 32 (omega arith, refl) refl refl))
       (piece-bind (exactly (codes "=")) _ (61 ∷ []) number_line (codes "=") count (piece-sign 61 refl refl refl)
       (piece-blank (number 0 max_number) 32 (numeral count ++ 10 ∷ []) count refl
-      (piece-number reads_back 0 max_number count 10 (omega arith) few refl)))))))
+      (piece-number reads_back 0 max_number count 10 (omega arith) few refl)))) then_rows))))
 
   -- ---- the whole text
 
   pub roster_text-spelled : ((roster : Roster) → ListsCells (problem_of tables) roster) →
       (roster : RosterTables) → HasShapeOf (problem_of tables) roster → KeepsOneCell (problem_of tables) (set_of roster) →
       length (solution_text tables (set_of roster)) ≤ max_file_len → SpellsRoster tables (solution_text tables (set_of roster)) roster
-  unfolding solution text_of_cells tokens_from
+  unfolding solution many assignment_row text_of_cells tokens_from
   roster_text-spelled lists roster shape one_cell short =
       let problem = problem_of tables in
       let cells : List Cell = cells_of problem (set_of roster) in
@@ -214,8 +235,8 @@ module _ (reads_back : (n : ℕ) → ReadsBack n) (tables : InstanceTables) (val
       let rows : FillsAsPiece (repeat (length cells) (assignment_row scenario) []) (flat_map (assignment_text scenario) cells) cells =
       rows-spelled [] cells _ _ tt listed.rise theirs in
       let whole : FillsAsPiece (solution scenario) (solution_text tables (set_of roster)) cells =
-      piece-bind solution_heading (λ count. repeat count (assignment_row scenario) []) (heading_text tables (length cells))
-      (flat_map (assignment_text scenario) cells) (length cells) cells (heading-spelled (length cells) few) rows in
+      heading-spelled (length cells) (λ count. repeat count (assignment_row scenario) []) (flat_map (assignment_text scenario) cells) cells
+      few rows in
       record {
         rows = cells;
         spelled = record { short = short; filled = all_of_it (solution scenario) (solution_text tables (set_of roster)) cells whole };

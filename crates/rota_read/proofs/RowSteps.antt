@@ -1,10 +1,12 @@
 -- Reading rows one after the other, as a loop does.
-use Rattle.std.proofs.Common.{◌≡◌, ℕ, suc, ◌+◌, ◌-◌, ◌<◌, ◌≤◌, Bool, Ok, refl, arith}
+use Rattle.std.proofs.Common.{◌≡◌, ℕ, suc, ◌+◌, ◌-◌, ◌<◌, ◌≤◌, Option, Result, Ok, codes, refl, arith}
+use Rattle.rota_core.specs.ScenarioTables.{ScenarioTables}
+use Rattle.rota_read.specs.declared.fault.Fault.{Fault}
 use Rattle.rota_read.specs.declared.fault.Stop.{Stop}
 use Rattle.rota_read.specs.Reading.{Reading, then_read, read_layout, Fails}
-use Rattle.rota_read.specs.Layout.{Layout, end, repeat}
+use Rattle.rota_read.specs.Layout.{Layout, ◌>>=◌, repeat, shift_or}
 use Rattle.rota_read.proofs.EndLemmas.{front_fails}
-use Rattle.rota_read.specs.WeekLayout.{after_row, repeat_until}
+use Rattle.rota_read.specs.WeekLayout.{Requirements, part_or, requirement, requirement_rows}
 
 module _ {S : Type 0} (row : S → Layout S) (state : S) (count i : ℕ) (left : Reading) where
   -- a row, and the rows after it
@@ -29,31 +31,27 @@ module _ {S : Type 0} (row : S → Layout S) (state : S) (count i : ℕ) (left :
 
 pub ruleset row_steps = (next_row, no_row, row_fails)
 
-module _ {S : Type 0} (row : S → Layout (Bool × S)) (state : S) (count i : ℕ) (left : Reading) where
-  -- a row, and the rows after it if there are more
-  pub next_until : i < count →
-      read_layout (repeat_until (count - i) row state) left ≡
-      then_read (read_layout (row state) left) (λ x. read_layout (after_row (repeat_until (count - (i + 1)) row) x.0.0 x.0.1) x.1)
-  unfolding repeat_until read_layout
-  next_until lt =
+module _ (t : ScenarioTables) (rows : Requirements) (count i : ℕ) (left : Reading) where
+  -- the rows after a shift type, or none after the word
+  abbrev pub more_rows : Option ℕ × Reading → Result (Requirements × Reading) Fault
+  more_rows x = read_layout (part_or (λ shift. requirement t.skills shift rows >>= requirement_rows t (count - (i + 1))) x.0 rows) x.1
+
+  pub next_requirement : i < count → read_layout (requirement_rows t (count - i) rows) left ≡
+      then_read (read_layout (shift_or (codes "SHIFT_OFF_REQUESTS") t.shifts) left) more_rows
+  unfolding requirement_rows read_layout
+  next_requirement lt =
       let k : count - i ≡ suc (count - (i + 1)) = omega arith in
       rw k refl
 
-  pub until_fails : (e : Stop) → i < count → Fails e (read_layout (row state) left) →
-      Fails e (read_layout (repeat_until (count - i) row state) left)
-  until_fails e lt h =
-      rw (next_until lt)
-      (front_fails (read_layout (row state) left) (λ x. read_layout (after_row (repeat_until (count - (i + 1)) row) x.0.0 x.0.1) x.1) e h)
+  -- neither a shift type nor the word was read
+  pub requirement_fails : (e : Stop) → i < count → Fails e (read_layout (shift_or (codes "SHIFT_OFF_REQUESTS") t.shifts) left) →
+      Fails e (read_layout (requirement_rows t (count - i) rows) left)
+  requirement_fails e lt h =
+      rw (next_requirement lt) (front_fails (read_layout (shift_or (codes "SHIFT_OFF_REQUESTS") t.shifts) left) more_rows e h)
 
   -- the maximum number of rows was read
-  pub no_until : count ≤ i → read_layout (repeat_until (count - i) row state) left ≡ Ok (state, left)
-  unfolding repeat_until read_layout
-  no_until le =
+  pub no_requirement : count ≤ i → read_layout (requirement_rows t (count - i) rows) left ≡ Ok (rows, left)
+  unfolding requirement_rows read_layout
+  no_requirement le =
       let k : count - i ≡ 0 = omega arith in
       rw k refl
-
-pub read_end : {S : Type 0} (state : S) (left : Reading) → read_layout (end state) left ≡ Ok (state, left)
-unfolding read_layout
-read_end state left = refl
-
-pub ruleset until_steps = (next_until, no_until, until_fails, read_end)

@@ -1,12 +1,11 @@
 -- The slots of a history file.
-use Rattle.std.specs.Prelude.{ℕ, Bool, List, codes, length, map, replicate, slice_index_or, slice_set}
-use Rattle.std.specs.Prelude.{Option, Some, None, unwrap_or, is_some}
+use Rattle.std.specs.Prelude.{ℕ, List, codes, length, map, replicate, slice_set, Option, Some, None, unwrap_or}
 use Rattle.rota_core.specs.Limits.{max_number}
 use Rattle.rota_core.specs.declared.values.Past.{Past}
 use Rattle.rota_core.specs.ScenarioTables.{ScenarioTables, numbers_of}
 use Rattle.rota_core.specs.Problem.{no_past}
 use Rattle.rota_core.specs.WeekTables.{HistoryTables}
-use Rattle.rota_read.specs.Layout.{shift_or, Layout, end, ◌>>=◌, exactly, number, any_word, known_name, repeat}
+use Rattle.rota_read.specs.Layout.{shift_or, Layout, end, ◌>>=◌, exactly, number, any_word, known_name, has_row, repeat}
 
 -- the totals, the last shift type or `None`, and the runs
 unfoldable pub past : List (List ℕ) → Layout Past
@@ -26,38 +25,24 @@ past shifts = do
     off_run = off_run;
   })
 
--- by nurse, her past if a row has given it
-abbrev pub Pasts : Type 0
-Pasts = List (Option Past)
-
--- whether a row has given the nurse's past
-abbrev pub has_past : Pasts → ℕ → Bool
-has_past pasts nurse = is_some (slice_index_or pasts nurse None)
-
--- the row of a nurse who had none before
-unfoldable pub past_row : ScenarioTables → Pasts → Layout Pasts
+-- the row of a nurse who had none before, by the nurses' indices
+unfoldable pub past_row : ScenarioTables → List (Option Past) → Layout (List (Option Past))
 past_row tables pasts = do
-  nurse ← known_name tables.nurses (has_past pasts)
+  nurse ← known_name tables.nurses (has_row pasts)
   one ← past tables.shifts
   end (slice_set pasts nurse (Some one))
 
--- a row for each nurse, in any order
-unfoldable pub past_rows : ScenarioTables → Layout Pasts
+-- a row for each nurse, in any order; the pasts are in the order of the nurses
+unfoldable pub past_rows : ScenarioTables → Layout (List (Option Past))
 past_rows tables = repeat (length tables.nurses) (past_row tables) (replicate (length tables.nurses) None)
 
--- the number of the week; any word may be the scenario's name
-unfoldable pub history_heading : Layout ℕ
-history_heading = do
+-- The slots of the whole file. Any word may be the scenario's name. After the rows each nurse has her past.
+unfoldable pub history : ScenarioTables → Layout HistoryTables
+history tables = do
   _ ← exactly (codes "HISTORY")
   week ← number 0 max_number
   _ ← any_word
   _ ← exactly (codes "NURSE_HISTORY")
-  end week
-
--- After the rows each nurse has her past.
-unfoldable pub history : ScenarioTables → Layout HistoryTables
-history tables = do
-  week ← history_heading
   pasts ← past_rows tables
   end (record {
     numbers = numbers_of tables;

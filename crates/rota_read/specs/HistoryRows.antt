@@ -1,13 +1,14 @@
 -- The meaning of the rows of a history file together.
-use Rattle.std.specs.Prelude.{◌≡◌, List, Some, map, unwrap_or}
+use Rattle.std.specs.Prelude.{◌≡◌, List, Option, Some, map, unwrap_or}
+use Rattle.rota_core.specs.declared.values.Past.{Past}
 use Rattle.rota_core.specs.ScenarioTables.{ScenarioTables}
 use Rattle.rota_core.specs.Problem.{no_past}
 use Rattle.rota_read.specs.Tokens.{Token}
-use Rattle.rota_read.specs.HistoryLayout.{Pasts, past_rows}
+use Rattle.rota_read.specs.HistoryLayout.{past_rows}
 use Rattle.rota_read.specs.Files.{Fills}
 
 -- The rows give the past of each nurse, so no past is invented.
 abbrev pub GivesEachPast : ScenarioTables → Type 0
 GivesEachPast tables =
-    (front : List Token) (pasts : Pasts) → Fills (past_rows tables) front pasts →
+    (front : List Token) (pasts : List (Option Past)) → Fills (past_rows tables) front pasts →
     pasts ≡ map Some (map (λ past. unwrap_or past no_past) pasts)

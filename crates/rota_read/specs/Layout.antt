@@ -1,6 +1,6 @@
 -- A file as a list of slots, which its tokens fill in order; and the slots that several files share.
 use Rattle.std.specs.Prelude.{ℕ, zero, suc, ◌==◌, nat_le, Bool, false, ◌&&◌, if◌then◌else◌}
-use Rattle.std.specs.Prelude.{List, [], ◌∷◌, ◌++◌, Option, Some, None, unwrap_or, codes, bytes_eq}
+use Rattle.std.specs.Prelude.{List, [], ◌∷◌, ◌++◌, Option, Some, None, is_some, unwrap_or, codes, bytes_eq, slice_index_or}
 use Rattle.std.specs.List.{list_any}
 use Rattle.std.specs.Option.{option_map_or}
 use Rattle.rota_core.specs.Limits.{max_number}
@@ -99,6 +99,10 @@ one_more row rows = do
 -- the given number of rows, each of which may depend on the rows before it
 unfoldable pub many : {A : Type 0} → ℕ → (List A → Layout A) → Layout (List A)
 many count row = repeat count (one_more row) []
+
+-- whether an index has a row
+abbrev pub has_row : {A : Type 0} → List (Option A) → ℕ → Bool
+has_row rows index = is_some (slice_index_or rows index None)
 
 -- a minimum and a maximum
 unfoldable pub pair : Layout Span

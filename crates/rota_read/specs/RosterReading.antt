@@ -6,7 +6,13 @@ use Rattle.rota_core.specs.Problem.{Problem}
 use Rattle.rota_read.specs.declared.fault.Fault.{Fault}
 use Rattle.rota_read.specs.declared.fault.Stop.{Stop}
 use Rattle.rota_read.specs.Reading.{Reading, Fails}
-use Rattle.rota_read.specs.SolutionLayout.{HasCells}
+use Rattle.rota_core.specs.ScenarioTables.{ScenarioTables}
+use Rattle.rota_read.specs.Layout.{Layout, one_more}
+use Rattle.rota_read.specs.SolutionLayout.{assignment, HasCells}
+
+-- one more assignment
+unfoldable pub assignment_row : ScenarioTables → List Cell → Layout (List Cell)
+assignment_row tables = one_more (assignment tables)
 
 -- The result of a function is a roster of the cells that reading returns, and the rest is the same, unless memory ran out.
 abbrev pub ReadsRoster : Problem → Result RosterTables Stop → Reading → Result (List Cell × Reading) Fault → Type 0

@@ -1,11 +1,11 @@
 -- The slots of a solution file, and the roster that it spells.
-use Rattle.std.specs.Prelude.{ℕ, ◌==◌, ◌&&◌, Bool, List, [], ◌∷◌, ◌++◌, codes, ◌≡◌}
+use Rattle.std.specs.Prelude.{◌≡◌, ℕ, ◌==◌, ◌&&◌, Bool, List, codes}
 use Rattle.std.specs.List.{list_any}
 use Rattle.rota_core.specs.Limits.{max_number}
 use Rattle.rota_core.specs.declared.values.Cell.{Cell}
 use Rattle.rota_core.specs.Roster.{cell, InWeek}
 use Rattle.rota_core.specs.ScenarioTables.{ScenarioTables}
-use Rattle.rota_read.specs.Layout.{day_names, setting, Layout, end, ◌>>=◌, exactly, number, any_word, known_name, none_taken, repeat}
+use Rattle.rota_read.specs.Layout.{day_names, setting, Layout, end, ◌>>=◌, exactly, number, any_word, known_name, none_taken, many}
 use Rattle.rota_core.specs.InstanceTables.{InstanceTables, problem_of}
 use Rattle.rota_core.specs.RosterTables.{RosterTables, HasShapeOf, set_of}
 use Rattle.rota_core.specs.Problem.{Problem}
@@ -19,28 +19,23 @@ is_same_cell one other = one.nurse == other.nurse && one.day == other.day && one
 abbrev pub is_one_cell : List Cell → Cell → Bool
 is_one_cell cells one = list_any (is_same_cell one) cells
 
--- one more assignment; no four names occur together twice
-unfoldable pub assignment_row : ScenarioTables → List Cell → Layout (List Cell)
-assignment_row tables rows = do
+-- an assignment, whose four names do not occur together in an earlier row
+unfoldable pub assignment : ScenarioTables → List Cell → Layout Cell
+assignment tables rows = do
   nurse ← known_name tables.nurses none_taken
   day ← known_name day_names none_taken
   shift ← known_name tables.shifts none_taken
   skill ← known_name tables.skills (λ skill. is_one_cell rows (cell nurse day shift skill))
-  end (rows ++ cell nurse day shift skill ∷ [])
+  end (cell nurse day shift skill)
 
--- The week's number and the scenario's name may be any.
-unfoldable pub solution_heading : Layout ℕ
-solution_heading = do
+-- The slots of the whole file: the assignments, in its order. The week's number and the scenario's name may be any.
+unfoldable pub solution : ScenarioTables → Layout (List Cell)
+solution tables = do
   _ ← exactly (codes "SOLUTION")
   _ ← number 0 max_number
   _ ← any_word
-  setting (codes "ASSIGNMENTS") 0 max_number
-
--- the assignments, in the order of the file
-unfoldable pub solution : ScenarioTables → Layout (List Cell)
-solution tables = do
-  count ← solution_heading
-  repeat count (assignment_row tables) []
+  count ← setting (codes "ASSIGNMENTS") 0 max_number
+  many count (assignment tables)
 
 -- the roster has the week's shape, and its cells are these
 pub record HasCells (problem : Problem) (roster : RosterTables) (cells : List Cell) : Type 0 where

@@ -9,7 +9,7 @@ ghost use Rattle.rota_core.specs.declared.fault.FileName.TheVariants as files;
 ghost use Rattle.rota_read.specs.Files.{Spells};
 ghost use Rattle.rota_read.specs.FileAnswers.{IsFaultOf};
 ghost use Rattle.rota_read.specs.OneMeaning.{OneMeaning};
-ghost use Rattle.rota_read.specs.HistoryLayout.{past, has_past, past_row, past_rows, history_heading, history};
+ghost use Rattle.rota_read.specs.HistoryLayout.{past, past_row, past_rows, history};
 ghost use Rattle.rota_read.specs.HistoryRows.{GivesEachPast};
 ghost use Rattle.rota_read.specs.Layout.{repeat};
 ghost use Rattle.rota_read.specs.Reading.{read_layout, Reads, read_text, ReadsFile};
@@ -89,18 +89,6 @@ impl<'a> Cursor<'a> {
         self.rows_of_nurses(scenario, count, &mut pasts)?;
         Ok(pasts)
     }
-
-    // The number of the week.
-    #[tactic(auto, unfolding(crate::specs::HistoryLayout::history_heading, crate::specs::Reading::read_layout))]
-    fn history_heading(&mut self) -> Result<u16, Stop>
-        ensures { Reads (λ n. n) result self.new (read_layout history_heading self.old) }
-    {
-        self.exactly(b"HISTORY")?;
-        let week = self.number(0, MAX_NUMBER)?;
-        self.word()?;
-        self.exactly(b"NURSE_HISTORY")?;
-        Ok(week)
-    }
 }
 
 fn no_rows(alloc: Global, count: u16) -> Result<Vec<Option<Past>>, AllocError>
@@ -126,7 +114,10 @@ fn history_parts(alloc: Global, scenario: &Scenario, text: &[u8]) -> Result<Hist
     ensures limits { IfOk result (λ _. AreLimited (numbers_of scenario.now)) }
 {
     let mut cursor = Cursor::open(text)?;
-    let week = cursor.history_heading()?;
+    cursor.exactly(b"HISTORY")?;
+    let week = cursor.number(0, MAX_NUMBER)?;
+    cursor.word()?;
+    cursor.exactly(b"NURSE_HISTORY")?;
     let pasts = cursor.past_rows(alloc, scenario)?;
     cursor.finish()?;
     Ok(HistoryParts {

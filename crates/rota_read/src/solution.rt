@@ -9,9 +9,9 @@ ghost use Rattle.rota_read.specs.FileAnswers.{IsFaultOf};
 ghost use Rattle.rota_read.specs.OneMeaning.{OneMeaning};
 ghost use Rattle.rota_read.specs.Layout.{repeat};
 ghost use Rattle.rota_read.specs.Reading.{read_layout, Reads, read_text};
-ghost use Rattle.rota_read.specs.SolutionLayout.{assignment_row, solution_heading, solution, HasCells, SpellsRoster};
+ghost use Rattle.rota_read.specs.SolutionLayout.{solution, HasCells, SpellsRoster};
 ghost use Rattle.rota_read.specs.SolutionText.{EachRosterHasItsText};
-ghost use Rattle.rota_read.specs.RosterReading.{ReadsRoster, ReadsRosterFile};
+ghost use Rattle.rota_read.specs.RosterReading.{assignment_row, ReadsRoster, ReadsRosterFile};
 
 use crate::cursor::Cursor;
 use crate::fault::Stop;
@@ -21,7 +21,7 @@ use std::alloc::Global;
 
 impl<'a> Cursor<'a> {
     // Reads one more assignment, and puts it into the roster.
-    #[tactic(auto, using(crate::proofs::NameSteps::known_taken), unfolding(crate::specs::SolutionLayout::assignment_row, crate::specs::Reading::read_layout))]
+    #[tactic(auto, using(crate::proofs::NameSteps::known_taken), unfolding(crate::specs::RosterReading::assignment_row, crate::specs::SolutionLayout::assignment, crate::specs::Layout::one_more, crate::specs::Reading::read_layout))]
     fn assignment_row(&mut self, instance: &Instance, roster: &mut Roster) -> Result<Cell, Stop>
         requires { HasShapeOf (problem_of instance.now) roster.old }
         ensures read { (rows : List Cell) → HasCells (problem_of instance.now) roster.old rows →
@@ -59,26 +59,18 @@ impl<'a> Cursor<'a> {
         }
         Ok(roster)
     }
-
-    // The number of the assignments.
-    #[tactic(auto, unfolding(crate::specs::SolutionLayout::solution_heading, crate::specs::Reading::read_layout))]
-    fn solution_heading(&mut self) -> Result<u16, Stop>
-        ensures { Reads (λ n. n) result self.new (read_layout solution_heading self.old) }
-    {
-        self.exactly(b"SOLUTION")?;
-        self.number(0, MAX_NUMBER)?;
-        self.word()?;
-        self.setting(b"ASSIGNMENTS", 0, MAX_NUMBER)
-    }
 }
 
 // The roster of a solution, from the whole text.
-#[tactic(auto, using(crate::proofs::EndLemmas::front_fails), unfolding(crate::specs::SolutionLayout::solution, crate::specs::Reading::read_layout, crate::specs::Reading::read_text))]
+#[tactic(auto, using(crate::proofs::EndLemmas::front_fails), unfolding(crate::specs::SolutionLayout::solution, crate::specs::Layout::many, crate::specs::RosterReading::assignment_row, crate::specs::Reading::read_layout, crate::specs::Reading::read_text))]
 fn solution_roster(alloc: Global, instance: &Instance, text: &[u8]) -> Result<Roster, Stop>
     ensures { ReadsRosterFile (problem_of instance.now) result (read_text (solution instance.now.scenario) text.now) }
 {
     let mut cursor = Cursor::open(text)?;
-    let count = cursor.solution_heading()?;
+    cursor.exactly(b"SOLUTION")?;
+    cursor.number(0, MAX_NUMBER)?;
+    cursor.word()?;
+    let count = cursor.setting(b"ASSIGNMENTS", 0, MAX_NUMBER)?;
     let roster = cursor.assignment_rows(alloc, instance, count)?;
     cursor.finish()?;
     Ok(roster)

@@ -12,8 +12,8 @@ ghost use Rattle.rota_read.specs.FileAnswers.{IsFaultOf};
 ghost use Rattle.rota_read.specs.OneMeaning.{OneMeaning};
 ghost use Rattle.rota_read.specs.Reading.{read_layout, read_text, Reads, ReadsFile};
 ghost use Rattle.rota_read.specs.WeekBound.{BoundEndsNoRows};
-ghost use Rattle.rota_read.specs.WeekRows.{IsRequest};
-ghost use Rattle.rota_read.specs.WeekLayout.{request_row, requests_part, week};
+ghost use Rattle.rota_read.specs.WeekRows.{request_row, IsRequest};
+ghost use Rattle.rota_read.specs.WeekLayout.{week};
 
 use crate::cursor::Cursor;
 use crate::fault::Stop;
@@ -30,7 +30,7 @@ pub struct RequestRow {
 }
 
 impl<'a> Cursor<'a> {
-    #[tactic(auto, unfolding(crate::specs::WeekLayout::request_row, crate::specs::Reading::read_layout))]
+    #[tactic(auto, unfolding(crate::specs::WeekRows::request_row, crate::specs::WeekLayout::request, crate::specs::Layout::one_more, crate::specs::Reading::read_layout))]
     fn request_row(&mut self, scenario: &Scenario, rows: &mut Vec<RequestRow>) -> Result<(), Stop>
         requires { All (IsRequest (length scenario.now.nurses) (length scenario.now.shifts)) rows.old.items }
         ensures read { Reads (λ _. rows.new.items) result self.new (read_layout (request_row scenario.now rows.old.items) self.old) }
@@ -60,28 +60,22 @@ impl<'a> Cursor<'a> {
         }
         Ok(rows)
     }
-
-    #[tactic(auto, unfolding(crate::specs::WeekLayout::requests_part, crate::specs::Reading::read_layout))]
-    fn requests_part(&mut self, alloc: Global, scenario: &Scenario) -> Result<Vec<RequestRow>, Stop>
-        ensures read { Reads (λ v. v.items) result self.new (read_layout (requests_part scenario.now) self.old) }
-        ensures within { IfOk result (λ v. All (IsRequest (length scenario.now.nurses) (length scenario.now.shifts)) v.items) }
-        ensures count { IfOk result (λ v. length v.items ≤ MAX_NUMBER) }
-    {
-        self.exactly(b"=")?;
-        let count = self.number(0, MAX_NUMBER)?;
-        self.request_rows(alloc, scenario, count)
-    }
 }
 
 // The rows of a week, from the whole text.
-#[tactic(auto, using(crate::proofs::EndLemmas::front_fails), unfolding(crate::specs::WeekLayout::week, crate::specs::Reading::read_layout, crate::specs::Reading::read_text))]
+#[tactic(auto, using(crate::proofs::EndLemmas::front_fails), unfolding(crate::specs::WeekLayout::week, crate::specs::Layout::many, crate::specs::WeekRows::request_row, crate::specs::Reading::read_layout, crate::specs::Reading::read_text))]
 fn week_parts(alloc: Global, scenario: &Scenario, text: &[u8]) -> Result<WeekParts, Stop>
     ensures read { ReadsFile week_tables_of result (read_text (week scenario.now) text.now) }
     ensures within { IfOk result (λ _. AreLimited (numbers_of scenario.now)) }
 {
     let mut cursor = Cursor::open(text)?;
-    let requirements = cursor.requirements_part(alloc, scenario)?;
-    let requests = cursor.requests_part(alloc, scenario)?;
+    cursor.exactly(b"WEEK_DATA")?;
+    cursor.word()?;
+    cursor.exactly(b"REQUIREMENTS")?;
+    let requirements = cursor.requirement_rows(alloc, scenario)?;
+    cursor.exactly(b"=")?;
+    let count = cursor.number(0, MAX_NUMBER)?;
+    let requests = cursor.request_rows(alloc, scenario, count)?;
     cursor.finish()?;
     let nurses = scenario.nurses();
     let shifts = scenario.shifts();

@@ -2,8 +2,8 @@
 
 ghost use Rattle.std.specs.Prelude.{◌≡◌, ◌*◌, ◌+◌, ◌<◌, ◌≤◌, ◌&&◌, ℕ, IfOk, length, nat_le, nat_lt, slice_index, if◌then◌else◌};
 ghost use Rattle.std.specs.List.{All};
-ghost use Rattle.rota_read.specs.WeekLayout.{demand_table, asks_at, request_table};
-ghost use Rattle.rota_read.specs.WeekRows.{IsRequest};
+ghost use Rattle.rota_read.specs.WeekLayout.{demand_table, request_table};
+ghost use Rattle.rota_read.specs.WeekRows.{asks_at, IsRequest};
 
 use crate::week::RequestRow;
 use rota_core::{DAYS, Demand, MAX_NUMBER, MAX_NURSES};

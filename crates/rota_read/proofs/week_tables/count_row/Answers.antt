@@ -1,7 +1,7 @@
 use Rattle.std.proofs.Common.{◌≡◌, ◌==◌, ℕ, ◌+◌, ◌*◌, ◌/◌, ◌%◌, ◌<◌, nat_le, nat_lt, Bool, true, ◌&&◌, if◌then◌else◌}
 use Rattle.std.proofs.Common.{Option, get_or, refl, sym, ap, ◌∙◌}
 use Rattle.std.specs.Option.{option_map_or}
-use Rattle.rota_read.specs.WeekLayout.{asks_at}
+use Rattle.rota_read.specs.WeekRows.{asks_at}
 use Rattle.rota_read.proofs.IndexLemmas.{one_index, whole_row}
 use Rattle.rota_read.proofs.week_tables.count_row.Goals as goal
 

@@ -2,7 +2,7 @@ use Rattle.std.proofs.Common.{◌≡◌, ℕ, ◌-◌, List, [], ◌∷◌, ◌+
 use Rattle.rota_core.specs.declared.values.Cell.{Cell}
 use Rattle.rota_read.specs.Layout.{repeat}
 use Rattle.rota_read.specs.Reading.{read_layout}
-use Rattle.rota_read.specs.SolutionLayout.{assignment_row}
+use Rattle.rota_read.specs.RosterReading.{assignment_row}
 use Rattle.rota_read.proofs.RowSteps.{row_steps}
 use Rattle.rota_read.proofs.cursor.Cursor.assignment_rows.Goals as goal
 

@@ -3,7 +3,8 @@ use Rattle.rota_core.specs.declared.values.Cell.{Cell}
 use Rattle.rota_core.specs.InstanceTables.{problem_of}
 use Rattle.rota_read.specs.Layout.{repeat}
 use Rattle.rota_read.specs.Reading.{read_layout}
-use Rattle.rota_read.specs.SolutionLayout.{assignment_row, HasCells}
+use Rattle.rota_read.specs.RosterReading.{assignment_row}
+use Rattle.rota_read.specs.SolutionLayout.{HasCells}
 use Rattle.rota_read.proofs.cursor.Cursor.assignment_rows.Given as goal
 
 abbrev pub invariant-loop : goal.invariant-loop

@@ -2,8 +2,7 @@ use Rattle.std.proofs.Common.{◌≡◌, ◌-◌, [], length}
 use Rattle.std.specs.List.{All}
 use Rattle.rota_read.specs.Layout.{repeat}
 use Rattle.rota_read.specs.Reading.{read_layout}
-use Rattle.rota_read.specs.WeekLayout.{request_row}
-use Rattle.rota_read.specs.WeekRows.{IsRequest}
+use Rattle.rota_read.specs.WeekRows.{request_row, IsRequest}
 use Rattle.rota_read.proofs.cursor.Cursor.request_rows.Given as goal
 
 abbrev pub invariant-loop : goal.invariant-loop
