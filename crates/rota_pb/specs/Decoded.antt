@@ -46,5 +46,6 @@ LacksRoster problem solved (NoRoster status) = (status ≡ solved.status) × (Fi
 LacksRoster problem solved (Unmet number) = FindsRoster solved.status × IsFirstUnmet problem (truth_of solved.bits) number
 LacksRoster problem solved _ = ⊥
 
+-- the roster of an answer is found, or the reason why it has none
 abbrev pub find_roster : Problem → Solved → Step Decoded
 find_roster problem solved = check (IsDecoded problem solved) (LacksRoster problem solved)

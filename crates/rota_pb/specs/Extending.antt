@@ -1,24 +1,16 @@
 -- The text that an extending run writes.
 use Rattle.std.specs.Prelude.{◌≡◌, ℕ, ◌<◌, ◌≤◌, pos, List, Some, Ok}
-use Rattle.rota_core.specs.Problem.{Problem}
-use Rattle.rota_core.specs.InstanceTables.{InstanceTables, IsInstance, problem_of}
-use Rattle.rota_core.specs.RosterTables.{set_of}
-use Rattle.rota_core.specs.declared.values.Cell.{Cell}
+use Rattle.rota_pb.specs.Imports.{Breaks, Cell, Choice, Fault, InWeek, InstanceTables, IsInstance, KeepsHardRules, Problem, problem_of}
+use Rattle.rota_pb.specs.Imports.{Roster, roster_of, set_of}
 use Rattle.rota_core.specs.declared.fault.FileName.TheVariants as names
-use Rattle.rota_core.specs.Roster.{Roster, InWeek}
-use Rattle.rota_core.specs.HardRules.{KeepsHardRules}
 use Rattle.rota_items.specs.FirstUnmet.{FirstBroken}
 use Rattle.rota_items.specs.ExtensionTruths.{extension_truths}
 use Rattle.rota_items.specs.Penalty.{penalty}
-use Rattle.rota_items.specs.Variables.{roster_of}
 use Rattle.rota_items.specs.Truths.{truth_of}
 use Rattle.rota_items.specs.WeekModel.{model_of, extension_of}
 use Rattle.solver_text.specs.declared.outcome.Status.TheVariants.{Satisfiable}
 use Rattle.solver_text.specs.Answers.{outcome}
 use Rattle.solver_text.specs.AnswerText.{answer_text}
-use Rattle.rota_pb.specs.declared.fault.Fault.{Fault}
-use Rattle.rota_pb.specs.declared.fault.Fault.TheVariants.{Breaks}
-use Rattle.rota_pb.specs.declared.week_files.Choice.{Choice}
 use Rattle.rota_pb.specs.RunPorts.{Reader, WeekReaders, Writer}
 use Rattle.rota_pb.specs.Steps.{Step, ◌>>=◌, ◌>>◌, check, send}
 use Rattle.rota_pb.specs.WeekFiles.{read_roster, read_week}

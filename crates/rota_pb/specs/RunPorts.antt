@@ -63,9 +63,9 @@ pub record FailsAfter (reader : Reader) (taken : List ℕ) : Type 0 where
 abbrev pub IsReadToEnd : Reader → Type 0
 IsReadToEnd reader = (taken : List ℕ) × IsTaken reader taken × IsEnded reader
 
--- it was read to its end, and its bytes, if they are known, spell the value
+-- it was read to its end, and its bytes, if they are known, mean the value
 abbrev pub IsRead : {V : Type 0} → (List ℕ → V → Type 0) → Reader → V → Type 0
-IsRead Spells reader value = IfKnown reader (λ bytes. Spells bytes value) × IsReadToEnd reader
+IsRead Means reader value = IfKnown reader (λ bytes. Means bytes value) × IsReadToEnd reader
 
 -- these bytes were taken, up to its end or `limit` of them
 abbrev pub IsReadUpTo : ℕ → Reader → List ℕ → Type 0
