@@ -2,7 +2,7 @@
 use Rattle.rota_items.proofs.Common.Imports.{◌≡◌, ℕ, zero, suc, ◌<◌, ◌+◌, Bool, true, false, cond, nat_lt, List, [], ◌∷◌, ◌++◌, length, length-append, refl}
 use Rattle.rota_items.proofs.Common.Imports.{sym, ap, ◌∙◌, arith, lt-ltb, true≢false, length-map, length-map-range_with_len, pos, singleton_if-fails, singleton_if-holds, concat_below, concat_below-zero, concat_below-more, singleton_if, in_turn, Problem}
 use Rattle.rota_items.proofs.Common.Imports.{Cell, Term, LinearRow, Item, objective_rows, cell_term_events, Took, Objective, Ghosts, request_terms_on, slack_weights, slack_count, slack_variables, times}
-use Rattle.rota_items.proofs.Common.Imports.{objective_terms, cell_terms, constant, constant_terms, soft_items, unit_number, nat_tests, ◌≤◌, first_slack, numbered_items, numbered_terms, cell_number}
+use Rattle.rota_items.proofs.Common.Imports.{objective_terms, cell_terms, constant, constant_terms, soft_items, unit_number, nat_tests, first_slack, numbered_items, numbered_terms, cell_number}
 use Rattle.rota_items.proofs.Taking.{nothing, terms_join}
 use Rattle.rota_items.proofs.Lists.{length-each-is, slack_count-cons, slack_count-numbered}
 
@@ -53,7 +53,7 @@ unfolding singleton_if
 length-if true x = refl
 length-if false x = refl
 
-length-objective_terms : (problem : Problem) →
+pub length-objective_terms : (problem : Problem) →
     length (objective_terms problem) ≡
     length (cell_terms problem) + (cond (nat_lt 0 (constant problem)) 1 0 + slack_count (soft_items problem))
 length-objective_terms problem =
@@ -67,17 +67,6 @@ length-objective_terms problem =
       length-slack_weights (first_slack problem) (numbered_items problem),
       slack_count-numbered (cell_number problem) (soft_items problem),
     )
-
--- terms at cells and the constant are terms of the objective
-pub some_terms : (problem : Problem) (result : Bool) → result ≡ true → 0 < length (cell_terms problem) + constant problem →
-    result ≡ nat_lt 0 (length (objective_terms problem))
-some_terms problem result is some =
-    is ∙ sym (lt-ltb 0 _ (grind (arith, nat_tests, length-objective_terms problem)))
-
--- without them the terms are those of the slacks, whose variables follow the unit variable
-pub only_slacks : (problem : Problem) (unit variables : ℕ) → length (cell_terms problem) + constant problem ≤ 0 →
-    variables ≡ unit + slack_count (soft_items problem) → nat_lt unit variables ≡ nat_lt 0 (length (objective_terms problem))
-only_slacks problem unit variables none counted = grind (arith, nat_tests, length-objective_terms problem)
 
 -- ---- the row, if the objective has a term
 
