@@ -1,6 +1,6 @@
 -- Each row of requirements uses a pair of a shift type and a skill that had none, so a larger bound on the rows changes nothing.
-use Rattle.std.proofs.Common.{◌≡◌, ℕ, zero, suc, ◌+◌, ◌*◌, ◌<◌, ◌≤◌, Bool, true, false, if◌then◌else◌, refl, ap, ◌∙◌, arith}
-use Rattle.std.proofs.Common.{List, Option, Some, None, Ok, length, get_or, is_some, slice_set, codes}
+use Rattle.std.proofs.Common.{◌≡◌, ℕ, zero, suc, ◌+◌, ◌*◌, ◌<◌, ◌≤◌, Bool, true, false, if◌then◌else◌, refl, ◌∙◌, arith}
+use Rattle.std.proofs.Common.{List, Option, Some, None, length, get_or, is_some, slice_set, codes}
 use Rattle.std.specs.List.{count_by}
 use Rattle.std.proofs.lemmas.List.{length-replicate, length-set}
 use Rattle.std.proofs.lemmas.List.Sums.{count_by-le-length, sum_by-set}
@@ -8,7 +8,7 @@ use Rattle.std.proofs.lemmas.Nat.{mul-add-lt}
 use Rattle.rota_core.specs.ScenarioTables.{ScenarioTables}
 use Rattle.rota_core.specs.declared.values.Demand.{Demand}
 use Rattle.rota_read.specs.Tokens.{Token}
-use Rattle.rota_read.specs.Reading.{Reading, then_read, read_layout}
+use Rattle.rota_read.specs.Reading.{Reading, read_layout}
 use Rattle.rota_read.specs.Layout.{◌>>=◌, has_row, shift_or}
 use Rattle.rota_read.specs.Files.{Fills}
 use Rattle.rota_read.specs.WeekLayout.{Requirements, pair_index, requirement, part_or, max_rows, no_requirements, requirement_rows}

@@ -1,15 +1,14 @@
 -- The table of requests by nurse, day and shift type is the table by index.
-use Rattle.std.proofs.Common.{◌≡◌, ◌==◌, ℕ, zero, suc, ◌+◌, ◌*◌, ◌/◌, ◌%◌, ◌<◌, Bool, true, ◌&&◌, refl, sym, ap, ◌∙◌, arith}
-use Rattle.std.proofs.Common.{List, [], ◌∷◌, ◌++◌, Option, Some, None, map, if◌then◌else◌}
-use Rattle.std.specs.List.{All, AllByRecursion, count_by, flat_map, range_with_len}
+use Rattle.std.proofs.Common.{◌≡◌, ◌==◌, ℕ, zero, suc, ◌+◌, ◌*◌, ◌<◌, Bool, true, ◌&&◌, refl, sym, ap, ◌∙◌, arith}
+use Rattle.std.proofs.Common.{List, [], ◌∷◌, ◌++◌, map, if◌then◌else◌}
+use Rattle.std.specs.List.{AllByRecursion, count_by, flat_map, range_with_len}
 use Rattle.std.specs.Option.{option_map_or}
 use Rattle.std.proofs.lemmas.Bool.Decides.{nat_tests}
-use Rattle.std.proofs.lemmas.List.Elements.{recursion_from_All}
 use Rattle.std.proofs.lemmas.List.Sums.{sum_by-cons}
 use Rattle.std.proofs.lemmas.Nat.{div-mul-add, mod-mul-add}
 use Rattle.rota_read.specs.declared.week.RequestRow.{RequestRow}
 use Rattle.rota_read.specs.WeekLayout.{asks, request_table}
-use Rattle.rota_read.specs.WeekRows.{IsRequest, asks_at, index_table}
+use Rattle.rota_read.specs.WeekRows.{asks_at, index_table}
 use Rattle.rota_read.proofs.IndexLemmas.{same_bools}
 
 -- ---- tables over ranges

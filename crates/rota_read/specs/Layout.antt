@@ -81,7 +81,7 @@ known_name names is_taken = do
   name ← slot (wants_known names is_taken)
   end (unwrap_or (index_of names name) 0)
 
--- a known name, once: its index is none of these
+-- the index of a known name that is none of these indices, so that each name occurs once
 unfoldable pub known_once : List (List ℕ) → List ℕ → Layout ℕ
 known_once names indices = known_name names (is_one_of indices)
 

@@ -1,5 +1,5 @@
 -- The slots of a scenario file.
-use Rattle.std.specs.Prelude.{◌==◌, ℕ, Bool, List, [], ◌∷◌, ◌++◌, codes, find, length, map}
+use Rattle.std.specs.Prelude.{◌==◌, ℕ, Bool, List, [], ◌++◌, codes, find, length, map}
 use Rattle.std.specs.List.{flat_map, range_with_len}
 use Rattle.std.specs.Option.{option_map_or}
 use Rattle.rota_core.specs.Limits.{max_contracts, max_nurses, max_number, max_shifts, max_skills, max_weeks}
@@ -8,7 +8,7 @@ use Rattle.rota_core.specs.ScenarioTables.{ScenarioTables, reserved}
 use Rattle.rota_read.specs.Layout.{Layout, end, ◌>>=◌, exactly, number, any_word, new_name, known_name, none_taken, known_once}
 use Rattle.rota_read.specs.Layout.{is_one_of, many, pair, setting}
 
--- a setting that counts the rows, and the rows
+-- the number of rows as a setting, and the rows
 unfoldable pub section : {A : Type 0} → List ℕ → ℕ → (List A → Layout A) → Layout (List A)
 section name maximum row = do
   count ← setting name 1 maximum
@@ -43,7 +43,7 @@ succession shifts indices = do
   after ← known_names shifts
   end (shift, after)
 
--- the shift types that may not follow a shift type, from the rows of all
+-- the shift types that may not follow a shift type, by its row
 abbrev pub after_shift : List (ℕ × List ℕ) → ℕ → List ℕ
 after_shift rows shift = option_map_or (λ row. row.1) (find (λ row. row.0 == shift) rows) []
 

@@ -80,7 +80,7 @@ request_table nurses shifts rows =
     flat_map (λ nurse. flat_map (λ day. map (λ shift. count_by (asks nurse day shift) rows)
     (range_with_len 0 shifts)) (range_with_len 0 DAYS)) (range_with_len 0 nurses)
 
--- the slots of the whole file
+-- The slots of the whole file. The word before `=` is the word that ended the requirements.
 unfoldable pub week : ScenarioTables → Layout WeekTables
 week t = do
   _ ← exactly (codes "WEEK_DATA")

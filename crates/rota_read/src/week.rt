@@ -1,6 +1,6 @@
 //! Reads a week's file.
 
-ghost use Rattle.std.specs.Prelude.{◌≡◌, ◌≤◌, ◌+◌, [], length, IfOk, IfErr, OnOk};
+ghost use Rattle.std.specs.Prelude.{◌≡◌, ◌+◌, [], length, IfOk, IfErr, OnOk};
 ghost use Rattle.std.specs.List.{All};
 ghost use Rattle.rota_read.specs.Layout.{repeat};
 ghost use Rattle.rota_core.specs.Parts.{week_tables_of};

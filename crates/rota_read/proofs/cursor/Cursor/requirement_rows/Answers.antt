@@ -1,6 +1,6 @@
 use Rattle.std.proofs.Common.{rules, ◌≡◌, ◌∙◌, ◌+◌, ◌*◌, ◌-◌, ap, refl, length, None, arith}
 use Rattle.std.proofs.lemmas.List.{length-replicate}
-use Rattle.rota_read.specs.WeekLayout.{Requirements, max_rows, no_requirements, requirement_rows}
+use Rattle.rota_read.specs.WeekLayout.{Requirements, max_rows, no_requirements}
 use Rattle.rota_read.specs.Reading.{read_layout}
 use Rattle.rota_read.proofs.EndLemmas.{front_fails}
 use Rattle.rota_read.proofs.RowSteps.{next_requirement, requirement_fails, no_requirement}
