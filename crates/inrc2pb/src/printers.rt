@@ -39,6 +39,7 @@ impl<'a, R: Print> StdoutPrinter<'a, R> {
 impl<R: Print> Printer for StdoutPrinter<'_, R> {
     ghost has_failed = { λ output. output.failed };
 
+    // Nobody knows which messages a real output has.
     ghost messages = { λ _. None };
 
     fn print_stop(&mut self, stop: &Stop) -> io::Result<()> {
@@ -67,6 +68,7 @@ impl<'a, R: Eprint> StderrPrinter<'a, R> {
 impl<R: Eprint> Printer for StderrPrinter<'_, R> {
     ghost has_failed = { λ errors. errors.failed };
 
+    // Nobody knows which messages a real output has.
     ghost messages = { λ _. None };
 
     fn print_stop(&mut self, stop: &Stop) -> io::Result<()> {

@@ -1,7 +1,7 @@
 -- The meaning of a verdict for the model and for the rules, for bits and for a roster's extension.
 use Rattle.rota_items.proofs.Common.Imports.{◌≡◌, ◌↔◌, ℕ, ◌+◌, Bool, true, false, ◌⊎◌, inl, inr, List, [], ◌∷◌, map, map-id, map-map, sym, ap, ◌∙◌, arith, rules, Some, None, pos, if◌then◌else◌}
 use Rattle.rota_items.proofs.Common.Imports.{IfSome, MatchOption, AllByRecursion, All-from_recursion, recursion_from_All, cases_Bool, ints, sum, drop, refl, not, list_all, and_parts, true≢false}
-use Rattle.rota_items.proofs.Common.Imports.{IsSomeAnd, KeepsCompetitionRules, KeepsHardRules, KeepsOneCell, S1, FirstBroken, InWeek, Roster, set_of, soft_rules, Problem, Rule, Cell, cell_number}
+use Rattle.rota_items.proofs.Common.Imports.{IsSomeAnd, KeepsCompetitionRules, KeepsHardRules, KeepsOneCell, S1, S4, FirstBroken, InWeek, Roster, set_of, soft_rules, Problem, Rule, Cell, cell_number}
 use Rattle.rota_items.proofs.Common.Imports.{first_slack, unit_number, Item, numbered, positive_part, Satisfies, SatisfiesModel, LinearRow, item_rows, model_cost, rule_cost, soft_items, extension_of}
 use Rattle.rota_items.proofs.Common.Imports.{model_of, numbered_items, rows_of, first_unmet, later, truth_of, H1, is_soft, Verdict, Subject, SettlesModel, assigned, assignment_in, extended, roster_in}
 use Rattle.rota_items.proofs.Common.Imports.{CostsTheRules, ExtendsToModel, IsMet, Judges, JudgesTheRules}
@@ -51,6 +51,7 @@ module _ (problem : Problem) (assignment : ℕ → Bool) (roster : Roster) (verd
     where
       on-rule : (rule : Rule) → not (is_rule S1 rule) ≡ true → IsChargedOn problem roster rule
       on-rule S1 other = absurd (true≢false (sym other))
+      on-rule S4 other = tt
       on-rule _ other = one
 
   -- ---- the rule of the named row

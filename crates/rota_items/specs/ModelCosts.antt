@@ -2,7 +2,7 @@
 use Rattle.std.specs.Prelude.{◌*◌, ◌+◌, ◌+ℤ◌}
 use Rattle.rota_items.specs.Imports.{ℕ, ℤ, pos, Bool, List, sum_by, Rule, Cell, Roster, Problem, sum_below}
 use Rattle.rota_core.specs.HardRules.{KeepsMinimum, KeepsOneCell}
-use Rattle.rota_core.specs.declared.rule.Rule.TheVariants.{S1}
+use Rattle.rota_core.specs.declared.rule.Rule.TheVariants.{S1, S4}
 use Rattle.rota_items.specs.Rows.{shortage, Item, value_of}
 use Rattle.rota_items.specs.rules.TotalAssignments.Items.{assignment_constant_of}
 use Rattle.rota_items.specs.rules.WorkedWeekends.Items.{weekend_constant_of}
@@ -19,9 +19,10 @@ model_cost problem roster rule =
     pos (weighted_shortages roster (items_of_rule problem rule) + constant_of_rule problem rule) +ℤ
     value_of roster (cell_terms_of_rule problem rule)
 
--- the condition under which a rule's charge is its cost: H2 for S1, H1 for the other rules
+-- the condition under which a rule's charge is its cost: H2 for S1, none for S4, H1 for the other rules
 abbrev pub IsChargedOn : Problem → Roster → Rule → Type 0
 IsChargedOn problem roster S1 = KeepsMinimum problem roster
+IsChargedOn problem roster S4 = Unit {0}
 IsChargedOn problem roster _ = KeepsOneCell problem roster
 
 -- the two parts of the constant

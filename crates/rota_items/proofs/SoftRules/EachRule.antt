@@ -94,6 +94,7 @@ module _ (problem : Problem) where
   -- on a roster that keeps the competition's rules, each rule's charge is its cost
   pub charged_on : (roster : Roster) → KeepsCompetitionRules problem roster → (rule : Rule) → IsChargedOn problem roster rule
   charged_on roster keeps S1 = keeps.minimum
+  charged_on roster keeps S4 = tt
   charged_on roster keeps _ = keeps.one_cell
 
   -- the items of these rules, their constants and their terms on cells charge the cost of the rules

@@ -40,7 +40,7 @@ pub fn one_cell_a_day_is_at_most_one()
 {}
 
 /// The items of a rule, its constant and its terms on cells charge the cost of the rule: for S1 on rosters
-/// that keep H2, for the other rules on rosters that keep H1.
+/// that keep H2, for S4 on every roster, for the other rules on rosters that keep H1.
 pub fn items_charge_each_rule_its_cost()
     ensures charges { (problem : Problem) (roster : Roster) (rule : Rule) →
         IsChargedOn problem roster rule →
