@@ -1,12 +1,12 @@
 -- The number of cells in a roster.
-use Rattle.std.proofs.Common.{◌≡◌, ℕ, Bool, false, List, [], ◌∷◌, length, get_or, refl, sym, ap, ◌∙◌}
+use Rattle.std.proofs.Common.{◌≡◌, ℕ, ◌<◌, ◌≤◌, Bool, false, List, [], ◌∷◌, length, get_or, refl, sym, ap, ◌∙◌, arith}
 use Rattle.std.specs.Prelude.{count_by}
 use Rattle.std.specs.List.{AllByRecursion, range_with_len}
 use Rattle.std.proofs.lemmas.Bool.{true≢false}
 use Rattle.std.proofs.lemmas.List.{length-map}
 use Rattle.std.proofs.lemmas.List.Folds.{fold-map}
-use Rattle.std.proofs.lemmas.List.FromFn.{fill_by_all}
-use Rattle.std.proofs.lemmas.List.Sums.{length-filter}
+use Rattle.std.proofs.lemmas.List.FromFn.{fill_by_all, length-range_with_len}
+use Rattle.std.proofs.lemmas.List.Sums.{count_by-le-length, length-filter}
 use Rattle.rota_core.specs.Bits.{true_from}
 use Rattle.rota_core.specs.RosterTables.{RosterTables, HasShapeOf, IsRoster, set_of, cell_count}
 use Rattle.rota_core.specs.RosterCells.{cell_at, cells_of}
@@ -15,14 +15,26 @@ use Rattle.rota_core.specs.Problem.{Problem}
 use Rattle.rota_core.proofs.CellLists.{all-cells_of}
 use Rattle.rota_core.proofs.CellsByIndex.{cells_in-is, cells-at_indices}
 
+-- a list of truth values has as many true ones as there are indices of true values in a list that begins with it
+pub count-truths : (list truths : List Bool) (n : ℕ) → length list ≡ n → ((p : ℕ) → p < n → get_or list p false ≡ get_or truths p false) →
+    count_by (λ is_in. is_in) list ≡ length (true_from truths 0 n)
+count-truths list truths n long same =
+    let truth : ℕ → Bool = λ p. get_or truths p false in
+    ap (count_by (λ is_in. is_in)) (fill_by_all truth list n false long same) ∙
+    fold-map _ truth 0 (range_with_len 0 n) ∙
+    sym (length-filter truth (range_with_len 0 n))
+
+pub length-true_from : (truths : List Bool) (n : ℕ) → length (true_from truths 0 n) ≤ n
+length-true_from truths n =
+    let truth : ℕ → Bool = λ p. get_or truths p false in
+    let range = range_with_len 0 n in
+    omega (arith, length-filter truth range, count_by-le-length truth range, length-range_with_len 0 n)
+
 -- the number of cells in a roster is the length of its list
 pub count-cells_in : (t : RosterTables) → IsRoster t → count_of t ≡ length (cells_in t)
 count-cells_in t is =
     let count = cell_count t.nurses t.shifts t.skills in
-    let truth : ℕ → Bool = λ p. get_or t.cells p false in
-    ap (count_by (λ is_in. is_in)) (fill_by_all truth t.cells count false is.cells (λ p _. refl)) ∙
-    fold-map _ truth 0 (range_with_len 0 count) ∙
-    sym (length-filter truth (range_with_len 0 count)) ∙
+    count-truths t.cells t.cells count is.cells (λ p _. refl) ∙
     sym (length-map (true_from t.cells 0 count) (cell_at t.shifts t.skills)) ∙
     ap length (cells-at_indices t t.cells (λ p _. refl))
 

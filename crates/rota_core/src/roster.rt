@@ -133,12 +133,7 @@ impl Roster {
         ensures count { result ≡ count_of self.now }
         ensures within { IsRoster self.now }
     {
-        let mut count = 0;
-        for index in 0..count_of_cells(self.nurses, self.shifts, self.skills) {
-            if self.bits.get(index) {
-                count += 1;
-            }
-        }
-        count
+        let end = count_of_cells(self.nurses, self.shifts, self.skills);
+        self.bits.true_indices_below(end).count() as u32
     }
 }
