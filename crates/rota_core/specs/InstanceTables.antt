@@ -15,7 +15,7 @@ pub record InstanceTables : Type 0 where
   pub is_early : Bool
   pub held : Option RosterTables
 
--- All tables are within their limits and fit each other, and the week is one of the scenario's.
+-- All tables, also the held roster, are within their limits and fit the scenario, and the week is one of the scenario's weeks.
 pub record IsInstance (t : InstanceTables) : Type 0 where
   pub scenario : IsScenario t.scenario
   pub history : IsHistory t.history
@@ -25,11 +25,11 @@ pub record IsInstance (t : InstanceTables) : Type 0 where
   pub spanned : t.history.week < t.scenario.weeks
   pub held : ForSome t.held (λ roster. IsRoster roster × (roster.numbers ≡ numbers_of t.scenario))
 
--- the tables with exactly these cells held
+-- the tables, with exactly the cells of this roster held
 abbrev pub holding : InstanceTables → RosterTables → InstanceTables
 holding t roster = record t { held = Some roster }
 
--- the week that the tables describe
+-- the week that the tables describe; a number that is not in the tables gets a default
 abbrev pub problem_of : InstanceTables → Problem
 problem_of t = record {
   numbers = numbers_of t.scenario;

@@ -1,11 +1,11 @@
--- The limits of the files' numbers. The constants of `src/limits.rt` have the same values.
+-- The limits of the numbers in files. The constants of `src/limits.rt` have the same values.
 use Rattle.std.specs.Prelude.{ℕ, ◌≤◌}
 
--- from 1 to the maximum
+-- the number is from 1 to the maximum
 abbrev pub Within : ℕ → ℕ → Type 0
 Within maximum n = (1 ≤ n) × (n ≤ maximum)
 
--- the days of a week, Monday to Sunday
+-- the number of days in a week
 abbrev pub DAYS : ℕ
 DAYS = 7
 
@@ -29,11 +29,11 @@ max_contracts = 64
 abbrev pub max_weeks : ℕ
 max_weeks = 52
 
--- the maximum of every other number in a file
+-- the maximum of every other number in a file, except for counts of names in a row and the 0 or 1 for complete weekends
 abbrev pub max_number : ℕ
 max_number = 9999
 
--- the maximum number of bytes in a file
+-- the maximum number of bytes in a scenario, history, week, solution or fix file
 abbrev pub max_file_len : ℕ
 max_file_len = 4194304
 

@@ -1,4 +1,4 @@
--- The week as the rules see it. Days are 0 (Monday) to 6 (Sunday).
+-- The week as the rules see it. Nurses, shift types and skills are numbered from 0. Days are 0 (Monday) to 6 (Sunday).
 use Rattle.std.specs.Prelude.{ℕ, Bool, false, None}
 use Rattle.rota_core.specs.Limits.{Numbers}
 use Rattle.rota_core.specs.declared.values.Span.{Span}
@@ -7,23 +7,23 @@ use Rattle.rota_core.specs.declared.values.Contract.{Contract}
 use Rattle.rota_core.specs.declared.values.Demand.{Demand}
 use Rattle.rota_core.specs.declared.values.Past.{Past}
 
--- The data of one week on which the rules depend.
+-- The data of one week on which the rules depend. First the numbers of nurses, shift types and skills, and whether it is the last week.
 pub record Problem : Type 0 where
   pub numbers : Numbers
   pub open numbers use *
   pub is_last : Bool
-  -- the excess of a total is charged in each week, not only in the last
+  -- whether the excess of a total is charged in each week, not only in the last: the flag `--early`
   pub is_early : Bool
   pub has_skill : (nurse skill : ℕ) → Bool
   pub demand : (day shift skill : ℕ) → Demand
-  -- the second shift type may not follow the first on the next day
+  -- whether the second shift type may not follow the first on the next day
   pub is_forbidden : (first second : ℕ) → Bool
   pub limits : (shift : ℕ) → Span
   pub contract : (nurse : ℕ) → Contract
   pub past : (nurse : ℕ) → Past
-  -- the number of request rows that ask for a nurse's day off, from its shift type or from any
+  -- the number of request rows that ask to keep the nurse off the shift type on that day; a row for any shift type counts for each
   pub requests : (nurse day shift : ℕ) → ℕ
-  -- the cell is held: each roster must contain it
+  -- whether a cell is held: each roster must contain the held cells of the week
   pub is_held : Cell → Bool
 
 -- a minimum and a maximum of 0
@@ -38,6 +38,6 @@ no_contract = record { total = no_span; work = no_span; off = no_span; weekends 
 abbrev pub no_demand : Demand
 no_demand = record { minimum = 0; optimal = 0 }
 
--- the history of a nurse who has never worked
+-- a history of zeros, without a last shift type
 abbrev pub no_past : Past
 no_past = record { assignments = 0; weekends = 0; last = None; shift_run = 0; work_run = 0; off_run = 0 }

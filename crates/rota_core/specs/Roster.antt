@@ -4,7 +4,7 @@ use Rattle.rota_core.specs.Limits.{DAYS}
 use Rattle.rota_core.specs.declared.values.Cell.{Cell}
 use Rattle.rota_core.specs.Problem.{Problem}
 
--- whether a cell is in the roster
+-- a roster: a set of cells, as a function that says whether a cell is in it
 abbrev pub Roster : Type 0
 Roster = Cell → Bool
 
@@ -12,7 +12,7 @@ Roster = Cell → Bool
 abbrev pub cell : (nurse day shift skill : ℕ) → Cell
 cell n d s k = record { nurse = n; day = d; shift = s; skill = k }
 
--- the cell lies within the week's numbers
+-- the cell's nurse, day, shift type and skill are in the week: each is below the number of them
 pub record InWeek (problem : Problem) (cell : Cell) : Type 0 where
   pub nurse_in : cell.nurse < problem.nurses
   pub day_in : cell.day < DAYS

@@ -1,33 +1,33 @@
--- The contents of a roster: a set of cells within the numbers of an instance.
+-- A roster as a table of truth values: a set of cells of a week.
 use Rattle.std.specs.Prelude.{◌≡◌, ℕ, ◌+◌, ◌*◌, Bool, false, List, length, slice_index_or}
 use Rattle.rota_core.specs.Limits.{DAYS, Numbers, AreLimited}
 use Rattle.rota_core.specs.declared.values.Cell.{Cell}
 use Rattle.rota_core.specs.Roster.{Roster, cell}
 use Rattle.rota_core.specs.Problem.{Problem}
 
--- Whether each cell is in the roster, by the cell's index.
+-- The numbers of nurses, shift types and skills, and for each index of a cell whether that cell is in the roster.
 pub record RosterTables : Type 0 where
   pub numbers : Numbers
   pub open numbers use *
   pub cells : List Bool
 
--- the index of a cell, for these numbers of shift types and skills
+-- the index of a cell in the order of nurse, day, shift type and skill, for these numbers of shift types and skills
 abbrev pub cell_index : ℕ → ℕ → Cell → ℕ
 cell_index shifts skills cell = ((cell.nurse * DAYS + cell.day) * shifts + cell.shift) * skills + cell.skill
 
--- the number of cells, whether or not they are in a roster
+-- the number of cells that a week has for these numbers of nurses, shift types and skills
 abbrev pub cell_count : (nurses shifts skills : ℕ) → ℕ
 cell_count nurses shifts skills = DAYS * nurses * shifts * skills
 
--- the set of the roster's cells
+-- the set of the roster's cells: those whose index has the value true (a cell outside the week may have the index of another)
 abbrev pub set_of : RosterTables → Roster
 set_of t cell = slice_index_or t.cells (cell_index t.shifts t.skills cell) false
 
--- the roster has the week's numbers of nurses, shift types and skills
+-- the roster has the numbers of nurses, shift types and skills of the week
 abbrev pub HasShapeOf : Problem → RosterTables → Type 0
 HasShapeOf problem t = t.numbers ≡ problem.numbers
 
--- The numbers are within the limits, and each cell has a truth value.
+-- The numbers are within the limits, and the table has one truth value for each cell.
 pub record IsRoster (t : RosterTables) : Type 0 where
   pub numbers : AreLimited t.numbers
   pub cells : length t.cells ≡ cell_count t.nurses t.shifts t.skills

@@ -7,8 +7,8 @@ use Rattle.rota_core.specs.declared.values.Span.{Span}
 use Rattle.rota_core.specs.declared.values.Contract.{Contract}
 use Rattle.rota_core.specs.Words.{is_among, IsWord}
 
--- The rows of a scenario. Index s*S+t of `forbidden` says whether t may not follow s, and index n*K+k of `has_skill` whether nurse n has
--- skill k, for S shift types and K skills.
+-- The rows of a scenario. Index n of `contract_of` is the index of nurse n's contract. For S shift types and K skills, index s*S+t of
+-- `forbidden` says whether t may not follow s, and index n*K+k of `has_skill` whether nurse n has skill k.
 pub record ScenarioTables : Type 0 where
   pub name : List ℕ
   pub weeks : ℕ
@@ -29,11 +29,11 @@ numbers_of t = record { nurses = length t.nurses; shifts = length t.shifts; skil
 abbrev pub AreDistinct : List (List ℕ) → Type 0
 AreDistinct names = IsDistinct bytes_eq names
 
--- a minimum and a maximum within the limit
+-- a minimum and a maximum, both at most `max_number`; the minimum may be above the maximum
 abbrev pub AreLimits : Span → Type 0
 AreLimits span = (span.min ≤ max_number) × (span.max ≤ max_number)
 
--- a contract whose numbers are within the limit
+-- a contract whose numbers are at most `max_number`
 abbrev pub IsContract : Contract → Type 0
 IsContract c = AreLimits c.total × AreLimits c.work × AreLimits c.off × (c.weekends ≤ max_number)
 
@@ -41,7 +41,7 @@ IsContract c = AreLimits c.total × AreLimits c.work × AreLimits c.off × (c.we
 abbrev pub reserved : List (List ℕ)
 reserved = codes "None" ∷ codes "Any" ∷ []
 
--- names of shift types: none of them is reserved
+-- a word that may be the name of a shift type: it is not reserved
 abbrev pub IsShiftName : List ℕ → Type 0
 IsShiftName name = IsWord name × (is_among reserved name ≡ false)
 

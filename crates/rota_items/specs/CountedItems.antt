@@ -2,10 +2,10 @@
 use Rattle.std.specs.Prelude.{◌&&◌, ◌||◌}
 use Rattle.rota_items.specs.Imports.{Bool, not, Problem}
 
--- the items of the maximum totals count: in the last week, or in every week if excess is charged early
+-- whether the maximum totals have items in this week: in the last week, and with `--early` in every week
 abbrev pub max_totals_count : Problem → Bool
 max_totals_count problem = problem.is_last || problem.is_early
 
--- the excess above the maximum before the week counts: in the last week, unless the weeks before have paid for it
+-- whether this week pays for the excess of earlier weeks: in the last week, unless with `--early` they have paid for it
 abbrev pub excess_before_counts : Problem → Bool
 excess_before_counts problem = problem.is_last && not problem.is_early

@@ -7,14 +7,14 @@ use Rattle.rota_items.specs.Rows.{LinearRow, Hard, times, concat_below, singleto
 use Rattle.rota_items.specs.Rows.{on_cells, work_cells, demand_cells, skill_cells, cells_of}
 use Rattle.std.specs.Prelude.{◌∷◌, ◌+◌, ◌-◌, ◌++◌}
 
--- H1: at most one cell of a nurse's day
+-- H1: at most one cell of a nurse on a day is in the roster
 abbrev pub h1_row : Problem → ℕ → ℕ → LinearRow Cell
 h1_row problem n d = record { part = Hard H1; terms = times (negsuc 0) (work_cells problem n d); degree = negsuc 0 }
 
 abbrev pub h1_rows : Problem → List (LinearRow Cell)
 h1_rows problem = concat_below problem.nurses (λ n. concat_below DAYS (λ d. h1_row problem n d ∷ []))
 
--- H2: the minimum number of nurses
+-- H2: at least the minimum number of nurses for a day, shift type and skill
 abbrev pub h2_row : Problem → (day shift skill : ℕ) → LinearRow Cell
 h2_row problem d s k = record {
   part = Hard H2;
@@ -29,7 +29,7 @@ h2_rows_at problem d s k = singleton_if (nat_lt 0 (problem.demand d s k).minimum
 abbrev pub h2_rows : Problem → List (LinearRow Cell)
 h2_rows problem = concat_below DAYS (λ d. concat_below problem.shifts (λ s. concat_below problem.skills (h2_rows_at problem d s)))
 
--- H3, no shift type after one that it may not follow: no t on Monday
+-- H3: the nurse is not on t on Monday; it is a row of the model if t may not follow the last shift type of her history
 abbrev pub h3_monday_row : Problem → ℕ → ℕ → LinearRow Cell
 h3_monday_row problem n t = record { part = Hard H3; terms = times (negsuc 0) (on_cells problem n t 0); degree = pos 0 }
 
@@ -44,7 +44,7 @@ h3_monday_rows_at problem n t = singleton_if (is_forbidden_after problem (proble
 abbrev pub h3_monday_rows : Problem → ℕ → List (LinearRow Cell)
 h3_monday_rows problem n = concat_below problem.shifts (h3_monday_rows_at problem n)
 
--- H3: not both s on day d and t on the next day
+-- H3: the nurse is not both on s on day d and on t on the next day; it is a row of the model if t may not follow s
 abbrev pub h3_row : Problem → (nurse day shift next : ℕ) → LinearRow Cell
 h3_row problem n d s t = record {
   part = Hard H3;
@@ -64,7 +64,7 @@ h3_rows_of problem n = h3_monday_rows problem n ++ concat_below (DAYS - 1) (h3_r
 abbrev pub h3_rows : Problem → List (LinearRow Cell)
 h3_rows problem = concat_below problem.nurses (h3_rows_of problem)
 
--- H4: no cell of the nurse that needs the skill
+-- H4: no cell of the nurse with the skill is in the roster
 abbrev pub h4_row : Problem → ℕ → ℕ → LinearRow Cell
 h4_row problem n k = record { part = Hard H4; terms = times (negsuc 0) (skill_cells problem n k); degree = pos 0 }
 

@@ -5,17 +5,17 @@ use Rattle.std.specs.Prelude.{ℕ, ℤ, pos, ◌+ℤ◌, ◌≤ℤ◌, Bool, if�
 abbrev pub Term : Type 0 → Type 0
 Term X = ℤ × X
 
--- the sum of the coefficients of the true cells or variables
+-- the sum of the coefficients whose cells or variables are true in the assignment
 abbrev pub value_of : {X : Type 0} → (X → Bool) → List (Term X) → ℤ
 value_of assignment [] = pos 0
 value_of assignment (term ∷ terms) = (if assignment term.1 then term.0 else pos 0) +ℤ value_of assignment terms
 
--- terms whose sum must be at least the degree
+-- a constraint: the coefficients of its true variables must sum to at least the degree
 pub record Constraint : Type 0 where
   pub terms : List (Term ℕ)
   pub degree : ℤ
 
--- the number of variables, the objective to minimize, and the constraints
+-- a model: the number of its variables, its objective, which is to be minimized, and its constraints
 pub record Model : Type 0 where
   pub variables : ℕ
   pub objective : List (Term ℕ)

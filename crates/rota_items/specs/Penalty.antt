@@ -9,7 +9,7 @@ use Rattle.rota_items.specs.rules.WorkedWeekends.Cost.{worked_weekend_cost_of}
 use Rattle.rota_items.specs.rules.OptimalCoverage.Cost.{optimum_cost}
 use Rattle.rota_items.specs.rules.ShiftOffRequests.Cost.{request_cost}
 
--- each soft rule with its cost; no other rule costs anything
+-- the cost of each soft rule, over all nurses; no other rule costs anything
 abbrev pub rule_cost : Problem → Roster → Rule → ℕ
 rule_cost problem roster S1 = optimum_cost problem roster
 rule_cost problem roster S2 = sum_below problem.nurses (consecutive_assignment_cost_of problem roster)
@@ -20,6 +20,6 @@ rule_cost problem roster S6 = sum_below problem.nurses (assignment_cost_of probl
 rule_cost problem roster S7 = sum_below problem.nurses (worked_weekend_cost_of problem roster)
 rule_cost problem roster _ = 0
 
--- the cost of the roster in this week
+-- the penalty of the roster in this week: the sum of the costs of the soft rules
 abbrev pub penalty : Problem → Roster → ℕ
 penalty problem roster = sum_by (rule_cost problem roster) soft_rules

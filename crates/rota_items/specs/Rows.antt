@@ -1,4 +1,4 @@
--- The words that describe the model: rows, items, and the cells of their sums.
+-- Names for the definitions of the model; rows, items, and the cells of their sums.
 pub use Rattle.rota_core.specs.Lists.{concat_below, singleton_if}
 pub use Rattle.rota_core.specs.RosterCells.{cell_at, cells_of}
 pub use Rattle.rota_items.specs.declared.part.Part.{Part}
@@ -8,7 +8,7 @@ use Rattle.rota_core.specs.Limits.{DAYS}
 use Rattle.rota_items.specs.Imports.{ℕ, ℤ, Bool, int_le, List, pos, negsuc, Rule, [], Cell, Problem, cell}
 use Rattle.std.specs.Prelude.{map, ◌-ℤ◌, ◌∷◌}
 
--- a linear constraint, with its kind
+-- a linear constraint, with the rule or the item to which it belongs
 pub record LinearRow (X : Type 0) : Type 0 where
   pub part : Part
   pub terms : List (Term X)
@@ -21,7 +21,7 @@ linear_constraint row = record { terms = row.terms; degree = row.degree }
 abbrev pub is_satisfied : {X : Type 0} → (X → Bool) → LinearRow X → Bool
 is_satisfied assignment row = int_le row.degree (value_of assignment row.terms)
 
--- the sum of these, each with this coefficient
+-- a term for each of these, with this coefficient
 abbrev pub times : {X : Type 0} → ℤ → List X → List (Term X)
 times coefficient variables = map (λ v. (coefficient, v)) variables
 
@@ -64,7 +64,7 @@ work_cells problem n d = concat_below problem.shifts (λ s. on_cells problem n s
 abbrev pub nurse_cells : Problem → ℕ → List Cell
 nurse_cells problem n = concat_below DAYS (λ d. work_cells problem n d)
 
--- the cells of a day's shift type and skill
+-- the cells of all nurses for a day, shift type and skill
 abbrev pub demand_cells : Problem → (day shift skill : ℕ) → List Cell
 demand_cells problem d s k = concat_below problem.nurses (λ n. cell n d s k ∷ [])
 

@@ -10,7 +10,7 @@ pub record PatternDay : Type 0 where
   pub day : ℕ
   pub has : Bool
 
--- the days that must all match, and the units that they then cost
+-- days, and the units that the pattern costs if all of them match
 pub record Pattern : Type 0 where
   pub days : List PatternDay
   pub units : ℕ
@@ -25,14 +25,14 @@ without_property d = record { day = d; has = false }
 abbrev pub days_with : ℕ → ℕ → List PatternDay
 days_with first end = map with_property (range_with_len first (end - first))
 
--- days with the property up to d, one more than the maximum allows: the run on d is longer than the maximum
+-- the window of d: the last `maximum` + 1 days up to d, or the days from Monday on if these are fewer, all with the property
 abbrev pub window : ℕ → ℕ → Pattern
 window maximum d = record { days = days_with (d - maximum) (d + 1); units = 1 }
 
 abbrev pub windows_on : ℕ → Span → ℕ → List Pattern
 windows_on history limits d = singleton_if (nat_lt limits.max (history + d + 1)) (window limits.max d)
 
--- the pattern of a run of count days that begins after Monday and ends before d
+-- the pattern of a run of count days that begins after Monday and ends on the day before d; it costs the days below the minimum
 abbrev pub closed_pattern : (minimum day count : ℕ) → Pattern
 closed_pattern minimum d count = record {
   days = without_property (d - count - 1) ∷ days_with (d - count) d ++ without_property d ∷ [];
@@ -43,11 +43,11 @@ closed_pattern minimum d count = record {
 abbrev pub closed_patterns_at : (minimum day count : ℕ) → List Pattern
 closed_patterns_at minimum d count = singleton_if (nat_le 1 count && nat_lt count minimum) (closed_pattern minimum d count)
 
--- the closed patterns for each number of days that leaves room for a day before them
+-- the closed patterns of d, for each number of days that leaves a day of the week before the run
 abbrev pub closed_patterns_on : ℕ → ℕ → List Pattern
 closed_patterns_on minimum d = concat_below d (closed_patterns_at minimum d)
 
--- the pattern of a run that begins on Monday or in the history and ends before d
+-- the pattern of a run that begins on Monday or in the history and ends on the day before d; it costs the days below the minimum
 abbrev pub edge_pattern : (history minimum day : ℕ) → Pattern
 edge_pattern history minimum d = record {
   days = days_with 0 d ++ without_property d ∷ [];
@@ -117,7 +117,7 @@ saturday alone = record { days = with_property 5 ∷ (if alone then without_prop
 abbrev pub only_sunday : Pattern
 only_sunday = record { days = without_property 5 ∷ with_property 6 ∷ []; units = 1 }
 
--- the items of these two patterns, for a nurse's weekend
+-- the items of `saturday alone` and `only_sunday`, for a nurse's weekend
 abbrev pub weekend_items : Rule → ℕ → Problem → ℕ → Bool → List (Item Cell)
 weekend_items rule weight problem n alone =
     map (pattern_item rule weight (Present (work_cells problem n))) (saturday alone ∷ only_sunday ∷ [])

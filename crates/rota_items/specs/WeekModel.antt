@@ -81,7 +81,7 @@ model_of problem = record {
 abbrev pub cell_of_number : Problem → ℕ → Cell
 cell_of_number problem v = cell_at problem.shifts problem.skills (v - 1)
 
--- the variables of the roster's cells, and the unit variable
+-- the assignment in which the unit variable and the variables of the roster's cells are true
 abbrev pub assignment_of : Problem → Roster → ℕ → Bool
 assignment_of problem roster v =
     (if v == unit_number problem

@@ -1,4 +1,4 @@
--- The text that an encoding run writes.
+-- The outcome of a run that encodes: the text that it writes, or its fault.
 use Rattle.std.specs.Prelude.{◌≡◌, ℕ, List}
 use Rattle.rota_pb.specs.Imports.{Choice, Model, Problem, problem_of}
 use Rattle.opb_text.specs.ModelText.{opb_text}
@@ -8,7 +8,7 @@ use Rattle.rota_pb.specs.RunPorts.{WeekReaders, Writer}
 use Rattle.rota_pb.specs.Steps.{Step, ◌>>=◌, find, send}
 use Rattle.rota_pb.specs.WeekFiles.{read_week}
 
--- The text spells one model. It means the rules of the week, and it is exactly the week's.
+-- The text spells one model and no other. This model means the rules of the week, and it is exactly the week's model.
 pub record IsModelText (problem : Problem) (text : List ℕ) : Type 0 where
   pub model : Model
   pub is_text : text ≡ opb_text model
@@ -16,7 +16,7 @@ pub record IsModelText (problem : Problem) (text : List ℕ) : Type 0 where
   pub means : MeansRules problem model
   pub exact : IsExactModel problem model
 
--- the files of a week are read, and the text of its model is sent
+-- the files of a week are read, and then the text of its model is sent
 unfoldable pub encode_run : Choice → WeekReaders → Writer → Step (Unit {0})
 encode_run choice readers out = do
   tables ← read_week choice readers

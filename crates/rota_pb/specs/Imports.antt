@@ -1,4 +1,4 @@
--- The words that describe the runs: weeks and rosters, tables, files, models and faults.
+-- Names for the definitions of runs: of weeks and rosters, tables, files, models and faults.
 pub use Rattle.rota_core.specs.InstanceTables.{InstanceTables, IsInstance, holding, problem_of}
 pub use Rattle.rota_core.specs.Limits.{max_file_len}
 pub use Rattle.rota_core.specs.RosterTables.{RosterTables, HasShapeOf, set_of}

@@ -5,7 +5,7 @@ use Rattle.rota_items.specs.Linear.{Model, SatisfiesModel, objective_value}
 use Rattle.rota_items.specs.Penalty.{penalty}
 use Rattle.rota_items.specs.Variables.{roster_of}
 
--- The assignment satisfies the model, its objective is the roster's penalty, and its roster is this one.
+-- The assignment satisfies the model, its objective is the roster's penalty, and its roster has the same cells of the week.
 pub record IsExtension (problem : Problem) (model : Model) (roster : Roster) (assignment : ℕ → Bool) : Type 0 where
   pub satisfies : SatisfiesModel assignment model
   pub objective : objective_value assignment model ≡ pos (penalty problem roster)

@@ -9,7 +9,7 @@ use Rattle.rota_read.specs.SolutionText.{spaced, ended}
 use Rattle.solver_text.specs.Status.{status_words}
 use Rattle.rota_pb.specs.declared.decoded.Decoded.{Decoded}
 
--- a line with a number
+-- the line of a name and a number
 abbrev pub number_line : List ℕ → ℕ → List ℕ
 number_line name number = ended (spaced name (numeral number))
 
@@ -21,7 +21,7 @@ cost_line costs index = number_line (rule_name (slice_index_or soft_rules index 
 unfoldable pub cost_lines : List ℕ → List ℕ
 cost_lines costs = concat_below (length soft_rules) (cost_line costs)
 
--- no line if the answer had no o line
+-- the line of the last o line's value; no line if the answer had no o line
 abbrev pub last_o_line : Option ℤ → List ℕ
 last_o_line None = []
 last_o_line (Some value) = ended (spaced (codes "last o") (signed_numeral value))

@@ -32,14 +32,14 @@ Writer = RunPort TargetGhosts
 abbrev pub writer_of : {W : Type 0} → TargetGhosts W → W → W → Writer
 writer_of {W} port old new = record { State = W; port = port; old = old; new = new }
 
--- the readers of a week's files; the reader of the held cells is the last
+-- the readers of a week's three files, and the reader of its fix file
 pub record WeekReaders : Type 1 where
   pub scenario : Reader
   pub history : Reader
   pub week : Reader
   pub fix : Reader
 
--- the bytes that the reader had left before the run, if they are known, are such
+-- if the bytes that the reader had left before the run are known, `Are` holds for them
 abbrev pub IfKnown : Reader → (List ℕ → Type 0) → Type 0
 IfKnown reader Are = (bytes : List ℕ) → reader.port.left reader.old ≡ Some bytes → Are bytes
 
@@ -53,7 +53,7 @@ pub record IsEnded (reader : Reader) : Type 0 where
   pub none_left : IsAtEnd (reader.port.left reader.new)
   pub reported : reader.port.has_ended reader.new ≡ true
 
--- it failed after these bytes, before its end: no read of the run reported the end
+-- these bytes were taken, the reader has failed, and no read of the run reported its end
 pub record FailsAfter (reader : Reader) (taken : List ℕ) : Type 0 where
   pub front : reader.port.left reader.old ≡ prepend_known taken (reader.port.left reader.new)
   pub failure : reader.port.has_failed reader.new ≡ true
@@ -79,13 +79,13 @@ IsReadInPart reader = (taken : List ℕ) × IsTaken reader taken × ((0 < length
 abbrev pub FailsWithin : ℕ → Reader → Type 0
 FailsWithin limit reader = (taken : List ℕ) × FailsAfter reader taken × (length taken < limit)
 
--- the whole text was sent, and is flushed
+-- the whole text was sent, and is flushed, and the writer did not fail during the run
 pub record WritesText (writer : Writer) (text : List ℕ) : Type 0 where
   pub written : writer.port.sent writer.new ≡ append_known (writer.port.sent writer.old) text
   pub flushed : writer.port.flushed writer.new ≡ known_len (writer.port.sent writer.new)
   pub sound : writer.port.has_failed writer.new ≡ writer.port.has_failed writer.old
 
--- the writer failed after a prefix of the text, which may be all of it
+-- the writer has failed, and a prefix of the text was sent, which may be all of it
 pub record WritesBeginning (writer : Writer) (text : List ℕ) : Type 0 where
   pub begun : Begins (writer.port.sent writer.new) (append_known (writer.port.sent writer.old) text)
   pub failure : writer.port.has_failed writer.new ≡ true

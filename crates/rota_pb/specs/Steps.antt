@@ -1,48 +1,48 @@
--- The steps of a run: the readers it reads, their order, the steps at which it may stop, and the texts it sends to the writers.
+-- A run as steps in their order. A step reads from a reader, checks, or sends a text to a writer, and the run may stop at it.
 use Rattle.std.specs.Prelude.{◌≡◌, ℕ, Bool, List, MatchBool, MatchResult, Result, Ok, Err}
 use Rattle.rota_pb.specs.Imports.{Fault, Write}
 use Rattle.rota_pb.specs.RunPorts.{IsUntouched, RunPort, Writer, WritesBeginning, WritesText}
 
--- A run, or a step of one, finds a value or ends with a fault. `ends` describes its readers and writers afterwards; `untouched` says that
--- it was not started: they are unchanged.
+-- A run or a step of one. `ends` says that it finds this value or stops with this fault, and leaves its readers and writers as they are.
+-- `untouched` says that it was not started: its readers and writers are unchanged.
 pub record Step (A : Type 0) : Type 1 where
   pub ends : Result A Fault → Type 0
   pub untouched : Type 0
 
--- One step, and then the rest of the run. If the step ends with a fault, so does the run, and nothing after the step is started, whatever
--- it would have found.
+-- One step, and then the rest of the run. If the step ends with a fault, so does the run, and the rest is not started, for whichever
+-- value the step could have found.
 pub data EndsInTurn {A B : Type 0} (step : Step A) (next : A → Step B) (result : Result B Fault) : Type 0 where
   stopped : (fault : Fault) → result ≡ Err fault → step.ends (Err fault) → ((found : A) → (next found).untouched) →
       EndsInTurn step next result
   went_on : (found : A) → step.ends (Ok found) → (next found).ends result → EndsInTurn step next result
 
 infixl 10 ◌>>=◌
--- the step, and then the step that follows for the value that it finds
+-- the step, and then the next one, which depends on the value that the first one finds
 abbrev pub ◌>>=◌ : {A B : Type 0} → Step A → (A → Step B) → Step B
 ◌>>=◌ {A} step next = record { ends = EndsInTurn step next; untouched = step.untouched × ((found : A) → (next found).untouched) }
 
 infixl 10 ◌>>◌
--- the step, and then the next one, if the value of the first is not needed
+-- the step, and then the next one, which does not depend on a value of the first one
 abbrev pub ◌>>◌ : {B : Type 0} → Step (Unit {0}) → Step B → Step B
 step >> next = step >>= λ _. next
 
--- calls one port: it finds such a value, or stops with such a fault
+-- touches no port but this one: the result is a value for which `Finds` holds, or a fault for which `Stops` holds
 abbrev pub call : {Ghosts : Type 0 → Type 1} {A : Type 0} → RunPort Ghosts → (A → Type 0) → (Fault → Type 0) → Step A
 call port Finds Stops = record { ends = λ result. MatchResult result Finds Stops; untouched = IsUntouched port }
 
--- calls no port: it finds such a value, or stops with such a fault
+-- touches no port: the result is a value for which `Finds` holds, or a fault for which `Stops` holds
 abbrev pub check : {A : Type 0} → (A → Type 0) → (Fault → Type 0) → Step A
 check Finds Stops = record { ends = λ result. MatchResult result Finds Stops; untouched = Unit {0} }
 
--- the same, and it never stops
+-- touches no reader and no writer, and never stops: the result is a value for which `Finds` holds
 abbrev pub find : {A : Type 0} → (A → Type 0) → Step A
 find Finds = check Finds (λ fault. ⊥)
 
--- sends a text: all of it is written and flushed, or the writer fails after a prefix of it
+-- sends a text: all of it is written and flushed, or the writer fails after a prefix of it, and the fault is `Write`
 abbrev pub send : Writer → List ℕ → Step (Unit {0})
 send writer text = call writer (λ _. WritesText writer text) (λ fault. (fault ≡ Write) × WritesBeginning writer text)
 
--- a step that is run only if it is asked for; otherwise it is not started, and the given value is found
+-- a step that is run only if it is asked for; otherwise it is not started, and the result is the given value
 abbrev pub only_if_asked : {A : Type 0} → Bool → A → Step A → Step A
 only_if_asked asked given step =
     record step { ends = λ result. MatchBool asked (step.ends result) (step.untouched × (result ≡ Ok given)) }

@@ -1,4 +1,4 @@
--- The files of a week, checked one after the other, and why one is refused.
+-- The files of a week, read and checked one after the other, and the faults with which a run stops at them.
 use Rattle.std.specs.Prelude.{◌≡◌, ℕ, ◌≤◌, Bool, List, None, ◌+◌}
 use Rattle.rota_pb.specs.Imports.{Choice, Fault, File, FileName, HasFault, HasShapeOf, HistoryTables, holding, InstanceTables, IsInstance}
 use Rattle.rota_pb.specs.Imports.{Layout, max_file_len, Memory, problem_of, Read, RosterTables, ScenarioTables, solution, Spells}
@@ -22,11 +22,11 @@ FailsCheck name layout reader Memory = IsReadInPart reader
 FailsCheck name layout reader Read = FailsWithin (max_file_len + 1) reader
 FailsCheck name layout reader _ = ⊥
 
--- a file with this layout is read: its value is found, or its check fails
+-- a file with this layout is read: the result is the value that it spells, or the fault of a failed check
 abbrev pub read_file : {V : Type 0} → FileName → Layout V → Reader → Step V
 read_file name layout reader = call reader (IsRead (Spells layout) reader) (FailsCheck name layout reader)
 
--- a solution file is read: the roster that it spells is found, or its check fails
+-- a solution file is read: the result is the roster that it spells, or the fault of a failed check
 abbrev pub read_roster : FileName → InstanceTables → Reader → Step RosterTables
 read_roster name tables reader =
     call reader (λ roster. IsRead (SpellsRoster tables) reader roster × HasShapeOf (problem_of tables) roster)
@@ -47,7 +47,7 @@ read_tables early scenario_file history_file week_file = do
   w ← read_file names.Week (week s) week_file
   join s h w early
 
--- the three files are read, and then the fix file, if it is asked for: the cells of its roster are then held
+-- the three files are read; if the fix file is asked for, it is read too, and the cells of its roster are held
 abbrev pub read_week : Choice → WeekReaders → Step InstanceTables
 read_week choice readers = do
   tables ← read_tables choice.early readers.scenario readers.history readers.week

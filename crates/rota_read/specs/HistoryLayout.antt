@@ -7,7 +7,7 @@ use Rattle.rota_core.specs.Problem.{no_past}
 use Rattle.rota_core.specs.WeekTables.{HistoryTables}
 use Rattle.rota_read.specs.Layout.{shift_or, Layout, end, ◌>>=◌, exactly, number, any_word, known_name, has_row, repeat}
 
--- the totals, the last shift type or `None`, and the runs
+-- a nurse's totals, her last shift type or `None`, and the lengths of her runs
 unfoldable pub past : List (List ℕ) → Layout Past
 past shifts = do
   assignments ← number 0 max_number
@@ -25,7 +25,7 @@ past shifts = do
     off_run = off_run;
   })
 
--- the row of a nurse who had none before, by the nurses' indices
+-- one more row: a nurse who has no row yet, and her past; at index n is the past of nurse n, if a row has given it
 unfoldable pub past_row : ScenarioTables → List (Option Past) → Layout (List (Option Past))
 past_row tables pasts = do
   nurse ← known_name tables.nurses (has_row pasts)
@@ -36,7 +36,7 @@ past_row tables pasts = do
 unfoldable pub past_rows : ScenarioTables → Layout (List (Option Past))
 past_rows tables = repeat (length tables.nurses) (past_row tables) (replicate (length tables.nurses) None)
 
--- The slots of the whole file. Any word may be the scenario's name. After the rows each nurse has her past.
+-- The slots of the whole file. Any word may be the scenario's name. After the rows each nurse has her past, so `no_past` is not used.
 unfoldable pub history : ScenarioTables → Layout HistoryTables
 history tables = do
   _ ← exactly (codes "HISTORY")

@@ -19,7 +19,7 @@ pub data Slot : Type 0 where
   wants_word : Slot
   -- a word that is none of these names
   wants_new : List (List ℕ) → Slot
-  -- one of these names, with an index that is not taken
+  -- one of these names, if its index is not taken
   wants_known : List (List ℕ) → (ℕ → Bool) → Slot
 
 -- whether a token is a sign
@@ -27,7 +27,7 @@ abbrev pub is_sign_token : List ℕ → Bool
 is_sign_token [] = false
 is_sign_token (b ∷ bytes) = is_sign b
 
--- why a token does not fit a slot
+-- why a token does not fit a slot, or `None` if it fits
 abbrev pub misfit : Slot → List ℕ → Option Kind
 misfit (wants_exactly wanted) word = if bytes_eq wanted word then None else Some kinds.OtherWord
 misfit (wants_number low high) word =
@@ -43,7 +43,7 @@ misfit (wants_known names is_taken) word =
 -- The slots of a part of a file, one after the other, and the value that they spell. The slots that follow may depend on the value
 -- spelled before them.
 infixl 10 ◌>>=◌
--- no slot, only a value; or one slot; or a part, and then the part that follows for its value
+-- a value without a slot; or one slot, whose value is its token; or a part, and then the part that follows for its value
 pub data Layout : Type 0 → Type 1 where
   end : {V : Type 0} → V → Layout V
   slot : Slot → Layout (List ℕ)
@@ -75,7 +75,7 @@ is_one_of indices index = list_any (λ p. p == index) indices
 abbrev pub none_taken : ℕ → Bool
 none_taken index = false
 
--- the index of a known name
+-- one of these names, if its index is not taken; the value is the index
 unfoldable pub known_name : List (List ℕ) → (ℕ → Bool) → Layout ℕ
 known_name names is_taken = do
   name ← slot (wants_known names is_taken)
@@ -85,7 +85,7 @@ known_name names is_taken = do
 unfoldable pub known_once : List (List ℕ) → List ℕ → Layout ℕ
 known_once names indices = known_name names (is_one_of indices)
 
--- the rows, one after the other, each read in the state that the rows before it leave
+-- n rows, one after the other: each is given the state that the rows before it leave, and its value is the next state
 unfoldable pub repeat : {S : Type 0} → ℕ → (S → Layout S) → S → Layout S
 repeat zero row state = end state
 repeat (suc n) row state = row state >>= repeat n row
@@ -96,7 +96,7 @@ one_more row rows = do
   next ← row rows
   end (rows ++ next ∷ [])
 
--- the given number of rows, each of which may depend on the rows before it
+-- this number of rows, one after the other; each may depend on the rows before it
 unfoldable pub many : {A : Type 0} → ℕ → (List A → Layout A) → Layout (List A)
 many count row = repeat count (one_more row) []
 
@@ -104,7 +104,7 @@ many count row = repeat count (one_more row) []
 abbrev pub has_row : {A : Type 0} → List (Option A) → ℕ → Bool
 has_row rows index = is_some (slice_index_or rows index None)
 
--- a minimum and a maximum
+-- `(`, a minimum, `,`, a maximum and `)`
 unfoldable pub pair : Layout Span
 pair = do
   _ ← exactly (codes "(")
@@ -114,14 +114,14 @@ pair = do
   _ ← exactly (codes ")")
   end (record { min = min; max = max })
 
--- a name, `=` and a number
+-- a name, `=` and a number from low to high
 unfoldable pub setting : List ℕ → ℕ → ℕ → Layout ℕ
 setting name low high = do
   _ ← exactly name
   _ ← exactly (codes "=")
   number low high
 
--- the first name is the word, and the others are the shift types
+-- the shift type of an index in `shift_or`, whose first name is the word; the shift types follow it
 abbrev pub shift_at : ℕ → Option ℕ
 shift_at zero = None
 shift_at (suc shift) = Some shift

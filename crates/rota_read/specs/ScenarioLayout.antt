@@ -30,7 +30,7 @@ named names rest = do
 abbrev pub names_of : {A : Type 0} → List (Named A) → List (List ℕ)
 names_of rows = map (λ row. row.name) rows
 
--- a count, and then the counted number of known names, by their indices, each once
+-- a count of at most the number of names, and then that number of different known names, as indices
 unfoldable pub known_names : List (List ℕ) → Layout (List ℕ)
 known_names names = do
   count ← number 0 (length names)
@@ -51,7 +51,7 @@ after_shift rows shift = option_map_or (λ row. row.1) (find (λ row. row.0 == s
 abbrev pub marks : ℕ → List ℕ → List Bool
 marks size indices = map (is_one_of indices) (range_with_len 0 size)
 
--- for each of the shift types, and then each again, whether the second is one of those after the first
+-- at index s*shifts + t, whether shift type t is one of those after shift type s
 abbrev pub forbidden_table : ℕ → (ℕ → List ℕ) → List Bool
 forbidden_table shifts after = flat_map (λ shift. marks shifts (after shift)) (range_with_len 0 shifts)
 

@@ -19,7 +19,7 @@ is_same_cell one other = one.nurse == other.nurse && one.day == other.day && one
 abbrev pub is_one_cell : List Cell → Cell → Bool
 is_one_cell cells one = list_any (is_same_cell one) cells
 
--- an assignment, whose four names do not occur together in an earlier row
+-- an assignment that no earlier row has
 unfoldable pub assignment : ScenarioTables → List Cell → Layout Cell
 assignment tables rows = do
   nurse ← known_name tables.nurses none_taken
@@ -28,7 +28,7 @@ assignment tables rows = do
   skill ← known_name tables.skills (λ skill. is_one_cell rows (cell nurse day shift skill))
   end (cell nurse day shift skill)
 
--- The slots of the whole file: the assignments, in its order. The week's number and the scenario's name may be any.
+-- The slots of the whole file, which spell its assignments in order. Any week number and any word for the scenario's name are accepted.
 unfoldable pub solution : ScenarioTables → Layout (List Cell)
 solution tables = do
   _ ← exactly (codes "SOLUTION")
@@ -37,7 +37,7 @@ solution tables = do
   count ← setting (codes "ASSIGNMENTS") 0 max_number
   many count (assignment tables)
 
--- the roster has the week's shape, and its cells are these
+-- the roster has the week's shape, and its cells in the week are these
 pub record HasCells (problem : Problem) (roster : RosterTables) (cells : List Cell) : Type 0 where
   pub shape : HasShapeOf problem roster
   pub set : (one : Cell) → InWeek problem one → set_of roster one ≡ is_one_cell cells one

@@ -33,7 +33,7 @@ requirement skills shift rows = do
   demands ← many DAYS (λ _. demand)
   end (slice_set rows (pair_index (length skills) shift skill) (Some demands))
 
--- the part that follows a value, or, if there is none, no slot and this result
+-- the part that follows for the value; for `None`, no slot, and this result
 abbrev pub part_or : {A B : Type 0} → (A → Layout B) → Option A → B → Layout B
 part_or part None result = end result
 part_or part (Some a) result = part a
@@ -54,7 +54,7 @@ max_rows t = length t.shifts * length t.skills + 1
 abbrev pub no_requirements : ScenarioTables → Requirements
 no_requirements t = replicate (length t.shifts * length t.skills) None
 
--- the demand of a row on a day, or no demand if there is no row
+-- the demand of a row on a day, or zero nurses if there is no row
 abbrev pub demand_on : ℕ → Option (List Demand) → Demand
 demand_on day row = option_map_or (λ demands. slice_index_or demands day no_demand) row no_demand
 
@@ -70,11 +70,11 @@ request t = do
   day ← known_name day_names none_taken
   end (record { nurse = nurse; shift = shift; day = day })
 
--- whether the row asks for the nurse's day off from the shift type, or from any
+-- whether the row asks to keep the nurse off the shift type on that day; a row for `Any` does so for each shift type
 abbrev pub asks : (nurse day shift : ℕ) → RequestRow → Bool
 asks nurse day shift row = row.nurse == nurse && row.day == day && option_map_or (λ s. s == shift) row.shift true
 
--- The number of rows that ask for each nurse's days off, day by day and shift type by shift type.
+-- At index (n * DAYS + d) * S + s, for S shift types, the number of rows that ask to keep nurse n off shift type s on day d.
 abbrev pub request_table : (nurses shifts : ℕ) → List RequestRow → List ℕ
 request_table nurses shifts rows =
     flat_map (λ nurse. flat_map (λ day. map (λ shift. count_by (asks nurse day shift) rows)

@@ -1,4 +1,4 @@
--- S5, complete weekends: nurses who must have complete weekends, but work on only one day of one.
+-- S5, complete weekends: nurses whose contracts ask for complete weekends, but who work on exactly one of Saturday and Sunday.
 use Rattle.rota_items.specs.Imports.{ℕ, Bool, not, works, Roster, Problem, ◌&&◌, ◌||◌, if◌then◌else◌}
 
 -- the weight of each such weekend of a nurse
@@ -9,7 +9,7 @@ complete_weekend_weight = 30
 abbrev pub exactly_one : Bool → Bool → Bool
 exactly_one x y = (x && not y) || (not x && y)
 
--- the cost of a nurse's weekend
+-- the cost of a nurse's weekend: the weight if her contract asks for complete weekends and she works on exactly one of its days
 abbrev pub complete_weekend_cost_of : Problem → Roster → ℕ → ℕ
 complete_weekend_cost_of problem roster n =
     (if (problem.contract n).complete && exactly_one (works problem roster n 5) (works problem roster n 6)

@@ -11,12 +11,12 @@ shift_run_weight = 15
 abbrev pub work_run_weight : ℕ
 work_run_weight = 30
 
--- the length of the nurse's run on the shift type before Monday
+-- the length of the nurse's run on the shift type up to the Sunday before the week
 abbrev pub history_on : Problem → ℕ → ℕ → ℕ
 history_on problem n s =
     (if option_map_or (λ last. last == s) (problem.past n).last false then (problem.past n).shift_run else 0)
 
--- the cost of a nurse's runs: on the shift types, and of working days
+-- the cost of a nurse's runs on all shift types, and of her runs of working days
 abbrev pub consecutive_assignment_cost_of : Problem → Roster → ℕ → ℕ
 consecutive_assignment_cost_of problem roster n =
     shift_run_weight * sum_below problem.shifts (λ s. run_cost (is_on problem roster n s) (history_on problem n s) (problem.limits s)) +

@@ -6,7 +6,7 @@ use Rattle.rota_items.specs.Runs.{run_cost}
 abbrev pub off_run_weight : ℕ
 off_run_weight = 30
 
--- the cost of a nurse's runs
+-- the cost of a nurse's runs of days off
 abbrev pub consecutive_day_off_cost_of : Problem → Roster → ℕ → ℕ
 consecutive_day_off_cost_of problem roster n =
     off_run_weight * run_cost (is_off problem roster n) (problem.past n).off_run (problem.contract n).off

@@ -43,11 +43,11 @@ max_totals_of problem n =
 abbrev pub totals_of : Problem → ℕ → List (Item Cell)
 totals_of problem n = min_totals_of problem n ++ max_totals_of problem n
 
--- a nurse's needed assignments beyond one for each day
+-- the assignments that a nurse still needs beyond one for each day of this week; 0 if minimum totals do not count in it
 abbrev pub wanted_beyond_days : Problem → ℕ → ℕ
 wanted_beyond_days problem n = (if problem.is_last then still_wanted problem n - DAYS else 0)
 
--- a nurse's assignments in the history above the maximum total
+-- a nurse's assignments in the history above her maximum total, if this week pays for them; otherwise 0
 abbrev pub assignments_above : Problem → ℕ → ℕ
 assignments_above problem n =
     (if excess_before_counts problem then (problem.past n).assignments - (problem.contract n).total.max else 0)
