@@ -6,7 +6,7 @@ use Rattle.rota_core.specs.Limits.{DAYS, Numbers, AreLimited, max_number}
 use Rattle.rota_core.specs.declared.values.Demand.{Demand}
 use Rattle.rota_core.specs.declared.values.Past.{Past}
 
--- The numbers of nurses, shift types and skills, the number of the history's week, and the past of each nurse.
+-- The numbers of nurses, shift types and skills, the number (from 0) of the week after the history, and the past of each nurse.
 pub record HistoryTables : Type 0 where
   pub numbers : Numbers
   pub week : ℕ
@@ -29,7 +29,7 @@ pub record IsPast (shifts : ℕ) (past : Past) : Type 0 where
 abbrev pub IsDemand : Demand → Type 0
 IsDemand demand = (demand.minimum ≤ max_number) × (demand.optimal ≤ max_number)
 
--- The numbers are within the limits, and there is one past for each nurse.
+-- The numbers, the week's number and each past are within their limits, and there is one past for each nurse.
 pub record IsHistory (t : HistoryTables) : Type 0 where
   pub numbers : AreLimited t.numbers
   pub week : t.week ≤ max_number

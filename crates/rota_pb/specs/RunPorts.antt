@@ -71,7 +71,7 @@ IsRead Means reader value = IfKnown reader (λ bytes. Means bytes value) × IsRe
 abbrev pub IsReadUpTo : ℕ → Reader → List ℕ → Type 0
 IsReadUpTo limit reader taken = IsTaken reader taken × (length taken ≤ limit) × (length taken < limit → IsEnded reader)
 
--- some bytes were taken, or it reported its end
+-- some bytes were taken, or it reported its end, and it did not fail during the run
 abbrev pub IsReadInPart : Reader → Type 0
 IsReadInPart reader = (taken : List ℕ) × IsTaken reader taken × ((0 < length taken) ⊎ IsEnded reader)
 
@@ -85,7 +85,7 @@ pub record WritesText (writer : Writer) (text : List ℕ) : Type 0 where
   pub flushed : writer.port.flushed writer.new ≡ known_len (writer.port.sent writer.new)
   pub sound : writer.port.has_failed writer.new ≡ writer.port.has_failed writer.old
 
--- the writer has failed, and a prefix of the text was sent, which may be all of it
+-- the writer has failed, and all that it was sent is a prefix of the bytes sent before the run with the text after them
 pub record WritesBeginning (writer : Writer) (text : List ℕ) : Type 0 where
   pub begun : Begins (writer.port.sent writer.new) (append_known (writer.port.sent writer.old) text)
   pub failure : writer.port.has_failed writer.new ≡ true

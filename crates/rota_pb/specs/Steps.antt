@@ -3,7 +3,7 @@ use Rattle.std.specs.Prelude.{◌≡◌, ℕ, Bool, List, MatchBool, MatchResult
 use Rattle.rota_pb.specs.Imports.{Fault, Write}
 use Rattle.rota_pb.specs.RunPorts.{IsUntouched, RunPort, Writer, WritesBeginning, WritesText}
 
--- A run or a step of one. `ends` says that it finds this value or stops with this fault, and leaves its readers and writers as they are.
+-- A run or a step of one. `ends` says that it may find this value, or stop with this fault, and leave its ports in their `new` states.
 -- `untouched` says that it was not started: its readers and writers are unchanged.
 pub record Step (A : Type 0) : Type 1 where
   pub ends : Result A Fault → Type 0
@@ -26,15 +26,15 @@ infixl 10 ◌>>◌
 abbrev pub ◌>>◌ : {B : Type 0} → Step (Unit {0}) → Step B → Step B
 step >> next = step >>= λ _. next
 
--- touches no port but this one: the result is a value for which `Finds` holds, or a fault for which `Stops` holds
+-- the only step of a run at this port: the result is a value for which `Finds` holds, or a fault for which `Stops` holds
 abbrev pub call : {Ghosts : Type 0 → Type 1} {A : Type 0} → RunPort Ghosts → (A → Type 0) → (Fault → Type 0) → Step A
 call port Finds Stops = record { ends = λ result. MatchResult result Finds Stops; untouched = IsUntouched port }
 
--- touches no port: the result is a value for which `Finds` holds, or a fault for which `Stops` holds
+-- a step at no port: the result is a value for which `Finds` holds, or a fault for which `Stops` holds
 abbrev pub check : {A : Type 0} → (A → Type 0) → (Fault → Type 0) → Step A
 check Finds Stops = record { ends = λ result. MatchResult result Finds Stops; untouched = Unit {0} }
 
--- touches no reader and no writer, and never stops: the result is a value for which `Finds` holds
+-- a step at no port that never stops: the result is a value for which `Finds` holds
 abbrev pub find : {A : Type 0} → (A → Type 0) → Step A
 find Finds = check Finds (λ fault. ⊥)
 

@@ -13,7 +13,7 @@ use Rattle.rota_pb.specs.RunPorts.{FailsWithin, IfKnown, IsRead, IsReadInPart, I
 use Rattle.rota_pb.specs.Steps.{Step, ◌>>=◌, call, check, find, only_if_asked}
 
 -- Why a file is refused: it was read to its end, or to one byte more than a file may have, and its bytes have the fault; or memory ran
--- out after some of it was read, and its source did not fail during the run; or its source failed before its end, and before that byte.
+-- out after some of it or its end was read, and its source did not fail during the run; or its source failed before its end and that byte.
 abbrev pub FailsCheck : {V : Type 0} → FileName → Layout V → Reader → Fault → Type 0
 FailsCheck name layout reader (File (refusals.Bad kind file line)) =
     (file ≡ name) × IfKnown reader (λ bytes. HasFault layout bytes (record { kind = kind; line = line })) ×

@@ -121,7 +121,7 @@ setting name low high = do
   _ ← exactly (codes "=")
   number low high
 
--- the shift type of an index in `shift_or`, whose first name is the word; the shift types follow it
+-- the value of an index in the names of `shift_or`: `None` for 0, which is the word, and shift type s for s + 1
 abbrev pub shift_at : ℕ → Option ℕ
 shift_at zero = None
 shift_at (suc shift) = Some shift

@@ -2,8 +2,6 @@
 #![tactic(auto, using(crate::proofs::LawProofs::rules_charged))]
 
 ghost use Rattle.std.specs.Prelude.{◌≡◌, ℕ, ◌+◌, ◌≤◌, ◌<◌, is_some, pos, true, All};
-ghost use Rattle.std.specs.List.{list_all};
-ghost use Rattle.rota_core.specs.Rules.{soft_rules};
 ghost use Rattle.rota_core.specs.declared.rule.Rule.{Rule};
 ghost use Rattle.rota_core.specs.Problem.{Problem};
 ghost use Rattle.rota_core.specs.Roster.{Roster};
@@ -13,6 +11,7 @@ ghost use Rattle.rota_items.specs.Rows.{shortage};
 ghost use Rattle.rota_items.specs.ModelCosts.{IsChargedOn, model_cost, constant_of_assignments, constant_of_weekends, weighted_shortages};
 ghost use Rattle.rota_items.specs.RuleItems.{charge_of, constant, soft_items};
 ghost use Rattle.rota_items.specs.Penalty.{penalty, rule_cost};
+ghost use Rattle.rota_items.specs.Verdicts.{is_soft};
 ghost use Rattle.rota_items.specs.rules.ConsecutiveAssignments.Items.{shift_runs, work_runs};
 ghost use Rattle.rota_items.specs.rules.ConsecutiveDaysOff.Items.{off_runs};
 ghost use Rattle.rota_items.specs.rules.ShiftOffRequests.Cost.{request_cost};
@@ -50,9 +49,9 @@ pub fn items_charge_each_rule_its_cost()
         model_cost problem roster rule ≡ pos (rule_cost problem roster rule) }
 {}
 
-/// Each soft rule has a charge, so that none is free by an oversight.
+/// A rule has a charge if it is one of the soft rules, and otherwise none: no soft rule is free by an oversight.
 pub fn soft_rules_have_charges()
-    ensures { list_all (λ rule. is_some (charge_of rule)) soft_rules ≡ true }
+    ensures { (rule : Rule) → is_some (charge_of rule) ≡ is_soft rule }
 {}
 
 /// The constant is the sum of the two parts that `constant_parts` gives: only S6 and S7 have one.
