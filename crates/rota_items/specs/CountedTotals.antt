@@ -1,5 +1,6 @@
 -- The excess over a maximum for which a week pays.
-use Rattle.rota_items.specs.Imports.{ℕ, Problem, ◌+◌, ◌-◌, if◌then◌else◌}
+use Rattle.std.specs.Prelude.{◌+◌, ◌-◌, if◌then◌else◌}
+use Rattle.rota_items.specs.Imports.{ℕ, Problem}
 
 -- the excess that this week adds: the excess of `before + now` over the maximum, less the excess already in `before`
 abbrev pub added_excess : (maximum before now : ℕ) → ℕ

@@ -1,6 +1,5 @@
 -- Names for the definitions of costs and models: of numbers and lists, weeks, rosters and rules.
 pub use Rattle.std.specs.Prelude.{ℕ, zero, suc, nat_le, nat_lt, min, ℤ, int_le, pos, negsuc, Bool, true, false, not}
-pub use Rattle.std.specs.Prelude.{◌+◌, ◌-◌, ◌*◌, ◌==◌, ◌&&◌, ◌||◌, if◌then◌else◌}
 pub use Rattle.std.specs.Prelude.{List, [], map, flat_map, length, count_by, sum_by, slice_index_or, All, Option, Some, None, MatchOption}
 pub use Rattle.std.specs.List.{range_with_len, list_any}
 pub use Rattle.rota_core.specs.SumsBelow.{sum_below, count_below}

@@ -1,7 +1,7 @@
 -- Runs: consecutive days with a property. `has d` says whether day d has the property. `history` is the number of consecutive days
 -- with the property up to the Sunday before the week.
+use Rattle.std.specs.Prelude.{◌+◌, ◌-◌, ◌&&◌, if◌then◌else◌}
 use Rattle.rota_items.specs.Imports.{DAYS, ℕ, zero, suc, Bool, not, nat_le, nat_lt, count_by, sum_by, List, range_with_len, Span}
-use Rattle.rota_items.specs.Imports.{◌+◌, ◌-◌, ◌&&◌, if◌then◌else◌}
 
 -- the days 0 (Monday) to 6 (Sunday)
 abbrev pub week_days : List ℕ

@@ -1,5 +1,6 @@
 -- S5, complete weekends: nurses whose contracts ask for complete weekends, but who work on exactly one of Saturday and Sunday.
-use Rattle.rota_items.specs.Imports.{ℕ, Bool, not, works, Roster, Problem, ◌&&◌, ◌||◌, if◌then◌else◌}
+use Rattle.std.specs.Prelude.{◌&&◌, ◌||◌, if◌then◌else◌}
+use Rattle.rota_items.specs.Imports.{ℕ, Bool, not, works, Roster, Problem}
 
 -- the weight of each such weekend of a nurse
 abbrev pub complete_weekend_weight : ℕ

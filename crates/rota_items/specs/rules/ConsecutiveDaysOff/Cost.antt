@@ -1,5 +1,6 @@
 -- S3, consecutive days off: runs of days off that are too long or too short.
-use Rattle.rota_items.specs.Imports.{ℕ, is_off, Roster, Problem, ◌*◌}
+use Rattle.std.specs.Prelude.{◌*◌}
+use Rattle.rota_items.specs.Imports.{ℕ, is_off, Roster, Problem}
 use Rattle.rota_items.specs.Runs.{run_cost}
 
 -- the weight of each day too many or too few in a run of days off

@@ -1,5 +1,6 @@
 -- S1, optimal coverage: nurses below the optimal number for a day, shift type and skill.
-use Rattle.rota_items.specs.Imports.{DAYS, ℕ, sum_below, nurses_at, Roster, Problem, ◌-◌, ◌*◌}
+use Rattle.std.specs.Prelude.{◌-◌, ◌*◌}
+use Rattle.rota_items.specs.Imports.{DAYS, ℕ, sum_below, nurses_at, Roster, Problem}
 
 -- the weight of each missing nurse
 abbrev pub optimum_weight : ℕ

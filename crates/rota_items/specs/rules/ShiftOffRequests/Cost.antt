@@ -1,5 +1,6 @@
 -- S4, requests: cells that request rows ask to leave free.
-use Rattle.rota_items.specs.Imports.{DAYS, ℕ, sum_below, Roster, cell, Problem, ◌*◌, if◌then◌else◌}
+use Rattle.std.specs.Prelude.{◌*◌, if◌then◌else◌}
+use Rattle.rota_items.specs.Imports.{DAYS, ℕ, sum_below, Roster, cell, Problem}
 
 -- the weight of each pair of a cell and a request row that asks to leave it free
 abbrev pub request_weight : ℕ

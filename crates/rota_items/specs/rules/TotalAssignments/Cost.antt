@@ -1,5 +1,6 @@
 -- S6, total assignments: assignments outside the limits of the nurse's total.
-use Rattle.rota_items.specs.Imports.{DAYS, ℕ, sum_below, count_below, Roster, cell, Problem, ◌+◌, ◌-◌, ◌*◌, if◌then◌else◌}
+use Rattle.std.specs.Prelude.{◌+◌, ◌-◌, ◌*◌, if◌then◌else◌}
+use Rattle.rota_items.specs.Imports.{DAYS, ℕ, sum_below, count_below, Roster, cell, Problem}
 use Rattle.rota_items.specs.CountedTotals.{charged_excess}
 
 -- the weight of each assignment outside the limits

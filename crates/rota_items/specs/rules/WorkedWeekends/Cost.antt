@@ -1,5 +1,6 @@
 -- S7, worked weekends: the weekends above the nurse's maximum.
-use Rattle.rota_items.specs.Imports.{ℕ, works, Roster, Problem, ◌*◌, ◌||◌, if◌then◌else◌}
+use Rattle.std.specs.Prelude.{◌*◌, ◌||◌, if◌then◌else◌}
+use Rattle.rota_items.specs.Imports.{ℕ, works, Roster, Problem}
 use Rattle.rota_items.specs.CountedTotals.{charged_excess}
 
 -- the weight of each weekend above the maximum
