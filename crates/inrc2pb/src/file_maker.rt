@@ -9,7 +9,8 @@ use std::alloc::AllocError;
 pub trait FileMaker {
     type File: Target + HasPath + Drop;
 
-    /// The file at the path, if there is a path. It fails only if memory runs out.
+    /// A file that is created at the path on its first write; without a path each write fails. The call itself
+    /// fails only if memory runs out.
     fn file(&self, path: Option<&str>) -> Result<Self::File, AllocError>
         ensures path { IfOk result (λ file. Self.File.path file ≡ option_map (λ p. p.now) path.entry) }
         ensures sound { IfOk result (λ file. Self.File.has_failed file ≡ false) };

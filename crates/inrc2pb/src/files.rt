@@ -23,6 +23,7 @@ pub struct HostFiles<'a, R> {
 }
 
 impl<'a, R: Files> HostFiles<'a, R> {
+    /// The files of this runtime.
     pub fn new(rt: &'a R) -> HostFiles<'a, R> {
         HostFiles { rt }
     }
@@ -56,6 +57,7 @@ impl<R: Input> Drop for StandardInput<'_, R> {
 }
 
 impl<'a, R: Input> StandardInput<'a, R> {
+    /// The standard input of this runtime. It is not opened yet.
     pub fn new(rt: &'a R) -> StandardInput<'a, R> {
         StandardInput { rt, reader: None }
     }
@@ -209,6 +211,7 @@ pub struct HostOutputFiles<'a, R> {
 }
 
 impl<'a, R: Files + AllocGlobal> HostOutputFiles<'a, R> {
+    /// The output files of this runtime. None is created yet.
     pub fn new(rt: &'a R) -> HostOutputFiles<'a, R> {
         HostOutputFiles { rt }
     }
@@ -233,6 +236,7 @@ pub struct StandardOutput<'a, R> {
 }
 
 impl<'a, R: Print> StandardOutput<'a, R> {
+    /// The standard output of this runtime. It has not failed.
     pub fn new(rt: &'a R) -> StandardOutput<'a, R>
         ensures { ⟦<StandardOutput<'a, R> as Target>⟧.has_failed result ≡ false }
     {

@@ -28,7 +28,7 @@ pub struct StdoutPrinter<'a, R> {
 }
 
 impl<'a, R: Print> StdoutPrinter<'a, R> {
-    /// No text has been printed.
+    /// A printer on standard output. It has not failed.
     pub fn new(rt: &'a R) -> StdoutPrinter<'a, R>
         ensures { ⟦<StdoutPrinter<'a, R> as Printer>⟧.has_failed result ≡ false }
     {
@@ -57,7 +57,7 @@ pub struct StderrPrinter<'a, R> {
 }
 
 impl<'a, R: Eprint> StderrPrinter<'a, R> {
-    /// No text has been printed.
+    /// A printer on the standard error. It has not failed.
     pub fn new(rt: &'a R) -> StderrPrinter<'a, R>
         ensures { ⟦<StderrPrinter<'a, R> as Printer>⟧.has_failed result ≡ false }
     {

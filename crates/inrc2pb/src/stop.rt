@@ -15,6 +15,7 @@ use std::alloc::AllocError;
 use std::fmt;
 use std::process::ExitCode;
 
+/// Why the program ends without its work: the text or the fault that it reports.
 #[derive(Drop)]
 pub enum Stop {
     /// The words ask for help or the version, and this is the text.
@@ -29,7 +30,7 @@ pub enum Stop {
 
 impl Stop {
     /// Prints the reason: a requested text on the output, anything else on the standard error. Returns the
-    /// exit status of the program.
+    /// exit status of the program. Neither printer has failed before.
     pub fn report<H: Printer, E: Printer>(&self, output: &mut H, errors: &mut E) -> u8
         requires output { H.has_failed output.old ≡ false }
         requires errors { E.has_failed errors.old ≡ false }
@@ -58,7 +59,7 @@ impl fmt::Display for Stop {
 }
 
 /// The exit code of the process: 0 if the program did its work, otherwise the status of the reason why it
-/// stopped, which is printed.
+/// stopped, which is printed. Neither printer has failed before.
 pub fn exit_code<H: Printer, E: Printer>(
     ended: &Result<(), Stop>,
     output: &mut H,

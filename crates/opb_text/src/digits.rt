@@ -33,7 +33,7 @@ static ENDINGS: [u8; 400] = *b"\
     80  81  82  83  84  85  86  87  88  89  \
     90  91  92  93  94  95  96  97  98  99  ";
 
-/// Two digits and two blanks.
+/// The two digits of a number below 100, and two blanks. The second blank is overwritten.
 #[inline(always)]
 pub fn ending(pair: u32) -> [u8; 4]
     requires { pair < 100 }

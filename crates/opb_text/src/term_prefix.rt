@@ -5,14 +5,15 @@ ghost use Rattle.opb_text.specs.TermText.{prefix_text};
 use crate::digits::count_digits;
 use itoa::write_digits;
 
-pub const PREFIX_LEN: usize = 16;
+/// The number of bytes that hold a prefix. A prefix has at most 12.
+pub const PREFIX_CAPACITY: usize = 16;
 
 /// The text of a term after its sign and up to its last two digits, for the variables of one hundred.
 #[derive(Drop)]
 pub struct TermPrefix {
     /// The first variable of the hundred.
     pub first: u32,
-    pub bytes: [u8; PREFIX_LEN],
+    pub bytes: [u8; PREFIX_CAPACITY],
     pub len: usize,
     ghost some: { 100 ≤ first },
     ghost whole: { first % 100 ≡ 0 },
@@ -21,7 +22,7 @@ pub struct TermPrefix {
 }
 
 impl TermPrefix {
-    /// The head of the terms of the variables from 100 to 199.
+    /// The prefix of the terms of the variables from 100 to 199.
     pub fn new() -> TermPrefix
         ensures { result.first ≡ 100 }
     {
@@ -32,7 +33,7 @@ impl TermPrefix {
         }
     }
 
-    /// Becomes the head of the terms of the hundred variables from the first on.
+    /// Becomes the prefix of the terms of the hundred variables from the first on.
     // The bytes are written in their final position: a copy would have to wait for them.
     pub fn move_to(&mut self, first: u32)
         requires { (100 ≤ first) × (first % 100 ≡ 0) }

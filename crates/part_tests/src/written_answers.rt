@@ -41,7 +41,7 @@ struct Written {
     target: MemoryTarget,
 }
 
-// Writes the answer of these values to a target with this pace.
+// Writes the answer of these values to a target with this plan.
 fn write_to(
     alloc: Global,
     plan: CallPlan,

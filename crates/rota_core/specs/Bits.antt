@@ -11,6 +11,6 @@ is_set words index = bit_at (slice_index words (index / 64)) (index % 64) == 1
 unfoldable pub truths_of : List ℕ → ℕ → List Bool
 truths_of words len = map (is_set words) (range_with_len 0 len)
 
--- the indices of the true values in the list, if its first value has the given index
+-- the indices at which the list has a true value, among the len indices from the first on
 abbrev pub true_from : List Bool → ℕ → ℕ → List ℕ
 true_from truths first len = filter (λ index. slice_index_or truths index false) (range_with_len first len)

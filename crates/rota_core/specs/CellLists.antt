@@ -21,7 +21,7 @@ pub record ListsCells (problem : Problem) (roster : Roster) : Type 0 where
       (one : Cell) → Has problem roster one → test one ≡ false
   pub few : KeepsOneCell problem roster → length (cells_of problem roster) ≤ problem.nurses * DAYS
 
--- tables of a week's shape have these cells and this number of cells
+-- the tables list and count exactly the cells of the week that are in their set
 pub record TablesListCells (problem : Problem) (t : RosterTables) : Type 0 where
   pub cells : cells_in t ≡ cells_of problem (set_of t)
   pub count : IsRoster t → count_of t ≡ length (cells_of problem (set_of t))

@@ -24,7 +24,7 @@ kind_text Repeated = codes "repeated"
 kind_text Trailing = codes "text after the end"
 kind_text LateWeek = codes "week not below WEEKS"
 
--- the kind of the fault and its line; line 0 means the whole file
+-- the file, the line and the kind of the fault, without a line if it is 0 (the whole file); or "out of memory"
 abbrev pub file_fault_text : FileFault → List ℕ
 file_fault_text (Bad kind file line) =
     if nat_eq line 0 then file_text file ++ (codes ": " ++ kind_text kind)

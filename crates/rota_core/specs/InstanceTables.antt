@@ -15,7 +15,7 @@ pub record InstanceTables : Type 0 where
   pub is_early : Bool
   pub held : Option RosterTables
 
--- All tables, also the held roster, are within their limits and fit the scenario, and the week is one of the scenario's weeks.
+-- All tables, including the held roster, are within their limits and fit the scenario, and the week is one of the scenario's weeks.
 pub record IsInstance (t : InstanceTables) : Type 0 where
   pub scenario : IsScenario t.scenario
   pub history : IsHistory t.history
@@ -29,7 +29,7 @@ pub record IsInstance (t : InstanceTables) : Type 0 where
 abbrev pub holding : InstanceTables → RosterTables → InstanceTables
 holding t roster = record t { held = Some roster }
 
--- the week that the tables describe; a number that is not in the tables gets a default
+-- the week that the tables describe; an index outside a table gives a default
 abbrev pub problem_of : InstanceTables → Problem
 problem_of t = record {
   numbers = numbers_of t.scenario;

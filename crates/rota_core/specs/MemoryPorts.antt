@@ -14,7 +14,7 @@ abbrev pub calls_after : Option ℕ → Option ℕ
 calls_after None = None
 calls_after (Some n) = Some (n - 1)
 
--- the pace after one more call
+-- the plan after one more call
 abbrev pub after_call : CallPlan → CallPlan
 after_call plan = record plan { good_calls = calls_after plan.good_calls }
 
@@ -58,6 +58,6 @@ room_of target = target.room
 abbrev pub takes : MemoryTarget → ℕ → ℕ
 takes target wanted = min wanted (min (room_of target) target.plan.max_piece)
 
--- a sound port's pace after a call on a piece of this length; an empty piece does not count as a call
+-- a sound port's plan after a call on a piece of this length; an empty piece does not count as a call
 abbrev pub plan_after : CallPlan → ℕ → CallPlan
 plan_after plan length = if nat_eq length 0 then plan else after_call plan

@@ -1,4 +1,4 @@
--- The cells of a roster, by rising number of their variables.
+-- The cells of a roster, by rising index.
 use Rattle.std.specs.Prelude.{ℕ, ◌/◌, ◌%◌, List}
 use Rattle.rota_core.specs.Limits.{DAYS}
 use Rattle.rota_core.specs.declared.values.Cell.{Cell}

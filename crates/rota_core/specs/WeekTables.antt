@@ -35,7 +35,7 @@ pub record IsHistory (t : HistoryTables) : Type 0 where
   pub week : t.week ≤ max_number
   pub past : (length t.past ≡ t.numbers.nurses) × AllByRecursion (IsPast t.numbers.shifts) t.past
 
--- The numbers are within the limits, and there is one demand and one number of requests for each index.
+-- The numbers are within their limits, and there is one demand and one number of requests for each index.
 pub record IsWeek (t : WeekTables) : Type 0 where
   pub numbers : AreLimited t.numbers
   pub demands : (length t.demands ≡ DAYS * t.numbers.shifts * t.numbers.skills) × AllByRecursion IsDemand t.demands

@@ -247,7 +247,7 @@ impl Instance {
         self.scenario.has_skill(nurse, skill)
     }
 
-    /// The number of nurses that the day needs on the shift type and with the skill.
+    /// The minimum and the optimal number of nurses for the day, the shift type and the skill.
     pub fn demand(&self, day: u8, shift: u8, skill: u8) -> Demand
         requires day_in { day < DAYS }
         requires shift_in { shift < (problem_of self.now).shifts }
@@ -258,7 +258,8 @@ impl Instance {
         self.week.demands[row * usize::from(self.week.skills) + usize::from(skill)]
     }
 
-    /// The number of request rows that ask for the nurse's day off, from the shift type or from any.
+    /// The number of request rows that ask to keep the nurse off the shift type, or off every shift type, on the
+    /// day.
     pub fn requests(&self, nurse: u16, day: u8, shift: u8) -> u16
         requires nurse_in { nurse < (problem_of self.now).nurses }
         requires day_in { day < DAYS }

@@ -21,5 +21,6 @@ pub const MAX_WEEKS: u16 = 52;
 /// The maximum of every other number in a file.
 pub const MAX_NUMBER: u16 = 9999;
 
-/// The maximum number of bytes in a file.
+/// The maximum number of bytes in a scenario, history, week, solution or fix file. A solver's answer may have any
+/// length.
 pub const MAX_FILE_LEN: usize = 4_194_304;

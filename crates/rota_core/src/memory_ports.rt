@@ -84,7 +84,7 @@ impl Source for MemorySource<'_> {
 
     ghost has_ended = { λ s. s.ended };
 
-    /// Moves the most bytes that the source, the buffer and the pace allow. Fails at the failing call.
+    /// Moves the most bytes that the source, the buffer and the plan allow. Fails at the failing call.
     fn read(&mut self, buffer: &mut [u8]) -> Result<usize, PortFault>
         ensures bound { IfOk result (λ n. n ≤ length buffer.new) }
         ensures bytes { LeavesAfterRead (Some (bytes_left self.old)) result buffer.new (Some (bytes_left self.new)) }
@@ -181,7 +181,7 @@ impl Target for MemoryTarget {
 
     ghost has_failed = { λ t. t.failed };
 
-    /// Accepts the most bytes of the piece that the room and the pace allow. Fails at the failing call, and
+    /// Accepts the most bytes of the piece that the room and the plan allow. Fails at the failing call, and
     /// if there is no room.
     fn write(&mut self, piece: &[u8]) -> Result<usize, PortFault>
         ensures bound { IfOk result (λ n. n ≤ length piece.now) }

@@ -1,8 +1,7 @@
 //! The rules of a week, under the names that the competition gives them.
 
 ghost use Rattle.std.specs.Prelude.{◌≡◌, Some};
-ghost use Rattle.rota_core.specs.Rules.{hard_rules, soft_rules};
-ghost use Rattle.rota_core.specs.RuleNames.{rule_name};
+ghost use Rattle.rota_core.specs.Rules.{hard_rules, rule_name, soft_rules};
 
 use std::fmt;
 
@@ -10,7 +9,7 @@ use std::fmt;
 pub const SOFT_RULES: usize = 7;
 
 /// A rule of the week. `Unit` is no rule of the competition: it represents the variable that is always true
-/// in a model. Nor is `H5`: it holds the cells that were given as fixed.
+/// in a model. Nor is `H5`: it holds the cells of the fix file.
 #[derive(Clone, Copy, Debug, PartialEq, Eq)]
 pub enum Rule {
     Unit,
@@ -30,7 +29,7 @@ pub enum Rule {
     S2,
     /// Consecutive days off.
     S3,
-    /// Requests for shifts or days off.
+    /// Requests for shifts off or days off.
     S4,
     /// Complete weekends.
     S5,
@@ -41,7 +40,7 @@ pub enum Rule {
 }
 
 impl Rule {
-    /// The hard rules, which every roster keeps, in order.
+    /// The hard rules, which a roster must keep, in order.
     pub const HARD: [Rule; 5] = [Rule::H1, Rule::H2, Rule::H3, Rule::H4, Rule::H5];
 
     /// The soft rules, which cost something when they are broken, in order.

@@ -66,15 +66,6 @@ impl Scenario {
         Scenario { parts }
     }
 
-    /// The rows of the scenario.
-    pub fn into_parts(self) -> ScenarioParts
-        ensures tables { scenario_of result ≡ self }
-        ensures within { IsScenario self }
-    {
-        let Self { parts } = self;
-        parts
-    }
-
     /// The number of weeks of the scenario, 1 to `MAX_WEEKS`.
     pub fn weeks(&self) -> u16
         ensures weeks { result ≡ self.now.weeks }
@@ -108,7 +99,7 @@ impl Scenario {
     }
 
     /// Whether the nurse has the skill.
-    pub fn has_skill(&self, nurse: u16, skill: u8) -> bool
+    pub(crate) fn has_skill(&self, nurse: u16, skill: u8) -> bool
         requires nurse_in { nurse < length self.now.nurses }
         requires skill_in { skill < length self.now.skills }
         ensures { result ≡ slice_index_or self.now.has_skill (nurse * length self.now.skills + skill) false }
@@ -117,7 +108,7 @@ impl Scenario {
     }
 
     /// The contract of the nurse.
-    pub fn contract(&self, nurse: u16) -> Contract
+    pub(crate) fn contract(&self, nurse: u16) -> Contract
         requires { nurse < length self.now.nurses }
         ensures { result ≡ slice_index_or self.now.contracts (slice_index_or self.now.contract_of nurse 0) no_contract }
     {
@@ -126,7 +117,7 @@ impl Scenario {
     }
 
     /// The limits of consecutive assignments to the shift type.
-    pub fn limits(&self, shift: u8) -> Span
+    pub(crate) fn limits(&self, shift: u8) -> Span
         requires { shift < length self.now.shifts }
         ensures { result ≡ slice_index_or self.now.limits shift no_span }
     {
@@ -134,7 +125,7 @@ impl Scenario {
     }
 
     /// Whether the second shift type may not follow the first on the next day.
-    pub fn forbidden(&self, first: u8, second: u8) -> bool
+    pub(crate) fn forbidden(&self, first: u8, second: u8) -> bool
         requires first_in { first < length self.now.shifts }
         requires second_in { second < length self.now.shifts }
         ensures { result ≡ slice_index_or self.now.forbidden (first * length self.now.shifts + second) false }
@@ -150,7 +141,7 @@ impl Scenario {
     }
 
     /// The name of the nurse.
-    pub fn nurse_name(&self, nurse: u16) -> &[u8]
+    pub(crate) fn nurse_name(&self, nurse: u16) -> &[u8]
         requires { nurse < length self.now.nurses }
         ensures { slice_get self.now.nurses nurse ≡ Some result.now }
     {
@@ -158,7 +149,7 @@ impl Scenario {
     }
 
     /// The name of the shift type.
-    pub fn shift_name(&self, shift: u8) -> &[u8]
+    pub(crate) fn shift_name(&self, shift: u8) -> &[u8]
         requires { shift < length self.now.shifts }
         ensures { slice_get self.now.shifts shift ≡ Some result.now }
     {
@@ -166,7 +157,7 @@ impl Scenario {
     }
 
     /// The name of the skill.
-    pub fn skill_name(&self, skill: u8) -> &[u8]
+    pub(crate) fn skill_name(&self, skill: u8) -> &[u8]
         requires { skill < length self.now.skills }
         ensures { slice_get self.now.skills skill ≡ Some result.now }
     {

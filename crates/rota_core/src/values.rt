@@ -8,8 +8,8 @@ pub struct Span {
 }
 
 /// The contract of a nurse: the limits of her assignments over all weeks, of her consecutive working days and
-/// of her consecutive days off, the maximum number of weekends that she works over all weeks, and whether she
-/// works on both days of a weekend or on none.
+/// of her consecutive days off, the maximum number of weekends that she works over all weeks, and whether it
+/// asks for complete weekends: work on both days or on none.
 #[derive(Clone, Copy, Debug, PartialEq, Eq)]
 pub struct Contract {
     pub total: Span,
@@ -32,7 +32,7 @@ pub struct Past {
     pub off_run: u16,
 }
 
-/// The number of nurses that a day needs on a shift type and with a skill.
+/// The minimum (H2) and the optimal number (S1) of nurses for a day, a shift type and a skill.
 #[derive(Clone, Copy, Debug, PartialEq, Eq)]
 pub struct Demand {
     pub minimum: u16,

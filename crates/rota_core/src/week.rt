@@ -1,4 +1,4 @@
-//! A week's own tables: the demands of its days, and the requests for shifts or days off.
+//! A week's own tables: the demands of its days, and the requests for shifts off or days off.
 
 use crate::values::Demand;
 use std::marker::Model;
@@ -13,8 +13,8 @@ pub struct WeekParts {
     /// At index (d * S + s) * K + k, the demand of day d on shift type s with skill k, for S shift types and
     /// K skills.
     pub demands: Vec<Demand>,
-    /// At index (n * DAYS + d) * S + s, the number of request rows that ask for nurse n's day d off, from shift
-    /// type s or from any.
+    /// At index (n * DAYS + d) * S + s, the number of request rows that ask to keep nurse n off shift type s, or
+    /// off every shift type, on day d.
     pub requests: Vec<u16>,
 }
 

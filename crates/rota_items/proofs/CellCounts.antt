@@ -1,6 +1,7 @@
--- The number of cells of a sum that a roster has: at most one of a nurse's day.
-use Rattle.rota_items.proofs.Common.Imports.{◌≡◌, ℕ, ◌+◌, ◌<◌, ◌≤◌, Bool, true, false, cond, inl, inr, List, [], ◌∷◌, refl, ap, ◌∙◌, arith, sym, count_by, list_any, cases_Bool, true≢false, or-false, false_from_ne_true}
-use Rattle.rota_items.proofs.Common.Imports.{sum_by-cons, AllByRecursion, sum_below, count_below, KeepsOneCell, is_on, works, Roster, cell, InWeek, Problem, Cell, cell_number, on_cells, work_cells}
+-- The cells of a nurse's day that a roster has: their number, which is at most 1, and whether there is one.
+use Rattle.rota_items.proofs.Common.Imports.{◌≡◌, ℕ, ◌+◌, ◌<◌, ◌≤◌, Bool, true, false, cond, inl, inr, List, [], ◌∷◌, refl, ap, ◌∙◌, arith, sym, count_by}
+use Rattle.rota_items.proofs.Common.Imports.{list_any, cases_Bool, true≢false, or-false, false_from_ne_true, sum_by-cons, AllByRecursion, sum_below}
+use Rattle.rota_items.proofs.Common.Imports.{count_below, KeepsOneCell, is_on, works, Roster, cell, InWeek, Problem, Cell, cell_number, on_cells, work_cells}
 use Rattle.rota_core.specs.RisingLists.{RisesWithin}
 use Rattle.rota_items.proofs.Lists.{all-both, all-weaker, sum_by-each-is, count_by-each, list_any-each, any_below-same}
 use Rattle.rota_items.proofs.RisingCells.{in-cell, on-are, rises-between, rises-on_cells, rises-work_cells, work-are}

@@ -1,7 +1,8 @@
 -- A day's window and patterns charge the cost of the run on that day.
-use Rattle.rota_items.proofs.Common.Imports.{◌≡◌, ℕ, zero, suc, ◌+◌, ◌-◌, ◌<◌, ◌≤◌, Bool, ◌&&◌, not, cond, true, ◌⊎◌, inr, List, ◌∷◌, [], ◌++◌, refl, map, ap, arith, ltb, leb}
-use Rattle.rota_items.proofs.Common.Imports.{nat_lt, nat_le, list_all, range_with_len, sum_by, list_all-append, sum_by-append, nat_tests, concat_below, Span, PatternDay, Pattern}
-use Rattle.rota_items.proofs.Common.Imports.{with_property, without_property, days_with, windows_on, closed_patterns_at, patterns_on, run_length_before, is_over, missing_on}
+use Rattle.rota_items.proofs.Common.Imports.{◌≡◌, ℕ, zero, suc, ◌+◌, ◌-◌, ◌<◌, ◌≤◌, Bool, ◌&&◌, not, cond, true, ◌⊎◌, inr, List, ◌∷◌, [], ◌++◌}
+use Rattle.rota_items.proofs.Common.Imports.{refl, map, ap, arith, ltb, leb, nat_lt, nat_le, list_all, range_with_len, sum_by, list_all-append}
+use Rattle.rota_items.proofs.Common.Imports.{sum_by-append, nat_tests, concat_below, Span, PatternDay, Pattern, with_property, without_property}
+use Rattle.rota_items.proofs.Common.Imports.{days_with, windows_on, closed_patterns_at, patterns_on, run_length_before, is_over, missing_on}
 use Rattle.rota_items.proofs.Lists.{sum_by-singleton_if}
 
 -- whether the day matches the pattern

@@ -1,10 +1,9 @@
--- The meaning of the patterns of days, and the number of their plain sums.
-use Rattle.rota_items.proofs.Common.Imports.{◌≡◌, ℕ, zero, suc, ◌+◌, ◌-◌, Bool, true, false, cond, List, map, refl, arith, bool_byte, range_with_len, count_by, sum_by-cons, sum_by-append}
-use Rattle.rota_items.proofs.Common.Imports.{singleton_if, Problem, property_of, is_plain_of, days_of, is_plain, PatternDay, with_property, DayPattern, DayProperty, Shift}
+-- The number of plain sums in a pattern's days.
+use Rattle.rota_items.proofs.Common.Imports.{◌≡◌, ℕ, zero, suc, ◌+◌, ◌-◌, Bool, true, false, cond, List, map, refl, arith, bool_byte}
+use Rattle.rota_items.proofs.Common.Imports.{range_with_len, count_by, sum_by-cons, sum_by-append, singleton_if, Problem, property_of}
+use Rattle.rota_items.proofs.Common.Imports.{is_plain_of, days_of, is_plain, PatternDay, with_property, DayPattern, DayProperty, Shift}
 
--- ---- plain sums
-
--- the days for which the answer of `has` is yes
+-- `plain` says whether a day's sum is plain, from whether the day must have the property
 module _ (plain : Bool → Bool) where
   abbrev is : PatternDay → Bool
   is day = plain day.has
@@ -19,12 +18,12 @@ module _ (plain : Bool → Bool) where
       )
 
   pub count-plain : (pattern : DayPattern) → count_by is (days_of pattern) ≡
-      cond (plain false) (bool_byte pattern.off_before + bool_byte pattern.off_after) 0 +
+      cond (plain false) (bool_byte pattern.without_before + bool_byte pattern.without_after) 0 +
       cond (plain true) (pattern.end - pattern.first) 0
   unfolding singleton_if
   count-plain pattern = grind (arith, sum_by-append {X = PatternDay}, count-with)
 
--- the sums that are plain by a property
+-- both tests of a property find the same plain sums
 pub plain-of_property : (problem : Problem) (n : ℕ) (property : DayProperty) (days : List PatternDay) →
     count_by (λ (day : PatternDay). is_plain_of property day.has) days ≡ count_by (is_plain (property_of problem n property)) days
 plain-of_property problem n (Shift s) days = refl

@@ -1,7 +1,7 @@
--- The terms of a pattern's days, part by part.
-use Rattle.rota_items.proofs.Common.Imports.{◌≡◌, ℕ, ◌+◌, ◌-◌, ◌≤◌, ◌<◌, List, [], ◌∷◌, length, ap, ◌∙◌, arith, flat_map, append-nil, flat_map-append, get_or-map-range_with_len}
-use Rattle.rota_items.proofs.Common.Imports.{length-map-range_with_len, map-range_with_len_more, take-map-range_with_len, Problem, Cell, Term, PatternDay, with_property}
-use Rattle.rota_items.proofs.Common.Imports.{days_with, cell_term_events, Event, Took, Refused, Ghosts}
+-- How a taker takes the terms of days, day by day.
+use Rattle.rota_items.proofs.Common.Imports.{◌≡◌, ℕ, ◌+◌, ◌-◌, ◌≤◌, ◌<◌, List, [], ◌∷◌, length, ap, ◌∙◌, arith, flat_map, append-nil, flat_map-append}
+use Rattle.rota_items.proofs.Common.Imports.{get_or-map-range_with_len, length-map-range_with_len, map-range_with_len_more, take-map-range_with_len}
+use Rattle.rota_items.proofs.Common.Imports.{Problem, Cell, Term, PatternDay, with_property, days_with, cell_term_events, Event, Took, Refused, Ghosts}
 use Rattle.rota_items.proofs.Taking.{Joins, list_refused, terms_join, taking, nothing, both}
 
 -- the rules that an optional day needs

@@ -1,8 +1,10 @@
--- Properties of each window and pattern that charges a property's runs. Their days follow one another.
-use Rattle.rota_items.proofs.Common.Imports.{◌≡◌, ℕ, zero, suc, ◌+◌, ◌-◌, ◌<◌, ◌≤◌, List, [], ◌∷◌, ◌++◌, length, map, refl, sym, ap, subst, true, arith, length-append, nat_lt, nat_le, max, ◌&&◌, AllByRecursion}
-use Rattle.rota_items.proofs.Common.Imports.{range_with_len, length-map, length-range_with_len, AllByRecursion-append, AllByRecursion-concat_below, AllByRecursion-singleton_if, length-concat_below}
-use Rattle.rota_items.proofs.Common.Imports.{length-singleton_if, concat_below, Item, Span, PatternDay, Pattern, with_property, without_property, window, windows_on, windows, closed_pattern, closed_patterns_at}
-use Rattle.rota_items.proofs.Common.Imports.{closed_patterns_on, edge_pattern, edge_patterns_on, patterns_on, patterns, map-id, map-map, ◌∙◌, DaysFollow, Runs, pattern_item, run_items, max_run_items}
+-- The windows and patterns that charge a property's runs: their number and their units are small, and the days of each follow one another.
+use Rattle.rota_items.proofs.Common.Imports.{◌≡◌, ℕ, zero, suc, ◌+◌, ◌-◌, ◌<◌, ◌≤◌, List, [], ◌∷◌, ◌++◌, length, map, refl, sym, ap, subst, true, arith}
+use Rattle.rota_items.proofs.Common.Imports.{length-append, nat_lt, nat_le, max, ◌&&◌, AllByRecursion, range_with_len, length-map, length-range_with_len}
+use Rattle.rota_items.proofs.Common.Imports.{AllByRecursion-append, AllByRecursion-concat_below, AllByRecursion-singleton_if, length-concat_below}
+use Rattle.rota_items.proofs.Common.Imports.{length-singleton_if, concat_below, Item, Span, PatternDay, Pattern, with_property, without_property, window}
+use Rattle.rota_items.proofs.Common.Imports.{windows_on, windows, closed_pattern, closed_patterns_at, closed_patterns_on, edge_pattern, edge_patterns_on}
+use Rattle.rota_items.proofs.Common.Imports.{patterns_on, patterns, map-id, map-map, ◌∙◌, DaysFollow, Runs, pattern_item, run_items, max_run_items}
 use Rattle.rota_items.proofs.Lists.{length-each_below_both, all-back, all-map, all-weaker}
 
 -- ---- the days

@@ -1,5 +1,6 @@
 -- The charges of consecutive weeks sum up to the excess at the end, less the excess at the start.
-use Rattle.rota_items.proofs.Common.Imports.{◌≡◌, ℕ, ◌+◌, true, List, [], ◌∷◌, arith, sum, sum_by, sum_by-cons, charged_excess, CountedTotal, FollowEarly, RosteredWeek, added_by_all, added_excess, added_in, early_charges}
+use Rattle.rota_items.proofs.Common.Imports.{◌≡◌, ℕ, ◌+◌, true, List, [], ◌∷◌, arith, sum, sum_by, sum_by-cons, charged_excess}
+use Rattle.rota_items.proofs.Common.Imports.{CountedTotal, FollowEarly, RosteredWeek, added_by_all, added_excess, added_in, early_charges}
 
 pub early_charges-are : (maximum before : ℕ) (steps : List ℕ) → early_charges maximum before steps ≡ added_excess maximum before (sum steps)
 early_charges-are maximum before [] = omega arith

@@ -1,8 +1,10 @@
 -- Rosters extend to assignments at their penalty, and satisfying assignments represent rosters whose penalty is at most their objective.
-use Rattle.rota_items.proofs.Common.Imports.{◌≡◌, ℕ, ◌+◌, ◌*◌, ◌<◌, ◌≤◌, Bool, true, false, cond, List, [], ◌∷◌, ◌++◌, refl, sym, ap, ◌∙◌, arith, pos, ◌+ℤ◌, ◌-ℤ◌, ◌≤ℤ◌, nat_lt, All, AllByRecursion}
-use Rattle.rota_items.proofs.Common.Imports.{ints, nat_tests, lt-ltb, All-from_recursion, KeepsCompetitionRules, KeepsHardRules, Roster, InWeek, Problem, Cell, cell_number, unit_number, first_slack}
-use Rattle.rota_items.proofs.Common.Imports.{constant_terms, cell_terms, constant, penalty, soft_items, Item, positive_part, shortage, weighted_shortages, numbered, Term, value_of, SatisfiesModel}
-use Rattle.rota_items.proofs.Common.Imports.{AreBelow, Rule, slack_weights, numbered_terms, numbered_items, objective_terms, roster_of, assignment_of, extension_of, model_of, request_cost}
+use Rattle.rota_items.proofs.Common.Imports.{◌≡◌, ℕ, ◌+◌, ◌*◌, ◌<◌, ◌≤◌, Bool, true, false, cond, List, [], ◌∷◌, ◌++◌, refl, sym, ap, ◌∙◌, arith, pos}
+use Rattle.rota_items.proofs.Common.Imports.{◌+ℤ◌, ◌-ℤ◌, ◌≤ℤ◌, nat_lt, All, AllByRecursion, ints, nat_tests, lt-ltb, All-from_recursion}
+use Rattle.rota_items.proofs.Common.Imports.{KeepsCompetitionRules, KeepsHardRules, Roster, InWeek, Problem, Cell, cell_number, unit_number, first_slack}
+use Rattle.rota_items.proofs.Common.Imports.{constant_terms, cell_terms, constant, penalty, soft_items, Item, positive_part, shortage}
+use Rattle.rota_items.proofs.Common.Imports.{weighted_shortages, numbered, Term, value_of, SatisfiesModel, AreBelow, Rule, slack_weights, numbered_terms}
+use Rattle.rota_items.proofs.Common.Imports.{numbered_items, objective_terms, roster_of, assignment_of, extension_of, model_of, request_cost}
 use Rattle.rota_items.proofs.AlikeRosters.{keeps-alike}
 use Rattle.rota_items.proofs.ItemLaw.{value_of-numbered, extension_satisfies, value_of-extension, weighted_shortages-le}
 use Rattle.rota_items.proofs.Lists.{all-map, sum_by-map, sum_by-same}
@@ -11,7 +13,7 @@ use Rattle.rota_items.proofs.PatternItems.{value_of-append}
 use Rattle.rota_items.proofs.SoftRules.EachRule.{ItemIn, cell_terms-are, charges-penalty, each-item, in-cell_terms}
 use Rattle.rota_items.proofs.SoftRules.Sound.{IsItemSound}
 use Rattle.rota_items.proofs.SoftRules.ShiftOffRequests.{value_of-request_terms, value_of-singleton_if}
-use Rattle.rota_items.proofs.Satisfied.{model-means}
+use Rattle.rota_items.proofs.ModelMeaning.{model-means}
 use Rattle.rota_items.proofs.SoundTerms.{OnTerms, value_of-agree}
 
 -- ---- the penalty in items

@@ -1,7 +1,9 @@
 -- The truth values of an extension, part by part and by variable.
-use Rattle.rota_items.proofs.Common.Imports.{◌≡◌, ℕ, zero, suc, ◌+◌, ◌<◌, ◌≤◌, Bool, List, [], ◌∷◌, ◌++◌, map, length, refl, sym, ap, ◌∙◌, arith, append_assoc, append-nil, flat_map, range_with_len}
-use Rattle.rota_items.proofs.Common.Imports.{map-range_with_len_more, get_or-map-range_with_len, length-map-range_with_len, concat_below, Roster, Problem, Cell, InWeek, Item, shortage, slack_count, soft_items}
-use Rattle.rota_items.proofs.Common.Imports.{cell_number, unit_number, first_slack, numbered_items, model_of, roster_of, truth_of, assignment_of, extension_of, is_slack_needed}
+use Rattle.rota_items.proofs.Common.Imports.{◌≡◌, ℕ, zero, suc, ◌+◌, ◌<◌, ◌≤◌, Bool, List, [], ◌∷◌, ◌++◌, map, length, refl, sym, ap}
+use Rattle.rota_items.proofs.Common.Imports.{◌∙◌, arith, append_assoc, append-nil, flat_map, range_with_len, map-range_with_len_more}
+use Rattle.rota_items.proofs.Common.Imports.{get_or-map-range_with_len, length-map-range_with_len, concat_below, Roster, Problem, Cell}
+use Rattle.rota_items.proofs.Common.Imports.{InWeek, Item, shortage, slack_count, soft_items, cell_number, unit_number, first_slack}
+use Rattle.rota_items.proofs.Common.Imports.{numbered_items, model_of, roster_of, truth_of, assignment_of, extension_of, is_slack_needed}
 use Rattle.rota_core.proofs.LogicWords.{concat_below-same}
 use Rattle.rota_items.proofs.Extension.{extension-below, extension-roster}
 use Rattle.rota_items.proofs.ItemLaw.{extension-extends, needed-first, needed-after}

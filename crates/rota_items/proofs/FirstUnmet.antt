@@ -1,7 +1,9 @@
--- The first row that an assignment does not satisfy: whether it exists, and the first hard rule that is broken.
-use Rattle.rota_items.proofs.Common.Imports.{◌≡◌, ℕ, Bool, true, false, ◌⊎◌, inl, inr, List, [], ◌∷◌, ◌++◌, map, refl, subst, arith, Option, Some, None, ℤ, ◌≤ℤ◌, int_le, ints, cases_Bool, append-nil, MatchOption}
-use Rattle.rota_items.proofs.Common.Imports.{AllByRecursion, KeepsOneCell, KeepsCompetitionRules, KeepsHardRules, FirstBroken, InWeek, Roster, Problem, Rule, Cell, cell_number, unit_number, rows_of_hard_rule, Satisfies}
-use Rattle.rota_items.proofs.Common.Imports.{value_of, LinearRow, linear_constraint, extension_of, hard_rows, numbered_row, numbered_terms, roster_of, NamesFirstBroken, first_unmet, later, H1, H2, H3, H4, H5}
+-- The first row that an assignment does not satisfy: there is none if and only if all are satisfied, and it names the first broken hard rule.
+use Rattle.rota_items.proofs.Common.Imports.{◌≡◌, ℕ, Bool, true, false, ◌⊎◌, inl, inr, List, [], ◌∷◌, ◌++◌, map, refl, subst, arith, Option, Some, None}
+use Rattle.rota_items.proofs.Common.Imports.{ℤ, ◌≤ℤ◌, int_le, ints, cases_Bool, append-nil, MatchOption, AllByRecursion, KeepsOneCell}
+use Rattle.rota_items.proofs.Common.Imports.{KeepsCompetitionRules, KeepsHardRules, FirstBroken, InWeek, Roster, Problem, Rule, Cell, cell_number}
+use Rattle.rota_items.proofs.Common.Imports.{unit_number, rows_of_hard_rule, Satisfies, value_of, LinearRow, linear_constraint, extension_of, hard_rows}
+use Rattle.rota_items.proofs.Common.Imports.{numbered_row, numbered_terms, roster_of, NamesFirstBroken, first_unmet, later, H1, H2, H3, H4, H5}
 use Rattle.rota_items.proofs.Extension.{extension-roster, extension-unit, value_of-of_terms}
 use Rattle.rota_items.proofs.HardRules.EachRule.{held, minimum, one_cell, skills}
 use Rattle.rota_items.proofs.HardRules.Sound.{AllHold, IsHardRuleSound, IsRowSound, Keeps}

@@ -1,12 +1,13 @@
--- Holding cells adds to the model only that each of them is true.
-use Rattle.rota_items.proofs.Common.Imports.{◌≡◌, ◌↔◌, ℕ, ◌+◌, Bool, false, [], map, length, ap, arith, rules, length-map, length-flat_map, KeepsCompetitionRules, KeepsHeld, Has, Roster, hard_rules, Problem, Cell}
-use Rattle.rota_items.proofs.Common.Imports.{rows_of_hard_rule, SatisfiesModel, model_of, roster_of, cells_of, h5_row, h5_rows, without_held, List, ◌∷◌, sym, refl, true≢false, AllByRecursion}
-use Rattle.rota_items.proofs.Common.Imports.{◌<◌, true, KeepsHardRules, KeepsOneCell, KeepsSkills, KeepsSuccession, cell, is_on}
+-- Holding cells adds to the model only that each of them is true. If it can be satisfied, the held cells keep H1, H3 and H4.
+use Rattle.rota_items.proofs.Common.Imports.{◌≡◌, ◌↔◌, ℕ, ◌+◌, Bool, false, [], map, length, ap, arith, rules, length-map, length-flat_map}
+use Rattle.rota_items.proofs.Common.Imports.{KeepsCompetitionRules, KeepsHeld, Has, Roster, hard_rules, Problem, Cell, rows_of_hard_rule, SatisfiesModel}
+use Rattle.rota_items.proofs.Common.Imports.{model_of, roster_of, cells_of, h5_row, h5_rows, without_held, List, ◌∷◌, sym, refl, true≢false}
+use Rattle.rota_items.proofs.Common.Imports.{AllByRecursion, ◌<◌, true, KeepsHardRules, KeepsOneCell, KeepsSkills, KeepsSuccession, cell, is_on}
 use Rattle.rota_items.proofs.Lists.{any_below-more}
 use Rattle.rota_items.proofs.RisingCells.{in-cell}
 use Rattle.rota_items.proofs.SlackBound.{length-constraints}
 use Rattle.rota_items.proofs.HardRules.EachRule.{cells-are}
-use Rattle.rota_items.proofs.Satisfied.{model-means}
+use Rattle.rota_items.proofs.ModelMeaning.{model-means}
 
 nothing : {A : Type 0} (xs : List A) → AllByRecursion (λ _. ⊥) xs → xs ≡ []
 nothing [] all = refl

@@ -1,6 +1,7 @@
 -- The counts of a counter for a list of items.
-use Rattle.rota_items.proofs.Common.Imports.{◌≡◌, ℕ, ◌+◌, ◌<◌, List, [], ◌∷◌, ◌++◌, length, refl, ap, ◌∙◌, arith, length-append, fold, length-map, InstanceTables, IsInstance, problem_of, Problem, Cell, soft_items}
-use Rattle.rota_items.proofs.Common.Imports.{Item, numbered, slack_count, cell_number, Runs, pattern_item, run_items, patterns, windows, word_limit, numbered_list, ItemNumbers, sum_within, with_one}
+use Rattle.rota_items.proofs.Common.Imports.{◌≡◌, ℕ, ◌+◌, ◌<◌, List, [], ◌∷◌, ◌++◌, length, refl, ap, ◌∙◌, arith, length-append, fold, length-map}
+use Rattle.rota_items.proofs.Common.Imports.{InstanceTables, IsInstance, problem_of, Problem, Cell, soft_items, Item, numbered, slack_count, cell_number}
+use Rattle.rota_items.proofs.Common.Imports.{Runs, pattern_item, run_items, patterns, windows, word_limit, numbered_list, ItemNumbers, sum_within, with_one}
 use Rattle.rota_items.proofs.InstanceLimits.{instance-within_limits}
 use Rattle.rota_items.proofs.ItemLists.{have_one-runs, one_slack-each}
 use Rattle.rota_items.proofs.SlackBound.{items-few, variables_fit}

@@ -1,7 +1,10 @@
--- Items and their slacks.
-use Rattle.rota_items.proofs.Common.Imports.{map, ◌≡◌, ◌↔◌, ℕ, zero, suc, ◌+◌, ◌-◌, ◌*◌, ◌<◌, ◌≤◌, Bool, cond, List, [], ◌∷◌, refl, ap, ◌∙◌, arith, add-zero, ltb, pos, ◌+ℤ◌, ◌-ℤ◌, ◌≤ℤ◌, All, count_by, range_with_len}
-use Rattle.rota_items.proofs.Common.Imports.{sum_by-cons, recursion_from_All, lt-ltb, le-ltb, ints, nat_tests, AllByRecursion, All-from_recursion, All-head, All-tail, mul-le-mul_left, extension, Item, positive_part}
-use Rattle.rota_items.proofs.Common.Imports.{shortage, weighted_shortages, Term, Constraint, Satisfies, value_of, times, AreBelow, slack_variables, item_constraint, item_constraints, slack_weights, is_slack_needed}
+-- An item's constraint holds if and only if its shortage is at most its number of true slacks. In an
+-- extension as many slacks are true as the shortage, or all if it is more.
+use Rattle.rota_items.proofs.Common.Imports.{map, ◌≡◌, ◌↔◌, ℕ, zero, suc, ◌+◌, ◌-◌, ◌*◌, ◌<◌, ◌≤◌, Bool, cond, List, [], ◌∷◌, refl, ap, ◌∙◌, arith}
+use Rattle.rota_items.proofs.Common.Imports.{add-zero, ltb, pos, ◌+ℤ◌, ◌-ℤ◌, ◌≤ℤ◌, All, count_by, range_with_len, sum_by-cons, recursion_from_All}
+use Rattle.rota_items.proofs.Common.Imports.{lt-ltb, le-ltb, ints, nat_tests, AllByRecursion, All-from_recursion, All-head, All-tail, mul-le-mul_left}
+use Rattle.rota_items.proofs.Common.Imports.{extension, Item, positive_part, shortage, weighted_shortages, Term, Constraint, Satisfies, value_of}
+use Rattle.rota_items.proofs.Common.Imports.{times, AreBelow, slack_variables, item_constraint, item_constraints, slack_weights, is_slack_needed}
 use Rattle.rota_items.proofs.PatternItems.{value_of-append, positive_part-parts}
 use Rattle.rota_items.proofs.SoundTerms.{value_of-agree}
 

@@ -1,7 +1,9 @@
 -- The items of rules that charge each nurse, and of runs, in the order of the loops that send them.
-use Rattle.rota_items.proofs.Common.Imports.{◌≡◌, ℕ, ◌++◌, map, ap, ◌∙◌, map-append, concat_below, Item, Runs, pattern_item, run_items, Pattern, closed_patterns_at, closed_patterns_on}
-use Rattle.rota_items.proofs.Common.Imports.{edge_patterns_on, patterns, patterns_on, windows, windows_on, window_items_on, closed_items_at, pattern_items, pattern_items_on, zero, suc}
-use Rattle.rota_items.proofs.Common.Imports.{List, [], ◌∷◌, length, refl, arith, AllByRecursion, sum_by-cons, Problem, Rule, Cell, nurse_items, items_of_rule, slack_count, S1, optimum_items, append-nil}
+use Rattle.rota_items.proofs.Common.Imports.{◌≡◌, ℕ, ◌++◌, map, ap, ◌∙◌, map-append, concat_below, Item, Runs, pattern_item, run_items}
+use Rattle.rota_items.proofs.Common.Imports.{Pattern, closed_patterns_at, closed_patterns_on, edge_patterns_on, patterns, patterns_on}
+use Rattle.rota_items.proofs.Common.Imports.{windows, windows_on, window_items_on, closed_items_at, pattern_items, pattern_items_on}
+use Rattle.rota_items.proofs.Common.Imports.{zero, suc, List, [], ◌∷◌, length, refl, arith, AllByRecursion, sum_by-cons, Problem, Rule}
+use Rattle.rota_items.proofs.Common.Imports.{Cell, nurse_items, items_of_rule, slack_count, S1, optimum_items, append-nil}
 use Rattle.rota_items.proofs.Lists.{map-concat_below}
 use Rattle.rota_items.proofs.EachPattern.{each-run_item}
 

@@ -1,7 +1,9 @@
 -- The rows that a taker of rows takes for the items sent to it.
-use Rattle.rota_items.proofs.Common.Imports.{◌≡◌, ℕ, ◌+◌, ◌<◌, List, [], ◌∷◌, ◌++◌, Result, Ok, Err, refl, sym, ap, subst, ◌∙◌, arith, append_assoc, fold, fold-append, InstanceTables, IsInstance, problem_of}
-use Rattle.rota_items.proofs.Common.Imports.{soft_items, Item, item_rows, slack_count, slack_weights, first_slack, numbered_items, cell_number, word_limit, Event, events, term_events, RowsState, StopsAtRow}
-use Rattle.rota_items.proofs.Common.Imports.{row_of_item, slacks_within, weights_of_item, with_item, within_numbers, Took, Refused, Takes, TookAll, RefusedOne, TakesAll, Ghosts, sum_by-append}
+use Rattle.rota_items.proofs.Common.Imports.{◌≡◌, ℕ, ◌+◌, ◌<◌, List, [], ◌∷◌, ◌++◌, Result, Ok, Err, refl, sym, ap, subst, ◌∙◌, arith}
+use Rattle.rota_items.proofs.Common.Imports.{append_assoc, fold, fold-append, InstanceTables, IsInstance, problem_of, soft_items, Item}
+use Rattle.rota_items.proofs.Common.Imports.{item_rows, slack_count, slack_weights, first_slack, numbered_items, cell_number, word_limit, Event}
+use Rattle.rota_items.proofs.Common.Imports.{events, term_events, RowsState, StopsAtRow, row_of_item, slacks_within, weights_of_item, with_item}
+use Rattle.rota_items.proofs.Common.Imports.{within_numbers, Took, Refused, Takes, TookAll, RefusedOne, TakesAll, Ghosts, sum_by-append}
 use Rattle.rota_items.proofs.InstanceLimits.{instance-within_limits}
 use Rattle.rota_items.proofs.SlackBound.{variables_fit}
 use Rattle.rota_items.proofs.Taking.{numbers_join, Refused-before, Refused-after}

@@ -1,13 +1,16 @@
 -- How a judge changes with the rows of items.
-use Rattle.rota_items.proofs.Common.Imports.{false, length-map, ◌≡◌, ℕ, zero, suc, ◌+◌, ◌*◌, ◌<◌, ◌≤◌, Bool, List, [], ◌∷◌, refl, sym, ap, ◌∙◌, arith, min, w64, pos, nat_abs, ◌-ℤ◌, int_le, nat_le, AllByRecursion, count_by}
-use Rattle.rota_items.proofs.Common.Imports.{count_by-le-length, range_with_len, sum_by, fold, fold-append, lt-ltb, ints, sum_by-append, sum_by-cons, Roster, set_of, Problem, Rule, unit_number, Item, positive_part}
-use Rattle.rota_items.proofs.Common.Imports.{shortage, Term, value_of, times, LinearRow, item_row, item_rows, slack_count, slack_variables, slack_weights, assignment_of, extension_of, model_of, saturate_signed}
-use Rattle.rota_items.proofs.Common.Imports.{nat_tests, RosterTables, Subject, assigned, extended, assignment_in, roster_in, tallied, true_slacks, truth_of, Tally, row_events, events, half_limit, length-range_with_len}
+use Rattle.rota_items.proofs.Common.Imports.{false, length-map, ◌≡◌, ℕ, zero, suc, ◌+◌, ◌*◌, ◌<◌, ◌≤◌, Bool, List, [], ◌∷◌, refl, sym, ap, ◌∙◌}
+use Rattle.rota_items.proofs.Common.Imports.{arith, min, w64, pos, nat_abs, ◌-ℤ◌, int_le, nat_le, AllByRecursion, count_by, count_by-le-length}
+use Rattle.rota_items.proofs.Common.Imports.{range_with_len, sum_by, fold, fold-append, lt-ltb, ints, sum_by-append, sum_by-cons, Roster, set_of}
+use Rattle.rota_items.proofs.Common.Imports.{Problem, Rule, unit_number, Item, positive_part, shortage, Term, value_of, times, LinearRow, item_row}
+use Rattle.rota_items.proofs.Common.Imports.{item_rows, slack_count, slack_variables, slack_weights, assignment_of, extension_of, model_of}
+use Rattle.rota_items.proofs.Common.Imports.{saturate_signed, nat_tests, RosterTables, Subject, assigned, extended, assignment_in, roster_in}
+use Rattle.rota_items.proofs.Common.Imports.{tallied, true_slacks, truth_of, Tally, row_events, events, half_limit, length-range_with_len}
 use Rattle.rota_items.proofs.Extension.{extension-below}
 use Rattle.rota_items.proofs.ItemLaw.{IsExtension, count-front, extends-after, needed-first, value_of-item_constraint, value_of-weight}
 use Rattle.rota_items.proofs.FirstUnmet.{Named}
-use Rattle.rota_items.proofs.JudgedRows.{Comes, IsJudged, covers, positive-saturated, row-comes, same, Before, counted_other, counted_slack, others-before, slacks-before, sums_of, value_of-none}
-use Rattle.std.proofs.lemmas.List.FromFn.{length-range_with_len as length-range}
+use Rattle.rota_items.proofs.JudgedRows.{Comes, IsJudged, covers, positive-saturated, row-comes, same, Before}
+use Rattle.rota_items.proofs.JudgedRows.{counted_other, counted_slack, others-before, slacks-before, sums_of, value_of-none}
 use Rattle.rota_items.proofs.PatternItems.{value_of-append, positive_part-parts, shortage-minimum, spread}
 use Rattle.rota_items.proofs.SoundTerms.{value_of-agree, on-times, spread-units, units-times}
 

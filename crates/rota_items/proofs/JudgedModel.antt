@@ -1,9 +1,12 @@
 -- How a judge changes with the model of a week.
-use Rattle.rota_items.proofs.Common.Imports.{mul-le-mul_right, ◌≡◌, ℕ, ◌+◌, ◌*◌, ◌<◌, ◌≤◌, Bool, true, List, [], ◌∷◌, ◌++◌, refl, ap, ◌∙◌, cond, arith, pos, negsuc, nat_abs, if◌then◌else◌, AllByRecursion}
-use Rattle.rota_items.proofs.Common.Imports.{fold, sum_by, ints, fold-append, sum_by-cons, Roster, InWeek, set_of, soft_rules, Problem, Rule, Cell, cell_number, unit_number, first_slack, Item, numbered, shortage}
-use Rattle.rota_items.proofs.Common.Imports.{weighted_shortages, Term, value_of, LinearRow, objective_rows, item_rows, cell_terms, constant, items_of_rule, soft_items, rule_rows, hard_rows, numbered_items}
-use Rattle.rota_items.proofs.Common.Imports.{numbered_row, numbered_terms, objective_terms, rows_of, first_unmet, IsWithinLimits, max_objective, request_cost, signed_limit, Objective, events, row_events}
-use Rattle.rota_items.proofs.Common.Imports.{RowSums, Tally, Subject, assigned, extended, assignment_in, roster_in, capped, no_sums, no_tally, tallied, flat_map-append, positive_part, unit_row}
+use Rattle.rota_items.proofs.Common.Imports.{mul-le-mul_right, ◌≡◌, ℕ, ◌+◌, ◌*◌, ◌<◌, ◌≤◌, Bool, true, List, [], ◌∷◌, ◌++◌, refl, ap, ◌∙◌, cond}
+use Rattle.rota_items.proofs.Common.Imports.{arith, pos, negsuc, nat_abs, if◌then◌else◌, AllByRecursion, fold, sum_by, ints, fold-append}
+use Rattle.rota_items.proofs.Common.Imports.{sum_by-cons, Roster, InWeek, set_of, soft_rules, Problem, Rule, Cell, cell_number, unit_number}
+use Rattle.rota_items.proofs.Common.Imports.{first_slack, Item, numbered, shortage, weighted_shortages, Term, value_of, LinearRow, objective_rows}
+use Rattle.rota_items.proofs.Common.Imports.{item_rows, cell_terms, constant, items_of_rule, soft_items, rule_rows, hard_rows, numbered_items}
+use Rattle.rota_items.proofs.Common.Imports.{numbered_row, numbered_terms, objective_terms, rows_of, first_unmet, IsWithinLimits, max_objective}
+use Rattle.rota_items.proofs.Common.Imports.{request_cost, signed_limit, Objective, events, row_events, RowSums, Tally, Subject, assigned, extended}
+use Rattle.rota_items.proofs.Common.Imports.{assignment_in, roster_in, capped, no_sums, no_tally, tallied, flat_map-append, positive_part, unit_row}
 use Rattle.rota_core.specs.declared.rule.Rule.TheVariants.{Unit as UnitRule}
 use Rattle.rota_items.proofs.Extension.{extension-roster, shortage-of_item, terms-below, value_of-objective, value_of-of_terms}
 use Rattle.rota_items.proofs.HardRules.EachRule.{each-row}
@@ -36,7 +39,7 @@ sum_by-times : {X : Type 0} (w : ℕ) (f : X → ℕ) (xs : List X) → sum_by (
 sum_by-times w f [] = omega arith
 sum_by-times w f (x ∷ xs) = omega (arith, sum_by-cons (λ x. w * f x) x xs, ap (λ n. w * n) (sum_by-cons f x xs), sum_by-times w f xs)
 
--- the part of each soft rule alone
+-- the function's value at a soft rule, as a sum over all soft rules
 abbrev pub of_rule : (Rule → ℕ) → Rule → ℕ
 of_rule f rule = sum_by (λ own. same own rule * f own) soft_rules
 

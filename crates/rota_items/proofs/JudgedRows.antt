@@ -1,9 +1,12 @@
 -- How a judge changes with the terms of a row, and with rows, one after the other.
-use Rattle.rota_items.proofs.Common.Imports.{◌≡◌, ℕ, ◌+◌, ◌-◌, ◌*◌, ◌<◌, ◌≤◌, Bool, true, false, List, [], ◌∷◌, ◌++◌, map, length, refl, sym, ap, ◌∙◌, arith, min, w64, Option, Some, None, add-zero, inl, inr}
-use Rattle.rota_items.proofs.Common.Imports.{ℤ, pos, negsuc, ◌+ℤ◌, ◌-ℤ◌, ◌==◌, int_le, nat_le, if◌then◌else◌, fold, AllByRecursion, ints, fold-append, saturate_signed, option_or, leb_tells, one-mul, zero-mul}
-use Rattle.rota_items.proofs.Common.Imports.{soft_rules, Problem, Rule, positive_part, LinearRow, is_satisfied, first_unmet, later, rule_of_part, max_count, half_limit, signed_limit, Hard, row_events, events}
-use Rattle.rota_items.proofs.Common.Imports.{RowSums, Tally, Subject, assigned, extended, assignment_in, capped, closed, constraint_closed, lacking_in, tallied, true_slacks, with_cost, soft_index, ◌&&◌, not}
-use Rattle.rota_items.proofs.Common.Imports.{nat_abs, nat_lt, le-ltb, sum_by-cons, unit_number, first_slack, Term, value_of, set_of, close_row, start_row, term_events, counts_for, no_sums}
+use Rattle.rota_items.proofs.Common.Imports.{◌≡◌, ℕ, ◌+◌, ◌-◌, ◌*◌, ◌<◌, ◌≤◌, Bool, true, false, List, [], ◌∷◌, ◌++◌, map, length, refl, sym, ap}
+use Rattle.rota_items.proofs.Common.Imports.{◌∙◌, arith, min, w64, Option, Some, None, add-zero, inl, inr, ℤ, pos, negsuc, ◌+ℤ◌, ◌-ℤ◌, ◌==◌, int_le}
+use Rattle.rota_items.proofs.Common.Imports.{nat_le, if◌then◌else◌, fold, AllByRecursion, ints, fold-append, saturate_signed, option_or, leb_tells}
+use Rattle.rota_items.proofs.Common.Imports.{one-mul, zero-mul, soft_rules, Problem, Rule, positive_part, LinearRow, is_satisfied, first_unmet}
+use Rattle.rota_items.proofs.Common.Imports.{later, rule_of_part, max_count, half_limit, signed_limit, Hard, row_events, events, RowSums, Tally}
+use Rattle.rota_items.proofs.Common.Imports.{Subject, assigned, extended, assignment_in, capped, closed, constraint_closed, lacking_in, tallied}
+use Rattle.rota_items.proofs.Common.Imports.{true_slacks, with_cost, soft_index, ◌&&◌, not, nat_abs, nat_lt, le-ltb, sum_by-cons, unit_number}
+use Rattle.rota_items.proofs.Common.Imports.{first_slack, Term, value_of, set_of, close_row, start_row, term_events, counts_for, no_sums}
 use Rattle.rota_core.specs.declared.rule.Rule.TheVariants.{Unit as UnitRule}
 use Rattle.rota_items.proofs.FirstUnmet.{Named}
 use Rattle.rota_items.proofs.PatternItems.{positive_part-parts, spread, chosen-small}

@@ -1,8 +1,10 @@
 -- A judge that took the whole model has the verdict of its assignment.
-use Rattle.rota_items.proofs.Common.Imports.{◌≡◌, ℕ, ◌+◌, ◌-◌, ◌*◌, ◌≤◌, Bool, List, [], ◌∷◌, ◌++◌, map, refl, sym, ap, subst, ◌∙◌, arith, pos, if◌then◌else◌, AllByRecursion, fold, ints}
-use Rattle.rota_items.proofs.Common.Imports.{soft_rules, Problem, Rule, unit_number, weighted_shortages, IsWithinLimits, value_of, objective_rows, cell_terms_of_rule, model_cost, constant, constant_of_rule}
-use Rattle.rota_items.proofs.Common.Imports.{items_of_rule, objective_terms, rows_of, InstanceTables, IsInstance, problem_of, S4, Tally, Event, events, Subject, JudgeState, assignment_in, roster_in}
-use Rattle.rota_items.proofs.Common.Imports.{capped, counts_for, fresh, judged, no_tally, tallied, WasDriven, with_constants, with_cost, request_cost, Judges}
+use Rattle.rota_items.proofs.Common.Imports.{◌≡◌, ℕ, ◌+◌, ◌-◌, ◌*◌, ◌≤◌, Bool, List, [], ◌∷◌, ◌++◌, map, refl, sym, ap, subst, ◌∙◌, arith, pos}
+use Rattle.rota_items.proofs.Common.Imports.{if◌then◌else◌, AllByRecursion, fold, ints, soft_rules, Problem, Rule, unit_number, weighted_shortages}
+use Rattle.rota_items.proofs.Common.Imports.{IsWithinLimits, value_of, objective_rows, cell_terms_of_rule, model_cost, constant, constant_of_rule}
+use Rattle.rota_items.proofs.Common.Imports.{items_of_rule, objective_terms, rows_of, InstanceTables, IsInstance, problem_of, S4, Tally, Event}
+use Rattle.rota_items.proofs.Common.Imports.{events, Subject, JudgeState, assignment_in, roster_in, capped, counts_for, fresh, judged, no_tally}
+use Rattle.rota_items.proofs.Common.Imports.{tallied, WasDriven, with_constants, with_cost, request_cost, Judges}
 use Rattle.rota_items.proofs.InstanceLimits.{instance-within_limits}
 use Rattle.rota_items.proofs.JudgedModel.{charges, charges-are, few, given, model-comes, objective-judged, of_rule}
 use Rattle.rota_items.proofs.JudgedRows.{cost-raised, costs_of, or_else-none, same, counts-before}
@@ -12,17 +14,18 @@ use Rattle.rota_items.proofs.SoftRules.ShiftOffRequests.{value_of-request_terms}
 abbrev pub model_events : InstanceTables → List Event
 model_events instance = events (objective_rows (objective_terms (problem_of instance))) ++ events (rows_of (problem_of instance))
 
--- the objective in the tally, if the objective gives this at the unit variable
+-- the objective in the tally
 abbrev pub objective_in : Tally → ℕ
 objective_in tally = capped (tally.requests_and_constant + tally.slacks)
 
+-- the costs of the rules in the tally, if the objective has this value at the unit variable
 abbrev pub costs_in : Problem → Tally → ℕ → List ℕ
 costs_in problem tally at_unit = with_constants problem soft_rules (with_cost S4 (tally.requests_and_constant - at_unit) tally.shortages)
 
 abbrev pub at_unit_in : Problem → Subject → ℕ
 at_unit_in problem subject = if counts_for problem subject (unit_number problem) then constant problem else 0
 
--- one of the soft rules has only its own part
+-- the rule is exactly once among the soft rules
 abbrev StandsOnce : Rule → Type 0
 StandsOnce rule = (f : Rule → ℕ) → of_rule f rule ≡ f rule
 
@@ -71,7 +74,8 @@ module _ (problem : Problem) (within : IsWithinLimits problem) (subject : Subjec
       (λ i. with_constants problem soft_rules (costs_of (λ rule. are rule i + same S4 rule * requests)))
 
 pub driven-judges : (judge_state : JudgeState) → IsInstance judge_state.instance → WasDriven judge_state → (objective : ℕ) (costs : List ℕ) →
-    objective ≡ objective_in judge_state.tally → costs ≡ costs_in (problem_of judge_state.instance) judge_state.tally (at_unit_in (problem_of judge_state.instance) judge_state.subject) →
+    objective ≡ objective_in judge_state.tally →
+    costs ≡ costs_in (problem_of judge_state.instance) judge_state.tally (at_unit_in (problem_of judge_state.instance) judge_state.subject) →
     Judges (problem_of judge_state.instance) (assignment_in (problem_of judge_state.instance) judge_state.subject)
     (roster_in (problem_of judge_state.instance) judge_state.subject)
     (record { unmet = judge_state.tally.unmet; objective = objective; costs = costs })

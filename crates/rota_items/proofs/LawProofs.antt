@@ -1,7 +1,7 @@
 -- The lemmas that the laws state, by the file of the laws.
 use Rattle.rota_items.proofs.Common.Imports.{◌≡◌, pos, Roster, Rule, Problem, model_cost, rule_cost}
 use Rattle.rota_items.proofs.CellCounts.{count-on_cells, count-work_cells, one-on, one-work}
-use Rattle.rota_items.proofs.Counted.{counted-rows, counted-constraints, counted-model}
+use Rattle.rota_items.proofs.ModelCounts.{counted-rows, counted-constraints, counted-model}
 use Rattle.rota_items.proofs.Extension.{charges, extension-objective, extension-roster}
 use Rattle.rota_items.proofs.FirstUnmet.{extension-first_broken, first_broken}
 use Rattle.rota_items.proofs.HeldModel.{length-with_held}
@@ -27,7 +27,11 @@ pub ruleset counts = (counted-rows, counted-constraints, counted-model)
 
 pub ruleset items = (extension_satisfies, item_law, value_of-extension, weighted_shortages-le)
 
-pub ruleset models = (cell_number-below, cell_of-cell_number, cell_of_number-in, cell_number-of, extension-first_broken, first_broken, extension-objective, extension-roster, length-with_held, objective-below, rises-objective, occurs-exactly)
+pub ruleset cells = (cell_number-below, cell_of-cell_number, cell_of_number-in, cell_number-of)
+
+pub ruleset extensions = (extension-first_broken, extension-objective, extension-roster)
+
+pub ruleset models = (cells, extensions, first_broken, length-with_held, objective-below, rises-objective, occurs-exactly)
 
 pub ruleset rules_charged = (charges, penalty-below, sum_below-zero, count-on_cells, one-on, count-work_cells, one-work, charged-rule)
 

@@ -1,8 +1,10 @@
 -- Lists: properties of each element, their sums, their lengths, and the results of loops.
-use Rattle.rota_items.proofs.Common.Imports.{List, [], ◌∷◌, map, AllByRecursion, flat_map, AllByRecursion-append, AllByRecursion-concat_below, AllByRecursion-singleton_if, length-singleton_if}
-use Rattle.rota_items.proofs.Common.Imports.{◌≡◌, ℕ, ◌+◌, Bool, true, false, cond, refl, ap, arith, zero-add, sum_by, fold-map, sum_by-append, sum_by-cons, singleton_if, zero, suc, ◌*◌}
-use Rattle.rota_items.proofs.Common.Imports.{◌<◌, ◌≤◌, length, ◌∙◌, count_by, list_any, list_any-append, mul-le, sum_below, count_below, any_below, length-concat_below, concat_below}
-use Rattle.rota_items.proofs.Common.Imports.{◌++◌, length-append, add-one, append-nil, take_all, flat_map-append, take_at_read, map-append, Cell, Item, numbered, slack_count}
+use Rattle.rota_items.proofs.Common.Imports.{List, [], ◌∷◌, map, AllByRecursion, flat_map, AllByRecursion-append, AllByRecursion-concat_below}
+use Rattle.rota_items.proofs.Common.Imports.{AllByRecursion-singleton_if, length-singleton_if, ◌≡◌, ℕ, ◌+◌, Bool, true, false, cond, refl, ap}
+use Rattle.rota_items.proofs.Common.Imports.{arith, zero-add, sum_by, fold-map, sum_by-append, sum_by-cons, singleton_if, zero, suc, ◌*◌, ◌<◌}
+use Rattle.rota_items.proofs.Common.Imports.{◌≤◌, length, ◌∙◌, count_by, list_any, list_any-append, mul-le, sum_below, count_below, any_below}
+use Rattle.rota_items.proofs.Common.Imports.{length-concat_below, concat_below, ◌++◌, length-append, add-one, append-nil, take_all}
+use Rattle.rota_items.proofs.Common.Imports.{flat_map-append, take_at_read, map-append, Cell, Item, numbered, slack_count}
 pub use Rattle.rota_core.proofs.LogicWords.{all-weaker}
 use Rattle.std.proofs.lemmas.List.Concat.{flat_map-cons}
 use Rattle.std.proofs.lemmas.List.Sums.{sum_by_push}

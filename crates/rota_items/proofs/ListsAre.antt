@@ -1,6 +1,7 @@
 -- The elements of lists made by loops, with properties of each element, turn by turn.
-use Rattle.rota_items.proofs.Common.Imports.{◌≡◌, ℕ, ◌<◌, Bool, true, List, [], ◌∷◌, ◌++◌, map, AllByRecursion, AllByRecursion-append, AllByRecursion-at}
-use Rattle.rota_items.proofs.Common.Imports.{AllByRecursion-back, AllByRecursion-concat_below, AllByRecursion-singleton_if, holds-where, concat_below, singleton_if}
+use Rattle.rota_items.proofs.Common.Imports.{◌≡◌, ℕ, ◌<◌, Bool, true, List, [], ◌∷◌, ◌++◌, map, AllByRecursion, AllByRecursion-append}
+use Rattle.rota_items.proofs.Common.Imports.{AllByRecursion-at, AllByRecursion-back, AllByRecursion-concat_below}
+use Rattle.rota_items.proofs.Common.Imports.{AllByRecursion-singleton_if, holds-where, concat_below, singleton_if}
 use Rattle.rota_items.proofs.Lists.{all-map, all-back}
 
 -- a property of each element of a family is a property of each element of the list, and the other way round

@@ -10,7 +10,8 @@ module _ {S F : Type 0} (T : Ghosts S F) (truth : ℕ → Bool) (index count : �
     (is : positive ≡ truth index) (before : TookLiterals T (truths_below index truth) s t) where
   pub literals_refused : index < count → T.left (T.value t) positive u → RefusedOne T.value T.step T.left (truths_below count truth) s u
   literals_refused below refused =
-      loop_refused {h = λ (truths : List Bool). truths} (record { none = refl; append = λ xs ys. refl }) index count (λ index. truth index ∷ []) s t u below before (Refused-one (truth index) t u (rw is at refused))
+      loop_refused {h = λ (truths : List Bool). truths} (record { none = refl; append = λ xs ys. refl })
+      index count (λ index. truth index ∷ []) s t u below before (Refused-one (truth index) t u (rw is at refused))
 
   pub literals_end : {R : Type 0} (r : Result R F) → count ≡ index + 1 →
       MatchResult r (λ _. T.value u ≡ T.step (T.value t) positive) (λ _. T.left (T.value t) positive u) → TakesLiterals T (truths_below count truth) s u r

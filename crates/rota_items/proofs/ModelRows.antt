@@ -1,6 +1,7 @@
--- Properties of each row of the model.
-use Rattle.rota_items.proofs.Common.Imports.{◌≡◌, ℕ, ◌+◌, ◌<◌, ◌≤◌, List, [], ◌∷◌, map, arith, AllByRecursion, sum_by-cons, AllByRecursion-append, Problem, Rule, Cell, cell_number, first_slack, unit_number, rule_rows, Item}
-use Rattle.rota_items.proofs.Common.Imports.{numbered, LinearRow, item_row, item_rows, slack_count, soft_items, hard_rows, model_of, numbered_items, numbered_row, rows_of, unit_row}
+-- What holds for the unit row, for each row of a hard rule and for each sound item's row holds for each row of the model.
+use Rattle.rota_items.proofs.Common.Imports.{◌≡◌, ℕ, ◌+◌, ◌<◌, ◌≤◌, List, [], ◌∷◌, map, arith, AllByRecursion, sum_by-cons, AllByRecursion-append}
+use Rattle.rota_items.proofs.Common.Imports.{Problem, Rule, Cell, cell_number, first_slack, unit_number, rule_rows, Item, numbered, LinearRow, item_row}
+use Rattle.rota_items.proofs.Common.Imports.{item_rows, slack_count, soft_items, hard_rows, model_of, numbered_items, numbered_row, rows_of, unit_row}
 use Rattle.rota_items.proofs.HardRules.EachRule.{each-row}
 use Rattle.rota_items.proofs.HardRules.Sound.{IsRowSound}
 use Rattle.rota_items.proofs.Lists.{all-map}

@@ -1,8 +1,9 @@
 -- The terms of the model are in ascending order of their variables, and the coefficients of its constraints are 1 and -1.
-use Rattle.rota_items.proofs.Common.Imports.{ℕ, inl, refl, pos, All, All-from_recursion, AllByRecursion-append, Problem, cell_number, unit_number, numbered, Term, times, LinearRow, linear_constraint}
-use Rattle.rota_items.proofs.Common.Imports.{rows_of, item_row, slack_variables, numbered_row, numbered_terms, model_of, unit_row, IsUnit, HasUnitCoefficients, ◌≡◌, zero, suc, ◌+◌, ◌≤◌, List, [], ◌∷◌}
-use Rattle.rota_items.proofs.Common.Imports.{◌++◌, arith, ℤ, nat_lt, AllByRecursion, range_with_len, sum_by-cons, first_slack, slack_count, constant_terms, cell_terms, constant, Item, Constraint}
-use Rattle.rota_items.proofs.Common.Imports.{slack_weights, soft_items, objective_terms, numbered_items, RisesFrom, HasRisingTerms}
+use Rattle.rota_items.proofs.Common.Imports.{ℕ, inl, refl, pos, All, All-from_recursion, AllByRecursion-append, Problem, cell_number, unit_number, numbered}
+use Rattle.rota_items.proofs.Common.Imports.{Term, times, LinearRow, linear_constraint, rows_of, item_row, slack_variables, numbered_row, numbered_terms}
+use Rattle.rota_items.proofs.Common.Imports.{model_of, unit_row, IsUnit, HasUnitCoefficients, ◌≡◌, zero, suc, ◌+◌, ◌≤◌, List, [], ◌∷◌, ◌++◌, arith, ℤ, nat_lt}
+use Rattle.rota_items.proofs.Common.Imports.{AllByRecursion, range_with_len, sum_by-cons, first_slack, slack_count, constant_terms, cell_terms, constant}
+use Rattle.rota_items.proofs.Common.Imports.{Item, Constraint, slack_weights, soft_items, objective_terms, numbered_items, RisesFrom, HasRisingTerms}
 use Rattle.rota_items.proofs.ModelRows.{each-model_row}
 use Rattle.rota_items.proofs.SoundTerms.{AreUnits, coefficients-numbered, units-times}
 use Rattle.rota_items.proofs.Lists.{all-map, all-weaker, slack_count-numbered}

@@ -1,6 +1,7 @@
 -- Each number up to the number of cells belongs to one cell, and the assignment of a roster follows these numbers.
-use Rattle.rota_items.proofs.Common.Imports.{◌≡◌, ℕ, ◌-◌, ◌<◌, ap, ◌∙◌, arith, InWeek, cell_index, cell_at, Problem, Cell, cell_number, unit_number, cell_of_number, ◌+◌}
-use Rattle.rota_items.proofs.Common.Imports.{true, false, refl, sym, slice_index_or, lt-ltb, ne_eqb, eq-eqb, Roster, RosterTables, HasShapeOf, set_of, assignment_of}
+use Rattle.rota_items.proofs.Common.Imports.{◌≡◌, ℕ, ◌-◌, ◌<◌, ap, ◌∙◌, arith, InWeek, cell_index, cell_at, Problem, Cell}
+use Rattle.rota_items.proofs.Common.Imports.{cell_number, unit_number, cell_of_number, ◌+◌, true, false, refl, sym, slice_index_or}
+use Rattle.rota_items.proofs.Common.Imports.{lt-ltb, ne_eqb, eq-eqb, Roster, RosterTables, HasShapeOf, set_of, assignment_of}
 use Rattle.rota_core.proofs.CellIndices.{cell_at-in, cell_at-index, index-cell_at, cell_index-lt}
 
 pub cell_number-below : (problem : Problem) (one : Cell) → InWeek problem one → cell_number problem one < unit_number problem

@@ -1,8 +1,10 @@
 -- The coefficients of the objective are positive and small. Bounds on the objective of any assignment.
-use Rattle.rota_items.proofs.Common.Imports.{ltb-true, request_cost, ◌≡◌, ℕ, ◌+◌, ◌<◌, Bool, cond, List, [], ◌∷◌, arith, ℤ, pos, ◌+ℤ◌, ◌≤ℤ◌, ◌<ℤ◌, All, AllByRecursion, ints, All-from_recursion, AllByRecursion-append}
-use Rattle.rota_items.proofs.Common.Imports.{AllByRecursion-singleton_if, Problem, Cell, cell_number, first_slack, Item, numbered, Term, times, value_of, objective_value, constant_terms, slack_variables}
-use Rattle.rota_items.proofs.Common.Imports.{slack_weights, cell_terms, constant, soft_items, numbered_terms, numbered_items, objective_terms, model_of, IsWithinLimits, max_coefficient, ◌*◌, ◌≤◌}
-use Rattle.rota_items.proofs.Common.Imports.{ap, sum_by-cons, count_by-le-length, sum_by, count_by, mul-le-mul_left, unit_number, roster_of, max_objective, max_weight}
+use Rattle.rota_items.proofs.Common.Imports.{ltb-true, request_cost, ◌≡◌, ℕ, ◌+◌, ◌<◌, Bool, cond, List, [], ◌∷◌, arith, ℤ, pos, ◌+ℤ◌, ◌≤ℤ◌, ◌<ℤ◌}
+use Rattle.rota_items.proofs.Common.Imports.{All, AllByRecursion, ints, All-from_recursion, AllByRecursion-append, AllByRecursion-singleton_if}
+use Rattle.rota_items.proofs.Common.Imports.{Problem, Cell, cell_number, first_slack, Item, numbered, Term, times, value_of, objective_value}
+use Rattle.rota_items.proofs.Common.Imports.{constant_terms, slack_variables, slack_weights, cell_terms, constant, soft_items, numbered_terms}
+use Rattle.rota_items.proofs.Common.Imports.{numbered_items, objective_terms, model_of, IsWithinLimits, max_coefficient, ◌*◌, ◌≤◌, ap, sum_by-cons}
+use Rattle.rota_items.proofs.Common.Imports.{count_by-le-length, sum_by, count_by, mul-le-mul_left, unit_number, roster_of, max_objective, max_weight}
 use Rattle.rota_items.proofs.Lists.{all-map, all-weaker, sum_by-map}
 use Rattle.rota_items.proofs.RuleSizes.{constant-few, soft_items-le, each-small}
 use Rattle.rota_items.proofs.SoftRules.EachRule.{each-item, cell_terms-are, sound-cell_terms}

@@ -1,8 +1,10 @@
 -- How a taker takes the objective, term by term, and whether the objective has a term.
-use Rattle.rota_items.proofs.Common.Imports.{◌≡◌, ℕ, zero, suc, ◌<◌, ◌+◌, Bool, true, false, cond, nat_lt, List, [], ◌∷◌, ◌++◌, length, length-append, refl}
-use Rattle.rota_items.proofs.Common.Imports.{sym, ap, ◌∙◌, arith, lt-ltb, true≢false, length-map, length-map-range_with_len, pos, singleton_if-fails, singleton_if-holds, concat_below, concat_below-zero, concat_below-more, singleton_if, in_turn, Problem}
-use Rattle.rota_items.proofs.Common.Imports.{Cell, Term, LinearRow, Item, objective_rows, cell_term_events, Took, Objective, Ghosts, request_terms_on, slack_weights, slack_count, slack_variables, times}
-use Rattle.rota_items.proofs.Common.Imports.{objective_terms, cell_terms, constant, constant_terms, soft_items, unit_number, nat_tests, first_slack, numbered_items, numbered_terms, cell_number}
+use Rattle.rota_items.proofs.Common.Imports.{◌≡◌, ℕ, zero, suc, ◌<◌, ◌+◌, Bool, true, false, cond, nat_lt, List, [], ◌∷◌, ◌++◌, length, length-append}
+use Rattle.rota_items.proofs.Common.Imports.{refl, sym, ap, ◌∙◌, arith, lt-ltb, true≢false, length-map, length-map-range_with_len, pos}
+use Rattle.rota_items.proofs.Common.Imports.{singleton_if-fails, singleton_if-holds, concat_below, concat_below-zero, concat_below-more, singleton_if}
+use Rattle.rota_items.proofs.Common.Imports.{in_turn, Problem, Cell, Term, LinearRow, Item, objective_rows, cell_term_events, Took, Objective, Ghosts}
+use Rattle.rota_items.proofs.Common.Imports.{request_terms_on, slack_weights, slack_count, slack_variables, times, objective_terms, cell_terms, constant}
+use Rattle.rota_items.proofs.Common.Imports.{constant_terms, soft_items, unit_number, nat_tests, first_slack, numbered_items, numbered_terms, cell_number}
 use Rattle.rota_items.proofs.Taking.{nothing, terms_join}
 use Rattle.rota_items.proofs.Lists.{length-each-is, slack_count-cons, slack_count-numbered}
 

@@ -1,8 +1,9 @@
 -- A variable occurs in some constraint if and only if it is one of the model's.
-use Rattle.rota_items.proofs.Common.Imports.{◌≡◌, ◌↔◌, ℕ, zero, suc, ◌+◌, ◌<◌, ◌≤◌, Bool, true, false, inl, inr, nat_tests, List, [], ◌∷◌, map, arith, ℤ, pos, negsuc, ◌==◌, AllByRecursion}
-use Rattle.rota_items.proofs.Common.Imports.{AllByRecursion-back, list_any, range_with_len, All-from_recursion, subst, cases_Bool, eqb-true, sum_by-cons, Any-from_list_any, Problem}
-use Rattle.rota_items.proofs.Common.Imports.{Cell, work_cells, cell_number, cell_of_number, unit_number, first_slack, rule_rows, Item, Term, times, LinearRow, linear_constraint}
-use Rattle.rota_items.proofs.Common.Imports.{item_rows, slack_count, soft_items, hard_rows, numbered_row, numbered_items, rows_of, model_of, occurs_in, OccursInSome}
+use Rattle.rota_items.proofs.Common.Imports.{◌≡◌, ◌↔◌, ℕ, zero, suc, ◌+◌, ◌<◌, ◌≤◌, Bool, true, false, inl, inr, nat_tests, List, [], ◌∷◌, map, arith, ℤ}
+use Rattle.rota_items.proofs.Common.Imports.{pos, negsuc, ◌==◌, AllByRecursion, AllByRecursion-back, list_any, range_with_len, All-from_recursion, subst}
+use Rattle.rota_items.proofs.Common.Imports.{cases_Bool, eqb-true, sum_by-cons, Any-from_list_any, Problem, Cell, work_cells, cell_number, cell_of_number}
+use Rattle.rota_items.proofs.Common.Imports.{unit_number, first_slack, rule_rows, Item, Term, times, LinearRow, linear_constraint, item_rows, slack_count}
+use Rattle.rota_items.proofs.Common.Imports.{soft_items, hard_rows, numbered_row, numbered_items, rows_of, model_of, occurs_in, OccursInSome}
 use Rattle.rota_items.proofs.CellCounts.{none-pass}
 use Rattle.rota_items.proofs.HardRules.EachRule.{h1-are, rows-are}
 use Rattle.rota_items.proofs.PatternItems.{any_or_none}

@@ -1,6 +1,7 @@
 -- The values of sums and their size, and the shortage of a pattern's item: 1 if the days match the pattern, and otherwise 0.
-use Rattle.rota_items.proofs.Common.Imports.{◌≡◌, ℕ, ◌-◌, ◌*◌, ◌≤◌, Bool, not, cond, true, false, ◌⊎◌, inr, List, [], ◌∷◌, ◌++◌, refl, arith, ℤ, pos, negsuc, ◌+ℤ◌, ◌-ℤ◌, list_any, sum_by, count_by}
-use Rattle.rota_items.proofs.Common.Imports.{flat_map, AllByRecursion, sum_by-cons, ints, Item, Rule, shortage, times, Term, value_of, Property, Present, Absent, variables_on, is_plain, day_terms}
+use Rattle.rota_items.proofs.Common.Imports.{◌≡◌, ℕ, ◌-◌, ◌*◌, ◌≤◌, Bool, not, cond, true, false, ◌⊎◌, inr, List, [], ◌∷◌, ◌++◌, refl, arith, ℤ}
+use Rattle.rota_items.proofs.Common.Imports.{pos, negsuc, ◌+ℤ◌, ◌-ℤ◌, list_any, sum_by, count_by, flat_map, AllByRecursion, sum_by-cons, ints, Item}
+use Rattle.rota_items.proofs.Common.Imports.{Rule, shortage, times, Term, value_of, Property, Present, Absent, variables_on, is_plain, day_terms}
 use Rattle.rota_items.proofs.Common.Imports.{pattern_item, PatternDay, Pattern, has_property, ◌+◌, nat_abs, if◌then◌else◌, up, down, positive_part}
 use Rattle.rota_items.proofs.DayLaw.{matches_day, matches, units_of}
 

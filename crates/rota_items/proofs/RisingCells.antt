@@ -1,7 +1,9 @@
--- The cells of sums: they, and the terms of patterns, are in ascending order; and the cells whose variables follow one another.
-use Rattle.rota_items.proofs.Common.Imports.{◌≡◌, ℕ, ◌+◌, ◌*◌, ◌<◌, ◌≤◌, List, [], ◌∷◌, map, length, subst, arith, ℤ, range_with_len, flat_map, mul-add-lt, mul-le-mul_right, concat_below, AllByRecursion, InWeek}
-use Rattle.rota_items.proofs.Common.Imports.{cell, Problem, Cell, on_cells, work_cells, nurse_cells, demand_cells, skill_cells, cell_number, unit_number, Term, times, numbered_terms, Property, variables_on, day_terms}
-use Rattle.rota_items.proofs.Common.Imports.{PatternDay, true, nat_lt, refl, sym, ap, ◌∙◌, pos, nat_tests, map-map, singleton_if, request_terms_on, request_weight, cell_term_events, term_events}
+-- The cells of sums, and the terms of patterns, are in ascending order of their variables. The variables of some sums follow one another.
+use Rattle.rota_items.proofs.Common.Imports.{◌≡◌, ℕ, ◌+◌, ◌*◌, ◌<◌, ◌≤◌, List, [], ◌∷◌, map, length, subst, arith, ℤ, range_with_len, flat_map}
+use Rattle.rota_items.proofs.Common.Imports.{mul-add-lt, mul-le-mul_right, concat_below, AllByRecursion, InWeek, cell, Problem, Cell, on_cells}
+use Rattle.rota_items.proofs.Common.Imports.{work_cells, nurse_cells, demand_cells, skill_cells, cell_number, unit_number, Term, times}
+use Rattle.rota_items.proofs.Common.Imports.{numbered_terms, Property, variables_on, day_terms, PatternDay, true, nat_lt, refl, sym, ap, ◌∙◌, pos}
+use Rattle.rota_items.proofs.Common.Imports.{nat_tests, map-map, singleton_if, request_terms_on, request_weight, cell_term_events, term_events}
 use Rattle.rota_core.specs.RisingLists.{RisesWithin}
 use Rattle.rota_core.proofs.LogicWords.{all-weaker, length-rising, numbers-rising, rises-append, rises-blocks, rises-each, rises-in, rises-map}
 use Rattle.rota_items.proofs.Lists.{length-each-is, map-concat_below}

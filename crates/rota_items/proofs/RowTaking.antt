@@ -1,9 +1,10 @@
 -- The results of sending the rows of the hard rules to a taker of events and to a counter.
-use Rattle.rota_items.proofs.Common.Imports.{◌≡◌, ℕ, ◌+◌, ◌≤◌, min, List, [], ◌∷◌, length, refl, sym, ◌∙◌, arith, fold, fold-append, LinearRow, Event, events, Result, MatchResult, MatchResult-weaker}
-use Rattle.rota_items.proofs.Common.Imports.{Takes, row_events, max_count, RefusedFrom, TookAll, RefusedOne, Took, Refused, one_row_more, with_row, Ghosts}
+use Rattle.rota_items.proofs.Common.Imports.{◌≡◌, ℕ, ◌+◌, ◌≤◌, min, List, [], ◌∷◌, length, refl, sym, ◌∙◌, arith, fold, fold-append}
+use Rattle.rota_items.proofs.Common.Imports.{LinearRow, Event, events, Result, MatchResult, MatchResult-weaker, Takes, row_events}
+use Rattle.rota_items.proofs.Common.Imports.{max_count, RefusedFrom, TookAll, RefusedOne, Took, Refused, one_row_more, with_row, Ghosts}
 use Rattle.rota_items.proofs.Taking.{events_join, Refused-before, Refused-after}
 
--- it refused one of the row's events
+-- the taker refused one of the row's events
 abbrev pub RefusesRow : {S F : Type 0} → (T : Ghosts S F) → T.Value → LinearRow ℕ → S → Type 0
 RefusesRow T before row new = RefusedFrom T.value T.step T.left before (row_events row) new
 

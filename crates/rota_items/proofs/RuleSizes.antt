@@ -1,8 +1,9 @@
 -- The size of each soft rule in a week within the limits: its items, their slacks, the weight of these, its shortages and its constant.
-use Rattle.rota_items.proofs.Common.Imports.{ℕ, ◌*◌, ◌≤◌, List, length, arith, sum_by, sum_by-le, sum_by-le-sum_by, All-from_recursion, AllByRecursion, mul-le, Problem, Rule, Cell, Item}
-use Rattle.rota_items.proofs.Common.Imports.{items_of_rule, soft_items, soft_rules, IsWithinLimits, max_items, max_slacks, max_nurses, nurse_constant, constant_of_rule, constant, max_constant}
-use Rattle.rota_items.proofs.Common.Imports.{max_constant_of_nurse, max_constant_of_rule, InstanceTables, IsInstance, problem_of, ◌<◌, Roster, shortage, weighted_shortages, penalty, rule_cost}
-use Rattle.rota_items.proofs.Common.Imports.{half_limit, max_cells, max_cost, max_weight, penalty_limit, max_charge, max_terms, mul-le-mul_left}
+use Rattle.rota_items.proofs.Common.Imports.{ℕ, ◌*◌, ◌≤◌, List, length, arith, sum_by, sum_by-le, sum_by-le-sum_by, All-from_recursion, AllByRecursion}
+use Rattle.rota_items.proofs.Common.Imports.{mul-le, Problem, Rule, Cell, Item, items_of_rule, soft_items, soft_rules, IsWithinLimits, max_items, max_slacks}
+use Rattle.rota_items.proofs.Common.Imports.{max_nurses, nurse_constant, constant_of_rule, constant, max_constant, max_constant_of_nurse}
+use Rattle.rota_items.proofs.Common.Imports.{max_constant_of_rule, InstanceTables, IsInstance, problem_of, ◌<◌, Roster, shortage, weighted_shortages, penalty}
+use Rattle.rota_items.proofs.Common.Imports.{rule_cost, half_limit, max_cells, max_cost, max_weight, penalty_limit, max_charge, max_terms, mul-le-mul_left}
 use Rattle.rota_items.proofs.InstanceLimits.{instance-within_limits}
 use Rattle.rota_items.proofs.Lists.{AreFew, all-weaker, sum_below-at_most, sum_by-flat_map, all-both, all-flat_map}
 use Rattle.rota_items.proofs.SoftRules.EachRule.{sound-rule}

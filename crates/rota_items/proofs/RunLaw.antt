@@ -1,7 +1,7 @@
 -- The items of a property's runs charge the cost of the runs.
-use Rattle.rota_items.proofs.Common.Imports.{◌≡◌, ℕ, ◌*◌, ◌<◌, ◌≤◌, Bool, List, [], ◌∷◌, refl, ap, arith, count_by, sum_below, AllByRecursion, sum_by-cons, sum_by-append}
-use Rattle.rota_items.proofs.Common.Imports.{Item, weighted_shortages, Span, Runs, variables_on, run_items, pattern_items, Pattern, windows_on, patterns_on}
-use Rattle.rota_items.proofs.Common.Imports.{has_property, day_items, AtMostOneADay, DaysFollow, day_cost, run_over, run_under, run_cost}
+use Rattle.rota_items.proofs.Common.Imports.{◌≡◌, ℕ, ◌*◌, ◌<◌, ◌≤◌, Bool, List, [], ◌∷◌, refl, ap, arith, count_by, sum_below, AllByRecursion, sum_by-cons}
+use Rattle.rota_items.proofs.Common.Imports.{sum_by-append, Item, weighted_shortages, Span, Runs, variables_on, run_items, pattern_items, Pattern, windows_on}
+use Rattle.rota_items.proofs.Common.Imports.{patterns_on, has_property, day_items, AtMostOneADay, DaysFollow, day_cost, run_over, run_under, run_cost}
 use Rattle.rota_items.proofs.DayLaw.{units_of, units, units-windows_on, units-patterns_on}
 use Rattle.rota_items.proofs.EachPattern.{IsRunPattern, each-on, each-pattern, on-pattern}
 use Rattle.rota_items.proofs.Lists.{sum_by-each-is}

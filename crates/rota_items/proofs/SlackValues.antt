@@ -1,7 +1,8 @@
 -- The literals that a taker of literals takes for the items whose slacks are sent to it.
-use Rattle.rota_items.proofs.Common.Imports.{◌≡◌, ℕ, Bool, List, [], ◌∷◌, Result, Ok, Err, refl, sym, ap, ◌∙◌, arith, fold, fold-append, flat_map, flat_map-append, ◌-ℤ◌, w64, saturate_signed}
-use Rattle.rota_items.proofs.Common.Imports.{AllByRecursion, AllByRecursion-back, InstanceTables, IsInstance, problem_of, Problem, Item, LinearRow, positive_part, set_of, numbered_items}
-use Rattle.rota_items.proofs.Common.Imports.{assignment_of, RosterTables, JudgeState, Subject, Tally, extended, lacking_in, no_tally, Soft, start_row, term_events, TakesAll}
+use Rattle.rota_items.proofs.Common.Imports.{◌≡◌, ℕ, Bool, List, [], ◌∷◌, Result, Ok, Err, refl, sym, ap, ◌∙◌, arith, fold, fold-append, flat_map}
+use Rattle.rota_items.proofs.Common.Imports.{flat_map-append, ◌-ℤ◌, w64, saturate_signed, AllByRecursion, AllByRecursion-back, InstanceTables, IsInstance}
+use Rattle.rota_items.proofs.Common.Imports.{problem_of, Problem, Item, LinearRow, positive_part, set_of, numbered_items, assignment_of, RosterTables}
+use Rattle.rota_items.proofs.Common.Imports.{JudgeState, Subject, Tally, extended, lacking_in, no_tally, Soft, start_row, term_events, TakesAll}
 use Rattle.rota_items.specs.JudgeState.{fresh}
 use Rattle.rota_items.proofs.ExtensionTruths.{item_truths, week-slacks}
 use Rattle.rota_items.proofs.InstanceLimits.{instance-within_limits}

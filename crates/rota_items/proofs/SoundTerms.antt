@@ -1,7 +1,8 @@
 -- Terms: properties of their variables and coefficients, and rising terms within the week with coefficients of 1 and -1.
-use Rattle.rota_items.proofs.Common.Imports.{◌≡◌, ℕ, ◌<◌, Bool, List, [], ◌∷◌, refl, ℤ, pos, AllByRecursion, flat_map, AllByRecursion-append, ◌≤◌, true, false}
-use Rattle.rota_items.proofs.Common.Imports.{inl, inr, map, length, arith, negsuc, nat_abs, if◌then◌else◌, sum_by-cons, max, AllByRecursion-concat_below, ◌+◌, Term, times, value_of, IsUnit}
-use Rattle.rota_items.proofs.Common.Imports.{InWeek, Problem, on_cells, work_cells, demand_cells, Cell, cell_number, unit_number, Property, variables_on, day_terms, PatternDay, is_plain}
+use Rattle.rota_items.proofs.Common.Imports.{◌≡◌, ℕ, ◌<◌, Bool, List, [], ◌∷◌, refl, ℤ, pos, AllByRecursion, flat_map, AllByRecursion-append, ◌≤◌}
+use Rattle.rota_items.proofs.Common.Imports.{true, false, inl, inr, map, length, arith, negsuc, nat_abs, if◌then◌else◌, sum_by-cons, max}
+use Rattle.rota_items.proofs.Common.Imports.{AllByRecursion-concat_below, ◌+◌, Term, times, value_of, IsUnit, InWeek, Problem, on_cells, work_cells}
+use Rattle.rota_items.proofs.Common.Imports.{demand_cells, Cell, cell_number, unit_number, Property, variables_on, day_terms, PatternDay, is_plain}
 use Rattle.rota_items.proofs.EachPattern.{OnDays}
 use Rattle.rota_items.proofs.Lists.{all-flat_map, all-map}
 use Rattle.rota_items.proofs.PatternItems.{spread}

@@ -1,10 +1,12 @@
 -- How the list taken by a taker grows, call by call and loop by loop.
-use Rattle.rota_items.proofs.Common.Imports.{◌≡◌, ℕ, ◌<◌, List, [], ◌∷◌, ◌++◌, Result, MatchResult, refl, sym, ap, ◌∙◌, append_assoc, append-nil, map-append, flat_map-append, fold-append}
-use Rattle.rota_items.proofs.Common.Imports.{MatchResult-from_err, MatchResult-weaker, fold, ℤ, IsErr, concat_below-zero, concat_below-more, concat_below, Problem, Cell, cell_number, Term, times}
-use Rattle.rota_items.proofs.Common.Imports.{LinearRow, numbered_row, numbered_terms, cell_term_events, numbered_rows, coefficient_of, sum_events, start_row, term, close_row, row_events, term_events}
-use Rattle.rota_items.proofs.Common.Imports.{events, TookAll, RefusedOne, TakesAll, Took, Refused, Takes, Sign, Ghosts, in_turn, Event, Part, suc, map, get_or, take, drop, length, subst}
-use Rattle.rota_items.proofs.Common.Imports.{take-append-drop, flat_map, h5_row, numbered, numbered_list, zero, ◌+◌, arith, range_with_len, to_z-of_z, map-range_with_len_more, Pattern, DayPattern}
-use Rattle.rota_items.proofs.Common.Imports.{charged_items, item_of, TakesItems, TookItems}
+use Rattle.rota_items.proofs.Common.Imports.{◌≡◌, ℕ, ◌<◌, List, [], ◌∷◌, ◌++◌, Result, MatchResult, refl, sym, ap, ◌∙◌, append_assoc, append-nil}
+use Rattle.rota_items.proofs.Common.Imports.{map-append, flat_map-append, fold-append, MatchResult-from_err, MatchResult-weaker, fold, ℤ, IsErr}
+use Rattle.rota_items.proofs.Common.Imports.{concat_below-zero, concat_below-more, concat_below, Problem, Cell, cell_number, Term, times, LinearRow}
+use Rattle.rota_items.proofs.Common.Imports.{numbered_row, numbered_terms, cell_term_events, numbered_rows, coefficient_of, sum_events, start_row}
+use Rattle.rota_items.proofs.Common.Imports.{term, close_row, row_events, term_events, events, TookAll, RefusedOne, TakesAll, Took, Refused, Takes}
+use Rattle.rota_items.proofs.Common.Imports.{Sign, Ghosts, in_turn, Event, Part, suc, map, get_or, take, drop, length, subst, take-append-drop}
+use Rattle.rota_items.proofs.Common.Imports.{flat_map, h5_row, numbered, numbered_list, zero, ◌+◌, arith, range_with_len, to_z-of_z}
+use Rattle.rota_items.proofs.Common.Imports.{map-range_with_len_more, Pattern, DayPattern, charged_items, item_of, TakesItems, TookItems}
 use Rattle.std.proofs.Math.Seq.{drop-cons}
 use Rattle.rota_items.specs.CellSums.{pattern_of}
 use Rattle.rota_items.specs.SoftItems.{numbered_item}
@@ -56,7 +58,7 @@ pub items_join : (problem : Problem) → Joins (numbered_list problem)
 unfolding numbered_list
 items_join problem = record { none = refl; append = map-append (numbered (cell_number problem)) }
 
--- the rules for a loop that sends rows, items, terms or cells, when the list of their meanings is open
+-- the rules that a loop over rows, items, terms or cells needs, once the definition of their list is unfolded
 pub ruleset taking = (concat_below-zero, concat_below-more, map-append, fold-append)
 
 pub ruleset taking_held = (taking, append_assoc)
@@ -110,7 +112,8 @@ module _ {S V E : Type 0} {value : S → V} {step : V → E → V} {left : V →
   pub exits : {R F : Type 0} (all : List E) (s t : S) (r : Result R F) → IsErr r → RefusedOne value step left all s t → TakesAll value step left all s t r
   exits all s t r err refused = MatchResult-from_err r _ _ err (λ _. refused)
 
-  pub Takes-then : {R F : Type 0} (a b : List E) (s t u : S) (r : Result R F) → TookAll value step left a s t → TakesAll value step left b t u r → TakesAll value step left (a ++ b) s u r
+  pub Takes-then : {R F : Type 0} (a b : List E) (s t u : S) (r : Result R F) → TookAll value step left a s t →
+      TakesAll value step left b t u r → TakesAll value step left (a ++ b) s u r
   Takes-then a b s t u r p q =
       MatchResult-weaker r q (λ _ taken. Took-then a b s t u p taken) (λ _ refused. Refused-after a b s t u p refused)
 

@@ -1,11 +1,13 @@
 -- The meaning of a verdict for the model and for the rules, for bits and for a roster's extension.
-use Rattle.rota_items.proofs.Common.Imports.{◌≡◌, ◌↔◌, ℕ, ◌+◌, Bool, true, false, ◌⊎◌, inl, inr, List, [], ◌∷◌, map, map-id, map-map, sym, ap, ◌∙◌, arith, rules, Some, None, pos, if◌then◌else◌}
-use Rattle.rota_items.proofs.Common.Imports.{IfSome, MatchOption, AllByRecursion, All-from_recursion, recursion_from_All, cases_Bool, ints, sum, drop, refl, not, list_all, and_parts, true≢false}
-use Rattle.rota_items.proofs.Common.Imports.{IsSomeAnd, KeepsCompetitionRules, KeepsHardRules, KeepsOneCell, S1, S4, FirstBroken, InWeek, Roster, set_of, soft_rules, Problem, Rule, Cell, cell_number}
-use Rattle.rota_items.proofs.Common.Imports.{first_slack, unit_number, Item, numbered, positive_part, Satisfies, SatisfiesModel, LinearRow, item_rows, model_cost, rule_cost, soft_items, extension_of}
-use Rattle.rota_items.proofs.Common.Imports.{model_of, numbered_items, rows_of, first_unmet, later, truth_of, H1, is_soft, Verdict, Subject, SettlesModel, assigned, assignment_in, extended, roster_in}
-use Rattle.rota_items.proofs.Common.Imports.{CostsTheRules, ExtendsToModel, IsMet, Judges, JudgesTheRules}
-use Rattle.rota_core.specs.RuleNames.{is_rule}
+use Rattle.rota_items.proofs.Common.Imports.{◌≡◌, ◌↔◌, ℕ, ◌+◌, Bool, true, false, ◌⊎◌, inl, inr, List, [], ◌∷◌, map, map-id, map-map, sym, ap, ◌∙◌}
+use Rattle.rota_items.proofs.Common.Imports.{arith, rules, Some, None, pos, if◌then◌else◌, IfSome, MatchOption, AllByRecursion, All-from_recursion}
+use Rattle.rota_items.proofs.Common.Imports.{recursion_from_All, cases_Bool, ints, sum, drop, refl, not, list_all, and_parts, true≢false, IsSomeAnd}
+use Rattle.rota_items.proofs.Common.Imports.{KeepsCompetitionRules, KeepsHardRules, KeepsOneCell, S1, S4, FirstBroken, InWeek, Roster, set_of}
+use Rattle.rota_items.proofs.Common.Imports.{soft_rules, Problem, Rule, Cell, cell_number, first_slack, unit_number, Item, numbered, positive_part}
+use Rattle.rota_items.proofs.Common.Imports.{Satisfies, SatisfiesModel, LinearRow, item_rows, model_cost, rule_cost, soft_items, extension_of, model_of}
+use Rattle.rota_items.proofs.Common.Imports.{numbered_items, rows_of, first_unmet, later, truth_of, H1, is_soft, Verdict, Subject, SettlesModel}
+use Rattle.rota_items.proofs.Common.Imports.{assigned, assignment_in, extended, roster_in, CostsTheRules, ExtendsToModel, IsMet, Judges, JudgesTheRules}
+use Rattle.rota_core.specs.Rules.{is_rule}
 use Rattle.rota_items.proofs.Extension.{extension-objective, extension-satisfies, extension-unit, satisfying-keeps, satisfying-objective, extension-roster}
 use Rattle.rota_items.proofs.FirstUnmet.{Decided, Named, first_unmet-decides, hard-first_broken}
 use Rattle.rota_items.proofs.SoftRules.EachRule.{SoftItem, charged_on, soft_items-soft, sound-rule}

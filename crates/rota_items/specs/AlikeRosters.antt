@@ -7,7 +7,7 @@ use Rattle.rota_items.specs.Imports.{InWeek, Cell, KeepsHardRules, Roster, Rule,
 abbrev pub AreAlike : Problem → Roster → Roster → Type 0
 AreAlike problem one other = (cell : Cell) → InWeek problem cell → one cell ≡ other cell
 
--- both rosters keep the same hard rules, and cost the same
+-- if the first roster keeps the hard rules, so does the second; and both cost the same
 pub record CostAlike (problem : Problem) (one other : Roster) : Type 0 where
   pub keeps : KeepsHardRules problem one → KeepsHardRules problem other
   pub costs : (rule : Rule) → rule_cost problem one rule ≡ rule_cost problem other rule

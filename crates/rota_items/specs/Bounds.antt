@@ -24,7 +24,7 @@ max_cells_of_nurse = DAYS * max_cells_of_day
 abbrev pub max_cells : ℕ
 max_cells = max_nurses * max_cells_of_nurse
 
--- the maximum number of variables and of constraints: numbers of at most 8 digits
+-- a number of 8 digits, above the numbers of variables and of constraints
 abbrev pub count_limit : ℕ
 count_limit = 2 ^ 25
 
@@ -54,7 +54,7 @@ max_unit_weight =
     max request_weight (max optimum_weight (max shift_run_weight (max work_run_weight (max off_run_weight
     (max complete_weekend_weight (max assignment_weight worked_weekend_weight))))))
 
--- the maximum weight of an item, also of all its slacks together
+-- the maximum weight of an item's slack, and of all its slacks together
 abbrev pub max_weight : ℕ
 max_weight = max_unit_weight * max_number
 

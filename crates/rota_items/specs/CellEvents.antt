@@ -13,7 +13,7 @@ abbrev pub coefficient_of : Sign → ℤ
 coefficient_of Plus = pos 1
 coefficient_of Minus = negsuc 0
 
--- the events of a sum of terms at cells, each with its cell's variable
+-- the events of a sum of terms on cells, each with its cell's variable
 unfoldable pub cell_term_events : Problem → List (Term Cell) → List Event
 cell_term_events problem terms = term_events (numbered_terms problem terms)
 

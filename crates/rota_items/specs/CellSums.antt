@@ -17,13 +17,13 @@ use Rattle.rota_items.specs.declared.cell_sum.DayPattern.{DayPattern}
 use Rattle.rota_items.specs.declared.cell_sum.DayProperty.{DayProperty}
 use Rattle.rota_items.specs.declared.cell_sum.DayProperty.TheVariants.{Shift, Work, Off}
 
--- the property, of a nurse's days
+-- the property of a nurse's days
 abbrev pub property_of : Problem → ℕ → DayProperty → Property Cell
 property_of problem n (Shift s) = Present (on_cells problem n s)
 property_of problem n Work = Present (work_cells problem n)
 property_of problem n Off = Absent (work_cells problem n)
 
--- whether the sum of a day's cells must be 1, and not 0, if the day must have the property, or must not
+-- whether the sum of a day's cells must be 1, not 0, if the day must have the property (true) or must not have it (false)
 abbrev pub is_plain_of : DayProperty → Bool → Bool
 is_plain_of (Shift s) has = has
 is_plain_of Work has = has
@@ -37,10 +37,10 @@ IsPropertyOf problem Off = ⊤
 
 -- the day before those with the property, and the day after them, if they must be without it
 abbrev pub day_before : DayPattern → List PatternDay
-day_before pattern = singleton_if pattern.off_before (without_property (pattern.first - 1))
+day_before pattern = singleton_if pattern.without_before (without_property (pattern.first - 1))
 
 abbrev pub day_after : DayPattern → List PatternDay
-day_after pattern = singleton_if pattern.off_after (without_property pattern.end)
+day_after pattern = singleton_if pattern.without_after (without_property pattern.end)
 
 abbrev pub days_of : DayPattern → List PatternDay
 days_of pattern = day_before pattern ++ (days_with pattern.first pattern.end ++ day_after pattern)
@@ -50,10 +50,10 @@ pattern_of pattern = record { days = days_of pattern; units = pattern.units }
 
 -- the pattern's days are days of the week
 pub record IsInWeek (pattern : DayPattern) : Type 0 where
-  pub before_in : IsTrue pattern.off_before → 1 ≤ pattern.first
+  pub before_in : IsTrue pattern.without_before → 1 ≤ pattern.first
   pub ordered : pattern.first ≤ pattern.end
   pub week : pattern.end ≤ DAYS
-  pub after_in : IsTrue pattern.off_after → pattern.end < DAYS
+  pub after_in : IsTrue pattern.without_after → pattern.end < DAYS
 
 -- if there is a pattern, its days are days of the week
 abbrev pub AreInWeek : Option DayPattern → Type 0

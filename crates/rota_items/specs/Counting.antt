@@ -38,7 +38,7 @@ abbrev pub maximum : List ℕ → ℕ
 maximum [] = 0
 maximum (n ∷ ns) = max n (maximum ns)
 
--- the maximum variable of the rows, and the number of constraints among them
+-- the maximum variable of the rows, and the number of constraints among them (at most max_count)
 abbrev pub counts_of : List (LinearRow ℕ) → Counts
 counts_of rows = record {
   variables = maximum (variables_in rows);

@@ -7,7 +7,7 @@ use Rattle.rota_items.specs.CountedTotals.{added_excess}
 use Rattle.rota_items.specs.rules.TotalAssignments.Cost.{assignments_of}
 use Rattle.rota_items.specs.rules.WorkedWeekends.Cost.{worked_weekend}
 
--- each week starts with the total at the end of the week before
+-- the excess that all the weeks charge, if each starts with the total at the end of the week before
 abbrev pub early_charges : ℕ → ℕ → List ℕ → ℕ
 early_charges maximum before [] = 0
 early_charges maximum before (now ∷ later) = added_excess maximum before now + early_charges maximum (before + now) later

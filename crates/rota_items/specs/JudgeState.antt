@@ -162,7 +162,7 @@ abbrev pub with_term : Problem → Subject → Tally → ℤ → ℕ → Tally
 with_term problem subject tally coefficient v =
     if counts_for problem subject v then record tally { sums = added problem tally.sums coefficient v } else tally
 
--- the sums after one more event
+-- the tally after one more event
 abbrev pub tallied : Problem → Subject → Tally → Event → Tally
 tallied problem subject tally (start_row part) = record tally { part = part; sums = no_sums }
 tallied problem subject tally (term coefficient v) = with_term problem subject tally coefficient v

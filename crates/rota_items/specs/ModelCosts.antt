@@ -1,6 +1,6 @@
 -- The charge of the model for a rule, as the laws and the judge use it.
 use Rattle.std.specs.Prelude.{◌*◌, ◌+◌, ◌+ℤ◌}
-use Rattle.rota_items.specs.Imports.{ℕ, ℤ, pos, Bool, List, sum_by, Rule, Cell, Roster, Problem, sum_below}
+use Rattle.rota_items.specs.Imports.{ℕ, ℤ, pos, Bool, List, sum_by, Rule, Roster, Problem, sum_below}
 use Rattle.rota_core.specs.HardRules.{KeepsMinimum, KeepsOneCell}
 use Rattle.rota_core.specs.declared.rule.Rule.TheVariants.{S1, S4}
 use Rattle.rota_items.specs.Rows.{shortage, Item, value_of}

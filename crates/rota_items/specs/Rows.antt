@@ -8,7 +8,7 @@ use Rattle.rota_core.specs.Limits.{DAYS}
 use Rattle.rota_items.specs.Imports.{ℕ, ℤ, Bool, int_le, List, pos, negsuc, Rule, [], Cell, Problem, cell}
 use Rattle.std.specs.Prelude.{map, ◌-ℤ◌, ◌∷◌}
 
--- a linear constraint, with the rule or the item to which it belongs
+-- a row of the model: its part (the objective, or the constraint's rule), its terms and its degree
 pub record LinearRow (X : Type 0) : Type 0 where
   pub part : Part
   pub terms : List (Term X)

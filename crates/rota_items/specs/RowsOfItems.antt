@@ -8,7 +8,7 @@ use Rattle.rota_items.specs.WeekModel.{item_row, slack_variables}
 use Rattle.rota_items.specs.Takes.{RefusedFrom}
 use Rattle.rota_items.specs.declared.takers.Taker.{Ghosts}
 
--- the events of a hard rule's row follow
+-- the value after the events of a hard rule's row
 abbrev pub with_row : {V : Type 0} → (V → Event → V) → V → LinearRow ℕ → V
 with_row step value row = fold step value (row_events row)
 

@@ -116,7 +116,7 @@ each coefficient variables = map (λ v. (coefficient, v)) variables
 abbrev row : List (Term ℕ) → ℤ → Constraint
 row terms degree = record { terms = terms; degree = degree }
 
--- the constraints after the rows of the unit variable and of the days of one nurse on one shift type
+-- the constraints after the row of the unit variable and the seven rows of H1
 abbrev after_days : Problem → List Constraint
 after_days problem = drop 8 (model_of problem).constraints
 
@@ -143,7 +143,7 @@ DaysOff =
     take 2 (after_days days_off_week) ≡
     row (plus 1 ∷ minus 2 ∷ plus 9 ∷ []) (pos 0) ∷ row (minus 1 ∷ plus 2 ∷ minus 3 ∷ plus 10 ∷ []) (negsuc 0) ∷ []
 
--- seven windows: from only Monday to the days from Tuesday on
+-- seven windows: the first has only Monday, the last has Tuesday to Sunday
 abbrev pub RunFarAboveTheMaximum : Type 0
 RunFarAboveTheMaximum =
     let rows = after_days (working_week (limits_of 1 5) (worked_days 9)) in

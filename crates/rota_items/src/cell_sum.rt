@@ -1,4 +1,4 @@
-//! A sum of cells as a value: the terms at cells of an item, or of a row of a hard rule.
+//! A sum of cells as a value: the terms on cells of an item, or of a row of a hard rule.
 
 use crate::sums::Sign;
 use rota_core::Cell;
@@ -18,12 +18,12 @@ pub enum DayProperty {
 pub struct DayPattern {
     pub first: u8,
     pub end: u8,
-    pub off_before: bool,
-    pub off_after: bool,
+    pub without_before: bool,
+    pub without_after: bool,
     pub units: u16,
 }
 
-/// The terms at cells of an item, or of a row of a hard rule.
+/// The terms on cells of an item, or of a row of a hard rule.
 #[derive(Clone, Copy)]
 pub enum CellSum {
     /// A nurse's day: its cells, each with coefficient -1.

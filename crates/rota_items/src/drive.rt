@@ -22,13 +22,13 @@ use rota_core::Instance;
 /// up for one unit that is missing. The soft rules follow one another in their order, each with only those
 /// rows that a roster can break: first the optimal numbers for each day, shift type and skill, then, rule by
 /// rule, the rows of each nurse. `docs/model.md` lists them. Requests have no row: the objective charges them
-/// at their cells.
+/// on their cells.
 ///
 /// The rules other than H5 are the rules of the problem description of INRC-II. Terms are in ascending order
 /// of their variables. The slacks of the rows follow one another, from the variable after the unit variable
 /// on. If the taker fails, the fault is returned at once, and nothing more is sent to it.
 ///
-/// See the example at the top of the crate.
+/// See the example of `counts`.
 pub fn drive_constraints<T: Taker>(instance: &Instance, taker: &mut T) -> Result<(), T::Fault>
     ensures { Takes T.Taker (events (rows_of (problem_of instance.now))) taker.old taker.new result }
 {

@@ -23,7 +23,7 @@ use crate::variables::unit_var;
 use rota_core::{Instance, Rule};
 pub use row_counts::count_rule_rows;
 
-// The rows of the rule, if it is a hard rule.
+// Sends the taker the rows of the rule, if it is a hard rule.
 #[tactic(auto, using(crate::proofs::Taking::taking), unfolding(crate::specs::SoftItems::numbered_rows))]
 fn visit_rule<T: RowTaker>(instance: &Instance, taker: &mut T, rule: Rule) -> Result<(), T::Fault>
     ensures { let problem = problem_of instance.now in
@@ -39,7 +39,7 @@ fn visit_rule<T: RowTaker>(instance: &Instance, taker: &mut T, rule: Rule) -> Re
     }
 }
 
-/// The rows of all hard rules, in the order of the rules.
+/// Sends the taker the rows of all hard rules, in the order of the rules.
 #[tactic(auto, using(crate::proofs::Taking::taking, crate::proofs::Lists::listing), unfolding(crate::specs::SoftItems::numbered_rows))]
 pub fn visit_rule_rows<T: RowTaker>(instance: &Instance, taker: &mut T) -> Result<(), T::Fault>
     ensures { let problem = problem_of instance.now in
@@ -51,7 +51,7 @@ pub fn visit_rule_rows<T: RowTaker>(instance: &Instance, taker: &mut T) -> Resul
     Ok(())
 }
 
-/// The row that forces the unit variable to be true.
+/// Sends the taker the row that forces the unit variable to be true.
 pub fn emit_unit<T: Taker>(instance: &Instance, taker: &mut T) -> Result<(), T::Fault>
     ensures { Takes T.Taker (events (unit_row (unit_number (problem_of instance.now)) ∷ []))
         taker.old taker.new result }

@@ -39,7 +39,7 @@ fn emit_terms<T: Taker>(instance: &Instance, taker: &mut T) -> Result<(), T::Fau
     emit_slack_weights(instance, taker)
 }
 
-// Whether the objective has a term: at a cell, the cost that no roster can avoid, or a slack.
+// Whether the objective has a term: on a cell, the cost that no roster can avoid, or a slack.
 fn has_term(instance: &Instance) -> bool
     ensures { result ≡ nat_lt 0 (length (objective_terms (problem_of instance.now))) }
 {
@@ -50,7 +50,7 @@ fn has_term(instance: &Instance) -> bool
 
 /// Sends the taker the objective as one row, or nothing if it has no term.
 ///
-/// Its terms are in ascending order of the variables: 10 at a cell for each request row that the cell
+/// Its terms are in ascending order of the variables: 10 on a cell for each request row that the cell
 /// matches; the cost that no roster can avoid, at the unit variable; and each slack with the weight of its
 /// item. The weights are the weights of INRC-II. If the taker fails, the fault is returned at once, and
 /// nothing more is sent to it.

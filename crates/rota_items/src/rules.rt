@@ -1,5 +1,5 @@
 //! The soft rules. Each rule has a file; this one selects the file by the rule.
-ghost use Rattle.std.specs.Prelude.{◌≡◌, ◌<◌, ◌≤◌, IfSome, [], ◌∷◌, length, nat_lt};
+ghost use Rattle.std.specs.Prelude.{◌≡◌, ◌<◌, IfSome, [], ◌∷◌, length, nat_lt};
 ghost use Rattle.rota_core.specs.InstanceTables.{IsInstance, problem_of};
 ghost use Rattle.rota_core.specs.Lists.{concat_below};
 ghost use Rattle.rota_core.specs.Rules.{soft_rules};
@@ -32,7 +32,7 @@ pub fn soft_index(rule: Rule) -> Option<usize>
     Rule::SOFT.iter().position(|soft| *soft == rule)
 }
 
-// The items of a rule that charges each nurse, for one nurse.
+// Sends the taker the items of a rule that charges each nurse, for one nurse.
 #[tactic(auto, using(crate::proofs::Taking::taking), unfolding(crate::specs::SoftItems::numbered_list))]
 fn visit_nurse<T: RunTaker>(
     instance: &Instance,
@@ -54,7 +54,7 @@ fn visit_nurse<T: RunTaker>(
     }
 }
 
-// The items of a rule that charges each nurse.
+// Sends the taker the items of a rule that charges each nurse.
 #[tactic(auto, using(crate::proofs::Taking::taking), unfolding(crate::specs::SoftItems::numbered_list))]
 fn visit_nurses<T: RunTaker>(instance: &Instance, taker: &mut T, rule: Rule) -> Result<(), T::Fault>
     ensures { let problem = problem_of instance.now in
@@ -67,7 +67,7 @@ fn visit_nurses<T: RunTaker>(instance: &Instance, taker: &mut T, rule: Rule) -> 
     Ok(())
 }
 
-// The items of a rule.
+// Sends the taker the items of a rule.
 #[tactic(auto, using(crate::proofs::ItemLists::items_of_nurses))]
 fn visit_rule<T: RunTaker>(instance: &Instance, taker: &mut T, rule: Rule) -> Result<(), T::Fault>
     ensures { let problem = problem_of instance.now in
@@ -79,7 +79,7 @@ fn visit_rule<T: RunTaker>(instance: &Instance, taker: &mut T, rule: Rule) -> Re
     }
 }
 
-/// The items of all soft rules, in the order of the rules.
+/// Sends the taker the items of all soft rules, in the order of the rules.
 #[tactic(auto, using(crate::proofs::Taking::taking, crate::proofs::Lists::listing), unfolding(crate::specs::SoftItems::numbered_list))]
 pub fn visit_soft_items<T: RunTaker>(instance: &Instance, taker: &mut T) -> Result<(), T::Fault>
     ensures { let problem = problem_of instance.now in
@@ -91,7 +91,7 @@ pub fn visit_soft_items<T: RunTaker>(instance: &Instance, taker: &mut T) -> Resu
     Ok(())
 }
 
-// Sends the taker the terms that a rule has at cells.
+// Sends the taker the terms that a rule has on cells.
 #[tactic(auto, using(crate::proofs::Taking::taking), unfolding(crate::specs::CellEvents::cell_term_events, crate::specs::Events::term_events))]
 fn emit_cell_terms_of_rule<T: Taker>(
     instance: &Instance,
@@ -107,7 +107,7 @@ fn emit_cell_terms_of_rule<T: Taker>(
     }
 }
 
-/// Sends the taker the terms that the soft rules have at cells.
+/// Sends the taker the terms that the soft rules have on cells.
 #[tactic(auto, using(crate::proofs::Taking::taking, crate::proofs::Lists::listing), unfolding(crate::specs::CellEvents::cell_term_events, crate::specs::Events::term_events))]
 pub fn emit_cell_terms<T: Taker>(instance: &Instance, taker: &mut T) -> Result<(), T::Fault>
     ensures { let problem = problem_of instance.now in
@@ -119,7 +119,7 @@ pub fn emit_cell_terms<T: Taker>(instance: &Instance, taker: &mut T) -> Result<(
     Ok(())
 }
 
-/// Whether the soft rules have a term at a cell. Only requests have.
+/// Whether the soft rules have a term on a cell. Only requests have.
 pub fn has_cell_terms(instance: &Instance) -> bool
     ensures { result ≡ nat_lt 0 (length (cell_terms (problem_of instance.now))) }
 {

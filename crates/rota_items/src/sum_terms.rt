@@ -1,9 +1,10 @@
 //! Sends the terms of a `CellSum` to a taker.
-ghost use Rattle.std.specs.Prelude.{◌≡◌, ◌<◌, ◌≤◌, IsTrue, flat_map, if◌then◌else◌, pos, negsuc, count_by};
+ghost use Rattle.std.specs.Prelude.{◌≡◌, ◌<◌, ◌≤◌, IsTrue, flat_map, if◌then◌else◌, pos, negsuc};
 ghost use Rattle.rota_core.specs.InstanceTables.{problem_of};
-ghost use Rattle.rota_items.specs.CellEvents.{cell_term_events, coefficient_of, sum_events};
-ghost use Rattle.rota_items.specs.CellSums.{AreShiftPair, IsInWeek, IsPropertyOf, IsSumOf, day_after, day_before, days_of, property_of, sum_terms};
-ghost use Rattle.rota_items.specs.RunItems.{day_terms, days_with};
+ghost use Rattle.rota_core.specs.Lists.{singleton_if};
+ghost use Rattle.rota_items.specs.CellEvents.{cell_term_events, coefficient_of};
+ghost use Rattle.rota_items.specs.CellSums.{AreShiftPair, IsInWeek, IsPropertyOf, IsSumOf, days_of, property_of, sum_terms};
+ghost use Rattle.rota_items.specs.RunItems.{day_terms, days_with, without_property};
 ghost use Rattle.rota_items.specs.Takes.{Takes};
 
 use crate::cell_sum::{CellSum, DayPattern, DayProperty};
@@ -21,7 +22,7 @@ fn day_sign(plain: bool) -> Sign
     if plain { Sign::Minus } else { Sign::Plus }
 }
 
-// A day of a nurse's pattern, which must have the property, or must not.
+// Sends the taker a day of a nurse's pattern, which must have the property, or must not.
 fn emit_day<T: Taker>(
     instance: &Instance,
     taker: &mut T,
@@ -45,7 +46,7 @@ fn emit_day<T: Taker>(
     }
 }
 
-// Days of a nurse that must have the property, from the first up to the end, which is excluded.
+// Sends the taker days of a nurse that must have the property, from the first up to the end, which is excluded.
 fn emit_days<T: Taker>(
     instance: &Instance,
     taker: &mut T,
@@ -69,55 +70,32 @@ fn emit_days<T: Taker>(
     Ok(())
 }
 
-// The day before the pattern's days, if it must be without the property.
+// Sends the taker the day before or after a pattern's days, if that day must be without the property.
 #[tactic(auto, using(crate::proofs::DayTerms::day_taking), unfolding(crate::specs::CellEvents::cell_term_events, crate::specs::Events::term_events, rota_core::specs::Lists::singleton_if))]
-fn emit_day_before<T: Taker>(
+fn emit_day_beside<T: Taker>(
     instance: &Instance,
     taker: &mut T,
     nurse: u16,
     property: DayProperty,
-    pattern: DayPattern,
+    without: bool,
+    day: u8,
 ) -> Result<(), T::Fault>
     requires nurse_in { nurse < (problem_of instance.now).nurses }
     requires property_in { IsPropertyOf (problem_of instance.now) property }
-    requires days_in { IsInWeek pattern }
+    requires day_in { IsTrue without → day < DAYS }
     ensures { let problem = problem_of instance.now in
-        Takes T.Taker
-        (cell_term_events problem (flat_map (day_terms (property_of problem nurse property)) (day_before pattern)))
+        let days = singleton_if without (without_property day) in
+        Takes T.Taker (cell_term_events problem (flat_map (day_terms (property_of problem nurse property)) days))
         taker.old taker.new result }
 {
-    if pattern.off_before {
-        emit_day(instance, taker, nurse, property, pattern.first - 1, false)
+    if without {
+        emit_day(instance, taker, nurse, property, day, false)
     } else {
         Ok(())
     }
 }
 
-// The day after the pattern's days, if it must be without the property.
-#[tactic(auto, using(crate::proofs::DayTerms::day_taking), unfolding(crate::specs::CellEvents::cell_term_events, crate::specs::Events::term_events, rota_core::specs::Lists::singleton_if))]
-fn emit_day_after<T: Taker>(
-    instance: &Instance,
-    taker: &mut T,
-    nurse: u16,
-    property: DayProperty,
-    pattern: DayPattern,
-) -> Result<(), T::Fault>
-    requires nurse_in { nurse < (problem_of instance.now).nurses }
-    requires property_in { IsPropertyOf (problem_of instance.now) property }
-    requires days_in { IsInWeek pattern }
-    ensures { let problem = problem_of instance.now in
-        Takes T.Taker
-        (cell_term_events problem (flat_map (day_terms (property_of problem nurse property)) (day_after pattern)))
-        taker.old taker.new result }
-{
-    if pattern.off_after {
-        emit_day(instance, taker, nurse, property, pattern.end, false)
-    } else {
-        Ok(())
-    }
-}
-
-// The days of a nurse's pattern.
+// Sends the taker the days of a nurse's pattern.
 fn emit_pattern_days<T: Taker>(
     instance: &Instance,
     taker: &mut T,
@@ -133,12 +111,29 @@ fn emit_pattern_days<T: Taker>(
         (cell_term_events problem (flat_map (day_terms (property_of problem nurse property)) (days_of pattern)))
         taker.old taker.new result }
 {
-    emit_day_before(instance, taker, nurse, property, pattern)?;
+    let before = pattern.first.saturating_sub(1);
+    let after = pattern.end;
+    emit_day_beside(
+        instance,
+        taker,
+        nurse,
+        property,
+        pattern.without_before,
+        before,
+    )?;
     emit_days(instance, taker, nurse, property, pattern.first, pattern.end)?;
-    emit_day_after(instance, taker, nurse, property, pattern)
+    emit_day_beside(
+        instance,
+        taker,
+        nurse,
+        property,
+        pattern.without_after,
+        after,
+    )
 }
 
-// The cells of a nurse's day on a shift type and of the next day on another, each with coefficient -1.
+// Sends the taker the cells of a nurse's day on a shift type and of the next day on another, each with
+// coefficient -1.
 fn emit_in_turn<T: Taker>(
     instance: &Instance,
     taker: &mut T,
@@ -156,7 +151,7 @@ fn emit_in_turn<T: Taker>(
     emit_on(instance, taker, Sign::Minus, nurse, second, day + 1)
 }
 
-/// The terms of a sum of cells.
+/// Sends the taker the terms of a sum of cells.
 #[tactic(auto, using(crate::proofs::Taking::taking), unfolding(crate::specs::CellEvents::cell_term_events, crate::specs::Events::term_events))]
 pub fn emit_sum<T: Taker>(instance: &Instance, taker: &mut T, sum: CellSum) -> Result<(), T::Fault>
     requires { IsSumOf (problem_of instance.now) sum }

@@ -30,7 +30,7 @@ fn coefficient(sign: Sign) -> i64
     }
 }
 
-/// The `count` variables that follow one another from the first on, each with the coefficient.
+/// Sends the taker the `count` variables that follow one another from the first on, each with the coefficient.
 #[tactic(auto, using(crate::proofs::Taking::ranges), unfolding(crate::specs::Events::term_events))]
 #[inline(always)]
 pub fn emit_range<T: Taker>(
@@ -49,7 +49,7 @@ pub fn emit_range<T: Taker>(
     Ok(())
 }
 
-/// The cells of a nurse's day on a shift type, whose variables follow one another.
+/// Sends the taker the cells of a nurse's day on a shift type. Their variables follow one another.
 pub fn emit_on<T: Taker>(
     instance: &Instance,
     taker: &mut T,
@@ -69,7 +69,7 @@ pub fn emit_on<T: Taker>(
     emit_range(taker, coefficient(sign), first, cells)
 }
 
-/// The cells of a nurse's day, whose variables follow one another.
+/// Sends the taker the cells of a nurse's day. Their variables follow one another.
 pub fn emit_work<T: Taker>(
     instance: &Instance,
     taker: &mut T,
@@ -87,7 +87,7 @@ pub fn emit_work<T: Taker>(
     emit_range(taker, coefficient(sign), first, cells)
 }
 
-/// All cells of a nurse, whose variables follow one another.
+/// Sends the taker all cells of a nurse. Their variables follow one another.
 pub fn emit_nurse_cells<T: Taker>(
     instance: &Instance,
     taker: &mut T,
@@ -103,7 +103,7 @@ pub fn emit_nurse_cells<T: Taker>(
     emit_range(taker, coefficient(sign), first, cells)
 }
 
-/// The cells of a day's shift type and skill, one for each nurse.
+/// Sends the taker the cells of a day's shift type and skill, one for each nurse.
 #[tactic(auto, using(crate::proofs::Taking::taking), unfolding(crate::specs::CellEvents::cell_term_events, crate::specs::Events::term_events))]
 pub fn emit_demand_cells<T: Taker>(
     instance: &Instance,
@@ -131,7 +131,7 @@ pub fn emit_demand_cells<T: Taker>(
     Ok(())
 }
 
-/// The cells of a nurse that need the skill, each with coefficient -1.
+/// Sends the taker the cells of a nurse that need the skill, each with coefficient -1.
 #[tactic(auto, using(crate::proofs::Taking::taking), unfolding(crate::specs::CellEvents::cell_term_events, crate::specs::Events::term_events))]
 pub fn emit_skill_cells<T: Taker>(
     instance: &Instance,

@@ -1,5 +1,5 @@
 //! Takers of the rows of a model, event by event.
-ghost use Rattle.std.specs.Prelude.{◌≡◌, MatchResult, ℤ};
+ghost use Rattle.std.specs.Prelude.{◌≡◌, MatchResult};
 ghost use Rattle.rota_items.specs.Events.{Event, start_row, term, close_row};
 
 use crate::part::Part;
@@ -21,7 +21,7 @@ pub trait Taker {
 
     ghost left: { Value → Event → Self → Type 0 };
 
-    /// Starts a row of this part. Only the taker returns an `Err`, which ends a drive.
+    /// Starts a row of this part. An `Err` ends the drive. A drive returns no other `Err`.
     fn start_row(&mut self, part: Part) -> Result<(), Self::Fault>
         ensures { MatchResult result
             (λ _. value self.new ≡ step (value self.old) (start_row part))

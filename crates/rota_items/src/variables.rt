@@ -31,7 +31,7 @@ pub fn first_var_on(instance: &Instance, nurse: u16, day: u8, shift: u8) -> u32
     shift_index * u32::from(instance.skills()) + 1
 }
 
-/// The variable that is true in every solution. It follows the variables of the cells.
+/// The variable that is true in every satisfying assignment. It follows the variables of the cells.
 pub fn unit_var(instance: &Instance) -> u32
     ensures number { result ≡ unit_number (problem_of instance.now) }
     ensures limits { IsInstance instance.now }

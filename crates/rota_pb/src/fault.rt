@@ -18,9 +18,9 @@ pub enum Fault {
     File(FileFault),
     /// Memory ran out.
     Memory,
-    /// The writer failed, or accepted no byte of a piece that is not empty.
+    /// A writer failed.
     Write,
-    /// A reader failed.
+    /// A file did not open, a reader failed, or an answer has no end.
     Read,
     /// A solver's answer does not have the form of an answer: its first fault.
     Answer(AnswerFault),

@@ -1,4 +1,4 @@
-//! The engines: they read whole files and write a model, a roster or an answer, over any readers and writers.
+//! The runs: they read whole files and write a model, a roster or an answer, over any readers and writers.
 //!
 //! Writes the model of a week whose three files are in memory. No cell is held, so the fourth reader is not
 //! touched:

@@ -76,7 +76,8 @@ fn put_report<W: Target>(sink: &mut Sink<W>, decoded: &Decoded) -> Result<(), Po
 }
 
 /// Writes the report on a decoded answer, one item per line: the status, the objective, the penalty, the
-/// costs of the soft rules, and the last `o` value if the answer had one.
+/// costs of the soft rules, and the last `o` value if the answer had one. The status must be `Satisfiable` or
+/// `Optimum`.
 ///
 /// Allocates nothing. The only error is `Write`, if the writer failed: it got a prefix of the text.
 pub fn write_report<W: Target>(decoded: &Decoded, out: &mut W) -> Result<(), Fault>

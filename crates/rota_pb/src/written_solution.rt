@@ -93,7 +93,8 @@ fn put_solution<W: Target>(
 }
 
 /// Writes the solution file of the roster, in the text form of INRC-II: the week's number and the scenario's
-/// name, the number of assignments, and a line for each, in the order of nurse, day, shift type and skill.
+/// name, the number of assignments, and a line for each, in the order of nurse, day, shift type and skill. The
+/// roster must have at most one cell for each nurse and day.
 /// `read_solution` of `rota_read` returns the same roster, if the text has at most `MAX_FILE_LEN` bytes.
 ///
 /// Allocates nothing. The only error is `Write`, if the writer failed: it got a prefix of the text.

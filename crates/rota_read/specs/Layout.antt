@@ -16,6 +16,7 @@ pub data Slot : Type 0 where
   wants_exactly : List ℕ → Slot
   -- a number from the first to the second, inclusive
   wants_number : ℕ → ℕ → Slot
+  -- any word: a token that is no sign
   wants_word : Slot
   -- a word that is none of these names
   wants_new : List (List ℕ) → Slot

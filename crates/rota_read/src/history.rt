@@ -19,7 +19,7 @@ use crate::fault::Stop;
 use rota_core::{FileFault, FileName, History, HistoryParts, MAX_NUMBER, Past, Scenario};
 use std::alloc::{AllocError, Global};
 
-// The history of a nurse who has never worked.
+// Stands in for a nurse without a row. A history has none: see `each_nurse_has_a_past`.
 const NO_PAST: Past = Past {
     assignments: 0,
     weekends: 0,
@@ -108,7 +108,7 @@ fn each_past(alloc: Global, pasts: &[Option<Past>]) -> Result<Vec<Past>, AllocEr
 }
 
 // The rows of a history, from the whole text.
-#[tactic(auto, using(crate::proofs::EndLemmas::front_fails), unfolding(crate::specs::HistoryLayout::history, crate::specs::Reading::read_layout, crate::specs::Reading::read_text))]
+#[tactic(auto, using(crate::proofs::EndLemmas::front_fails), unfolding(crate::specs::HistoryLayout::history, crate::specs::Layout::exactly, crate::specs::Reading::read_layout, crate::specs::Reading::read_text))]
 fn history_parts(alloc: Global, scenario: &Scenario, text: &[u8]) -> Result<HistoryParts, Stop>
     ensures read { ReadsFile history_of result (read_text (history scenario.now) text.now) }
     ensures limits { IfOk result (λ _. AreLimited (numbers_of scenario.now)) }

@@ -110,7 +110,7 @@ impl<'a> Cursor<'a> {
             .ok_or(name.fault(Kind::Unknown))
     }
 
-    /// The number of a shift type, or `None` if the word is in its position.
+    /// The number of a shift type, or `None` if the token is this word.
     #[tactic(auto, using(crate::proofs::NameSteps::known_by_word), unfolding(crate::specs::Layout::shift_or, crate::specs::Reading::read_layout))]
     pub fn shift_or(&mut self, word: &[u8], scenario: &Scenario) -> Result<Option<u8>, Stop>
         ensures read { Reads (λ s. s) result self.new (read_layout (shift_or word.now scenario.now.shifts) self.old) }

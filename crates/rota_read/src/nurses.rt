@@ -36,20 +36,20 @@ impl<'a> Cursor<'a> {
         alloc: Global,
         contracts: &IndexSet<Vec<u8>>,
         skills: &IndexSet<Vec<u8>>,
-        maximum: u16,
+        skill_count: u16,
         rows: &mut NurseRows,
     ) -> Result<(), Stop>
-        requires maximum { maximum ≤ MAX_NUMBER }
-        requires count { length (bytes_of skills.now) ≡ maximum }
+        requires limit { skill_count ≤ MAX_NUMBER }
+        requires count { length (bytes_of skills.now) ≡ skill_count }
         requires few { length (bytes_of contracts.now) ≤ MAX_CONTRACTS }
         ensures { Reads (λ _. nurses_of rows.new) result self.new (read_layout (nurse_row (bytes_of contracts.now) (bytes_of skills.now) (nurses_of rows.old)) self.old) }
     {
         let name = self.new_name(&rows.names)?;
         let contract = self.known_contract(contracts)?;
-        let row = self.known_names(alloc, skills, maximum)?;
+        let row = self.known_names(alloc, skills, skill_count)?;
         add_name(alloc, &mut rows.names, name)?;
         rows.contract_of.push(contract)?;
-        Ok(append_marks(&mut rows.has_skill, &row, maximum)?)
+        Ok(append_marks(&mut rows.has_skill, &row, skill_count)?)
     }
 
     #[tactic(auto, using(crate::proofs::RowSteps::row_steps))]
@@ -58,17 +58,17 @@ impl<'a> Cursor<'a> {
         alloc: Global,
         contracts: &IndexSet<Vec<u8>>,
         skills: &IndexSet<Vec<u8>>,
-        maximum: u16,
+        skill_count: u16,
         count: u16,
         rows: &mut NurseRows,
     ) -> Result<(), Stop>
-        requires maximum { maximum ≤ MAX_NUMBER }
-        requires count { length (bytes_of skills.now) ≡ maximum }
+        requires limit { skill_count ≤ MAX_NUMBER }
+        requires count { length (bytes_of skills.now) ≡ skill_count }
         requires few { length (bytes_of contracts.now) ≤ MAX_CONTRACTS }
         ensures { Reads (λ _. nurses_of rows.new) result self.new (read_layout (repeat count (nurse_row (bytes_of contracts.now) (bytes_of skills.now)) (nurses_of rows.old)) self.old) }
     {
         for _ in 0..count {
-            self.nurse_row(alloc, contracts, skills, maximum, rows)?;
+            self.nurse_row(alloc, contracts, skills, skill_count, rows)?;
         }
         Ok(())
     }
@@ -79,17 +79,17 @@ impl<'a> Cursor<'a> {
         alloc: Global,
         contracts: &IndexSet<Vec<u8>>,
         skills: &IndexSet<Vec<u8>>,
-        maximum: u16,
+        skill_count: u16,
         rows: &mut NurseRows,
     ) -> Result<(), Stop>
-        requires maximum { maximum ≤ MAX_NUMBER }
-        requires count { length (bytes_of skills.now) ≡ maximum }
+        requires limit { skill_count ≤ MAX_NUMBER }
+        requires count { length (bytes_of skills.now) ≡ skill_count }
         requires few { length (bytes_of contracts.now) ≤ MAX_CONTRACTS }
         requires none { nurses_of rows.old ≡ no_nurses }
         ensures { Reads (λ _. nurses_of rows.new) result self.new (read_layout (columns (codes "NURSES") MAX_NURSES (nurse_row (bytes_of contracts.now) (bytes_of skills.now)) no_nurses) self.old) }
     {
         let count = self.setting(b"NURSES", 1, MAX_NURSES)?;
-        self.nurse_rows(alloc, contracts, skills, maximum, count, rows)
+        self.nurse_rows(alloc, contracts, skills, skill_count, count, rows)
     }
 }
 

@@ -10,7 +10,7 @@ use crate::cursor::{Cursor, Token, is_sign};
 use crate::fault::{Fault, Stop};
 use rota_core::{Kind, MAX_NUMBER};
 
-// The value of decimal digits, or 10000 if it is larger.
+// The value of decimal digits, or 10000 if it is larger, or `None` if a byte is no digit.
 fn decimal_of(word: &[u8]) -> Option<u16>
     ensures { result ≡ (if is_decimal word.now then Some (min (decimal word.now) 10000) else None) }
 {

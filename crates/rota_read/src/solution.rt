@@ -62,7 +62,7 @@ impl<'a> Cursor<'a> {
 }
 
 // The roster of a solution, from the whole text.
-#[tactic(auto, using(crate::proofs::EndLemmas::front_fails), unfolding(crate::specs::SolutionLayout::solution, crate::specs::Layout::many, crate::specs::RosterReading::assignment_row, crate::specs::Reading::read_layout, crate::specs::Reading::read_text))]
+#[tactic(auto, using(crate::proofs::EndLemmas::front_fails), unfolding(crate::specs::SolutionLayout::solution, crate::specs::Layout::exactly, crate::specs::Layout::many, crate::specs::RosterReading::assignment_row, crate::specs::Reading::read_layout, crate::specs::Reading::read_text))]
 fn solution_roster(alloc: Global, instance: &Instance, text: &[u8]) -> Result<Roster, Stop>
     ensures { ReadsRosterFile (problem_of instance.now) result (read_text (solution instance.now.scenario) text.now) }
 {

@@ -63,7 +63,7 @@ impl<'a> Cursor<'a> {
 }
 
 // The rows of a week, from the whole text.
-#[tactic(auto, using(crate::proofs::EndLemmas::front_fails), unfolding(crate::specs::WeekLayout::week, crate::specs::Layout::many, crate::specs::WeekRows::request_row, crate::specs::Reading::read_layout, crate::specs::Reading::read_text))]
+#[tactic(auto, using(crate::proofs::EndLemmas::front_fails), unfolding(crate::specs::WeekLayout::week, crate::specs::Layout::exactly, crate::specs::Layout::many, crate::specs::WeekRows::request_row, crate::specs::Reading::read_layout, crate::specs::Reading::read_text))]
 fn week_parts(alloc: Global, scenario: &Scenario, text: &[u8]) -> Result<WeekParts, Stop>
     ensures read { ReadsFile week_tables_of result (read_text (week scenario.now) text.now) }
     ensures within { IfOk result (λ _. AreLimited (numbers_of scenario.now)) }

@@ -22,16 +22,16 @@ fn all_even() -> CallPlans {
     }
 }
 
-// The reader of this number has this pace, and the targets have the other.
+// The reader of this number has this plan, and the targets have the other.
 fn with_reader(reader: usize, plan: CallPlan, targets: CallPlan) -> CallPlans {
-    let mut paces = CallPlans {
+    let mut plans = CallPlans {
         targets: [targets; 2],
         ..all_even()
     };
-    if let Some(own) = paces.readers.get_mut(reader) {
+    if let Some(own) = plans.readers.get_mut(reader) {
         *own = plan;
     }
-    paces
+    plans
 }
 
 // The run ended like this. Otherwise its kind and number are printed.
@@ -45,11 +45,11 @@ fn runs_in_pieces_of_each_length(rt: HostRuntime) {
     for job in &jobs() {
         for length in 1..200 {
             let pieces = CallPlan::new(length, None);
-            let paces = CallPlans {
+            let plans = CallPlans {
                 readers: [pieces; 5],
                 targets: [pieces; 2],
             };
-            let end = end_of(rt.alloc(), job, &paces);
+            let end = end_of(rt.alloc(), job, &plans);
             check_end(&rt, end, done(job), "pieces of", length);
         }
     }
@@ -65,12 +65,12 @@ fn check_reader(rt: &impl Abort, alloc: Global, job: &Job, reader: usize, text: 
     let calls = calls_to_the_end(text);
     for good_calls in 0..calls {
         let failing = CallPlan::new(PIECE, Some(good_calls));
-        let paces = with_reader(reader, failing, by_bytes(0));
-        let end = end_of(alloc, job, &paces);
+        let plans = with_reader(reader, failing, by_bytes(0));
+        let end = end_of(alloc, job, &plans);
         check_end(rt, end, refused(Fault::Read), "reader", reader);
     }
-    let paces = with_reader(reader, CallPlan::new(PIECE, Some(calls)), even());
-    let end = end_of(alloc, job, &paces);
+    let plans = with_reader(reader, CallPlan::new(PIECE, Some(calls)), even());
+    let end = end_of(alloc, job, &plans);
     check_end(rt, end, done(job), "reader", reader);
 }
 
@@ -201,8 +201,8 @@ fn faulty_jobs() -> [Faulty; 7] {
 #[test]
 fn fault_of_an_earlier_file_comes_first(rt: HostRuntime) {
     for (job, reader, fault) in faulty_jobs() {
-        let paces = with_reader(reader, by_bytes(0), by_bytes(0));
-        let end = end_of(rt.alloc(), &job, &paces);
+        let plans = with_reader(reader, by_bytes(0), by_bytes(0));
+        let end = end_of(rt.alloc(), &job, &plans);
         check_end(&rt, end, refused(fault), "reader", reader);
     }
 }
@@ -216,8 +216,8 @@ fn answer_fails_after_some_bytes(rt: HostRuntime) {
     ];
     for (answer, fault) in rows {
         let job = with_input(decoding(), 4, answer);
-        let paces = with_reader(4, CallPlan::new(200, Some(1)), even());
-        let end = end_of(rt.alloc(), &job, &paces);
+        let plans = with_reader(4, CallPlan::new(200, Some(1)), even());
+        let end = end_of(rt.alloc(), &job, &plans);
         check_end(&rt, end, refused(fault), "reader", 4);
     }
 }
@@ -226,8 +226,8 @@ fn answer_fails_after_some_bytes(rt: HostRuntime) {
 fn end_of_one_piece(alloc: Global, answer: Vec<u8>) -> Result<Ended, AllocError> {
     let mut texts = texts_of(alloc, &DECODING, &[])?;
     texts.last = answer;
-    let paces = with_reader(4, CallPlan::new(4096, Some(1)), even());
-    Ok(end_of(alloc, &texts.job(&DECODING), &paces))
+    let plans = with_reader(4, CallPlan::new(4096, Some(1)), even());
+    Ok(end_of(alloc, &texts.job(&DECODING), &plans))
 }
 
 // A fault shown by the piece's last byte is found before the next read fails. One byte less shows none.

@@ -4,7 +4,7 @@ use rota_core::{CallPlan, MemorySource, MemoryTarget};
 use rota_pb::{Choice, Fault, run_decode, run_encode, run_extend};
 use std::alloc::{AllocError, Global};
 
-/// The paces of a run's ports: its five readers, and its two targets.
+/// The plans of a run's ports: its five readers, and its two targets.
 #[derive(Clone, Copy)]
 pub struct CallPlans {
     pub readers: [CallPlan; 5],
@@ -14,12 +14,12 @@ pub struct CallPlans {
 /// The number of bytes that an even port moves in a call.
 pub const PIECE: usize = 7;
 
-/// A pace at which no call fails.
+/// A plan in which no call fails.
 pub fn even() -> CallPlan {
     CallPlan::new(PIECE, None)
 }
 
-/// A pace of one byte per call. The call after this number of calls fails.
+/// A plan of one byte per call. The call after this number of calls fails.
 pub fn by_bytes(good_calls: u64) -> CallPlan {
     CallPlan::new(1, Some(good_calls))
 }
@@ -123,11 +123,11 @@ pub fn outcome(
 fn end_with(
     alloc: Global,
     job: &Job,
-    paces: &CallPlans,
+    plans: &CallPlans,
     first: &mut MemoryTarget,
 ) -> Result<Ended, AllocError> {
-    let mut second = MemoryTarget::new(alloc, ROOM, paces.targets[1])?;
-    let outcome = outcome(alloc, job, paces.readers, first, &mut second);
+    let mut second = MemoryTarget::new(alloc, ROOM, plans.targets[1])?;
+    let outcome = outcome(alloc, job, plans.readers, first, &mut second);
     Ok(Ended {
         outcome,
         sent: [
@@ -137,12 +137,12 @@ fn end_with(
     })
 }
 
-/// The end of the job's run at these paces. If no target can be made, it ends like a run without memory.
-pub fn end_of(alloc: Global, job: &Job, paces: &CallPlans) -> Ended {
-    let Ok(mut first) = MemoryTarget::new(alloc, ROOM, paces.targets[0]) else {
+/// The end of the job's run with these plans. If no target can be made, it ends like a run without memory.
+pub fn end_of(alloc: Global, job: &Job, plans: &CallPlans) -> Ended {
+    let Ok(mut first) = MemoryTarget::new(alloc, ROOM, plans.targets[0]) else {
         return refused(Fault::Memory);
     };
-    match end_with(alloc, job, paces, &mut first) {
+    match end_with(alloc, job, plans, &mut first) {
         Ok(end) => end,
         Err(_) => refused(Fault::Memory),
     }

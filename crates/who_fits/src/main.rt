@@ -141,14 +141,12 @@ fn tell_place(rt: &impl Print, instance: &Instance, day: u8, shift: u8, skill: u
     Ok(())
 }
 
-// Whether the nurse has the skill, and her last shift does not forbid the shift type.
+// Whether the nurse has the skill and, on Monday, her last shift does not forbid the shift type.
 fn fits(instance: &Instance, cell: Cell) -> bool
     requires { InWeek (problem_of instance.now) cell }
 {
     let forbidden = match instance.past(cell.nurse).last {
-        Some(last) if cell.day == 0 && last < instance.shifts() => {
-            instance.forbidden(last, cell.shift)
-        }
+        Some(last) if cell.day == 0 => instance.forbidden(last, cell.shift),
         _ => false,
     };
     instance.has_skill(cell.nurse, cell.skill) && !forbidden

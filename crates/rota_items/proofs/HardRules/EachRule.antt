@@ -1,7 +1,9 @@
 -- The rows of each hard rule mean the rule: H1, H2, H4 and H5 one by one, and a property of each is a property of all their rows.
-use Rattle.rota_items.proofs.Common.Imports.{◌+◌, ◌≡◌, ◌∙◌, ℕ, ◌<◌, not, true, false, inl, inr, refl, sym, ap, arith, pos, negsuc, nat_lt, cases_Bool, true≢false, ltb-false, not-true, false_from_ne_true}
-use Rattle.rota_items.proofs.Common.Imports.{List, [], ◌∷◌, AllByRecursion, flat_map, KeepsHardRules, InWeek, Roster, Has, cell, hard_rules, Problem, Rule, Cell, cell_number, cells_of, demand_cells}
-use Rattle.rota_items.proofs.Common.Imports.{skill_cells, work_cells, h1_row, h1_rows, h2_row, h4_row, h5_row, h5_rows, rows_of_hard_rule, rule_rows, LinearRow, H1, H2, H3, H4, H5}
+use Rattle.rota_items.proofs.Common.Imports.{◌+◌, ◌≡◌, ◌∙◌, ℕ, ◌<◌, not, true, false, inl, inr, refl, sym, ap, arith, pos, negsuc, nat_lt}
+use Rattle.rota_items.proofs.Common.Imports.{cases_Bool, true≢false, ltb-false, not-true, false_from_ne_true, List, [], ◌∷◌}
+use Rattle.rota_items.proofs.Common.Imports.{AllByRecursion, flat_map, KeepsHardRules, InWeek, Roster, Has, cell, hard_rules, Problem}
+use Rattle.rota_items.proofs.Common.Imports.{Rule, Cell, cell_number, cells_of, demand_cells, skill_cells, work_cells, h1_row, h1_rows}
+use Rattle.rota_items.proofs.Common.Imports.{h2_row, h4_row, h5_row, h5_rows, rows_of_hard_rule, rule_rows, LinearRow, H1, H2, H3, H4, H5}
 use Rattle.rota_items.proofs.CellCounts.{count-none, none-pass, one-work, the_one}
 use Rattle.rota_items.proofs.HardRules.Sound.{at_least, at_most, one-where_true, AllHold, Holds, IsHardRuleSound, IsRowSound, Keeps}
 use Rattle.rota_items.proofs.HardRules.Succession.{succession}
@@ -112,7 +114,7 @@ module _ (problem : Problem) where
         mean = λ roster all one has. (one-where_true (roster one)).0 (rows-are.each (Holds roster) all one has);
       }
 
-  -- ---- each of them: the only place that lists them
+  -- ---- each hard rule: the only place that lists them all
 
   each-rule : AllByRecursion (IsHardRuleSound problem) hard_rules
   each-rule = (one_cell, (minimum, (succession problem, (skills, (held, tt)))))

@@ -1,6 +1,7 @@
 -- The conditions on a hard rule and its rows.
-use Rattle.rota_items.proofs.Common.Imports.{◌≡◌, ◌↔◌, ℕ, ◌≤◌, ◌≤ℤ◌, ◌-ℤ◌, pos, negsuc, ◌+ℤ◌, Bool, true, false, cond, refl, arith, ints, List, AllByRecursion, count_by, times, KeepsOneCell}
-use Rattle.rota_items.proofs.Common.Imports.{KeepsMinimum, KeepsSuccession, KeepsSkills, KeepsHeld, Roster, Problem, Rule, Cell, rows_of_hard_rule, value_of, LinearRow, H1, H2, H3, H4, H5, Hard}
+use Rattle.rota_items.proofs.Common.Imports.{◌≡◌, ◌↔◌, ℕ, ◌≤◌, ◌≤ℤ◌, ◌-ℤ◌, pos, negsuc, ◌+ℤ◌, Bool, true, false, cond, refl, arith, ints, List}
+use Rattle.rota_items.proofs.Common.Imports.{AllByRecursion, count_by, times, KeepsOneCell, KeepsMinimum, KeepsSuccession, KeepsSkills, KeepsHeld}
+use Rattle.rota_items.proofs.Common.Imports.{Roster, Problem, Rule, Cell, rows_of_hard_rule, value_of, LinearRow, H1, H2, H3, H4, H5, Hard}
 use Rattle.rota_items.proofs.SoundTerms.{AreSound}
 use Rattle.rota_items.proofs.PatternItems.{value_of-sum}
 

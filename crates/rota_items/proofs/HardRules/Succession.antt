@@ -1,6 +1,7 @@
--- H3: no shift type after one that it may not follow.
-use Rattle.rota_items.proofs.Common.Imports.{◌≡◌, ℕ, ◌+◌, ◌<◌, ◌≤◌, ◌++◌, true, false, cond, inl, inr, refl, ap, ◌∙◌, arith, count_by, negsuc, Option, Some, None, cases_Bool, sum_by-append}
-use Rattle.rota_items.proofs.Common.Imports.{AllByRecursion-append, KeepsOneCell, KeepsSuccession, is_on, InWeek, Roster, Problem, cell_number, on_cells, h3_monday_row, h3_row, is_forbidden_after, H3}
+-- The rows of H3 mean the rule: no shift type after one that it may not follow.
+use Rattle.rota_items.proofs.Common.Imports.{◌≡◌, ℕ, ◌+◌, ◌<◌, ◌≤◌, ◌++◌, true, false, cond, inl, inr, refl, ap, ◌∙◌, arith, count_by, negsuc}
+use Rattle.rota_items.proofs.Common.Imports.{Option, Some, None, cases_Bool, sum_by-append, AllByRecursion-append, KeepsOneCell, KeepsSuccession}
+use Rattle.rota_items.proofs.Common.Imports.{is_on, InWeek, Roster, Problem, cell_number, on_cells, h3_monday_row, h3_row, is_forbidden_after, H3}
 use Rattle.rota_core.proofs.LogicWords.{rises-append}
 use Rattle.rota_items.proofs.CellCounts.{any-on_cells, one-on}
 use Rattle.rota_items.proofs.HardRules.Sound.{at_most, Holds, IsHardRuleSound, IsRowSound}

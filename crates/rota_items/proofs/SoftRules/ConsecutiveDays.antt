@@ -1,7 +1,8 @@
 -- The items of a nurse's runs charge the cost of those runs: on the shift types, of working days and of days off.
-use Rattle.rota_items.proofs.Common.Imports.{◌≡◌, ℕ, ◌*◌, ◌<◌, Bool, not, List, arith, ap, ◌∙◌, refl, sum_by-append, AllByRecursion-append, AllByRecursion-concat_below, concat_below, KeepsOneCell}
-use Rattle.rota_items.proofs.Common.Imports.{is_off, is_on, works, Roster, Problem, Rule, Cell, Item, on_cells, work_cells, weighted_shortages, Span, Property, Present, Absent, Runs, run_items}
-use Rattle.rota_items.proofs.Common.Imports.{max_number, max_shifts, ◌+◌, run_cost, shift_runs, work_runs}
+use Rattle.rota_items.proofs.Common.Imports.{◌≡◌, ℕ, ◌*◌, ◌<◌, Bool, not, List, arith, ap, ◌∙◌, refl, sum_by-append, AllByRecursion-append}
+use Rattle.rota_items.proofs.Common.Imports.{AllByRecursion-concat_below, concat_below, KeepsOneCell, is_off, is_on, works, Roster}
+use Rattle.rota_items.proofs.Common.Imports.{Problem, Rule, Cell, Item, on_cells, work_cells, weighted_shortages, Span, Property, Present}
+use Rattle.rota_items.proofs.Common.Imports.{Absent, Runs, run_items, max_number, max_shifts, ◌+◌, run_cost, shift_runs, work_runs}
 use Rattle.rota_core.specs.declared.rule.Rule.TheVariants.{S2, S3}
 use Rattle.rota_items.specs.rules.ConsecutiveAssignments.Cost.{consecutive_assignment_cost_of, history_on, shift_run_weight, work_run_weight}
 use Rattle.rota_items.specs.rules.ConsecutiveDaysOff.Cost.{consecutive_day_off_cost_of, off_run_weight}

@@ -1,7 +1,8 @@
 -- A property shown for each soft rule holds for all items, for the terms on cells and for the penalty.
-use Rattle.rota_items.proofs.Common.Imports.{◌≡◌, false, ◌+◌, ◌≤◌, true, List, [], ◌∷◌, refl, ap, ◌∙◌, arith, pos, ◌+ℤ◌, AllByRecursion, flat_map, sum_by, ints, sum_by-append, sum_by-cons}
-use Rattle.rota_items.proofs.Common.Imports.{AllByRecursion-append, list_all, and_parts, append-nil, KeepsCompetitionRules}
-use Rattle.rota_items.proofs.Common.Imports.{Roster, InWeek, Problem, Rule, Cell, Item, Term, shortage, weighted_shortages, value_of, soft_rules, cell_terms, cell_terms_of_rule, constant}
+use Rattle.rota_items.proofs.Common.Imports.{◌≡◌, false, ◌+◌, ◌≤◌, true, List, [], ◌∷◌, refl, ap, ◌∙◌, arith, pos, ◌+ℤ◌, AllByRecursion}
+use Rattle.rota_items.proofs.Common.Imports.{flat_map, sum_by, ints, sum_by-append, sum_by-cons, AllByRecursion-append, list_all}
+use Rattle.rota_items.proofs.Common.Imports.{and_parts, append-nil, KeepsCompetitionRules, Roster, InWeek, Problem, Rule, Cell, Item, Term}
+use Rattle.rota_items.proofs.Common.Imports.{shortage, weighted_shortages, value_of, soft_rules, cell_terms, cell_terms_of_rule, constant}
 use Rattle.rota_items.proofs.Common.Imports.{constant_of_rule, items_of_rule, penalty, rule_cost, soft_items, request_terms, is_soft}
 use Rattle.rota_core.specs.declared.rule.Rule.TheVariants.{S1, S2, S3, S4, S5, S6, S7}
 use Rattle.rota_items.specs.AlikeRosters.{AreAlike}

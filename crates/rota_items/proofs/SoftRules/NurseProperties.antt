@@ -1,6 +1,7 @@
 -- The items of patterns of a nurse's days are sound.
-use Rattle.rota_items.proofs.Common.Imports.{◌≡◌, ℕ, ◌+◌, ◌*◌, ◌<◌, ◌≤◌, List, refl, arith, count_by, AllByRecursion, mul-le, KeepsOneCell, Roster, InWeek, Problem, Rule, Cell, Item, cell_number}
-use Rattle.rota_items.proofs.Common.Imports.{on_cells, work_cells, AtMostOneADay, DaysFollow, has_property, Property, Present, Runs, pattern_item, run_items, variables_on, Pattern}
+use Rattle.rota_items.proofs.Common.Imports.{◌≡◌, ℕ, ◌+◌, ◌*◌, ◌<◌, ◌≤◌, List, refl, arith, count_by, AllByRecursion, mul-le, KeepsOneCell}
+use Rattle.rota_items.proofs.Common.Imports.{Roster, InWeek, Problem, Rule, Cell, Item, cell_number, on_cells, work_cells, AtMostOneADay}
+use Rattle.rota_items.proofs.Common.Imports.{DaysFollow, has_property, Property, Present, Runs, pattern_item, run_items, variables_on, Pattern}
 use Rattle.rota_core.specs.RisingLists.{RisesWithin}
 use Rattle.rota_items.proofs.CellCounts.{one-on, one-work}
 use Rattle.rota_items.proofs.SoundTerms.{in-on_cells, in-work_cells, OnVariables, on-days, rises-inside, units-days}

@@ -1,6 +1,7 @@
 -- The items of the optimal numbers charge the missing nurses.
-use Rattle.rota_items.proofs.Common.Imports.{◌≡◌, ℕ, ◌-◌, ◌*◌, false, refl, ap, arith, ints, AllByRecursion-concat_below, AllByRecursion-singleton_if, nurses_at, KeepsMinimum, Roster, cell}
-use Rattle.rota_items.proofs.Common.Imports.{Problem, demand_cells, shortage, weighted_shortages, rules, max_number, max_shifts, max_skills, S1, optimum_cost, optimum_weight, optimum_item, optimum_items, optimum_items_at}
+use Rattle.rota_items.proofs.Common.Imports.{◌≡◌, ℕ, ◌-◌, ◌*◌, false, refl, ap, arith, ints, AllByRecursion-concat_below, AllByRecursion-singleton_if}
+use Rattle.rota_items.proofs.Common.Imports.{nurses_at, KeepsMinimum, Roster, cell, Problem, demand_cells, shortage, weighted_shortages, rules, max_number}
+use Rattle.rota_items.proofs.Common.Imports.{max_shifts, max_skills, S1, optimum_cost, optimum_weight, optimum_item, optimum_items, optimum_items_at}
 use Rattle.rota_items.proofs.AlikeRosters.{nurses-alike}
 use Rattle.rota_items.proofs.ItemLists.{none_of_nurses}
 use Rattle.rota_items.specs.RuleItems.{no_charge}

@@ -1,7 +1,9 @@
 -- The terms on cells charge the request rows that are not granted.
-use Rattle.rota_items.proofs.Common.Imports.{◌≡◌, ℕ, ◌+◌, ◌*◌, ◌<◌, ◌≤◌, Bool, true, false, cond, List, refl, ap, ◌∙◌, arith, pos, ◌+ℤ◌, ◌<ℤ◌, ◌≤ℤ◌, nat_lt, AllByRecursion, ltb-true, ints, AllByRecursion-concat_below}
-use Rattle.rota_items.proofs.Common.Imports.{AllByRecursion-singleton_if, singleton_if, Roster, InWeek, cell, Problem, Cell, Term, value_of, IsWithinLimits, S4, max_weight, request_cost, request_weight}
-use Rattle.rota_items.proofs.Common.Imports.{request_terms, request_terms_on, [], ◌∷◌, negsuc, nat_tests, sum_by, sum_by-cons, positive_part, max_cells, max_number, max_nurses}
+use Rattle.rota_items.proofs.Common.Imports.{◌≡◌, ℕ, ◌+◌, ◌*◌, ◌<◌, ◌≤◌, Bool, true, false, cond, List, refl, ap, ◌∙◌, arith, pos, ◌+ℤ◌, ◌<ℤ◌}
+use Rattle.rota_items.proofs.Common.Imports.{◌≤ℤ◌, nat_lt, AllByRecursion, ltb-true, ints, AllByRecursion-concat_below}
+use Rattle.rota_items.proofs.Common.Imports.{AllByRecursion-singleton_if, singleton_if, Roster, InWeek, cell, Problem, Cell, Term, value_of}
+use Rattle.rota_items.proofs.Common.Imports.{IsWithinLimits, S4, max_weight, request_cost, request_weight, request_terms, request_terms_on, []}
+use Rattle.rota_items.proofs.Common.Imports.{◌∷◌, negsuc, nat_tests, sum_by, sum_by-cons, positive_part, max_cells, max_number, max_nurses}
 use Rattle.rota_core.proofs.LogicWords.{rises-blocks, rises-singleton_if}
 use Rattle.rota_items.proofs.AlikeRosters.{same_cell}
 use Rattle.rota_items.proofs.ItemLists.{none-concat_below}

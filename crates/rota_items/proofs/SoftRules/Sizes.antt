@@ -1,8 +1,10 @@
 -- The size of items, sums of cells and costs in a week within the limits.
-use Rattle.rota_items.proofs.Common.Imports.{ℕ, ◌+◌, ◌*◌, ◌≤◌, Bool, List, [], ◌∷◌, length, arith, ints, mul-le, Problem, ℤ, pos, flat_map, sum_below, count_by-le-length, sum_by-le-sum_by, Rule, Cell}
-use Rattle.rota_items.proofs.Common.Imports.{Item, positive_part, Property, Runs, Pattern, pattern_item, run_items, work_cells, IsWithinLimits, max_unit_weight, max_run_items, max_weight, max_number}
-use Rattle.rota_items.proofs.Common.Imports.{max_nurses, max_shifts, max_skills, length-append, length-map, day_terms, variables_on, PatternDay, Term, times, nurse_cells, on_cells, demand_cells}
-use Rattle.rota_items.proofs.Common.Imports.{max_terms, max_cells_of_day, Span, is_over, missing_on, run_cost, run_over, run_under, week_days}
+use Rattle.rota_items.proofs.Common.Imports.{ℕ, ◌+◌, ◌*◌, ◌≤◌, Bool, List, [], ◌∷◌, length, arith, ints, mul-le, Problem, ℤ, pos, flat_map}
+use Rattle.rota_items.proofs.Common.Imports.{sum_below, count_by-le-length, sum_by-le-sum_by, Rule, Cell, Item, positive_part, Property, Runs}
+use Rattle.rota_items.proofs.Common.Imports.{Pattern, pattern_item, run_items, work_cells, IsWithinLimits, max_unit_weight, max_run_items}
+use Rattle.rota_items.proofs.Common.Imports.{max_weight, max_number, max_nurses, max_shifts, max_skills, length-append, length-map, day_terms}
+use Rattle.rota_items.proofs.Common.Imports.{variables_on, PatternDay, Term, times, nurse_cells, on_cells, demand_cells, max_terms}
+use Rattle.rota_items.proofs.Common.Imports.{max_cells_of_day, Span, is_over, missing_on, run_cost, run_over, run_under, week_days}
 use Rattle.rota_items.proofs.EachPattern.{each-run_item, run_counting}
 use Rattle.rota_items.proofs.Lists.{AreFew, length-at_most, sum_below-at_most}
 use Rattle.rota_items.proofs.PatternItems.{positive_part-parts}

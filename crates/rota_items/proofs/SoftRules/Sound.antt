@@ -1,7 +1,8 @@
 -- The conditions on a soft rule and its items.
-use Rattle.rota_items.proofs.Common.Imports.{◌≡◌, ℕ, ◌+◌, ◌*◌, ◌<◌, ◌≤◌, pos, AllByRecursion, arith, sum_below, concat_below, KeepsCompetitionRules, KeepsOneCell, Roster, Problem, Rule, Cell}
-use Rattle.rota_items.proofs.Common.Imports.{Item, shortage, weighted_shortages, value_of, ints, ◌+ℤ◌, ◌++◌, List, max_nurses, AllByRecursion-concat_below}
-use Rattle.rota_items.proofs.Common.Imports.{IsWithinLimits, max_constant_of_nurse, max_cost, max_cost_of_nurse, max_items, max_items_of_nurse, max_slacks}
+use Rattle.rota_items.proofs.Common.Imports.{◌≡◌, ℕ, ◌+◌, ◌*◌, ◌<◌, ◌≤◌, pos, AllByRecursion, arith, sum_below, concat_below}
+use Rattle.rota_items.proofs.Common.Imports.{KeepsCompetitionRules, KeepsOneCell, Roster, Problem, Rule, Cell, Item, shortage, weighted_shortages}
+use Rattle.rota_items.proofs.Common.Imports.{value_of, ints, ◌+ℤ◌, ◌++◌, List, max_nurses, AllByRecursion-concat_below, IsWithinLimits}
+use Rattle.rota_items.proofs.Common.Imports.{max_constant_of_nurse, max_cost, max_cost_of_nurse, max_items, max_items_of_nurse, max_slacks}
 use Rattle.rota_items.specs.AlikeRosters.{AreAlike}
 use Rattle.rota_items.specs.RuleItems.{Charge, no_charge}
 use Rattle.rota_items.specs.ModelCosts.{IsChargedOn}
@@ -49,7 +50,7 @@ pub record IsRuleSound (problem : Problem) (rule : Rule) (cost : Roster → ℕ)
 abbrev pub of_nurses : (Problem → ℕ → List (Item Cell)) → (Problem → ℕ → ℕ) → Charge
 of_nurses items constant = record no_charge { nurse_items = items; nurse_constant = constant }
 
--- the same at a nurse
+-- the same as `IsRuleSound`, for each nurse
 pub record IsNurseRuleSound (problem : Problem) (rule : Rule) (cost : Roster → ℕ → ℕ) (items_of : Problem → ℕ → List (Item Cell))
     (constant_of : Problem → ℕ → ℕ) : Type 0 where
   pub items : (n : ℕ) → n < problem.nurses → AllByRecursion (IsItemSound problem rule) (items_of problem n)

@@ -1,11 +1,12 @@
 -- The items of the totals and their constant charge the assignments outside the limits.
-use Rattle.rota_items.proofs.Common.Imports.{◌≡◌, ℕ, ◌+◌, ◌-◌, ◌*◌, ◌<◌, ◌≤◌, Bool, ◌&&◌, true, false, cond, refl, arith, ints, min, ℤ, pos, negsuc, nat_lt, count_by, sum_by-append}
-use Rattle.rota_items.proofs.Common.Imports.{AllByRecursion-append, AllByRecursion-singleton_if, inl, inr, KeepsOneCell, Roster, Problem, nurse_cells, work_cells, shortage, times, IsUnit}
-use Rattle.rota_items.proofs.Common.Imports.{cell, rules, charged_excess, excess_before_counts, max_totals_count}
-use Rattle.rota_items.proofs.Common.Imports.{AllByRecursion-concat_below, InWeek}
+use Rattle.rota_items.proofs.Common.Imports.{◌≡◌, ℕ, ◌+◌, ◌-◌, ◌*◌, ◌<◌, ◌≤◌, Bool, ◌&&◌, true, false, cond, refl, arith, ints, min, ℤ, pos}
+use Rattle.rota_items.proofs.Common.Imports.{negsuc, nat_lt, count_by, sum_by-append, AllByRecursion-append, AllByRecursion-singleton_if, inl}
+use Rattle.rota_items.proofs.Common.Imports.{inr, KeepsOneCell, Roster, Problem, nurse_cells, work_cells, shortage, times, IsUnit, cell, rules}
+use Rattle.rota_items.proofs.Common.Imports.{charged_excess, excess_before_counts, max_totals_count, AllByRecursion-concat_below, InWeek}
 use Rattle.rota_core.specs.declared.rule.Rule.TheVariants.{S6}
 use Rattle.rota_items.specs.rules.TotalAssignments.Cost.{assignment_cost_of, assignment_weight, assignments_of}
-use Rattle.rota_items.specs.rules.TotalAssignments.Items.{assignment_constant_of, max_total_item, max_totals_of, min_total_item, min_totals_of, still_allowed, still_wanted, totals_of}
+use Rattle.rota_items.specs.rules.TotalAssignments.Items.{assignment_constant_of, max_total_item, max_totals_of, min_total_item}
+use Rattle.rota_items.specs.rules.TotalAssignments.Items.{min_totals_of, still_allowed, still_wanted, totals_of}
 use Rattle.rota_items.proofs.AlikeRosters.{count_below-alike, same_cell}
 use Rattle.rota_items.proofs.CellCounts.{work_count, one-work, count-work_cells}
 use Rattle.rota_items.proofs.SoundTerms.{sound-cells, AreSound, in-work_cells}
@@ -44,14 +45,19 @@ module _ (problem : Problem) where
 
     assignments-le : KeepsOneCell problem roster → n < problem.nurses → assignments_of problem roster n ≤ 7
     assignments-le one n_in =
-        omega (arith, sum_below-within 7 1 (work_count problem roster n) (λ d d_in. omega (arith, count-work_cells problem roster n d, one-work problem roster one n d n_in d_in)))
+        omega (
+          arith,
+          sum_below-within 7 1 (work_count problem roster n) (λ d d_in.
+              omega (arith, count-work_cells problem roster n d, one-work problem roster one n d n_in d_in)),
+        )
 
   -- ---- the items
 
   module _ (n : ℕ) (n_in : n < problem.nurses) where
     sound-sum : (coefficient : ℤ) → IsUnit coefficient → AreSound problem (times coefficient (nurse_cells problem n))
     sound-sum coefficient unit =
-        sound-cells problem coefficient unit _ _ (nurse_cells problem n) (AllByRecursion-concat_below (InWeek problem) 7 (work_cells problem n) (λ d d_in. in-work_cells problem n d n_in d_in))
+        sound-cells problem coefficient unit _ _ (nurse_cells problem n)
+        (AllByRecursion-concat_below (InWeek problem) 7 (work_cells problem n) (λ d d_in. in-work_cells problem n d n_in d_in))
         (rises-nurse_cells problem n)
 
     sound-minimum : (problem.is_last && nat_lt 0 (still_wanted problem n)) ≡ true →

@@ -1,7 +1,8 @@
--- The items of a nurse's weekend charge the nurses who work on only one of its days, and the weekends above the maximum.
-use Rattle.rota_items.proofs.Common.Imports.{◌≡◌, ℕ, ◌+◌, ◌*◌, ◌<◌, ◌≤◌, Bool, true, false, cond, List, [], refl, ap, ◌∙◌, arith, if◌then◌else◌, ◌&&◌, nat_le, AllByRecursion}
-use Rattle.rota_items.proofs.Common.Imports.{KeepsOneCell, works, Roster, Problem, Rule, Cell, work_cells, Item, weighted_shortages, Present, pattern_item, Pattern, saturday}
-use Rattle.rota_items.proofs.Common.Imports.{max_unit_weight, IsWithinLimits, max_run_items, only_sunday, weekend_items, DaysFollow, max_totals_count}
+-- The items of a nurse's weekend charge work on only one of its days, and worked weekends above the maximum.
+use Rattle.rota_items.proofs.Common.Imports.{◌≡◌, ℕ, ◌+◌, ◌*◌, ◌<◌, ◌≤◌, Bool, true, false, cond, List, [], refl, ap, ◌∙◌, arith}
+use Rattle.rota_items.proofs.Common.Imports.{if◌then◌else◌, ◌&&◌, nat_le, AllByRecursion, KeepsOneCell, works, Roster, Problem, Rule, Cell}
+use Rattle.rota_items.proofs.Common.Imports.{work_cells, Item, weighted_shortages, Present, pattern_item, Pattern, saturday, max_unit_weight}
+use Rattle.rota_items.proofs.Common.Imports.{IsWithinLimits, max_run_items, only_sunday, weekend_items, DaysFollow, max_totals_count}
 use Rattle.rota_core.specs.declared.rule.Rule.TheVariants.{S5, S7}
 use Rattle.rota_items.specs.rules.CompleteWeekends.Cost.{complete_weekend_cost_of, complete_weekend_weight}
 use Rattle.rota_items.specs.rules.WorkedWeekends.Cost.{worked_weekend_cost_of, worked_weekend_weight}

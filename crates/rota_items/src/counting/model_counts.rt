@@ -11,7 +11,7 @@ use rota_core::Instance;
 
 /// The number of variables and of constraints of the instance's model. There is one variable for each cell,
 /// the unit variable, and the slacks. There is one constraint for the unit variable, one for each row of the
-/// hard rules, and one for each item of the soft rules. Requests have no item: the objective charges them at
+/// hard rules, and one for each item of the soft rules. Requests have no item: the objective charges them on
 /// their cells.
 ///
 /// The rows and items are counted from the instance's tables, and none of their terms is generated: the first

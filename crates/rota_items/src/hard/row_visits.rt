@@ -8,7 +8,7 @@ ghost use Rattle.rota_items.specs.Takes.{TakesRows};
 use crate::hard::row_takers::{HardRow, RowTaker};
 use rota_core::Instance;
 
-/// Sends the row to the taker if it exists.
+/// Sends the row to the taker if the condition holds.
 pub fn emit_row_if<T: RowTaker>(
     instance: &Instance,
     taker: &mut T,

@@ -2,9 +2,8 @@
 #![tactic(auto, using(crate::proofs::LawProofs::items))]
 
 ghost use Rattle.std.specs.Prelude.{◌≡◌, ◌↔◌, ℕ, pos, ◌≤◌, ◌≤ℤ◌, Bool, All, List, count_by};
-ghost use Rattle.rota_core.specs.declared.values.Cell.{Cell};
 ghost use Rattle.rota_items.specs.Linear.{Satisfies, value_of};
-ghost use Rattle.rota_items.specs.Rows.{Item, numbered, shortage};
+ghost use Rattle.rota_items.specs.Rows.{Item, shortage};
 ghost use Rattle.rota_items.specs.ModelCosts.{weighted_shortages};
 ghost use Rattle.rota_items.specs.ItemConstraints.{AreBelow, item_constraint, item_constraints};
 ghost use Rattle.rota_items.specs.WeekModel.{extension, slack_variables, slack_weights};

@@ -1,7 +1,7 @@
 //! On rosters that keep the hard rules of the competition, the model charges the cost of the soft rules.
 #![tactic(auto, using(crate::proofs::LawProofs::rules_charged))]
 
-ghost use Rattle.std.specs.Prelude.{◌≡◌, ℕ, ◌+◌, ◌≤◌, ◌<◌, is_some, pos, true, All};
+ghost use Rattle.std.specs.Prelude.{◌≡◌, ℕ, ◌+◌, ◌≤◌, ◌<◌, is_some, pos, All};
 ghost use Rattle.rota_core.specs.declared.rule.Rule.{Rule};
 ghost use Rattle.rota_core.specs.Problem.{Problem};
 ghost use Rattle.rota_core.specs.Roster.{Roster};
@@ -81,7 +81,8 @@ pub fn penalty_is_small()
         penalty problem roster < penalty_limit }
 {}
 
-/// Rosters with the same cells in the week keep the same hard rules, at the same costs.
+/// If one of two rosters with the same cells in the week keeps the hard rules, so does the other. Both cost the
+/// same.
 pub fn alike_rosters_cost_the_same()
     ensures { (problem : Problem) (one other : Roster) →
         AreAlike problem one other →

@@ -17,7 +17,7 @@ pub trait LiteralTaker {
 
     ghost left: { Value → Bool → Self → Type 0 };
 
-    /// Takes the literal of the next variable. Only the taker returns an `Err`, which ends a drive.
+    /// Takes the literal of the next variable. An `Err` ends the drive. A drive returns no other `Err`.
     fn literal(&mut self, positive: bool) -> Result<(), Self::Fault>
         ensures { MatchResult result
             (λ _. value self.new ≡ step (value self.old) positive)

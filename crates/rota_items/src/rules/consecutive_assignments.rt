@@ -1,9 +1,8 @@
 //! S2, consecutive assignments: runs on a shift type and runs of working days that are too long or too short.
-ghost use Rattle.std.specs.Prelude.{◌≡◌, ◌<◌, ◌≤◌};
+ghost use Rattle.std.specs.Prelude.{◌≡◌, ◌<◌};
 ghost use Rattle.rota_core.specs.InstanceTables.{problem_of};
 ghost use Rattle.rota_items.specs.Takes.{TakesItems};
 ghost use Rattle.rota_items.specs.SoftItems.{IsChargeOf, runs_of};
-ghost use Rattle.rota_items.specs.RunItems.{run_items};
 ghost use Rattle.rota_items.specs.rules.ConsecutiveAssignments.Items.{assignment_runs_of, shift_runs, work_runs};
 ghost use Rattle.rota_items.specs.rules.ConsecutiveAssignments.Cost.{history_on};
 

@@ -1,8 +1,7 @@
 //! S3, consecutive days off: runs of days off that are too long or too short.
-ghost use Rattle.std.specs.Prelude.{◌≡◌, ◌<◌, ◌≤◌};
+ghost use Rattle.std.specs.Prelude.{◌<◌};
 ghost use Rattle.rota_core.specs.InstanceTables.{problem_of};
 ghost use Rattle.rota_items.specs.Takes.{TakesItems};
-ghost use Rattle.rota_items.specs.SoftItems.{IsChargeOf, runs_of};
 ghost use Rattle.rota_items.specs.RunItems.{run_items};
 ghost use Rattle.rota_items.specs.rules.ConsecutiveDaysOff.Items.{off_runs};
 
@@ -14,13 +13,13 @@ use rota_core::{Instance, Rule};
 // The cost of each day too many or too few in a run of days off.
 const WEIGHT: u16 = 30;
 
-// A nurse's runs of days off.
-fn off_runs(instance: &Instance, nurse: u16) -> NurseRuns
-    requires { nurse < (problem_of instance.now).nurses }
-    ensures charge_in { IsChargeOf (problem_of instance.now) result.charge }
-    ensures runs { let problem = problem_of instance.now in runs_of problem result ≡ off_runs problem nurse }
+/// A nurse's runs of days off.
+pub fn visit<T: RunTaker>(instance: &Instance, taker: &mut T, nurse: u16) -> Result<(), T::Fault>
+    requires nurse_in { nurse < (problem_of instance.now).nurses }
+    ensures { let problem = problem_of instance.now in
+        TakesItems T.ItemTaker problem (run_items (off_runs problem nurse)) taker.old taker.new result }
 {
-    NurseRuns {
+    let runs = NurseRuns {
         charge: RunCharge {
             rule: Rule::S3,
             weight: WEIGHT,
@@ -29,15 +28,6 @@ fn off_runs(instance: &Instance, nurse: u16) -> NurseRuns
         },
         history: instance.past(nurse).off_run,
         limits: instance.contract(nurse).off,
-    }
-}
-
-/// A nurse's runs of days off.
-pub fn visit<T: RunTaker>(instance: &Instance, taker: &mut T, nurse: u16) -> Result<(), T::Fault>
-    requires nurse_in { nurse < (problem_of instance.now).nurses }
-    ensures { let problem = problem_of instance.now in
-        TakesItems T.ItemTaker problem (run_items (off_runs problem nurse)) taker.old taker.new result }
-{
-    let runs = off_runs(instance, nurse);
+    };
     taker.runs(instance, runs)
 }

@@ -9,7 +9,7 @@ use crate::items::item_takers::ItemTaker;
 use crate::items::soft_item::SoftItem;
 use rota_core::Instance;
 
-/// Sends the item to the taker if it exists.
+/// Sends the item to the taker if the condition holds.
 pub fn emit_item_if<T: ItemTaker>(
     instance: &Instance,
     taker: &mut T,

@@ -1,4 +1,4 @@
-//! S4, requests: cells that request rows ask to leave free. The objective charges them at their cells, and
+//! S4, requests: cells that request rows ask to leave free. The objective charges them on their cells, and
 //! they have no items.
 ghost use Rattle.std.specs.Prelude.{◌≡◌, ◌*◌, ◌<◌, length, nat_lt};
 ghost use Rattle.rota_core.specs.InstanceTables.{problem_of};

@@ -1,11 +1,12 @@
 //! S6, total assignments: assignments outside the limits of the nurse's total.
-ghost use Rattle.std.specs.Prelude.{◌≡◌, ◌<◌, ◌≤◌, ◌&&◌, nat_lt};
+ghost use Rattle.std.specs.Prelude.{◌≡◌, ◌<◌, ◌&&◌, nat_lt};
 ghost use Rattle.rota_core.specs.InstanceTables.{problem_of};
 ghost use Rattle.rota_items.specs.CountedItems.{max_totals_count};
 ghost use Rattle.rota_items.specs.Takes.{TakesItems};
 ghost use Rattle.rota_items.specs.CellSums.{IsSumOf};
 ghost use Rattle.rota_items.specs.SoftItems.{item_of};
-ghost use Rattle.rota_items.specs.rules.TotalAssignments.Items.{assignment_constant_of, assignments_above, max_total_item, min_total_item, still_allowed, still_wanted, totals_of, wanted_beyond_days};
+ghost use Rattle.rota_items.specs.rules.TotalAssignments.Items.{assignment_constant_of, assignments_above, max_total_item, min_total_item};
+ghost use Rattle.rota_items.specs.rules.TotalAssignments.Items.{still_allowed, still_wanted, totals_of, wanted_beyond_days};
 
 use crate::cell_sum::CellSum;
 use crate::items::item_takers::ItemTaker;

@@ -21,8 +21,8 @@ fn saturday(alone: bool) -> DayPattern
     DayPattern {
         first: 5,
         end: 6,
-        off_before: false,
-        off_after: alone,
+        without_before: false,
+        without_after: alone,
         units: 1,
     }
 }
@@ -36,8 +36,8 @@ fn only_sunday() -> DayPattern
     DayPattern {
         first: 6,
         end: DAYS,
-        off_before: true,
-        off_after: false,
+        without_before: true,
+        without_after: false,
         units: 1,
     }
 }

@@ -17,7 +17,7 @@ fn plain_days(property: DayProperty, pattern: DayPattern) -> u8
 {
     match property {
         DayProperty::Shift(_) | DayProperty::Work => pattern.end - pattern.first,
-        DayProperty::Off => u8::from(pattern.off_before) + u8::from(pattern.off_after),
+        DayProperty::Off => u8::from(pattern.without_before) + u8::from(pattern.without_after),
     }
 }
 
@@ -64,8 +64,8 @@ pub fn window_on(history: u16, limits: Span, day: u8) -> Option<DayPattern>
     Some(DayPattern {
         first,
         end: day + 1,
-        off_before: false,
-        off_after: false,
+        without_before: false,
+        without_after: false,
         units: 1,
     })
 }
@@ -84,8 +84,8 @@ pub fn closed_before(minimum: u16, day: u8, count: u8) -> Option<DayPattern>
     Some(DayPattern {
         first: day - count,
         end: day,
-        off_before: true,
-        off_after: true,
+        without_before: true,
+        without_after: true,
         units: minimum - u16::from(count),
     })
 }
@@ -107,8 +107,8 @@ pub fn edge_before(history: u16, minimum: u16, day: u8) -> Option<DayPattern>
     Some(DayPattern {
         first: 0,
         end: day,
-        off_before: false,
-        off_after: true,
+        without_before: false,
+        without_after: true,
         units,
     })
 }

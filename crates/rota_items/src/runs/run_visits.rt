@@ -3,8 +3,7 @@ ghost use Rattle.std.specs.Prelude.{◌<◌};
 ghost use Rattle.rota_core.specs.InstanceTables.{problem_of};
 ghost use Rattle.rota_core.specs.Lists.{concat_below};
 ghost use Rattle.rota_items.specs.Takes.{TakesItems};
-ghost use Rattle.rota_items.specs.CellSums.{AreInWeek, patterns_given};
-ghost use Rattle.rota_items.specs.SoftItems.{IsChargeOf, charged_items, runs_of};
+ghost use Rattle.rota_items.specs.SoftItems.{IsChargeOf, runs_of};
 ghost use Rattle.rota_items.specs.RunItemParts.{pattern_items_on, window_items_on};
 ghost use Rattle.rota_items.specs.RunItems.{run_items};
 
@@ -59,25 +58,8 @@ fn visit_patterns_on<T: ItemTaker>(
     }
 }
 
-// The runs that end in the week.
-#[tactic(auto, using(crate::proofs::Taking::taking), unfolding(crate::specs::SoftItems::numbered_list))]
-fn visit_patterns<T: ItemTaker>(
-    instance: &Instance,
-    taker: &mut T,
-    runs: NurseRuns,
-) -> Result<(), T::Fault>
-    requires charge_in { IsChargeOf (problem_of instance.now) runs.charge }
-    ensures { let problem = problem_of instance.now in
-        TakesItems T.ItemTaker problem (concat_below DAYS (pattern_items_on (runs_of problem runs)))
-        taker.old taker.new result }
-{
-    for day in 0..DAYS {
-        visit_patterns_on(instance, taker, runs, day)?;
-    }
-    Ok(())
-}
-
 /// The items of a nurse's runs: the windows of the week, then the runs that end in it.
+#[tactic(auto, using(crate::proofs::Taking::taking), unfolding(crate::specs::SoftItems::numbered_list))]
 pub fn visit_runs<T: ItemTaker>(
     instance: &Instance,
     taker: &mut T,
@@ -88,5 +70,8 @@ pub fn visit_runs<T: ItemTaker>(
         TakesItems T.ItemTaker problem (run_items (runs_of problem runs)) taker.old taker.new result }
 {
     visit_windows(instance, taker, runs)?;
-    visit_patterns(instance, taker, runs)
+    for day in 0..DAYS {
+        visit_patterns_on(instance, taker, runs, day)?;
+    }
+    Ok(())
 }

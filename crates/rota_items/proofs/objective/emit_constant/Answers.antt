@@ -1,4 +1,5 @@
-use Rattle.rota_items.proofs.Common.{to_z_pos, singleton_if-fails, singleton_if-holds, ◌≡◌, pos, nat_lt, true, false, ap, ◌∙◌, w64, arith, problem_of, nothing, numbers_join, takes_one, term_events, constant}
+use Rattle.rota_items.proofs.Common.{to_z_pos, singleton_if-fails, singleton_if-holds, ◌≡◌, pos, nat_lt, true, false, ap}
+use Rattle.rota_items.proofs.Common.{◌∙◌, w64, arith, problem_of, nothing, numbers_join, takes_one, term_events, constant}
 use Rattle.rota_items.proofs.RuleSizes.{few-constant}
 use Rattle.rota_items.proofs.objective.emit_constant.Goals as goal
 

@@ -1,4 +1,4 @@
--- How the model charges S4: by terms of the objective at the cells, with no item.
+-- How the model charges S4: by terms of the objective on the cells, with no item.
 use Rattle.std.specs.Prelude.{◌*◌}
 use Rattle.rota_core.specs.Limits.{DAYS}
 use Rattle.rota_items.specs.Imports.{ℕ, pos, nat_lt, List, Cell, cell, Problem}

@@ -4,7 +4,8 @@ use Rattle.rota_items.proofs.hard.minimum.visit.Given as goal
 abbrev pub invariant-loop-day : goal.invariant-loop-day
 invariant-loop-day g l =
     let problem = problem_of l.fn.instance in
-    TookRows g.T.RowTaker problem (concat_below l.day (λ d. concat_below problem.shifts (λ s. concat_below problem.skills (h2_rows_at problem d s)))) l.fn.taker l.taker
+    TookRows g.T.RowTaker problem
+    (concat_below l.day (λ d. concat_below problem.shifts (λ s. concat_below problem.skills (h2_rows_at problem d s)))) l.fn.taker l.taker
 
 abbrev pub invariant-loop-shift : goal.invariant-loop-shift
 invariant-loop-shift g l =

@@ -1,4 +1,4 @@
-use Rattle.rota_items.proofs.Satisfied.{hard_constraints-mean}
+use Rattle.rota_items.proofs.ModelMeaning.{hard_constraints-mean}
 use Rattle.rota_items.proofs.laws.model_laws.hard_constraints_mean_hard_rules.Goals as goal
 
 pub returns : goal.returns

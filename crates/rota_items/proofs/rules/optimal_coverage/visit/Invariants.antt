@@ -4,7 +4,8 @@ use Rattle.rota_items.proofs.rules.optimal_coverage.visit.Given as goal
 abbrev pub invariant-loop-day : goal.invariant-loop-day
 invariant-loop-day g l =
     let problem = problem_of l.fn.instance in
-    TookItems g.T.ItemTaker problem (concat_below l.day (λ d. concat_below problem.shifts (λ s. concat_below problem.skills (optimum_items_at problem d s)))) l.fn.taker l.taker
+    TookItems g.T.ItemTaker problem
+    (concat_below l.day (λ d. concat_below problem.shifts (λ s. concat_below problem.skills (optimum_items_at problem d s)))) l.fn.taker l.taker
 
 abbrev pub invariant-loop-shift : goal.invariant-loop-shift
 invariant-loop-shift g l =

@@ -1,4 +1,5 @@
-use Rattle.rota_items.proofs.Common.{[], ◌∷◌, ap, problem_of, charged_items, exits, goes_on, stop, items_join, Pattern, only_sunday, saturday, pattern_refused, pattern_takes, pattern_took}
+use Rattle.rota_items.proofs.Common.{[], ◌∷◌, ap, problem_of, charged_items, exits, goes_on, stop, items_join}
+use Rattle.rota_items.proofs.Common.{Pattern, only_sunday, saturday, pattern_refused, pattern_takes, pattern_took}
 use Rattle.rota_items.proofs.rules.weekend_visits.visit_weekend.Goals as goal
 
 pub returns-in_err-item : goal.returns-in_err-item

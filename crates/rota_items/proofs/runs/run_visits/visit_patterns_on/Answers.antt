@@ -1,4 +1,5 @@
-use Rattle.rota_items.proofs.Common.{arith, problem_of, runs_of, both, exits, goes_on, loop_ended, loop_refused, stop, items_join, no_pattern, pattern_refused, pattern_takes}
+use Rattle.rota_items.proofs.Common.{arith, problem_of, runs_of, both, exits, goes_on, loop_ended, loop_refused}
+use Rattle.rota_items.proofs.Common.{stop, items_join, no_pattern, pattern_refused, pattern_takes}
 use Rattle.rota_items.proofs.ItemLists.{pattern_items-on}
 use Rattle.rota_items.proofs.runs.run_visits.visit_patterns_on.Goals as goal
 
@@ -9,7 +10,8 @@ returns-in_err-item g c =
     (rw (pattern_items-on runs c.args.day)
     (stop (items_join _) _ _ _ _
     (loop_refused (items_join _) _ _ _ _ _ _ (omega arith) c.loop-count.invariant
-    (pattern_refused g.T.ItemTaker _ c.args.runs.charge _ _ _ (c.pattern_item.ensures.item (problem_of c.args.instance.now)) c.in-Some.ensures.pattern _ _ c.in_err-item.ensures))))
+    (pattern_refused g.T.ItemTaker _ c.args.runs.charge _ _ _ (c.pattern_item.ensures.item (problem_of c.args.instance.now))
+    c.in-Some.ensures.pattern _ _ c.in_err-item.ensures))))
 
 pub returns-in-Some-edge_before : goal.returns-in-Some-edge_before
 returns-in-Some-edge_before g c =

@@ -1,8 +1,9 @@
 -- The counts of a counter for a list of rows, and for the rows of a week's model.
-use Rattle.rota_items.proofs.Common.Imports.{◌≡◌, ℕ, ◌+◌, ◌≤◌, min, max, Bool, true, cond, List, [], ◌∷◌, ◌++◌, map, length, refl, ap, ◌∙◌, arith, fold-append, sum_by-cons, AllByRecursion}
-use Rattle.rota_items.proofs.Common.Imports.{fold, count_by, Term, LinearRow, counted, counts_of, maximum, is_constraint, no_counts, variables_in, max_count, start_row, close_row}
-use Rattle.rota_items.proofs.Common.Imports.{term_events, row_events, events, Part, Objective, Hard, Soft, ◌<◌, sym, pos, list_any, true≢false, length-map, nat_tests}
-use Rattle.rota_items.proofs.Common.Imports.{Problem, objective_rows, linear_constraint, rows_of, objective_terms, model_of, counts_of_model, occurs_in, IsWithinLimits}
+use Rattle.rota_items.proofs.Common.Imports.{◌≡◌, ℕ, ◌+◌, ◌≤◌, min, max, Bool, true, cond, List, [], ◌∷◌, ◌++◌, map, length, refl, ap, ◌∙◌, arith}
+use Rattle.rota_items.proofs.Common.Imports.{fold-append, sum_by-cons, AllByRecursion, fold, count_by, Term, LinearRow, counted, counts_of, maximum}
+use Rattle.rota_items.proofs.Common.Imports.{is_constraint, no_counts, variables_in, max_count, start_row, close_row, term_events, row_events, events, Part}
+use Rattle.rota_items.proofs.Common.Imports.{Objective, Hard, Soft, ◌<◌, sym, pos, list_any, true≢false, length-map, nat_tests, Problem, objective_rows}
+use Rattle.rota_items.proofs.Common.Imports.{linear_constraint, rows_of, objective_terms, model_of, counts_of_model, occurs_in, IsWithinLimits}
 use Rattle.rota_items.specs.declared.counting.counter.Counts.{Counts}
 use Rattle.rota_items.proofs.ModelRows.{each-model_row}
 use Rattle.rota_core.specs.RisingLists.{RisesWithin}

@@ -1,7 +1,8 @@
 -- An assignment satisfies the model if and only if the unit variable is true, its roster keeps the hard rules, and the items' rows hold.
-use Rattle.rota_items.proofs.Common.Imports.{◌≡◌, ◌↔◌, ℕ, Bool, true, List, [], ◌∷◌, map, map-append, sym, subst, All, AllByRecursion, AllByRecursion-append, AllByRecursion-back, All-from_recursion}
-use Rattle.rota_items.proofs.Common.Imports.{recursion_from_All, KeepsHardRules, Problem, Cell, first_slack, unit_number, rule_rows, Constraint, Satisfies, SatisfiesModel, LinearRow}
-use Rattle.rota_items.proofs.Common.Imports.{linear_constraint, item_constraints, item_rows, hard_rows, numbered_items, numbered_row, hard_constraints, model_of, roster_of, cell_number}
+use Rattle.rota_items.proofs.Common.Imports.{◌≡◌, ◌↔◌, ℕ, Bool, true, List, [], ◌∷◌, map, map-append, sym, subst, All, AllByRecursion, AllByRecursion-append}
+use Rattle.rota_items.proofs.Common.Imports.{AllByRecursion-back, All-from_recursion, recursion_from_All, KeepsHardRules, Problem, Cell, first_slack}
+use Rattle.rota_items.proofs.Common.Imports.{unit_number, rule_rows, Constraint, Satisfies, SatisfiesModel, LinearRow, linear_constraint, item_constraints}
+use Rattle.rota_items.proofs.Common.Imports.{item_rows, hard_rows, numbered_items, numbered_row, hard_constraints, model_of, roster_of, cell_number}
 use Rattle.rota_items.proofs.HardRules.EachRule.{rule_rows-hold, rule_rows-mean}
 use Rattle.rota_items.proofs.HardRules.Sound.{AllHold, one-where_true}
 use Rattle.rota_items.proofs.ItemLaw.{value_of-numbered}
@@ -38,11 +39,14 @@ module _ (problem : Problem) (assignment : ℕ → Bool) where
       let P = Satisfies assignment in
       let are = map-append linear_constraint (hard_rows problem) (item_rows (first_slack problem) (numbered_items problem)) in (
         λ all.
-            let parts = AllByRecursion-back P (hard_constraints problem) soft_constraints (subst (AllByRecursion P) are (recursion_from_All P (model_of problem).constraints all)) in
+            let parts =
+            AllByRecursion-back P (hard_constraints problem) soft_constraints
+            (subst (AllByRecursion P) are (recursion_from_All P (model_of problem).constraints all)) in
             let hard = hard_constraints-mean.0 (All-from_recursion P (hard_constraints problem) parts.0) in
             (hard.0, hard.1, All-from_recursion P soft_constraints parts.1),
         λ parts.
             let hard = recursion_from_All P (hard_constraints problem) (hard_constraints-mean.1 (parts.0, parts.1)) in
             All-from_recursion P (model_of problem).constraints
-            (subst (AllByRecursion P) (sym are) (AllByRecursion-append P (hard_constraints problem) soft_constraints hard (recursion_from_All P soft_constraints parts.2))),
+            (subst (AllByRecursion P) (sym are)
+            (AllByRecursion-append P (hard_constraints problem) soft_constraints hard (recursion_from_All P soft_constraints parts.2))),
       )
