@@ -3,7 +3,7 @@
 
 usage: gate.py [--anew] [--processors LIST] [COMMAND..]
 
-  --anew             prove everything from nothing: take no result of an earlier run on this machine
+  --anew             prove everything from nothing: take no result of an earlier run on this machine (some kits keep none)
   --processors LIST  run on these processors only, for example 0,1
   COMMAND            measure this command in place of .ci/run, for example `rt must-fail opb_text`
 
@@ -115,6 +115,12 @@ def measure(command: List[str]) -> Tuple[int, float, Dict[str, Part]]:
     return running.returncode, time.monotonic() - began, parts
 
 
+def from_nothing() -> List[str]:
+    """The word with which `rt ci` takes no result of an earlier run; none if this kit keeps no results."""
+    guide = subprocess.run(["rt", "help"], stdout=subprocess.PIPE, stderr=subprocess.STDOUT, universal_newlines=True)
+    return ["--anew"] if "--anew" in guide.stdout else []
+
+
 def row(name: str, wall: float, seconds: float, edits: int = 0) -> None:
     """Prints one row of the table."""
     each = f"{seconds / edits:8.1f}" if edits else ""
@@ -150,7 +156,7 @@ def main() -> None:
     if words.processors:
         os.sched_setaffinity(0, {int(number) for number in words.processors.split(",")})
     command = [word for word in words.command if word != "--"] or [".ci/run"]
-    status, wall, parts = measure([*command, *(["--anew"] if words.anew else [])])
+    status, wall, parts = measure([*command, *(from_nothing() if words.anew else [])])
     report(wall, parts)
     sys.exit(status)
 

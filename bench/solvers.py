@@ -132,9 +132,10 @@ def cell(result: Optional[Dict[str, object]]) -> str:
     """A run in the table."""
     if result is None:
         return ""
-    seconds = result["seconds"]
     if result["proved"]:
-        return f"{'none exists' if result['penalty'] is None else result['penalty']}, proved in {seconds:.0f} s"
+        seconds = round(result["seconds"])
+        found = "none exists" if result["penalty"] is None else result["penalty"]
+        return f"{found}, proved in {f'{seconds} s' if seconds else 'less than 1 s'}"
     return str(result["penalty"] if result["penalty"] is not None else result["fault"] or "none")
 
 
@@ -144,9 +145,11 @@ def table(results: Dict[str, Dict[str, object]], limits: List[int]) -> str:
     lines = [f"| week | solver | {heads} | lower bound |", "|---|---|" + "---|" * len(limits) + "---:|"]
     pairs = dict.fromkeys(tuple(key.split("/")[:2]) for key in results)
     order = ["n005w4", "eight", "thirty", "thirty, second week", "ward of 120"]
+    # A week without a roster has no lower bound that says anything.
+    solved = {key.split("/")[0] for key, run in results.items() if run["penalty"] is not None}
     for week, solver in sorted(pairs, key=lambda pair: order.index(pair[0])):
         runs = [results.get(f"{week}/{solver}/{limit}") for limit in limits]
-        bounds = [run["bound"] for run in runs if run and run["bound"] is not None]
+        bounds = [run["bound"] for run in runs if run and run["bound"] is not None and week in solved]
         lines.append(f"| `{week}` | {solver} | {' | '.join(map(cell, runs))} | {max(bounds, default='')} |")
     return "\n".join(lines)
 

@@ -1,16 +1,17 @@
 #!/usr/bin/env python3
-"""Makes the example weeks `thirty`, `month` and `eight`: always the same files, in the folder that is named.
+"""Makes the example weeks `thirty`, `month` and `eight`: always the same files.
 
-usage: make_weeks.py FOLDER
+usage: make_weeks.py FOLDER [NURSES]
 
 `thirty` is the last of four weeks of a ward with 30 nurses, four shift types and four skills. `month` has all four weeks
 of the same ward. `eight` is the second of four weeks of eight nurses, and no roster meets it: two nurses have the skill
 HeadNurse, and it is asked for on Wednesday night and, on Thursday, early and late. Nobody may work early or late on the
-day after a night. Needs Python 3.8 or later.
+day after a night. With NURSES, a multiple of 30, it writes only one week, like `thirty` for a ward of that size: `ward60`
+for 60 nurses. Needs Python 3.8 or later.
 """
 
+import argparse
 import os
-import sys
 
 DAYS = ["Mon", "Tue", "Wed", "Thu", "Fri", "Sat", "Sun"]
 SHIFTS = ["Early", "Day", "Late", "Night"]
@@ -104,36 +105,38 @@ def write_files(folder, files):
             file.writelines(f"{line}\n" for line in lines)
 
 
-def thirty_nurses():
+def nurses_of_ward(count):
     mixes = [["HeadNurse", "Nurse"], ["Nurse"], ["Nurse", "Caretaker"], ["Caretaker"], ["Caretaker", "Trainee"]]
     contracts = ["FullTime", "FullTime", "PartTime", "HalfTime"]
-    return [(NAMES[n], contracts[n % 4], mixes[n % 5]) for n in range(30)]
+    names = [name + (str(more) if more else "") for more in range(count // 30) for name in NAMES]
+    return [(name, contracts[n % 4], mixes[n % 5]) for n, name in enumerate(names)]
 
 
-def demands_of_ward(numbers):
-    """One nurse and one caretaker on each shift, two nurses early on weekdays, and some places for which more are best."""
+def demands_of_ward(numbers, wards=1):
+    """One nurse and one caretaker on each shift, two nurses early on weekdays, and some places for which more are best; all
+    times the number of wards of 30 nurses."""
     demands = {}
     for shift in SHIFTS:
         for skill, least in zip(SKILLS, (0, 1, 1, 0)):
             pairs = [(least + (day < 5 and skill == "Nurse" and shift == "Early"), 0) for day in range(7)]
-            demands[shift, skill] = [(low, low + (numbers.below(3) > 0)) for low, _ in pairs]
+            demands[shift, skill] = [(wards * low, wards * (low + (numbers.below(3) > 0))) for low, _ in pairs]
     return demands
 
 
-def ward(folder):
-    """30 nurses in the last of four weeks."""
-    name, numbers, nurses = "thirty", Numbers(30), thirty_nurses()
-    demands = demands_of_ward(numbers)
+def ward(folder, name="thirty", count=30):
+    """A ward of `count` nurses in the last of four weeks."""
+    numbers, nurses, wards = Numbers(count), nurses_of_ward(count), count // 30
+    demands = demands_of_ward(numbers, wards)
     write(folder, name, 3, [
         scenario(name, nurses),
         history(name, 3, nurses, numbers),
-        week(name, demands, requests(nurses, 25, numbers)),
+        week(name, demands, requests(nurses, 25 * wards, numbers)),
     ])  # fmt: skip
 
 
 def month(folder):
     """30 nurses in all four weeks of a period."""
-    name, numbers, nurses = "month", Numbers(4), thirty_nurses()
+    name, numbers, nurses = "month", Numbers(4), nurses_of_ward(30)
     weeks = {f"week-{number}.txt": week(name, demands_of_ward(numbers), requests(nurses, 25, numbers)) for number in range(4)}
     past = [f"HISTORY\n0 {name}\n\nNURSE_HISTORY", *(f"{nurse} 0 0 None 0 0 {1 + numbers.below(3)}" for nurse, _, _ in nurses)]
     write_files(f"{folder}/{name}", {"ward.txt": scenario(name, nurses), "history-0.txt": past, **weeks})
@@ -158,12 +161,24 @@ def short_of_heads(folder):
     ])  # fmt: skip
 
 
+def size_of_ward(word):
+    """A number of nurses: a multiple of 30, below the limit of 1000."""
+    if not word.isdecimal() or int(word) not in range(30, 1000, 30):
+        raise argparse.ArgumentTypeError("not a multiple of 30 from 30 to 990")
+    return int(word)
+
+
 def main():
-    if len(sys.argv) != 2:
-        sys.exit(__doc__)
-    ward(sys.argv[1])
-    month(sys.argv[1])
-    short_of_heads(sys.argv[1])
+    parser = argparse.ArgumentParser(description=__doc__, formatter_class=argparse.RawDescriptionHelpFormatter, usage=argparse.SUPPRESS)
+    parser.add_argument("folder", metavar="FOLDER", help="the weeks get a folder each in this folder")
+    parser.add_argument("nurses", metavar="NURSES", nargs="?", type=size_of_ward, help="30, 60, 90, ..")
+    words = parser.parse_args()
+    if words.nurses:
+        ward(words.folder, f"ward{words.nurses}", words.nurses)
+    else:
+        ward(words.folder)
+        month(words.folder)
+        short_of_heads(words.folder)
 
 
 if __name__ == "__main__":

@@ -213,7 +213,7 @@ def _explain(number: int, week: Week, held: List[Assignment], given: argparse.Na
 def main() -> Optional[int]:
     words = parser(
         "Checks the files of a week: names the first mistake in each file and how to correct it, and prints warnings.",
-        "Ends with status 1 if a file has a mistake; a warning is none.",
+        "--sce is required. Ends with status 1 if a file has a mistake; a warning is not a mistake.",
     )
     add_week_options(words, required=False)
     words.add_argument("--roster", metavar="FILE", type=Path, action="append", default=[], help="a roster of the week, as a solution file")

@@ -13,8 +13,8 @@ from .slots import FileFault
 # Advice after a fault of the operating system, by its number.
 _ADVICE = {
     "ENOENT": "look at its name and folder",
-    "EACCES": "you may not read or write it: look at its rights and those of its folder, or choose another folder",
-    "EPERM": "you may not read or write it: look at its rights and those of its folder, or choose another folder",
+    "EACCES": "you may not read or write it: look at its permissions and those of its folder, or choose another folder",
+    "EPERM": "you may not read or write it: look at its permissions and those of its folder, or choose another folder",
     "EROFS": "choose another folder",
     "EISDIR": "this is a folder: name a file in it",
     "ENOTDIR": "a part of its path is no folder",
@@ -24,8 +24,8 @@ _ADVICE = {
 
 # Advice after a fault of `inrc2pb`, by a part of its line.
 _PROGRAM_ADVICE = (
-    ("write failed", "look at the folder's name and rights and at the free space (TMPDIR has the temporary files)"),
-    ("read failed", "look at the file's name, folder and rights"),
+    ("write failed", "look at the folder's name and permissions and at the free space (TMPDIR has the temporary files)"),
+    ("read failed", "look at the file's name, folder and permissions"),
     ("out of memory", "end other programs"),
     ("UNSATISFIABLE", "the minimum numbers cannot all be met; docs/your_ward.md shows how to find out why"),
     ("UNKNOWN", "give the solver more time"),

@@ -134,17 +134,18 @@ def convert(model: Path, lp: Path) -> ModelSize:
 
 def _arguments() -> argparse.ArgumentParser:
     words = parser(
-        "Lets a MIP solver solve a model: converts the OPB model to an LP file, and the solver's solution file to an answer.",
-        "inrc2pb encode $WEEK | inrc2pb-lp model > week.lp\n"
-        "cbc week.lp sec 60 timem elapsed solve solution week.sol\n"
-        "inrc2pb-lp answer week.sol | inrc2pb decode $WEEK --sol roster.txt",
+        "Lets a MIP solver solve a model: converts the OPB model to an LP file, and the solver's result file to an answer.",
+        "Example:\n"
+        "  inrc2pb encode $WEEK | inrc2pb-lp model > week.lp\n"
+        "  cbc week.lp sec 60 timem elapsed solve solution week.sol\n"
+        "  inrc2pb-lp answer week.sol | inrc2pb decode $WEEK --sol roster.txt",
     )
     commands = words.add_subparsers(dest="command", metavar="COMMAND", required=True)
     model = commands.add_parser("model", help="convert an OPB model to an LP file")
     model.add_argument("opb", metavar="MODEL", nargs="?", type=Path, help="the model that `inrc2pb encode` wrote (default: standard input)")
     model.add_argument("--lp", metavar="FILE", type=Path, help="the LP file to write (default: standard output)")
-    answer = commands.add_parser("answer", help="convert a solution file to an answer, for `inrc2pb decode`")
-    answer.add_argument("solution", metavar="SOLUTION", type=Path, help="a solution file of cbc, glpsol (-o), HiGHS, SCIP, Gurobi or toulbar2 (-w)")
+    answer = commands.add_parser("answer", help="convert the solver's result file to an answer, for `inrc2pb decode`")
+    answer.add_argument("solution", metavar="RESULT", type=Path, help="the result file of cbc, glpsol (-o), HiGHS, SCIP, Gurobi or toulbar2 (-w)")
     answer.add_argument(
         "--status",
         choices=sorted(STATUSES),

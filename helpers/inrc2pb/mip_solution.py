@@ -1,4 +1,4 @@
-"""Reads the solution files of MIP solvers, as answers that `inrc2pb decode` reads.
+"""Reads the result files of MIP solvers, as answers that `inrc2pb decode` reads.
 
 Known are the files of cbc, glpsol, HiGHS and SCIP, Gurobi's list of names and values, and toulbar2's list.
 """
@@ -44,7 +44,7 @@ class Answer:
 
 
 def read_answer(solution: TextIO, ended: Optional[str] = None) -> Answer:
-    """The answer in a solution file. `ended`, a key of STATUSES, counts if the file does not say how the solver ended."""
+    """The answer in a result file. `ended`, a key of STATUSES, counts if the file does not say how the solver ended."""
     lines = ((number, line.strip()) for number, line in enumerate(solution, 1))
     lines = ((number, line) for number, line in lines if line)
     first = next(lines, None)
@@ -55,7 +55,7 @@ def read_answer(solution: TextIO, ended: Optional[str] = None) -> Answer:
             answer = reader(first, lines, ended or "stopped")
             break
     else:
-        raise SolutionFault(f"line {first[0]} is of no known solution file: {first[1][:60]}")
+        raise SolutionFault(f"line {first[0]} is of no known result file: {first[1][:60]}")
     if answer.status in ("OPTIMUM FOUND", "SATISFIABLE") and not answer.variables:
         _no_values()
     return answer

@@ -50,7 +50,7 @@ def main() -> Optional[int]:
         "Writes the history with which the next week begins.",
         "docs/rules.md says what each number is. Files of different weeks or wards are a fault, with status 1.",
     )
-    words.add_argument("scenario", type=Path)
+    words.add_argument("scenario", type=Path, help="the scenario")
     words.add_argument("history", type=Path, help="the history with which the week began")
     words.add_argument("roster", type=Path, help="the week's roster, as `inrc2pb decode` writes it")
     words.add_argument("--new-period", action="store_true", help="the next week is the first of a new period")

@@ -160,13 +160,14 @@ def _words() -> argparse.ArgumentParser:
     words = parser(
         "Plans the weeks of a period one after another, and reports what they cost together.",
         "The folder gets roster-N.txt of each week N and history-N.txt of each next one. --early and --share are heuristics:\n"
-        "a week is planned before the next ones are known. The report has what each roster costs by the real files.",
+        "a week is planned before the next ones are known. The report has each roster's cost with the files as given, without\n"
+        "the shares; with --early it includes the early charges.",
     )
     words.add_argument("--sce", metavar="FILE", type=Path, required=True, help="the scenario")
     words.add_argument("--his", metavar="FILE", type=Path, required=True, help="the history with which the first of these weeks begins")
     words.add_argument("--week", metavar="FILE", type=Path, action="append", required=True, help="a week's file; give one for each week, in order")
     words.add_argument("--out", metavar="FOLDER", type=Path, required=True, help="the folder for rosters and histories")
-    words.add_argument("--fix", metavar="N=FILE", action="append", default=[], help="the assignments to keep in week N")
+    words.add_argument("--fix", metavar="N=FILE", action="append", default=[], help="the assignments to keep in week N, numbered from 0 as in its history")
     totals = words.add_mutually_exclusive_group()
     totals.add_argument("--early", action="store_true", help="charge excess assignments and weekends as soon as they occur")
     totals.add_argument("--share", action="store_true", help="plan each week with its share of the totals that are left")

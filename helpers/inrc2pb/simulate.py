@@ -20,7 +20,7 @@ def main() -> Optional[int]:
     words.add_argument("--his", metavar="FILE", type=Path, required=True, help="the history with which the week begins")
     words.add_argument("--week", metavar="FILE", type=Path, required=True, help="the week's requirements and requests")
     words.add_argument("--sol", metavar="FILE", type=Path, required=True, help="the solution file to write")
-    words.add_argument("--cusIn", metavar="FILE", type=Path, help="the data of the last week: not used")
+    words.add_argument("--cusIn", metavar="FILE", type=Path, help="a solver's data from the week before: not read")
     words.add_argument("--cusOut", metavar="FILE", type=Path, help="the data for the next week: its number")
     words.add_argument("--rand", metavar="N", type=int, default=1, help="the seed (default: 1)")
     words.add_argument("--timeout", metavar="SECONDS", type=float, default=60, help="seconds until the solution is written (default: 60)")

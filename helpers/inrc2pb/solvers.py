@@ -116,18 +116,18 @@ class Cbc(Solver):
         listener = _CbcListener(hear, size.step).hear if hear and size.step else None
         ended = processes.run(words, left + 1, task.folder, signal.SIGINT, listener)
         if not solution.exists():
-            return NONE_IN_TIME if ended.timed_out else Outcome("", f"it wrote no solution file and {_ending(ended.status)}")
+            return NONE_IN_TIME if ended.timed_out else Outcome("", f"it wrote no result file and {_ending(ended.status)}")
         return answer_of(solution)
 
 
 def answer_of(solution: Path, ended: Optional[str] = None) -> Outcome:
-    """The answer in a solution file; `ended` counts if the file does not say how the solver ended."""
+    """The answer in a result file; `ended` counts if the file does not say how the solver ended."""
     text = io.StringIO()
     try:
         with open(solution, encoding="utf-8", errors="replace") as file:
             read_answer(file, ended).write(text)
     except SolutionFault as fault:
-        return Outcome("", f"its solution file has a fault: {fault}")
+        return Outcome("", f"its result file has a fault: {fault}")
     return Outcome(text.getvalue())
 
 

@@ -115,7 +115,7 @@ class Solutions(unittest.TestCase):
 
     def test_faults(self):
         rows = {
-            "hello\n": "no known solution file",
+            "hello\n": "no known result file",
             "c Problem:\nj 1 1\n": "glpsol -o",
             "x1 1\ny2 1\n": "line 2: 'y2'",
             "x1 1\nx2\n": "line 2 has no value",

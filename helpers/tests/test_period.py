@@ -116,7 +116,7 @@ class PeriodFaults(HelperTest):
         self.folder.chmod(0o555)
         self.assert_fault(self.period(*WARD_OPTIONS, "--once", "--solver", "false"), (
             f"inrc2pb-period: {self.folder}: Permission denied: you may not read or write it: "
-            "look at its rights and those of its folder, or choose another folder"), 3)
+            "look at its permissions and those of its folder, or choose another folder"), 3)
 
     @unittest.skipUnless(Path("/sys").is_dir(), "there is no /sys")
     def test_a_folder_in_which_nobody_may_write(self):

@@ -16,7 +16,7 @@ from inrc2pb.improve import main
 
 # The advice of a fault of the operating system.
 FULL = "No space left on device: the disk is full: free some space, or choose another folder (TMPDIR has the temporary files)"
-RIGHTS = "you may not read or write it: look at its rights and those of its folder, or choose another folder"
+RIGHTS = "you may not read or write it: look at its permissions and those of its folder, or choose another folder"
 
 
 @unittest.skipUnless(shutil.which("clasp"), "needs clasp")
