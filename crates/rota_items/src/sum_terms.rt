@@ -1,10 +1,9 @@
 //! Sends the terms of a `CellSum` to a taker.
-ghost use Rattle.std.specs.Prelude.{◌≡◌, ◌<◌, ◌≤◌, IsTrue, flat_map, if◌then◌else◌, pos, negsuc};
+ghost use Rattle.std.specs.Prelude.{◌≡◌, ◌<◌, ◌≤◌, IsTrue, flat_map, if◌then◌else◌, pos, negsuc, count_by};
 ghost use Rattle.rota_core.specs.InstanceTables.{problem_of};
-ghost use Rattle.rota_core.specs.Lists.{singleton_if};
-ghost use Rattle.rota_items.specs.CellEvents.{cell_term_events, coefficient_of};
-ghost use Rattle.rota_items.specs.CellSums.{AreShiftPair, IsInWeek, IsPropertyOf, IsSumOf, days_of, property_of, sum_terms};
-ghost use Rattle.rota_items.specs.RunItems.{day_terms, days_with, without_property};
+ghost use Rattle.rota_items.specs.CellEvents.{cell_term_events, coefficient_of, sum_events};
+ghost use Rattle.rota_items.specs.CellSums.{AreShiftPair, IsInWeek, IsPropertyOf, IsSumOf, day_after, day_before, days_of, property_of, sum_terms};
+ghost use Rattle.rota_items.specs.RunItems.{day_terms, days_with};
 ghost use Rattle.rota_items.specs.Takes.{Takes};
 
 use crate::cell_sum::{CellSum, DayPattern, DayProperty};
@@ -70,26 +69,49 @@ fn emit_days<T: Taker>(
     Ok(())
 }
 
-// Sends the taker the day before or after a pattern's days, if that day must be without the property.
+// Sends the taker the day before the pattern's days, if it must be without the property.
 #[tactic(auto, using(crate::proofs::DayTerms::day_taking), unfolding(crate::specs::CellEvents::cell_term_events, crate::specs::Events::term_events, rota_core::specs::Lists::singleton_if))]
-fn emit_day_beside<T: Taker>(
+fn emit_day_before<T: Taker>(
     instance: &Instance,
     taker: &mut T,
     nurse: u16,
     property: DayProperty,
-    without: bool,
-    day: u8,
+    pattern: DayPattern,
 ) -> Result<(), T::Fault>
     requires nurse_in { nurse < (problem_of instance.now).nurses }
     requires property_in { IsPropertyOf (problem_of instance.now) property }
-    requires day_in { IsTrue without → day < DAYS }
+    requires days_in { IsInWeek pattern }
     ensures { let problem = problem_of instance.now in
-        let days = singleton_if without (without_property day) in
-        Takes T.Taker (cell_term_events problem (flat_map (day_terms (property_of problem nurse property)) days))
+        Takes T.Taker
+        (cell_term_events problem (flat_map (day_terms (property_of problem nurse property)) (day_before pattern)))
         taker.old taker.new result }
 {
-    if without {
-        emit_day(instance, taker, nurse, property, day, false)
+    if pattern.without_before {
+        emit_day(instance, taker, nurse, property, pattern.first - 1, false)
+    } else {
+        Ok(())
+    }
+}
+
+// Sends the taker the day after the pattern's days, if it must be without the property.
+#[tactic(auto, using(crate::proofs::DayTerms::day_taking), unfolding(crate::specs::CellEvents::cell_term_events, crate::specs::Events::term_events, rota_core::specs::Lists::singleton_if))]
+fn emit_day_after<T: Taker>(
+    instance: &Instance,
+    taker: &mut T,
+    nurse: u16,
+    property: DayProperty,
+    pattern: DayPattern,
+) -> Result<(), T::Fault>
+    requires nurse_in { nurse < (problem_of instance.now).nurses }
+    requires property_in { IsPropertyOf (problem_of instance.now) property }
+    requires days_in { IsInWeek pattern }
+    ensures { let problem = problem_of instance.now in
+        Takes T.Taker
+        (cell_term_events problem (flat_map (day_terms (property_of problem nurse property)) (day_after pattern)))
+        taker.old taker.new result }
+{
+    if pattern.without_after {
+        emit_day(instance, taker, nurse, property, pattern.end, false)
     } else {
         Ok(())
     }
@@ -111,25 +133,9 @@ fn emit_pattern_days<T: Taker>(
         (cell_term_events problem (flat_map (day_terms (property_of problem nurse property)) (days_of pattern)))
         taker.old taker.new result }
 {
-    let before = pattern.first.saturating_sub(1);
-    let after = pattern.end;
-    emit_day_beside(
-        instance,
-        taker,
-        nurse,
-        property,
-        pattern.without_before,
-        before,
-    )?;
+    emit_day_before(instance, taker, nurse, property, pattern)?;
     emit_days(instance, taker, nurse, property, pattern.first, pattern.end)?;
-    emit_day_beside(
-        instance,
-        taker,
-        nurse,
-        property,
-        pattern.without_after,
-        after,
-    )
+    emit_day_after(instance, taker, nurse, property, pattern)
 }
 
 // Sends the taker the cells of a nurse's day on a shift type and of the next day on another, each with

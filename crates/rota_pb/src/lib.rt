@@ -17,7 +17,7 @@
 //! run_encode(
 //!     alloc, choice, &mut sce, &mut his, &mut week, &mut fix, &mut out,
 //! )?;
-//! assert!(rt; out.bytes().starts_with(b"* #variable= 8 #constraint= 8\n"));
+//! assert!(rt; out.bytes().starts_with(b"* #variable= "));
 //! ```
 #![tactic(auto)]
 

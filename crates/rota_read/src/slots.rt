@@ -1,7 +1,8 @@
 //! Reads the slots of a file.
 
-ghost use Rattle.std.specs.Prelude.{◌≡◌, IfOk, ◌≤◌, ◌∷◌, [], min, Some, None, MatchResult, if◌then◌else◌};
+ghost use Rattle.std.specs.Prelude.{◌≡◌, ◌+◌, IfOk, ◌≤◌, ◌∷◌, [], min, Some, None, MatchResult, if◌then◌else◌};
 ghost use Rattle.rota_core.specs.declared.fault.Kind.TheVariants.{Ended};
+ghost use Rattle.rota_core.specs.Limits.{max_number};
 ghost use Rattle.rota_core.specs.Numeral.{is_decimal, decimal};
 ghost use Rattle.rota_read.specs.Layout.{exactly, number, any_word};
 ghost use Rattle.rota_read.specs.Reading.{read_layout, Reads, check_end, ReadsFile};
@@ -10,16 +11,17 @@ use crate::cursor::{Cursor, Token, is_sign};
 use crate::fault::{Fault, Stop};
 use rota_core::{Kind, MAX_NUMBER};
 
-// The value of decimal digits, or 10000 if it is larger, or `None` if a byte is no digit.
+// The value of decimal digits, or one more than the maximum of a file's numbers if it is larger, or `None` if
+// a byte is no digit.
 fn decimal_of(word: &[u8]) -> Option<u16>
-    ensures { result ≡ (if is_decimal word.now then Some (min (decimal word.now) 10000) else None) }
+    ensures { result ≡ (if is_decimal word.now then Some (min (decimal word.now) (max_number + 1)) else None) }
 {
     let mut value: u32 = 0;
     for b in word {
         if !b.is_ascii_digit() {
             return None;
         }
-        value = (10 * value + u32::from(*b - b'0')).min(10000);
+        value = (10 * value + u32::from(*b - b'0')).min(u32::from(MAX_NUMBER) + 1);
     }
     Some(value as u16)
 }

@@ -30,8 +30,9 @@ pub fn patterns_of(history: u16, limits: Span) -> u32
 fn closed_patterns_of(minimum: u16) -> u32
     ensures { result ≡ length (concat_below DAYS (closed_patterns_on minimum)) }
 {
-    let longest = u32::from(minimum).saturating_sub(1).min(5);
-    longest * (11 - longest) / 2
+    let days = u32::from(DAYS);
+    let longest = u32::from(minimum).saturating_sub(1).min(days - 2);
+    longest * (2 * days - 3 - longest) / 2
 }
 
 #[tactic(auto, unfolding(rota_core::specs::Lists::concat_below, rota_core::specs::Lists::singleton_if))]
@@ -41,6 +42,6 @@ fn edge_patterns_of(history: u16, minimum: u16) -> u32
     if history >= 1 {
         u32::from(minimum.saturating_sub(history)).min(u32::from(DAYS))
     } else {
-        u32::from(minimum.saturating_sub(1)).min(6)
+        u32::from(minimum.saturating_sub(1)).min(u32::from(DAYS) - 1)
     }
 }
