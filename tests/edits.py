@@ -40,10 +40,15 @@ def named(header):
     return [part.group().split("::")[-1] for part in parts if part]
 
 
+def without(prefix, text):
+    """The text after this prefix, if it begins with it."""
+    return text[len(prefix):] if text.startswith(prefix) else text
+
+
 def body_of(lines, at, indent):
     """The lines where the body of the function at this line begins and ends: `rt fmt` puts its brace below the `fn`."""
     for begin in range(at, len(lines)):
-        rest = lines[begin].removeprefix(indent)
+        rest = without(indent, lines[begin])
         if rest in ("{", "{}") or rest[:1].strip() and rest.endswith((" {", " }")) or rest.endswith(";"):
             break
     if not rest.endswith("{"):
@@ -94,7 +99,7 @@ def surface(crate):
     names, modules = exported(root)
     tables = {}
     for path in sorted(glob.glob(f"{crate}/src/**/*.rt", recursive=True)):
-        place = os.path.relpath(path, f"{crate}/src").removesuffix(".rt").split("/")
+        place = os.path.splitext(os.path.relpath(path, f"{crate}/src"))[0].split("/")
         seen = names if len(place) == 1 else seen_of(crate, place, names, modules)
         tables[path] = functions(path, place[-1], seen, place[0] in modules and len(place) == 1)
     return tables
@@ -116,7 +121,7 @@ def turned(edit, crate):
             if texts[path].count(old) != 1:
                 return places, f"{texts[path].count(old)} times in {path}: {old}"
             places.append((path, texts[path][:texts[path].index(old)].count("\n")))
-            texts[path] = texts[path].replace(old, line[4:].removeprefix(" "))
+            texts[path] = texts[path].replace(old, without(" ", line[4:]))
     return places, None
 
 
@@ -124,7 +129,7 @@ def edits_by_function(crate, tables):
     """The names of the edits that turn each function, known by its file and first line; and what is stale."""
     edits_of, stale = {}, []
     for edit in sorted(glob.glob(f"{crate}/must-fail/*.edit")):
-        name = os.path.basename(edit).removesuffix(".edit")
+        name = os.path.splitext(os.path.basename(edit))[0]
         places, fault = turned(edit, crate)
         stale += [f"STALE {edit}: {fault}"] if fault else []
         for path, line in places:
@@ -143,12 +148,13 @@ def tell(asked, path, one, edits):
 
 
 def main():
+    """Tells what was asked for."""
     words = sys.argv[1:]
     asked = words.pop(0) if words and words[0] in ("map", "many", "none", "stale") else "stale"
     os.chdir(os.path.dirname(os.path.abspath(__file__)) + "/..")
-    crates = [f"crates/{word}" for word in words] or sorted(glob.glob("crates/*/must-fail"))
+    crates = [f"crates/{word}" for word in words] or [os.path.dirname(path) for path in sorted(glob.glob("crates/*/must-fail"))]
     count = bad = 0
-    for crate in (path.removesuffix("/must-fail") for path in crates):
+    for crate in crates:
         tables = surface(crate)
         edits_of, stale = edits_by_function(crate, tables)
         count, bad = count + len(glob.glob(f"{crate}/must-fail/*.edit")), bad + len(stale)

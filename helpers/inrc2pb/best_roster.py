@@ -31,16 +31,16 @@ Announce = Callable[[int, str], None]
 class BestRoster:
     """Keeps the best roster, in memory and in the file `solution`, which always has a whole roster."""
 
-    def __init__(self, files: WeekFiles, solution: Path, announce: Announce) -> None:
+    def __init__(self, files: WeekFiles, solution: Path, announce: Announce, warn: Callable[[str], None]) -> None:
         self._files = files
         self._solution = solution
         self._announce = announce
+        self._warn = warn
         self._lock = threading.Lock()
         self._best = Snapshot()
         self.improved_at = time.monotonic()
         self.bound: Optional[int] = None
         self.bound_by = ""
-        self.proved_by = ""
 
     def now(self) -> Snapshot:
         """The best roster until now."""
@@ -79,29 +79,31 @@ class BestRoster:
             return None
 
     def _keep(self, better: Snapshot, now: Snapshot, finder: str) -> bool:
-        """Keeps the roster if `now` is still the best one."""
+        """Keeps the roster if it costs less than the best one, or `now` is still the best."""
         with self._lock:
-            if self._best.version != now.version:
+            less = self._best.penalty is None or better.penalty < self._best.penalty
+            if not less and self._best.version != now.version:
                 return False
-            less = now.penalty is None or better.penalty < now.penalty
             if less:
                 write_solution(self._solution, better.roster)
                 self.improved_at = time.monotonic()
-            self._best = Snapshot(now.version + 1, better.penalty, better.roster)
+                self._check_bound(better.penalty)
+            self._best = Snapshot(self._best.version + 1, better.penalty, better.roster)
             if less:
                 self._announce(better.penalty, finder)
         return True
+
+    def _check_bound(self, penalty: int) -> None:
+        """A bound above the cost of a roster is wrong, and is forgotten."""
+        if self.bound is not None and self.bound > penalty:
+            self._warn(f"{self.bound_by}: its lower bound {self.bound} is wrong, since a roster costs {penalty}")
+            self.bound, self.bound_by = None, ""
 
     def raise_bound(self, bound: int, solver: str) -> None:
         """A solver proved that no roster costs less than this."""
         with self._lock:
             if self.bound is None or bound > self.bound:
                 self.bound, self.bound_by = bound, solver
-
-    def prove(self, penalty: int, solver: str) -> None:
-        """A solver proved that no roster costs less than this one."""
-        self.raise_bound(penalty, solver)
-        self.proved_by = solver
 
     def is_proved(self) -> bool:
         """Whether the best roster costs no more than the lower bound."""

@@ -1,6 +1,7 @@
 """Checks the files of a week: names the first mistake of each file and how to correct it, and warns of odd values."""
 
 import argparse
+import os
 import re
 import tempfile
 from pathlib import Path
@@ -9,9 +10,10 @@ from typing import Callable, Iterator, List, Optional, Tuple
 from .command import Misuse, add_week_options, fault_line, parser, run, week_files
 from .constraint import block_of, blocks, named_row, row_of
 from .files import Assignment, FileFault, History, Limits, Scenario, Solution, Week, WeekData
-from .files import check_week_number, read_history, read_scenario, read_week
+from .files import check_week_number, read_history, read_scenario, read_solution, read_week
 from .misfits import explained, other_week, read_held, read_roster
 from .program import NO_PROGRAM, ProgramFault, encode, extend
+from .rules import first_broken
 from .slots import quoted, text_of
 
 COUNTED = re.compile(r"\s*(SKILLS|SHIFT_TYPES|CONTRACTS|NURSES|SHIFT_OFF_REQUESTS|ASSIGNMENTS)\s*=\s*(\d+)\s*$")
@@ -102,12 +104,15 @@ class Check:
         try:
             return reader()
         except FileFault as fault:
-            self.mistakes += 1
-            print(f"{fault}{count_hint(path, fault.line)}{hint(fault)}")
+            self.mistake(f"{fault}{count_hint(path, fault.line)}{hint(fault)}")
         except OSError as fault:
-            self.mistakes += 1
-            print(fault_line(fault))
+            self.mistake(fault_line(fault))
         return None
+
+    def mistake(self, line: str) -> None:
+        """Prints and counts a mistake."""
+        self.mistakes += 1
+        print(line)
 
     def warns(self, path: Path, warnings: Iterator[str]) -> None:
         """Prints the warnings about a file without a mistake."""
@@ -166,33 +171,32 @@ class Check:
         return week, held
 
     def model(self, week: Week, held: List[Assignment]) -> None:
-        """Lets `inrc2pb` check the files too, if it is installed: only it can find a hard rule that a roster breaks."""
+        """Lets `inrc2pb` check the files too. If it cannot be run, the rosters are compared with `rules`, and a warning says so."""
         files = week_files(self.given)
+        has_program = True
         try:
-            encode(files, Path("/dev/null"))
-            for roster in self.given.roster:
-                with broken_rules_explained(roster, week, held):
-                    extend(files, roster, with_report=False)
-        except (FileFault, ProgramFault) as fault:
-            if getattr(fault, "status", 0) != NO_PROGRAM:
-                self.mistakes += 1
-                print(fault)
-
-
-    def model(self, week: Week, held: List[Assignment]) -> None:
-        """Lets `inrc2pb` check the files too, if it is installed: it finds the hard rule that a roster breaks."""
-        files = week_files(self.given)
-        try:
-            encode(files, Path("/dev/null"))
-            for roster in self.given.roster:
-                try:
-                    extend(files, roster, with_report=False)
-                except ProgramFault as fault:
-                    raise explained(fault, roster, week, held) from fault
+            encode(files, Path(os.devnull))
         except ProgramFault as fault:
             if fault.status != NO_PROGRAM:
-                self.mistakes += 1
-                print(fault)
+                self.mistake(str(fault))
+                return
+            has_program = False
+            print(f"warning: {fault_line(fault)}; the files were checked without it")
+        for roster in self.given.roster:
+            try:
+                if has_program:
+                    extend(files, roster, with_report=False)
+                else:
+                    _compare(roster, week, held)
+            except ProgramFault as fault:
+                self.mistake(str(explained(fault, roster, week, held)))
+
+
+def _compare(roster: Path, week: Week, held: List[Assignment]) -> None:
+    """Raises the fault of `inrc2pb extend` if the roster breaks a hard rule."""
+    rule = first_broken(week, read_solution(roster, week.scenario).assignments, held)
+    if rule:
+        raise ProgramFault(6, f"roster breaks {rule}")
 
 
 def _explain(number: int, week: Week, held: List[Assignment], given: argparse.Namespace) -> None:
@@ -211,6 +215,7 @@ def _explain(number: int, week: Week, held: List[Assignment], given: argparse.Na
 
 
 def main() -> Optional[int]:
+    """The command `inrc2pb-check`."""
     words = parser(
         "Checks the files of a week: names the first mistake in each file and how to correct it, and prints warnings.",
         "--sce is required. Ends with status 1 if a file has a mistake; a warning is not a mistake.",
@@ -229,6 +234,8 @@ def main() -> Optional[int]:
         _explain(given.constraint, week, held, given)
     elif not check.mistakes and week:
         check.model(week, held)
+    elif not check.mistakes and given.roster:
+        print("warning: hard rules are not checked without the whole week: give --his and --week too")
     if not check.mistakes and given.constraint is None:
         print("No mistake found.")
     return 1 if check.mistakes else 0

@@ -20,6 +20,15 @@ _ADVICE = {
     "ENOTDIR": "a part of its path is no folder",
     "ENOSPC": "the disk is full: free some space, or choose another folder (TMPDIR has the temporary files)",
     "EDQUOT": "your quota is used up: free some space, or choose another folder",
+    "EFBIG": "raise your limit for the size of a file (ulimit -f), or choose another folder",
+    "EIO": "the disk or its connection fails: look after it, or choose another folder",
+    "EEXIST": "choose another name, or remove this file",
+    "ENAMETOOLONG": "give a shorter name",
+    "ELOOP": "its links lead in a circle: correct them",
+    "ENOEXEC": "it is no program of this machine; a script needs a first line such as #!/bin/sh",
+    "EMFILE": "raise your limit for open files (ulimit -n), or give a smaller --jobs",
+    "EAGAIN": "end other programs, or give a smaller --jobs",
+    "ENOMEM": "end other programs",
 }
 
 # Advice after a fault of `inrc2pb`, by a part of its line.
@@ -54,11 +63,18 @@ def add_week_options(words: argparse.ArgumentParser, required: bool = True) -> N
     words.add_argument("--early", action="store_true", help="charge excess assignments and weekends as soon as they occur")
 
 
+def processors() -> int:
+    """The number of processors that this process may use."""
+    if hasattr(os, "sched_getaffinity"):
+        return len(os.sched_getaffinity(0))
+    return os.cpu_count() or 1
+
+
 def add_solver_options(words: argparse.ArgumentParser) -> None:
     """The options that say which solvers are used, and how many at once."""
     solvers = "clasp, cbc, or a command that reads an OPB file; may be repeated (default: clasp and cbc, if installed)"
     words.add_argument("--solver", metavar="SOLVER", action="append", default=[], help=solvers)
-    words.add_argument("--jobs", metavar="N", type=int, default=os.cpu_count() or 1, help="solvers at once (default: the processors)")
+    words.add_argument("--jobs", metavar="N", type=int, default=processors(), help="solvers at once (default: the processors)")
 
 
 def week_files(given: argparse.Namespace) -> WeekFiles:
@@ -68,19 +84,26 @@ def week_files(given: argparse.Namespace) -> WeekFiles:
 
 def fault_line(fault: BaseException) -> str:
     """A fault in one line that says what to do."""
+    line, advice = str(fault), ""
     if isinstance(fault, OSError):
-        advice = _ADVICE.get(errno.errorcode.get(fault.errno or 0, ""), "")
         named = f"{fault.filename}: " if fault.filename is not None else ""
-        return f"{named}{fault.strerror or fault}" + (f": {advice}" if advice else "")
-    if isinstance(fault, ProgramFault):
-        advice = next((f": {advice}" for part, advice in _PROGRAM_ADVICE if part in fault.message), "")
-        return f"{fault.message}{advice}".replace("\n", " ")
-    return str(fault).replace("\n", " ")
+        line, advice = f"{named}{fault.strerror or fault}", _os_advice(fault)
+    elif isinstance(fault, ProgramFault):
+        of_line = next((advice for part, advice in _PROGRAM_ADVICE if part in fault.message), "")
+        advice = _os_advice(fault.__cause__) if isinstance(fault.__cause__, OSError) else of_line
+    return (f"{line}: {advice}" if advice else line).replace("\n", " ")
+
+
+def _os_advice(fault: OSError) -> str:
+    return _ADVICE.get(errno.errorcode.get(fault.errno or 0, ""), "")
 
 
 def run(main: Callable[[], Optional[int]]) -> None:
     """Runs a helper and exits: faults are one line on standard error, with status 1 or the program's own."""
     name = os.path.basename(sys.argv[0])
+    # Python has no stream for a descriptor that was closed, as by `>&-`.
+    sys.stdout = sys.stdout or open(os.devnull, "w")
+    sys.stderr = sys.stderr or open(os.devnull, "w")
     sys.stdout.reconfigure(encoding="utf-8", errors="surrogateescape")  # type: ignore[union-attr]
     sys.stderr.reconfigure(encoding="utf-8", errors="backslashreplace")  # type: ignore[union-attr]
     try:

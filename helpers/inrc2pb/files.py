@@ -4,10 +4,10 @@ The readers accept exactly the files that `inrc2pb` accepts, and report a fault 
 layouts. The values that they return are those of `records`. A `text` is what the file holds, if it was read already.
 """
 
+import contextlib
 import os
-import tempfile
 from pathlib import Path
-from typing import Dict, Iterable, Optional, Tuple
+from typing import Dict, Iterable, Iterator, Optional, TextIO, Tuple
 
 from .records import ANY, DAYS, NONE, Assignment, Contract, History, Nurse, NurseHistory, Place, Request
 from .records import Requirement, Scenario, ShiftType, Solution, Week, WeekData
@@ -16,8 +16,8 @@ from .slots import FileFault, Limits, PathLike, Slots, Token
 __all__ = [
     "ANY", "Assignment", "Contract", "DAYS", "FileFault", "History", "Limits", "NONE", "Nurse", "NurseHistory", "Place",
     "Request", "Requirement", "Scenario", "ShiftType", "Solution", "Week", "WeekData", "check_week_number", "file_at",
-    "history_text", "read_files", "read_history", "read_scenario", "read_solution", "read_week", "scenario_text", "solution_text",
-    "week_text", "write_history", "write_solution", "write_text",
+    "history_text", "read_files", "read_history", "read_scenario", "read_solution", "read_week", "replacing", "scenario_text",
+    "solution_text", "week_text", "write_history", "write_solution", "write_text",
 ]  # fmt: skip
 
 
@@ -234,34 +234,68 @@ def file_at(path: PathLike) -> Path:
 
 
 def write_text(path: PathLike, text: str) -> None:
-    """Writes a text to a file, with the bytes that its reader found. A file that exists is replaced only by a whole text."""
-    target, data = file_at(path), text.encode("utf-8", errors="surrogateescape")
+    """Writes a text to a file, with the bytes that its reader found. After a fault a file that was there has its old text."""
+    target = file_at(path)
     try:
-        if (target.exists() and not target.is_file()) or target.is_symlink() or not os.access(target.parent, os.W_OK):
-            target.write_bytes(data)
+        if target.is_file() and not target.is_symlink() and not _may_be_replaced(target):
+            _overwrite(target, text.encode("utf-8", errors="surrogateescape"))
         else:
-            _replace(target, data)
+            with replacing(target) as file:
+                file.write(text)
     except OSError as fault:
         fault.filename = str(path)
         raise
 
 
-def _replace(target: Path, data: bytes) -> None:
-    handle, name = tempfile.mkstemp(prefix=f".{target.name}.", dir=target.parent)
+@contextlib.contextmanager
+def replacing(path: PathLike) -> Iterator[TextIO]:
+    """A new file that takes the place of this one at the end of the block; after a fault it is removed, and the old one stays.
+
+    Only a device, and a file in a folder that takes no new one, are written at once.
+    """
+    target = file_at(path)
+    if not _may_be_replaced(target):
+        with open(target, "w", encoding="utf-8", errors="surrogateescape") as file:
+            yield file
+        return
+    mode = target.stat().st_mode & 0o777 if target.exists() else None
+    name = target.with_name(f".{target.name[:50]}.{os.urandom(4).hex()}")
     try:
-        with os.fdopen(handle, "wb") as file:
-            file.write(data)
-        os.chmod(name, target.stat().st_mode & 0o777 if target.exists() else 0o666 & ~_umask())
+        # The system applies the umask: to ask for it, one has to change it for all threads.
+        handle = os.open(name, os.O_WRONLY | os.O_CREAT | os.O_EXCL, 0o666 if mode is None else 0o600)
+    except OSError as fault:
+        fault.filename = str(path)
+        raise
+    try:
+        with open(handle, "w", encoding="utf-8", errors="surrogateescape") as file:
+            yield file
+        if mode is not None:
+            os.chmod(name, mode)
         os.replace(name, target)
     except BaseException:
-        os.unlink(name)
+        name.unlink(missing_ok=True)
         raise
 
 
-def _umask() -> int:
-    mask = os.umask(0)
-    os.umask(mask)
-    return mask
+def _may_be_replaced(target: Path) -> bool:
+    """Whether a new file may take the place of this one: it is no device and no link, and its folder takes a new file."""
+    return (target.is_file() or not target.exists()) and not target.is_symlink() and os.access(target.parent, os.W_OK)
+
+
+def _overwrite(target: Path, data: bytes) -> None:
+    """Writes over a file in its place. After a fault its old bytes are written back: they need no new space."""
+    old = target.read_bytes()
+    try:
+        _write_over(target, data)
+    except BaseException:
+        _write_over(target, old)
+        raise
+
+
+def _write_over(target: Path, data: bytes) -> None:
+    with open(target, "r+b") as file:
+        file.write(data)
+        file.truncate()
 
 
 def write_solution(path: PathLike, solution: Solution) -> None:

@@ -3,23 +3,23 @@
 import argparse
 import contextlib
 import errno
+import math
 import os
 import shutil
-import signal
 import sys
 import tempfile
-import threading
 import time
 from pathlib import Path
-from typing import Iterator, List, Optional, Sequence, TextIO
+from typing import List, Optional, Sequence, TextIO
 
 from .best_roster import BestRoster, Snapshot, read_start
-from .command import Misuse, add_week_options, parser, week_files
+from .command import Misuse, add_week_options, parser, processors, week_files
 from .files import Assignment, Week, file_at, read_files
+from .interrupts import interrupts
 from .misfits import read_held
 from .program import ProgramFault, Report, WeekFiles
 from .search import Search
-from .solvers import find_solver, installed_solvers
+from .solvers import find_solvers, installed_solvers
 
 
 class Progress:
@@ -96,25 +96,27 @@ def search(
 ) -> Outcome:
     """As `improve`, with its progress printed, and more in its result. A signal ends the search early and is no fault."""
     solution = Path(solution).absolute()
-    found = [find_solver(name) for name in solvers or installed_solvers()]
+    found = find_solvers(solvers or installed_solvers())
     week = read_files(files.scenario, files.history, files.week)
     fixed = held_rows(files.fix, week, progress) if files.fix else ()
-    _check_target(solution)
-    best = BestRoster(files, solution, progress.improved)
+    check_target(solution)
+    _check_inputs_stay(files, solution)
+    best = BestRoster(files, solution, progress.improved, progress.warn)
     running = Search(files, week, fixed, best, found, seconds, progress.warn)
-    folder = Path(tempfile.mkdtemp(prefix="inrc2pb-improve-"))
-    try:
-        if start:
-            best.offer(read_start(files, start, week, fixed), Snapshot(), None, folder, "the given roster")
-        with _signals(running) as caught:
-            running.run(folder, seed, jobs)
-    finally:
-        progress.finish()
-        shutil.rmtree(folder, ignore_errors=True)
-    if not best.now().version:
-        advice = "stopped before the first roster" if caught else f"no roster was found in {seconds:.0f} s: give it more with --time"
-        raise ProgramFault(5, advice)
-    return Outcome(best, bool(caught))
+    with interrupts() as signals:
+        folder = Path(tempfile.mkdtemp(prefix="inrc2pb-improve-"))
+        try:
+            if start:
+                best.offer(read_start(files, start, week, fixed), Snapshot(), None, folder, "the given roster")
+            with signals.calling(running.stop):
+                running.run(folder, seed, jobs)
+        finally:
+            progress.finish()
+            shutil.rmtree(folder, ignore_errors=True)
+        if not best.now().version:
+            advice = f"no roster was found in {seconds:.0f} s: give it more with --time"
+            raise ProgramFault(5, "stopped before the first roster" if signals.caught else advice)
+        return Outcome(best, bool(signals.caught))
 
 
 def held_rows(fix: Path, week: Week, progress: Progress) -> Sequence[Assignment]:
@@ -122,8 +124,23 @@ def held_rows(fix: Path, week: Week, progress: Progress) -> Sequence[Assignment]
     return read_held(fix, week.scenario, week.history, lambda warning: progress.warn(f"{fix}: {warning}")).assignments
 
 
-def _check_target(solution: Path) -> None:
-    """It must be possible to write the roster, before the search begins. A device such as /dev/null shows it only when it is written."""
+def check_effort(seconds: float, option: str, jobs: int) -> None:
+    """The limits of a search are numbers with which it ends."""
+    if not (math.isfinite(seconds) and seconds > 0):
+        raise Misuse(f"{option} has to be a number of seconds above 0")
+    if jobs < 1:
+        raise Misuse("--jobs has to be at least 1")
+
+
+def _check_inputs_stay(files: WeekFiles, solution: Path) -> None:
+    """The roster may not replace a file that the search reads: held rows would change, for example."""
+    for path in (files.scenario, files.history, files.week, files.fix):
+        if path and solution.exists() and os.path.samefile(path, solution):
+            raise Misuse(f"{path} is read, so the roster cannot be written to it: choose another file")
+
+
+def check_target(solution: Path) -> None:
+    """It must be possible to write the file, before the search begins. A device such as /dev/null shows it only when it is written."""
     target = file_at(solution)
     if target.is_dir():
         raise IsADirectoryError(errno.EISDIR, os.strerror(errno.EISDIR), str(solution))
@@ -138,26 +155,6 @@ def _check_target(solution: Path) -> None:
     os.unlink(name)
 
 
-@contextlib.contextmanager
-def _signals(running: Search) -> Iterator[List[int]]:
-    """Ends the search on Ctrl-C or TERM; the list has the signals that came."""
-    caught: List[int] = []
-
-    def stop(number: int, _frame: object) -> None:
-        caught.append(number)
-        threading.Thread(target=running.stop, daemon=True).start()
-
-    if threading.current_thread() is not threading.main_thread():
-        yield caught
-        return
-    before = {number: signal.signal(number, stop) for number in (signal.SIGINT, signal.SIGTERM, signal.SIGHUP)}
-    try:
-        yield caught
-    finally:
-        for number, handler in before.items():
-            signal.signal(number, handler)
-
-
 def _arguments() -> argparse.ArgumentParser:
     words = parser(
         "Finds a good roster for a week, or improves one. Solvers search neighborhoods of the best roster, several at once, and\n"
@@ -169,7 +166,7 @@ def _arguments() -> argparse.ArgumentParser:
     words.add_argument("--from", dest="start", metavar="FILE", type=Path, help="the roster to begin with (default: none)")
     words.add_argument("--time", metavar="SECONDS", type=float, default=120.0, help="seconds to search (default: %(default).0f)")
     words.add_argument("--seed", metavar="N", type=int, default=1, help="seed of the random choices (default: %(default)s)")
-    words.add_argument("--jobs", metavar="N", type=int, default=os.cpu_count() or 1, help="solvers at once (default: the processors)")
+    words.add_argument("--jobs", metavar="N", type=int, default=processors(), help="solvers at once (default: the processors)")
     words.add_argument(
         "--solver",
         metavar="SOLVER",
@@ -184,9 +181,8 @@ def _arguments() -> argparse.ArgumentParser:
 def main(words: Optional[List[str]] = None) -> None:
     """The command `inrc2pb-improve`."""
     given = _arguments().parse_args(words)
-    if given.jobs < 1 or given.time <= 0:
-        raise Misuse("--jobs and --time have to be above 0")
-    outcome = search(week_files(given), given.start, given.sol, given.time, given.seed, given.jobs, given.solver, Progress(sys.stderr))
-    print(outcome.report.text, end="")
-    for line in outcome.lines():
-        print(line)
+    check_effort(given.time, "--time", given.jobs)
+    with interrupts():
+        outcome = search(week_files(given), given.start, given.sol, given.time, given.seed, given.jobs, given.solver, Progress(sys.stderr))
+        print(outcome.report.text, end="")
+        print("\n".join(outcome.lines()), flush=True)

@@ -34,6 +34,7 @@ def _nurses(text: str, known: Iterable[str], source: str) -> List[str]:
 
 
 def main() -> Optional[int]:
+    """The command `inrc2pb-keep`."""
     words = parser(
         "Keeps rows of a roster for --fix, as a solution file with their number.",
         "With --keep and --nurses a row is kept if it is of one of the days and one of the nurses.\n"

@@ -15,14 +15,16 @@ from pathlib import Path
 from typing import Iterator, List, Optional, TextIO, Tuple
 
 from .command import Misuse, parser
+from .files import replacing
 from .mip_solution import STATUSES, read_answer
 
-# A term has at most 22 characters: a sign, 10 digits, a blank, `x` and 8 digits, and a blank. A line may have 560.
+# A term has at most 31 characters: a sign, 17 digits, a blank, `x` and 10 digits, and a blank. A line may have 560. Models of
+# `inrc2pb` have at most 10 and 8 digits.
 TERMS_PER_LINE = 16
 CHUNK = 1 << 18
-_HEADER = re.compile(r"\* #variable= ([0-9]+) #constraint= ([0-9]+)\s*")
-_TERMS = re.compile(r"(?:\s*[+-][0-9]+\s+x[1-9][0-9]*)*\s*")
-_DEGREE = re.compile(r"\s*([+-]?[0-9]+)\s*")
+_HEADER = re.compile(r"\* #variable= ([0-9]{1,10}) #constraint= ([0-9]{1,10})\s*")
+_TERMS = re.compile(r"(?:\s*[+-][0-9]{1,17}\s+x[1-9][0-9]{0,9}(?!\S))*\s*")
+_DEGREE = re.compile(r"\s*([+-]?[0-9]{1,17})\s*")
 
 
 class ModelFault(Misuse):
@@ -99,8 +101,10 @@ def _pieces(opb: TextIO) -> Iterator[Tuple[str, bool]]:
 
 def _terms(text: str) -> List[str]:
     """The words of the terms: coefficients and variables in turn."""
-    if not _TERMS.fullmatch(text):
-        raise ModelFault(f"no linear terms as `inrc2pb encode` writes them: {' '.join(text.split())[:60]}")
+    found = _TERMS.match(text)
+    end = found.end() if found else 0
+    if end < len(text):
+        raise ModelFault(f"no linear terms as `inrc2pb encode` writes them: {' '.join(text[end : end + 200].split())[:60]}")
     return text.split()
 
 
@@ -113,7 +117,7 @@ def _write_constraint(number: int, text: str, lp: TextIO) -> None:
     terms, _, degree = text.partition(">=")
     match = _DEGREE.fullmatch(degree)
     if not match:
-        raise ModelFault(f"constraint {number} has no `>=` with a degree: give a model that `inrc2pb encode` wrote")
+        raise ModelFault(f"constraint {number} has no `>=` with a degree of 17 digits or less: give a model that `inrc2pb encode` wrote")
     # A row without terms is legal in OPB, but not in an LP file.
     lines = "\n ".join(_lines(_terms(terms))) or "0 x1"
     lp.write(f" c{number}: {lines} >= {match.group(1)}\n")
@@ -127,8 +131,8 @@ def _write_binaries(variables: int, lp: TextIO) -> None:
 
 
 def convert(model: Path, lp: Path) -> ModelSize:
-    """Converts the file `model` to the file `lp`."""
-    with open(model, encoding="ascii", errors="replace") as opb, open(lp, "w", encoding="ascii") as target:
+    """Converts the file `model` to the file `lp`, in the way of `replacing`."""
+    with open(model, encoding="ascii", errors="replace") as opb, replacing(lp) as target:
         return write_linear_program(opb, target)
 
 
@@ -162,6 +166,6 @@ def main(words: Optional[List[str]] = None) -> None:
             read_answer(solution, given.status).write(sys.stdout)
         return
     with contextlib.ExitStack() as open_files:
-        opb = open_files.enter_context(open(given.opb, encoding="ascii", errors="replace")) if given.opb else sys.stdin
-        lp = open_files.enter_context(open(given.lp, "w", encoding="ascii")) if given.lp else sys.stdout
+        opb = open_files.enter_context(open(given.opb or 0, encoding="ascii", errors="replace"))
+        lp = open_files.enter_context(replacing(given.lp)) if given.lp else sys.stdout
         write_linear_program(opb, lp)

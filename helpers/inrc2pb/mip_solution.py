@@ -13,6 +13,8 @@ from .command import Misuse
 # How a solver ended, and the status of its answer.
 STATUSES = {"optimal": "OPTIMUM FOUND", "stopped": "SATISFIABLE", "infeasible": "UNSATISFIABLE", "unknown": "UNKNOWN"}
 TOLERANCE = 1e-6
+# A value that is off by no more is an integer by some solver's tolerance, such as Gurobi's own of 1e-5.
+SOLVER_TOLERANCE = 1e-3
 LITERALS_PER_LINE = 20
 _VARIABLE = re.compile(r"x([1-9][0-9]{0,8})")
 _NUMBER = re.compile(r"[+-]?(?:[0-9]+\.?[0-9]*|\.[0-9]+)(?:[eE][+-]?[0-9]+)?")
@@ -83,8 +85,12 @@ def _put_value(line: int, name: str, text: str, variables: array) -> None:
     if not _NUMBER.fullmatch(text):
         raise SolutionFault(f"line {line}: '{text[:40]}' is no value for {name}")
     value = float(text)
-    if abs(value) > TOLERANCE and abs(value - 1) > TOLERANCE:
+    off = min(abs(value), abs(value - 1))
+    if off > SOLVER_TOLERANCE:
         raise SolutionFault(f"line {line}: {name} is {text}, neither 0 nor 1: let the solver solve the model with integers")
+    if off > TOLERANCE:
+        advice = "give the solver a smaller integrality tolerance (Gurobi: IntFeasTol=1e-9; HiGHS: mip_feasibility_tolerance = 1e-9)"
+        raise SolutionFault(f"line {line}: {name} is {text}, off by more than a millionth: {advice}")
     if value > 0.5:
         variables.append(int(match.group(1)))
 

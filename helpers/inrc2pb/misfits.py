@@ -22,18 +22,19 @@ class Misfit(NamedTuple):
     reason: str
 
 
-def _lines(path: Path) -> List[int]:
+def _lines(text: str) -> List[int]:
     """The line of each token."""
-    return [token.line for token in tokens_of(text_of(path))]
+    return [token.line for token in tokens_of(text)]
 
 
-def other_week(path: Path, scenario: Scenario, history: Optional[History]) -> str:
+def other_week(path: Path, scenario: Scenario, history: Optional[History], text: Optional[str] = None) -> str:
     """The line in which the file names another ward or week than these, and the probable mistake; else nothing."""
     try:
-        solution = read_solution(path)
+        text = text_of(path) if text is None else text
+        solution = read_solution(path, None, text)
     except FileFault:
         return ""
-    line = f"line {_lines(path)[_NUMBER]} has"
+    line = f"line {_lines(text)[_NUMBER]} has"
     if solution.scenario != scenario.name:
         return f"{line} '{solution.scenario}', and the scenario is '{scenario.name}': is the file of another ward?"
     if history and solution.week != history.week:
@@ -75,7 +76,7 @@ def misfits(path: Path, solution: Solution, scenario: Scenario, history: Optiona
     """The rows that break H1, H3 or H4, alone or with rows above them, in the order of the file."""
     pasts = history.nurses.values() if history else ()
     shifts: Shifts = {(past.nurse, -1): [past.last_shift] for past in pasts if past.last_shift is not None}
-    for line, row in zip(_lines(path)[_ROWS::_ROW], solution.assignments):
+    for line, row in zip(_lines(text_of(path))[_ROWS::_ROW], solution.assignments):
         for rule, reason in _broken_by(row, shifts, scenario):
             yield Misfit(rule, line, reason)
         shifts.setdefault((row.nurse, row.day), []).append(row.shift)

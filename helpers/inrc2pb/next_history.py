@@ -46,6 +46,7 @@ def next_history(scenario: Scenario, history: History, roster: Iterable[Assignme
 
 
 def main() -> Optional[int]:
+    """The command `inrc2pb-next`."""
     words = parser(
         "Writes the history with which the next week begins.",
         "docs/rules.md says what each number is. Files of different weeks or wards are a fault, with status 1.",

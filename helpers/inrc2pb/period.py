@@ -12,7 +12,8 @@ from typing import Callable, Dict, List, Optional, Sequence
 from .command import Misuse, add_solver_options, fault_line, parser, run
 from .files import FileFault, History, Scenario, Week, check_week_number, read_files, read_history, read_scenario, read_solution
 from .files import history_text, read_week, scenario_text, write_history, write_text
-from .improve import Progress, held_rows, search
+from .improve import Progress, check_effort, held_rows, search
+from .interrupts import Interrupts, interrupts
 from .misfits import read_held
 from .next_history import next_history
 from .processes import Processes
@@ -44,14 +45,14 @@ def plan_once(solver_name: str, seconds: float) -> Plan:
         if files.fix:
             week = read_files(files.scenario, files.history, files.week)
             held_rows(files.fix, week, Progress(sys.stderr))
-        with tempfile.TemporaryDirectory() as folder:
+        processes = Processes()
+        with interrupts() as signals, tempfile.TemporaryDirectory() as folder:
             model = Path(folder, "week.opb")
             encode(files, model)
-            processes = Processes()
-            try:
+            with signals.calling(processes.stop):
                 outcome = solver.solve(Task(model, seconds, Path(folder)), processes)
-            finally:
-                processes.stop()
+        if signals.caught:
+            raise KeyboardInterrupt
         if outcome.fault:
             raise Misuse(f"the solver {solver.name} has no answer: {outcome.fault}; try its command by hand")
         decode(files, outcome.answer, solution)
@@ -101,28 +102,32 @@ class Period:
             raise PermissionError(errno.EACCES, os.strerror(errno.EACCES), str(folder))
 
     def run(self) -> None:
-        """Plans all weeks. After a fault the weeks before it have their files and reports."""
-        for at, path in enumerate(self.files.weeks):
-            number = self.first + at
-            files = WeekFiles(self.files.scenario, self.history_file, path, self.files.fixes.get(number), self.files.early)
-            roster = self.folder / f"roster-{number}.txt"
-            shared = self.files.share and number + 1 < self.scenario.weeks
-            print(f"week {number}" + (", penalties with its share of the totals" if shared else ""), file=sys.stderr, flush=True)
-            try:
-                stopped = self.plan_week(files, roster)
-                _, report = extend(files, roster)
-            except (FileFault, Misuse, ProgramFault) as fault:
-                raise Misuse(f"week {number}: {fault_line(fault)}") from fault
-            assert report is not None
-            self.reports[number] = report
-            print(f"week {number}: penalty {report.penalty}, {roster}", flush=True)
-            if number + 1 < self.scenario.weeks:
-                rows = read_solution(roster, self.scenario).assignments
-                self.history = next_history(self.scenario, self.history, rows)
-                self.history_file = self.folder / f"history-{number + 1}.txt"
-                write_history(self.history_file, self.history)
-            if stopped:
-                raise KeyboardInterrupt
+        """Plans all weeks. After a fault, or if the user stops it, the weeks before have their files and reports."""
+        with interrupts() as signals:
+            for number, path in enumerate(self.files.weeks, self.first):
+                self._plan_and_report(number, path, signals)
+
+    def _plan_and_report(self, number: int, path: Path, signals: Interrupts) -> None:
+        """Plans a week, and writes its roster and the next history."""
+        files = WeekFiles(self.files.scenario, self.history_file, path, self.files.fixes.get(number), self.files.early)
+        roster = self.folder / f"roster-{number}.txt"
+        shared = self.files.share and number + 1 < self.scenario.weeks
+        print(f"week {number}" + (", penalties with its share of the totals" if shared else ""), file=sys.stderr, flush=True)
+        try:
+            stopped = self.plan_week(files, roster)
+            _, report = extend(files, roster)
+        except (FileFault, Misuse, ProgramFault) as fault:
+            raise Misuse(f"week {number}: {fault_line(fault)}") from fault
+        assert report is not None
+        self.reports[number] = report
+        print(f"week {number}: penalty {report.penalty}, {roster}", flush=True)
+        if number + 1 < self.scenario.weeks:
+            rows = read_solution(roster, self.scenario).assignments
+            self.history = next_history(self.scenario, self.history, rows)
+            self.history_file = self.folder / f"history-{number + 1}.txt"
+            write_history(self.history_file, self.history)
+        if stopped or signals.caught:
+            raise KeyboardInterrupt
 
     def plan_week(self, files: WeekFiles, roster: Path) -> bool:
         """Plans a week, if asked for with its share of the totals; whether the user stopped it."""
@@ -179,19 +184,20 @@ def _words() -> argparse.ArgumentParser:
 
 
 def main() -> Optional[int]:
+    """The command `inrc2pb-period`."""
     given = _words().parse_args()
-    if given.time <= 0 or given.jobs < 1:
-        raise Misuse("--time has to be above 0, and --jobs at least 1")
+    check_effort(given.time, "--time", given.jobs)
     solvers = given.solver or list(installed_solvers())
     plan = plan_once(solvers[0], given.time) if given.once else plan_by_improving(solvers, given.time, given.seed, given.jobs)
     files = PeriodFiles(given.sce, given.his, given.week, _fixes(given.fix), given.early, given.share)
     period = Period(files, plan, given.out)
-    try:
-        period.run()
-    finally:
-        if period.reports:
-            print("\n".join(["", *period.table()]))
-            sys.stdout.flush()
+    with interrupts():
+        try:
+            period.run()
+        finally:
+            if period.reports:
+                print("\n".join(["", *period.table()]))
+                sys.stdout.flush()
     return 0
 
 

@@ -98,8 +98,16 @@ def run_program(*words: str, given: str = "") -> str:
 def _fault_line(status: int, said: bytes) -> str:
     lines = said.decode("utf-8", errors="replace").strip().splitlines()
     if status < 0:
-        return f"inrc2pb: ended by {signal.Signals(-status).name}"
+        return f"inrc2pb: ended by {_signal_name(-status)}"
     return lines[0] if lines else f"inrc2pb: ended with status {status}"
+
+
+def _signal_name(number: int) -> str:
+    """The signal's name; most real-time signals have none."""
+    try:
+        return signal.Signals(number).name
+    except ValueError:
+        return f"signal {number}"
 
 
 def encode(files: WeekFiles, model: Path) -> None:

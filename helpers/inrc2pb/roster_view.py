@@ -8,7 +8,9 @@ from . import rules
 from .command import Misuse
 from .files import DAYS, Assignment, History, Scenario, Solution, Week, WeekData, check_week_number
 from .files import read_history, read_scenario, read_solution, read_week
+from .misfits import other_week
 from .next_history import next_history
+from .slots import text_of
 
 HELD, REFUSED = "*", "!"
 MEANINGS = {HELD: "held", REFUSED: "a request to be off was not granted"}
@@ -53,13 +55,14 @@ class WeekView:
 
 @dataclass
 class RosterView:
-    """A table: nurses, shift types and skills in the order in which they are shown, and its weeks."""
+    """A table: nurses, shift types and skills in the order in which they are shown, its weeks, and warnings of its files."""
 
     name: str
     nurses: Sequence[str]
     shifts: Sequence[str]
     skills: Sequence[str]
     weeks: Sequence[WeekView]
+    warnings: Sequence[str] = ()
 
     def __post_init__(self) -> None:
         self._cells: Dict[object, List[Cell]] = {}
@@ -120,12 +123,13 @@ def read_view(files: RosterFiles) -> RosterView:
     """Reads the files of a table."""
     _check_numbers(files)
     scenario = read_scenario(files.scenario) if files.scenario else None
-    solutions = [read_solution(path, scenario) for path in files.rosters]
+    texts = {path: text_of(path) for path in (*files.rosters, *files.fixes)}
+    solutions = [read_solution(path, scenario, texts[path]) for path in files.rosters]
     datas = [read_week(path, scenario) for path in files.weeks] if scenario else []
     histories = _histories(files, scenario, solutions) if scenario else []
     views = []
     for at, solution in enumerate(solutions):
-        held = read_solution(files.fixes[at], scenario).assignments if files.fixes else ()
+        held = read_solution(files.fixes[at], scenario, texts[files.fixes[at]]).assignments if files.fixes else ()
         view = WeekView(solution.week, solution.assignments, set(held), set(), {}, [], [])
         if datas:
             view.refused = set(_refused(datas[at], solution.assignments))
@@ -137,7 +141,8 @@ def read_view(files: RosterFiles) -> RosterView:
         views.append(view)
     rows_of_all = [row for view in views for row in view.rows]
     if scenario:
-        return RosterView(scenario.name, list(scenario.nurses), list(scenario.shift_types), list(scenario.skills), views)
+        warnings = list(_other_weeks(files, texts, scenario, histories))
+        return RosterView(scenario.name, list(scenario.nurses), list(scenario.shift_types), list(scenario.skills), views, warnings)
     ordered = [list(dict.fromkeys(getattr(row, field) for row in rows_of_all)) for field in ("nurse", "shift", "skill")]
     return RosterView(solutions[0].scenario, *ordered, views)
 
@@ -168,6 +173,15 @@ def _histories(files: RosterFiles, scenario: Scenario, solutions: Sequence[Solut
         except Misuse as fault:
             raise Misuse(f"{files.rosters[at]}: {fault}") from fault
     return histories
+
+
+def _other_weeks(files: RosterFiles, texts: Dict[Path, str], scenario: Scenario, histories: Sequence[History]) -> Iterator[str]:
+    """A warning for each roster and fix file of another ward or week than it is shown with."""
+    for paths in (files.rosters, files.fixes):
+        for at, path in enumerate(paths):
+            found = other_week(path, scenario, histories[at] if histories else None, texts[path])
+            if found:
+                yield f"{path}: {found}"
 
 
 def _refused(data: WeekData, rows: Iterable[Assignment]) -> Iterator[Assignment]:

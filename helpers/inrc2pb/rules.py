@@ -156,6 +156,7 @@ def nurse_costs(week: Week, roster: Sequence[Assignment], early: bool = False) -
 
 
 def main() -> None:
+    """The command `python3 -m inrc2pb.rules`."""
     words = parser("Prints what a roster costs, as docs/rules.md has it.")
     add_week_options(words)
     words.add_argument("roster", type=Path, help="a solution file")

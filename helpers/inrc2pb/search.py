@@ -16,13 +16,15 @@ from .neighborhoods import Neighborhoods
 from .processes import Processes
 from .program import ProgramFault, WeekFiles, decode, encode
 from .rules import nurse_costs
-from .solvers import Outcome, Solver, Task
+from .solvers import Cbc, HearBound, Solver, Task
 
 # The statuses with which `decode` ends: no roster in the answer, a fault in its text, or an unsatisfied constraint.
 _NO_ROSTER = 5
 _REJECTED = (1, 6)
 MAX_FAULTS = 3
 FIRST_SECONDS = 3.0
+# A solver ends this much before the search does, so that its answer is still checked; for a short search a tenth of its time.
+ANSWER_SECONDS = 1.0
 # After so many seconds without a better roster a neighborhood has twice the time, so that larger ones are proved; then more.
 STALL_SECONDS = 20.0
 MAX_PATIENCE = 3.0
@@ -83,7 +85,7 @@ class Search:
         """One worker. A fault ends the search; after `stop` faults mean nothing."""
         try:
             self._first(number, jobs, folder)
-            while not self._ended.is_set():
+            while self._goes_on():
                 self._step(chance, folder)
         except BaseException as fault:  # noqa: B902
             with self._lock:
@@ -92,7 +94,12 @@ class Search:
             self.stop()
 
     def _left(self) -> float:
-        return self._limit - time.monotonic()
+        """The seconds that a solver may take now."""
+        return self._limit - min(ANSWER_SECONDS, self._seconds / 10) - time.monotonic()
+
+    def _goes_on(self) -> bool:
+        """Whether there is time for another solver."""
+        return not self._ended.is_set() and self._left() > 0
 
     def _first(self, number: int, jobs: int, folder: Path) -> None:
         """Solves the whole week: one worker until there is a roster, one or two more for a proof. The others wait for a roster."""
@@ -100,21 +107,21 @@ class Search:
         if proof:
             self._whole(proof[0], min(proof[1], self._left() - min(3.0, self._seconds / 10)), folder)
         elif number > 1:
-            while not self._ended.is_set() and not self._best.now().version:
+            while self._goes_on() and not self._best.now().version:
                 time.sleep(0.05)
         commands = itertools.cycle(command for solver in self._solvers for command in solver.whole())
         seconds = min(FIRST_SECONDS, self._seconds / 6)
-        while not self._ended.is_set() and not self._best.now().version:
+        while self._goes_on() and not self._best.now().version:
             self._whole(next(commands), min(seconds, self._left()), folder)
             seconds *= 1.5
-        if jobs == 1 and not self._ended.is_set():
+        if jobs == 1 and self._goes_on():
             self._whole(self._solvers[-1].whole()[-1], self._seconds * PROOF_SHARE, folder)
 
     def _proof(self, number: int, jobs: int) -> Optional[Tuple[Solver, float]]:
         """The solver with which this worker begins, to prove a bound or a small week, and its time."""
         last = self._solvers[-1].whole()[-1]
         if number == 0 and jobs > 1:
-            return last, self._seconds * (LONG_PROOF_SHARE if jobs > 2 and last.name == "cbc" else PROOF_SHARE)
+            return last, self._seconds * (LONG_PROOF_SHARE if jobs > 2 and isinstance(last, Cbc) else PROOF_SHARE)
         if number == 2 and len(self._solvers) > 1:
             return self._solvers[0].whole()[-1], min(FIRST_SECONDS * 3, self._seconds * PROOF_SHARE)
         return None
@@ -122,11 +129,7 @@ class Search:
     def _whole(self, solver: Solver, seconds: float, folder: Path) -> None:
         """Solves the whole week with one solver."""
         seen = self._best.now()
-        model = folder / "model.opb"
-        encode(self._files, model)
-        task = Task(model, seconds, folder, seen.penalty)
-        outcome = solver.solve(task, self._processes, lambda bound: self._bound(bound, solver.name))
-        found = self._decoded(outcome, self._files, solver, folder, seen)
+        found = self._solve(solver, self._files, seconds, seen, folder, lambda bound: self._bound(bound, solver.name))
         if found:
             self._best.offer(found[0], seen, None, folder, f"{solver.name}, the whole week")
             if found[1]:
@@ -140,7 +143,12 @@ class Search:
             self.stop()
 
     def _prove(self, penalty: int, solver: Solver) -> None:
-        self._best.prove(penalty, solver.name)
+        """A solver claims that no roster costs less than its own. It is wrong if there is one."""
+        best = self._best.now().penalty
+        if best is not None and best < penalty:
+            self._blame(solver, f"it calls a roster of penalty {penalty} the best, and one of {best} is known")
+            return
+        self._best.raise_bound(penalty, solver.name)
         self.stop()
 
     def _step(self, chance: random.Random, folder: Path) -> None:
@@ -152,21 +160,19 @@ class Search:
         solver = solvers[name]
         files = self._held(seen.roster, [row for row in seen.roster.assignments if not freed.frees(row)], folder)
         began = time.monotonic()
-        model = folder / "model.opb"
-        encode(files, model)
         patience = solver.patience * min(MAX_PATIENCE, 1 + (began - self._best.improved_at) / STALL_SECONDS)
-        task = Task(model, min(patience, self._left()), folder, seen.penalty)
-        outcome = solver.solve(task, self._processes)
-        found = self._decoded(outcome, files, solver, folder, seen)
+        found = self._solve(solver, files, min(patience, self._left()), seen, folder)
+        seconds = time.monotonic() - began
+        # What was found before the search ended counts.
+        if found:
+            self._best.offer(found[0], seen, freed, folder, f"{solver.name}, {freed}")
         if self._ended.is_set():
             return
         proved = found is not None and found[1]
         gain = seen.penalty - found[0].penalty if found else 0
-        self._neighborhoods.learn(solver.name, freed, proved, gain, time.monotonic() - began, patience)
-        if found:
-            self._best.offer(found[0], seen, freed, folder, f"{solver.name}, {freed}")
-            if proved and self._neighborhoods.is_whole(freed):
-                self._prove(found[0].penalty, solver)
+        self._neighborhoods.learn(solver.name, freed, proved, gain, seconds, patience)
+        if found and proved and self._neighborhoods.is_whole(freed):
+            self._prove(found[0].penalty, solver)
         if self._best.is_proved():
             self.stop()
 
@@ -181,8 +187,15 @@ class Search:
         with self._lock:
             return list(self._solvers)
 
-    def _decoded(self, outcome: Outcome, files: WeekFiles, solver: Solver, folder: Path, seen: Snapshot) -> Optional[Tuple[Snapshot, bool]]:
-        """The roster of an answer that `decode` accepts, and whether the solver proved it optimal for its model."""
+    def _solve(
+        self, solver: Solver, files: WeekFiles, seconds: float, seen: Snapshot, folder: Path, hear: Optional[HearBound] = None
+    ) -> Optional[Tuple[Snapshot, bool]]:
+        """A roster that the solver found in these seconds and `decode` accepts, and whether it is proved optimal for its model."""
+        model = folder / "model.opb"
+        encode(files, model)
+        began = time.monotonic()
+        outcome = solver.solve(Task(model, seconds, folder, seen.penalty), self._processes, hear)
+        early = time.monotonic() - began < seconds / 2
         if self._ended.is_set() and not outcome.answer:
             return None
         if outcome.fault:
@@ -192,18 +205,22 @@ class Search:
         try:
             report = decode(files, outcome.answer, path)
         except ProgramFault as fault:
-            self._judge(fault, solver, seen, files)
+            self._judge(fault, solver, seen, early)
             return None
         with self._lock:
             self._faults[solver.name] = 0
         return Snapshot(0, report.penalty, read_solution(path)), report.optimal
 
-    def _judge(self, fault: ProgramFault, solver: Solver, seen: Snapshot, files: WeekFiles) -> None:
-        """Reports an answer that `decode` did not accept; one without a roster is no fault, but for a wrong proof."""
+    def _judge(self, fault: ProgramFault, solver: Solver, seen: Snapshot, early: bool) -> None:
+        """Reports an answer that `decode` did not accept. One without a roster is a fault if it is wrong, or came too early."""
         if fault.status in _REJECTED:
             self._blame(solver, f"its answer was rejected: {fault.message}")
         elif fault.status != _NO_ROSTER:
             raise fault
+        elif "UNSUPPORTED" in fault.message:
+            self._blame(solver, "it does not support this model")
+        elif "UNKNOWN" in fault.message and early:
+            self._blame(solver, "it gave up before its time was over")
         elif "UNSATISFIABLE" in fault.message and seen.version:
             self._blame(solver, "it found no roster where there is one")
         elif "UNSATISFIABLE" in fault.message and not self._best.now().version:

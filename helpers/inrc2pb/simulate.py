@@ -3,14 +3,16 @@
 from pathlib import Path
 from typing import List, Optional
 
-from .command import Misuse, add_solver_options, parser, run
-from .files import read_files
-from .improve import improve
+from .command import add_solver_options, parser, run
+from .files import read_files, write_text
+from .improve import Progress, check_effort, check_target, search
+from .interrupts import interrupts
 from .program import WeekFiles
 from .solvers import installed_solvers
 
 
 def main() -> Optional[int]:
+    """The command `inrc2pb-simulate`."""
     words = parser(
         "Plans one week, with the command line that the simulator of the competition INRC-II calls.",
         "--cusIn and --cusOut carry a solver's own data from week to week. This one keeps none: it reads no --cusIn, and writes\n"
@@ -27,16 +29,19 @@ def main() -> Optional[int]:
     add_solver_options(words)
     words.add_argument("--no-early", action="store_true", help="charge excess assignments and weekends in the last week only")
     given = words.parse_args()
-    if given.timeout <= 0 or given.jobs < 1:
-        raise Misuse("--timeout has to be above 0, and --jobs at least 1")
+    check_effort(given.timeout, "--timeout", given.jobs)
     week = read_files(given.sce, given.his, given.week)
     solvers: List[str] = given.solver or list(installed_solvers())
     files = WeekFiles(given.sce, given.his, given.week, early=not given.no_early)
-    # The last check and the file take a moment too.
-    report = improve(files, None, given.sol, max(0.5, given.timeout - min(2.0, given.timeout / 10)), given.rand, given.jobs, solvers)
     if given.cusOut:
-        given.cusOut.write_text(f"{week.history.week + 1}\n", encoding="utf-8")
-    print(report.text, end="")
+        check_target(given.cusOut.absolute())
+    # The last check and the file take a moment too.
+    seconds = max(0.5, given.timeout - min(2.0, given.timeout / 10))
+    with interrupts():
+        outcome = search(files, None, given.sol, seconds, given.rand, given.jobs, solvers, Progress(None))
+        if given.cusOut:
+            write_text(given.cusOut, f"{week.history.week + 1}\n")
+        print(outcome.report.text, end="", flush=True)
     return 0
 
 

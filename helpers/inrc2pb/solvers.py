@@ -19,6 +19,9 @@ from .processes import Processes
 # Good on a neighborhood: the solver raises a lower bound until it is met.
 CLASP_BOUND = ("--configuration=crafty", "--opt-strategy=usc,k,0,7")
 _PACKAGES = {"clasp": "clasp", "cbc": "coinor-cbc", "minisat+": "minisat+", "toulbar2": "toulbar2"}
+_CLASP_BOUND = re.compile(r"^c Progression : \[\s*([0-9]+);")
+# A longer line has the values of variables, and no bound.
+_BOUND_LINE = 200
 _CBC_BOUND = re.compile(r"best possible\s+([-+0-9.e]+)|Lower bound:\s+([-+0-9.e]+)|Continuous objective value is\s+([-+0-9.e]+)")
 
 
@@ -60,11 +63,15 @@ class Solver:
 
 
 class CommandSolver(Solver):
-    """A command that reads an OPB model, whose path is at `{}` or at the end, and prints an answer."""
+    """A command that reads an OPB model, whose path is at `{}` or at the end, and prints an answer.
+
+    It runs in the user's folder, so that its words may name files there.
+    """
 
     def __init__(self, name: str, words: Sequence[str]) -> None:
         self.name = name
         self.words = list(words)
+        self._home = Path.cwd()
 
     def command(self, model: Path, seconds: float) -> List[str]:
         """The command for this model."""
@@ -73,16 +80,20 @@ class CommandSolver(Solver):
         return [word.replace("{}", str(model)) for word in self.words]
 
     def solve(self, task: Task, processes: Processes, hear: Optional[HearBound] = None) -> Outcome:
-        ended = processes.run(self.command(task.model, task.seconds), task.seconds, task.folder)
+        ended = processes.run(self.command(task.model, task.seconds), task.seconds, self._home, hear=self.listener(hear))
         if re.search(r"^s(?:[ \t\r]|$)", ended.output, re.MULTILINE):
             return Outcome(ended.output)
         if ended.timed_out:
             return NONE_IN_TIME
         return Outcome("", f"it printed no answer and {_ending(ended.status)}")
 
+    def listener(self, hear: Optional[HearBound]) -> Optional[Callable[[bytes], None]]:
+        """Finds lower bounds in the output, if the solver prints some."""
+        return None
+
 
 class Clasp(CommandSolver):
-    """clasp, which ends by itself when its time is over."""
+    """clasp, which ends by itself when its time is over. It prints lower bounds with the options CLASP_BOUND."""
 
     patience = 6.0
 
@@ -91,6 +102,12 @@ class Clasp(CommandSolver):
 
     def command(self, model: Path, seconds: float) -> List[str]:
         return [*self.words, f"--time-limit={max(1, int(seconds))}", str(model)]
+
+    def listener(self, hear: Optional[HearBound]) -> Optional[Callable[[bytes], None]]:
+        if hear is None:
+            return None
+        report = hear
+        return Listener(_CLASP_BOUND, lambda text: report(int(text))).hear
 
     def whole(self) -> List[Solver]:
         return [Clasp(), self]
@@ -113,7 +130,7 @@ class Cbc(Solver):
         # Rosters that cost more than the known one are cut off: then a neighborhood takes half the time.
         cutoff = [] if task.known is None else ["cutoff", f"{task.known + 0.5}"]
         words = ["cbc", str(lp), "sec", f"{left:.1f}", "timem", "elapsed", *cutoff, "solve", "solution", str(solution)]
-        listener = _CbcListener(hear, size.step).hear if hear and size.step else None
+        listener = Listener(_CBC_BOUND, _rounded(hear, size.step)).hear if hear and size.step else None
         ended = processes.run(words, left + 1, task.folder, signal.SIGINT, listener)
         if not solution.exists():
             return NONE_IN_TIME if ended.timed_out else Outcome("", f"it wrote no result file and {_ending(ended.status)}")
@@ -131,40 +148,63 @@ def answer_of(solution: Path, ended: Optional[str] = None) -> Outcome:
     return Outcome(text.getvalue())
 
 
-class _CbcListener:
-    """Finds lower bounds in cbc's log. Each value of the objective is a multiple of `step`, so a bound is rounded up to one."""
+class Listener:
+    """Finds the numbers that the pattern matches in the lines of a solver's output."""
 
-    def __init__(self, report: HearBound, step: int) -> None:
-        self._report = report
-        self._step = step
+    def __init__(self, pattern: "re.Pattern[str]", take: Callable[[str], None]) -> None:
+        self._pattern = pattern
+        self._take = take
         self._rest = b""
 
     def hear(self, data: bytes) -> None:
-        """Takes the next bytes of the log."""
+        """Takes the next bytes of the output."""
         *lines, self._rest = (self._rest + data).split(b"\n")
         for line in lines:
-            match = _CBC_BOUND.search(line.decode("ascii", errors="replace"))
+            match = self._pattern.search(line[:_BOUND_LINE].decode("ascii", errors="replace"))
             if match:
                 self._take(next(group for group in match.groups() if group))
+        self._rest = self._rest[:_BOUND_LINE]
 
-    def _take(self, text: str) -> None:
+
+def _rounded(report: HearBound, step: int) -> Callable[[str], None]:
+    """Reports a bound that cbc printed. It has six digits, and each value of the objective is a multiple of `step`."""
+
+    def take(text: str) -> None:
         try:
             value = float(text)
         except ValueError:
             return
         if math.isfinite(value) and abs(value) < 1e15:
-            self._report(math.ceil((value - 1e-6 * max(1.0, abs(value))) / self._step) * self._step)
+            report(math.ceil((value - 1e-5 * max(1.0, abs(value))) / step) * step)
+
+    return take
 
 
 def _ending(status: int) -> str:
-    if status < 0:
+    if status >= 0:
+        return f"ended with status {status}"
+    try:
         return f"was ended by {signal.Signals(-status).name}"
-    return f"ended with status {status}"
+    except ValueError:
+        return f"was ended by signal {-status}"
+
+
+def find_solvers(texts: Sequence[str]) -> List[Solver]:
+    """The solvers of these names or commands. Each has a name of its own: its program, or else the whole command."""
+    solvers = {text: find_solver(text) for text in texts}
+    names = [solver.name for solver in solvers.values()]
+    for text, solver in solvers.items():
+        if names.count(solver.name) > 1:
+            solver.name = text
+    return list(solvers.values())
 
 
 def find_solver(text: str) -> Solver:
     """The solver of this name or command."""
-    words = shlex.split(text)
+    try:
+        words = shlex.split(text)
+    except ValueError as fault:
+        raise Misuse(f"--solver {text}: {fault}: correct its quotes") from fault
     if not words:
         raise Misuse("a solver has no name: give clasp, cbc or a command")
     if not shutil.which(words[0]):

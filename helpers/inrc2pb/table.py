@@ -47,8 +47,11 @@ def csv_text(view: RosterView) -> str:
 
 
 def main() -> Optional[int]:
+    """The command `inrc2pb-table`."""
     given = _words().parse_args()
     view = read_view(RosterFiles(given.roster, given.sce, given.his, given.week, given.fix, given.early))
+    for warning in view.warnings:
+        print(f"{os.path.basename(sys.argv[0])}: {warning}", file=sys.stderr)
     if given.csv:
         print(csv_text(view), end="")
     else:

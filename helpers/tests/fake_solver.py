@@ -2,8 +2,8 @@
 """A solver for tests: `fake_solver.py HOW MODEL` behaves as HOW says.
 
 `crash` ends by a signal, `silent` prints nothing, `nonsense` prints bytes that are no answer, `flood` prints them without
-end, `rejected` prints an answer that breaks the model, `liar` says that no roster exists, `deaf` ignores TERM and never ends,
-and `clasp` lets clasp answer.
+end, `rejected` prints an answer that breaks the model, `liar` says that no roster exists, `unsupported` that it cannot read
+the model, `lazy` gives up at once, `deaf` ignores TERM and never ends, and `clasp` lets clasp answer.
 """
 
 import os
@@ -25,6 +25,8 @@ def main():
         print("s OPTIMUM FOUND\no 0\nv x1 x2 x3")
     elif how == "liar":
         print("s UNSATISFIABLE")
+    elif how in ("unsupported", "lazy"):
+        print("s UNSUPPORTED" if how == "unsupported" else "s UNKNOWN")
     elif how == "deaf":
         signal.signal(signal.SIGTERM, signal.SIG_IGN)
         while True:

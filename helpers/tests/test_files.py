@@ -1,6 +1,9 @@
 """Tests of the readers and writers of files, and of `inrc2pb-check`."""
 
+import os
+import resource
 import unittest
+from unittest import mock
 
 from ward import HISTORY, ROSTER, SCENARIO, WARD, WEEK, WEEK_FILES, WEEK_OPTIONS, HelperTest, files, run
 
@@ -31,6 +34,35 @@ class RoundTrips(HelperTest):
             files.write_text(self.folder / "missing" / "roster.txt", "new")
         files.write_text(target, "new")
         self.assertEqual((target.read_text(), [path.name for path in self.folder.iterdir()]), ("new", ["roster.txt"]))
+
+    def test_a_new_file_has_the_permissions_of_the_umask(self):
+        new, private = self.folder / "new.txt", self.folder / "private.txt"
+        private.write_text("old")
+        private.chmod(0o600)
+        self.addCleanup(os.umask, os.umask(0o027))
+        # The umask is that of all threads, so a thread must not change it, not even to ask for it.
+        with mock.patch("os.umask", side_effect=AssertionError):
+            files.write_text(new, "new")
+            files.write_text(private, "new")
+        self.assertEqual([path.stat().st_mode & 0o777 for path in (new, private)], [0o640, 0o600])
+
+    def test_a_file_that_cannot_be_replaced_gets_its_old_bytes_back(self):
+        target = self.folder / "roster.txt"
+        target.write_text("old text")
+        soft, hard = resource.getrlimit(resource.RLIMIT_FSIZE)
+        with mock.patch("os.access", return_value=False):
+            self.addCleanup(resource.setrlimit, resource.RLIMIT_FSIZE, (soft, hard))
+            resource.setrlimit(resource.RLIMIT_FSIZE, (20, hard))
+            with self.assertRaises(OSError) as caught:
+                files.write_text(target, "new" * 100)
+            self.assertEqual((caught.exception.filename, target.read_text()), (str(target), "old text"))
+            files.write_text(target, "new")
+        self.assertEqual((target.read_text(), len(list(self.folder.iterdir()))), ("new", 1))
+
+    def test_a_file_with_the_longest_name(self):
+        target = self.folder / ("\u00e9" * 127 + "s")
+        files.write_text(target, "new")
+        self.assertEqual(target.read_text(), "new")
 
     def test_a_full_disk_is_a_fault(self):
         with self.assertRaises(OSError) as caught:
@@ -80,6 +112,31 @@ class Mistakes(HelperTest):
 
     def test_good_files(self):
         self.assertEqual(run("check", *WEEK_OPTIONS, "--roster", ROSTER), (0, "No mistake found.\n", ""))
+
+    def test_without_the_program_the_rules_are_checked_too(self):
+        missing = "there is no program /nowhere: correct or unset the variable INRC2PB"
+        warning = f"warning: {missing}; the files were checked without it\n"
+        fix = self.solution("Grace Sat Day Nurse", name="fix.txt")
+        broken = self.changed(ROSTER, "Amara Tue Day Charge", "Amara Mon Late Nurse")
+        for words, status, said in (
+            (("--roster", ROSTER), 0, "No mistake found.\n"),
+            (("--roster", broken), 1, f"{broken} line 6: roster breaks H1: Amara has two places on Mon\n"),
+            (("--roster", ROSTER, "--fix", fix), 1, f"{ROSTER}: roster breaks H5: the held row 'Grace Sat Day Nurse' is missing\n"),
+        ):
+            with self.subTest(words=words):
+                ran = run("check", *WEEK_OPTIONS, *words, environment={"INRC2PB": "/nowhere"})
+                self.assertEqual(ran, (status, warning + said, ""))
+
+    def test_each_roster_that_breaks_a_rule_is_named(self):
+        one = self.changed(ROSTER, "Amara Tue Day Charge", "Amara Mon Late Nurse", "one.txt")
+        other = self.changed(ROSTER, "Bruno Mon Day Nurse", "Chen Mon Day Charge", "other.txt")
+        status, printed, _ = run("check", *WEEK_OPTIONS, "--roster", one, "--roster", ROSTER, "--roster", other)
+        self.assertEqual((status, [line.split(":")[0] for line in printed.splitlines()]), (1, [f"{one} line 6", f"{other} line 10"]))
+
+    def test_rules_need_the_whole_week(self):
+        status, printed, _ = run("check", "--sce", SCENARIO, "--roster", ROSTER)
+        warning = "warning: hard rules are not checked without the whole week: give --his and --week too"
+        self.assertEqual((status, printed), (0, f"{warning}\nNo mistake found.\n"))
 
     def test_warnings_are_no_mistakes(self):
         ward = self.changed(SCENARIO, "Day (2,5)", "Day (5,2)", "ward.txt")

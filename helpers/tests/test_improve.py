@@ -15,9 +15,10 @@ from ward import HELPERS, ROOT, ROSTER, SCENARIO, WEEK_FILES, WEEK_OPTIONS, Help
 
 from inrc2pb.best_roster import BestRoster, Snapshot
 from inrc2pb.improve import Progress, improve, search
+from inrc2pb.interrupts import interrupts
 from inrc2pb.neighborhoods import Neighborhood, Neighborhoods
 from inrc2pb.processes import Processes
-from inrc2pb.solvers import Cbc, Task, find_solver
+from inrc2pb.solvers import CLASP_BOUND, Cbc, Clasp, Task, _rounded, find_solver, find_solvers
 
 FAKE = Path(__file__).resolve().parent / "fake_solver.py"
 THIRTY = ROOT / "examples" / "thirty"
@@ -112,6 +113,8 @@ class BadSolvers(HelperTest):
             "nonsense": "printed no answer and ended with status 1",
             "rejected": "answer was rejected",
             "liar": "found no roster where there is one",
+            "unsupported": "does not support this model",
+            "lazy": "gave up before its time was over",
         }
         for how, says in rows.items():
             with self.subTest(how=how):
@@ -121,6 +124,14 @@ class BadSolvers(HelperTest):
                 self.assertIn(says, faults)
                 self.assertIn("choose another solver with --solver", faults.splitlines()[-1])
                 self.assertEqual(program.penalty_of(WEEK_FILES, self.folder / "best.txt"), program.penalty_of(WEEK_FILES, ROSTER))
+
+    def test_a_wrong_proof_is_reported(self):
+        answer, _ = program.extend(WEEK_FILES, self.swapped("Amara", "Bruno"))
+        proud = self.folder / "answer.txt"
+        proud.write_text(answer.replace("s SATISFIABLE", "s OPTIMUM FOUND"))
+        status, report, faults = self.improve("--solver", f"sh -c 'cat {proud}'", "--from", ROSTER)
+        self.assertEqual((status, report), (1, ""))
+        self.assertIn("sh: it calls a roster of penalty 110 the best, and one of 20 is known: skipped", faults)
 
     @unittest.skipUnless(HAS_CLASP, "needs clasp")
     def test_the_others_go_on(self):
@@ -139,11 +150,25 @@ class BadSolvers(HelperTest):
                 self.assertLess(time.monotonic() - began, 60)
                 self.assertFalse((self.folder / "new.txt").exists())
 
-    def test_a_missing_solver(self):
-        status, _, faults = self.improve("--solver", "no_such_solver")
-        self.assertEqual(status, 1)
-        self.assertIn("there is no solver no_such_solver", faults)
-        self.assertEqual(faults.count("\n"), 1)
+    def test_a_solver_that_cannot_be_run(self):
+        rows = {"no_such_solver": "there is no solver no_such_solver", "clasp 'x": "No closing quotation: correct its quotes"}
+        for solver, says in rows.items():
+            status, _, faults = self.improve("--solver", solver)
+            self.assertEqual(status, 1)
+            self.assertIn(says, faults)
+            self.assertEqual(faults.count("\n"), 1)
+
+    def test_a_solver_in_the_users_folder(self):
+        (self.folder / "mine.sh").write_text("#!/bin/sh\ncat answer.txt\n")
+        (self.folder / "mine.sh").chmod(0o755)
+        (self.folder / "answer.txt").write_text("s UNKNOWN\n")
+        before = os.getcwd()
+        os.chdir(self.folder)
+        try:
+            solver = find_solver("./mine.sh")
+        finally:
+            os.chdir(before)
+        self.assertEqual(solver.solve(Task(Path("week.opb"), 10, Path("/")), Processes()).answer, "s UNKNOWN\n")
 
 
 class BadInput(HelperTest):
@@ -161,6 +186,9 @@ class BadInput(HelperTest):
         self.assert_refused(6, says, *WEEK_OPTIONS, *target, "--from", two)
         self.assert_refused(3, "missing.txt", *WEEK_OPTIONS, *target, "--from", self.folder / "missing.txt")
         self.assert_refused(3, "no_folder", *WEEK_OPTIONS, "--sol", self.folder / "no_folder" / "best.txt")
+        kept = shutil.copy(ROSTER, self.folder / "kept.txt")
+        self.assert_refused(1, f"{kept} is read, so the roster cannot be written to it", *WEEK_OPTIONS, "--sol", kept, "--fix", kept)
+        self.assert_refused(1, "--time has to be a number of seconds above 0", *WEEK_OPTIONS, *target, "--time", "nan")
         broken = self.changed(SCENARIO, "Chen Full", "Chen Ful", "broken.txt")
         self.assert_refused(1, "line 26", "--sce", broken, *WEEK_OPTIONS[2:], *target)
         self.assertFalse((self.folder / "best.txt").exists())
@@ -242,9 +270,27 @@ class Parts(HelperTest):
             chosen.learn("clasp", freed, True, 50, 1.0, 6.0)
         self.assertGreater(sum(one.kind == "both" for one in self.choices(chosen)), before)
 
+    def best_roster(self, kept, warnings=None):
+        """A best roster that notes the penalties of the rosters kept, and the warnings."""
+        warnings = [] if warnings is None else warnings
+        return BestRoster(WEEK_FILES, self.folder / "best.txt", lambda penalty, finder: kept.append(penalty), warnings.append)
+
+    def test_a_better_roster_is_kept_also_after_another(self):
+        kept, warnings, roster = [], [], files.read_solution(ROSTER)
+        best = self.best_roster(kept, warnings)
+        for penalty in (50, 40, 30):
+            best.offer(Snapshot(0, penalty, roster), Snapshot(), None, self.folder, "a test")
+        best.offer(Snapshot(0, 35, roster), Snapshot(), None, self.folder, "a test")
+        self.assertEqual(kept, [50, 40, 30])
+        best.raise_bound(25, "a solver")
+        self.assertFalse(best.is_proved())
+        best.offer(Snapshot(0, 20, roster), Snapshot(), None, self.folder, "a test")
+        self.assertEqual((best.bound, best.is_proved()), (None, False))
+        self.assertEqual(warnings, ["a solver: its lower bound 25 is wrong, since a roster costs 20"])
+
     def test_two_improvements_are_merged_if_the_roster_costs_less(self):
         kept = []
-        best = BestRoster(WEEK_FILES, self.folder / "best.txt", lambda penalty, finder: kept.append(penalty))
+        best = self.best_roster(kept)
         roster = files.read_solution(ROSTER)
         best.offer(Snapshot(0, 20, roster), Snapshot(), None, self.folder, "a test")
         seen = Snapshot(0, 30, roster)
@@ -259,6 +305,36 @@ class Parts(HelperTest):
     def test_solvers_are_commands(self):
         solver = find_solver(f"{sys.executable} -c 'print(1)' {{}} x")
         self.assertEqual(solver.command(Path("week.opb"), 5)[1:], ["-c", "print(1)", "week.opb", "x"])
+
+    @unittest.skipUnless(HAS_CLASP, "needs clasp")
+    def test_solvers_have_names_of_their_own(self):
+        names = [solver.name for solver in find_solvers(["clasp", "clasp --quiet", "sh -c true"])]
+        self.assertEqual(names, ["clasp", "clasp --quiet", "sh"])
+
+    def test_bounds_in_the_output(self):
+        bounds = []
+        clasp = Clasp(*CLASP_BOUND).listener(bounds.append)
+        for piece in (b"o 530\nc Progression : [ 3", b"0;530] (Error: 16.6)\n", b"v x1 " + b"x2 " * 500, b"\nc Progression : [320;340]\n"):
+            clasp(piece)
+        self.assertEqual(bounds, [30, 320])
+        rows = {"590.02": 595, "595": 595, "595.004": 595, "2.00004e+08": 200002000, "nonsense": None}
+        for text, wanted in rows.items():
+            bounds.clear()
+            _rounded(bounds.append, 5)(text)
+            self.assertEqual(bounds, [] if wanted is None else [wanted], text)
+
+    def test_ignored_signals_stay_ignored(self):
+        before = signal.signal(signal.SIGHUP, signal.SIG_IGN)
+        try:
+            with interrupts() as signals:
+                os.kill(os.getpid(), signal.SIGHUP)
+                os.kill(os.getpid(), signal.SIGTERM)
+                called = []
+                with signals.calling(lambda: called.append(True)):
+                    self.assertEqual(called, [True])
+                self.assertEqual(signals.caught, [signal.SIGTERM])
+        finally:
+            signal.signal(signal.SIGHUP, before)
 
     def test_groups_end(self):
         processes = Processes()

@@ -22,6 +22,30 @@ STATUS_OF = {"optimal": "OPTIMUM FOUND", "stopped": "SATISFIABLE", "none": "UNKN
 BEST = "o 15\nv x1 x3\n"
 
 
+# The bytes of a long model, the kilobytes that its conversion may take at most, and a program that prints what it took. The
+# largest size in /proc is the program's own; `ru_maxrss` may be that of the process that started it.
+LONG_MODEL = 30_000_000
+MAX_MEMORY = 60_000
+MEASURED = """
+import re, sys
+sys.path.insert(0, sys.argv[1])
+from inrc2pb.linear_program import main
+main(["model", sys.argv[2], "--lp", sys.argv[3]])
+print(re.search("VmHWM: *([0-9]+) kB", open("/proc/self/status").read().replace("\\t", "")).group(1))
+"""
+
+
+def write_model(path, size):
+    """Writes a model of about this size: half of it is the objective."""
+    terms = " ".join(f"+{100 + number % 30} x{100000 + number}" for number in range(1000))
+    count = size // len(terms) // 2
+    with open(path, "w", encoding="ascii") as model:
+        model.write(f"* #variable= 100999 #constraint= {count}\nmin:")
+        model.writelines(f" {terms}" for _ in range(count))
+        model.write(" ;\n")
+        model.writelines(f"{terms} >= 1 ;\n" for _ in range(count))
+
+
 def answer_of(text, ended=None):
     """The answer in the text of a solution file."""
     target = io.StringIO()
@@ -63,9 +87,11 @@ class LinearPrograms(unittest.TestCase):
         self.assertEqual(" ".join(words[words.index("c1:") + 1 : words.index("c2:")]), f"{row} >= 1")
 
     def test_longest_terms_fit_a_line(self):
-        terms = " ".join(["+699790000 x20250209"] * 100)
-        text, _ = lp_of(f"* #variable= 20250209 #constraint= 1\nmin: {terms} ;\n{terms} >= -10000 ;\n".replace("20250209 #", "20 #"))
-        self.assertLessEqual(max(map(len, text.split("\n"))), MAX_LINE)
+        terms = " ".join([f"-{'9' * 17} x{'9' * 10}"] * 100)
+        text, _ = lp_of(f"* #variable= 20 #constraint= 1\nmin: {terms} ;\n{terms} >= -{'9' * 17} ;\n")
+        # The row of the last constraint that a header can announce.
+        row = next(line for line in text.split("\n") if line.startswith(" c1:"))
+        self.assertLessEqual(max(map(len, [*text.split("\n"), row.replace("c1", "c" + "9" * 10)])), MAX_LINE)
 
     def test_faults(self):
         rows = {
@@ -75,11 +101,35 @@ class LinearPrograms(unittest.TestCase):
             "* #variable= 1 #constraint= 2\n+1 x1 >= 1 ;\n": "announces 2",
             "* #variable= 1 #constraint= 1\n+1 x1 = 1 ;\n": "no `>=`",
             "* #variable= 1 #constraint= 1\n+1 ~x1 >= 1 ;\n": "no linear terms",
-            "* #variable= 1 #constraint= 1\nmin: +1 x1 x2 ;\n+1 x1 >= 1 ;\n": "no linear terms",
+            "* #variable= 1 #constraint= 1\nmin: +1 x1 x2 ;\n+1 x1 >= 1 ;\n": "no linear terms as `inrc2pb encode` writes them: x2$",
+            "* #variable= 1 #constraint= 1\nmin: +1 x1+1 x2 ;\n+1 x1 >= 1 ;\n": "no linear terms .*: \\+1 x1\\+1 x2$",
+            f"* #variable= 1 #constraint= 1\n+1 x1 +{'1' * 40} x2 >= 1 ;\n": f"no linear terms .*: \\+{'1' * 40} x2$",
+            f"* #variable= 1 #constraint= 1\n+1 x1 +1 x{'1' * 11} >= 1 ;\n": "no linear terms",
+            f"* #variable= 1 #constraint= 1\n+1 x1 >= {'1' * 18} ;\n": "degree of 17 digits or less",
+            f"* #variable= {'9' * 11} #constraint= 1\n": "does not begin",
         }
         for model, says in rows.items():
             with self.subTest(model=model), self.assertRaisesRegex(ModelFault, says):
                 lp_of(model)
+
+    def test_an_lp_file_is_whole_or_as_it_was(self):
+        with tempfile.TemporaryDirectory() as folder:
+            model, lp = Path(folder, "week.opb"), Path(folder, "week.lp")
+            lp.write_text("old")
+            model.write_text((SOLUTIONS / "model.opb").read_text() + "+1 x1")
+            with self.assertRaises(ModelFault):
+                convert(model, lp)
+            self.assertEqual((lp.read_text(), len(list(Path(folder).iterdir()))), ("old", 2))
+            convert(SOLUTIONS / "model.opb", lp)
+            self.assertEqual((lp.read_text()[:8], len(list(Path(folder).iterdir()))), ("Minimize", 2))
+
+    def test_a_long_model_needs_little_memory(self):
+        with tempfile.TemporaryDirectory() as folder:
+            model = Path(folder, "week.opb")
+            write_model(model, LONG_MODEL)
+            words = [sys.executable, "-c", MEASURED, str(HERE.parent), str(model), str(Path(folder, "week.lp"))]
+            ran = subprocess.run(words, stdout=subprocess.PIPE, check=True, timeout=600)
+            self.assertLess(int(ran.stdout), MAX_MEMORY)
 
 
 class Solutions(unittest.TestCase):
@@ -109,9 +159,18 @@ class Solutions(unittest.TestCase):
             self.assertEqual(answer_of(f"x1 1\nx2 {value}\n"), "s SATISFIABLE\nv x1 x2\n")
         for value in ("0.0000009", "-0.0000009", "-0", "1e-9"):
             self.assertEqual(answer_of(f"x1 1\nx2 {value}\n"), "s SATISFIABLE\nv x1\n")
-        for value in ("1.0000011", "0.9999989", "0.0000011", "0.5", "2", "-1", "nan", "inf", "v1"):
-            with self.subTest(value=value), self.assertRaisesRegex(SolutionFault, "line 2"):
+        for value in ("nan", "inf", "v1"):
+            with self.subTest(value=value), self.assertRaisesRegex(SolutionFault, "line 2: '.*' is no value for x2"):
                 answer_of(f"x1 1\nx2 {value}\n")
+
+    def test_a_value_that_is_no_integer_has_its_advice(self):
+        for values, says in (
+            (("1.0000011", "0.9999989", "0.0000011", "-1e-5", "0.99999", "1.00099"), "off by more than a millionth: .*IntFeasTol=1e-9"),
+            (("0.5", "2", "-1", "0.002", "1e999"), "neither 0 nor 1: let the solver solve the model with integers"),
+        ):
+            for value in values:
+                with self.subTest(value=value), self.assertRaisesRegex(SolutionFault, f"line 2: x2 is {value}, {says}"):
+                    answer_of(f"x1 1\nx2 {value}\n")
 
     def test_faults(self):
         rows = {

@@ -1,5 +1,6 @@
 """Tests of the program as functions."""
 
+import errno
 import os
 import subprocess
 import unittest
@@ -7,7 +8,7 @@ from unittest import mock
 
 from ward import HELPERS, HISTORY, ROSTER, SCENARIO, WEEK, WEEK_FILES, HelperTest, files, program
 
-from inrc2pb import rules
+from inrc2pb import command, rules
 
 
 class Program(HelperTest):
@@ -51,19 +52,44 @@ class Finding(HelperTest):
             with self.assertRaisesRegex(program.ProgramFault, "there is no program /nowhere/inrc2pb: correct or unset"):
                 program.find_program()
 
-    def test_a_program_that_does_not_run(self):
+    def fault_of(self, text):
+        """The fault of a program with this text."""
         broken = self.folder / "inrc2pb"
-        broken.write_text("no program")
+        broken.write_text(text)
         broken.chmod(0o755)
         with mock.patch.dict(os.environ, {"INRC2PB": str(broken)}):
-            with self.assertRaisesRegex(program.ProgramFault, "does not run"):
+            with self.assertRaises(program.ProgramFault) as caught:
                 program.find_program() and program.run_program("--version")
+        return caught.exception
+
+    def test_a_program_that_does_not_run(self):
+        line = command.fault_line(self.fault_of("no program"))
+        self.assertIn("/inrc2pb does not run: Exec format error: it is no program of this machine; a script needs", line)
+
+    def test_a_program_that_a_signal_ends(self):
+        for number, name in ((9, "SIGKILL"), (34, "SIGRTMIN"), (40, "signal 40")):
+            self.assertEqual(str(self.fault_of(f"#!/bin/sh\nkill -{number} $$\n")), f"inrc2pb: ended by {name}")
 
     def test_a_helper_runs_through_a_link(self):
         link = self.folder / "table"
         link.symlink_to(HELPERS / "inrc2pb-table")
         ran = subprocess.run([str(link), str(ROSTER)], cwd="/", stdout=subprocess.PIPE, stderr=subprocess.PIPE)
         self.assertEqual((ran.stdout[:28], ran.stderr), (b"ward, week 0: 33 assignments", b""))
+
+
+class CommandLines(unittest.TestCase):
+    def test_each_fault_of_the_system_has_its_advice(self):
+        for number in (
+            errno.ENOENT, errno.EACCES, errno.ENOSPC, errno.ENOEXEC, errno.EEXIST, errno.ENAMETOOLONG, errno.ELOOP, errno.EFBIG, errno.EMFILE,
+            errno.EIO,
+        ):  # fmt: skip
+            with self.subTest(errno.errorcode[number]):
+                line = command.fault_line(OSError(number, os.strerror(number), "some\nfile"))
+                self.assertRegex(line, f"^some file: {os.strerror(number)}: [a-z].{{10,}}$")
+
+    def test_processors_that_the_process_may_use(self):
+        with mock.patch("os.sched_getaffinity", return_value={1, 5}, create=True):
+            self.assertEqual(command.processors(), 2)
 
 
 if __name__ == "__main__":

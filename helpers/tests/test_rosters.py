@@ -40,12 +40,26 @@ class Keep(HelperTest):
 
 
 class Tables(HelperTest):
+    other_week = "line 2 has week 0, and the history has week 1: is the file of another week?"
+
     def test_two_weeks(self):
         status, printed, said = run("table", *TWO_WEEKS)
-        self.assertEqual((status, said), (0, ""))
+        self.assertEqual((status, said), (0, f"inrc2pb-table: {ROSTER}: {self.other_week}\n"))
         self.assertIn("ward, weeks 0 to 1: 66 assignments\n", printed)
         self.assertIn("D = Day  L = Late  N = Night\n", printed)
         self.assertIn("week 1: cost: of the nurses 100", printed)
+
+    def test_a_file_of_another_week_or_ward(self):
+        later = self.changed(HISTORY, "0 ward", "1 ward", "history-1.txt")
+        week = ("--sce", SCENARIO, "--his", later, "--week", WEEK)
+        fix = self.solution("Grace Sat Day Nurse", ward="icu", name="fix.txt")
+        other_ward = "line 2 has 'icu', and the scenario is 'ward': is the file of another ward?"
+        fitting = self.changed(ROSTER, "0 ward", "1 ward", "roster-1.txt")
+        for form in ("--svg", "--csv"):
+            status, _, said = run("table", *week, form, ROSTER, "--fix", fix)
+            lines = [f"inrc2pb-table: {ROSTER}: {self.other_week}", f"inrc2pb-table: {fix}: {other_ward}"]
+            self.assertEqual((status, said.splitlines()), (0, lines))
+            self.assertEqual(run("table", *week, form, fitting)[::2], (0, ""))
 
     def test_a_spreadsheet_has_no_lines_of_prose(self):
         for words, columns in (((*WEEK_OPTIONS, ROSTER), 10), (TWO_WEEKS, 17)):

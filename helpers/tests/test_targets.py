@@ -4,7 +4,6 @@ import contextlib
 import io
 import os
 import shutil
-import tempfile
 import unittest
 from pathlib import Path
 from unittest import mock
@@ -72,7 +71,7 @@ class Targets(HelperTest):
             with self.subTest(target.name), contextlib.redirect_stderr(io.TextIOWrapper(io.BytesIO())) as said:
                 shutil.copy(start, roster)
                 words = [*WEEK_OPTIONS, "--from", start, "--sol", target, "--time", 60, "--jobs", 1, "--solver", "clasp"]
-                with mock.patch("sys.argv", ["inrc2pb-improve"]), mock.patch("tempfile.mkstemp", self.full_after(2)):
+                with mock.patch("sys.argv", ["inrc2pb-improve"]), mock.patch("os.open", self.full_after(2)):
                     with self.assertRaises(SystemExit) as ended, contextlib.redirect_stdout(io.TextIOWrapper(io.BytesIO())):
                         command.run(lambda: main([str(word) for word in words]))
                 said.seek(0)
@@ -82,20 +81,20 @@ class Targets(HelperTest):
                 self.assertEqual(sorted(path.name for path in self.folder.iterdir()), ["link.txt", "roster.txt", "start.txt"])
 
     def full_after(self, count):
-        """As `mkstemp`, but after so many files next to the roster, what is written to one goes to a full disk."""
-        make = tempfile.mkstemp
+        """As `os.open`, but after so many files next to the roster, what is written to one goes to a full disk."""
+        real = os.open
 
-        def made(prefix=None, dir=None):
+        def opened(path, flags, *more, **named):
             nonlocal count
-            handle, name = make(prefix=prefix, dir=dir)
-            if prefix == ".roster.txt.":
+            handle = real(path, flags, *more, **named)
+            if flags & os.O_CREAT and Path(os.fsdecode(path)).name.startswith(".roster.txt."):
                 count -= 1
                 if count < 0:
                     os.close(handle)
-                    handle = os.open("/dev/full", os.O_WRONLY)
-            return handle, name
+                    handle = real("/dev/full", os.O_WRONLY)
+            return handle
 
-        return made
+        return opened
 
 
 if __name__ == "__main__":

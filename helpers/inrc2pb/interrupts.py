@@ -1,0 +1,53 @@
+"""Ctrl-C, TERM and HUP ask a command to end: it finishes what it has begun, and reports what it has."""
+
+import contextlib
+import signal
+import threading
+from typing import Callable, Iterator, List, Optional
+
+SIGNALS = (signal.SIGINT, signal.SIGTERM, signal.SIGHUP)
+
+
+class Interrupts:
+    """The signals that came. Each one calls the action of the moment, if there is one, in a thread of its own."""
+
+    def __init__(self) -> None:
+        self.caught: List[int] = []
+        self._action: Optional[Callable[[], None]] = None
+
+    @contextlib.contextmanager
+    def calling(self, action: Callable[[], None]) -> Iterator[None]:
+        """Within the block a signal calls the action; so does one that came before."""
+        before, self._action = self._action, action
+        if self.caught:
+            action()
+        try:
+            yield
+        finally:
+            self._action = before
+
+    def take(self, number: int, _frame: object = None) -> None:
+        """A signal has come. The action may need a lock that the interrupted thread holds, so it runs in another."""
+        self.caught.append(number)
+        if self._action:
+            threading.Thread(target=self._action, daemon=True).start()
+
+
+_installed: List[Interrupts] = []
+
+
+@contextlib.contextmanager
+def interrupts() -> Iterator[Interrupts]:
+    """Within the block signals are caught, except those that the caller ignores, as `nohup` does. Blocks may be nested."""
+    if _installed or threading.current_thread() is not threading.main_thread():
+        yield _installed[-1] if _installed else Interrupts()
+        return
+    taken = Interrupts()
+    _installed.append(taken)
+    before = {number: signal.signal(number, taken.take) for number in SIGNALS if signal.getsignal(number) != signal.SIG_IGN}
+    try:
+        yield taken
+    finally:
+        for number, handler in before.items():
+            signal.signal(number, handler)
+        _installed.remove(taken)
