@@ -5,6 +5,9 @@ PROGRAM ?= out/inrc2pb
 WHO_FITS ?= out/who_fits
 SHARE = $(DESTDIR)$(PREFIX)/share
 
+# rt lets one command at a time into a crate, and build.sh already runs two.
+.NOTPARALLEL:
+
 .PHONY: all build who_fits try example tour solvers test programs bench fuzz dist deb install uninstall clean
 
 all: build who_fits
@@ -58,7 +61,7 @@ SECONDS ?= 60
 fuzz: build
 	python3 tests/fuzz.py --seconds $(SECONDS) $(if $(SEED),--seed $(SEED))
 
-# An archive for any Linux on x86-64, and a package for Debian and Ubuntu: out/inrc2pb-VERSION-x86_64-linux.tar.gz and
+# An archive for any Linux on x86-64-v2, and a package for Debian and Ubuntu: out/inrc2pb-VERSION-x86_64-linux.tar.gz and
 # out/inrc2pb_VERSION_amd64.deb. Both contain the files of `install`, and PROVED: the commit, and the gate's result.
 dist: all
 	package/archive.sh out

@@ -2,11 +2,12 @@
 # The commit that the files of this clone are, and its time. To be sourced at the top of the clone.
 # shellcheck disable=SC2034  # The scripts use both.
 
-# The commit's name, with `-dirty` if a file that git knows has other contents; `unknown` outside a clone.
+# The commit's name, with `-dirty` if a file has other contents or git does not know it; `unknown` outside a clone.
 commit=unknown
 commit_time=$(date -r CHANGELOG.md +%s)
 if [ -e .git ]; then
-    commit=$(git describe --always --dirty --abbrev=40 --exclude="*") || commit=unknown
+    commit=$(git describe --always --abbrev=40 --exclude="*") || commit=unknown
+    [ -z "$(git --no-optional-locks status --porcelain)" ] || commit=$commit-dirty
     commit_time=$(git log -1 --format=%ct) || commit_time=$(date -r CHANGELOG.md +%s)
 fi
 

@@ -37,15 +37,28 @@ inrc2pb ($version) unstable; urgency=medium
  -- $maintainer  $(date -R -d "@$SOURCE_DATE_EPOCH")
 TEXT
 
+# The path of Debian's Python, and the version that the commands ask for.
+sed -i '1s|.*|#!/usr/bin/python3|' "$top"/usr/bin/inrc2pb-*
+
+# In KiB, each file rounded up, and 1 for each folder: the same on every file system.
+kib=$(find "$top/usr" \( -type f -printf '%s\n' \) -o -printf '1\n' | awk '{ n += int(($1 + 1023) / 1024) } END { print n }')
+
 mkdir "$top/DEBIAN"
+# Python leaves a compiled form of the library if a helper runs as root.
+cat > "$top/DEBIAN/prerm" << 'TEXT'
+#!/bin/sh
+set -e
+rm -rf "${DPKG_ROOT:-}/usr/share/inrc2pb/inrc2pb/__pycache__"
+TEXT
+chmod 755 "$top/DEBIAN/prerm"
 (cd "$top" && find usr -type f -print0 | sort -z | xargs -0 md5sum > DEBIAN/md5sums) || exit
 cat > "$top/DEBIAN/control" << TEXT
 Package: inrc2pb
 Version: $version
 Architecture: amd64
 Maintainer: $maintainer
-Installed-Size: $(du -s --apparent-size -k "$top/usr" | cut -f 1)
-Depends: libc6 (>= $libc), python3
+Installed-Size: $kib
+Depends: libc6 (>= $libc), python3 (>= 3.8)
 Recommends: clasp, coinor-cbc
 Suggests: minisat+, sat4j
 Section: math
@@ -55,7 +68,9 @@ Description: nurse rostering as a pseudo-Boolean model
  (INRC-II) into a pseudo-Boolean model (OPB) for a solver such as clasp, and
  the solver's answer into a roster with a report of its costs.
  .
- The encoding, the decoder and every byte read and written are proved.
+ The encoding, the decoder and every byte read and written have proofs:
+ /usr/share/doc/inrc2pb/PROVED says whether they passed. The programs need an
+ x86-64-v2 processor (Intel since 2009, AMD since 2011).
 TEXT
 set_times "$top"
 dpkg-deb --root-owner-group -Zxz --build "$top" "$folder/inrc2pb_${version}_amd64.deb" > /dev/null || exit

@@ -27,6 +27,10 @@ sums=$(pwd -P)/SHA256SUMS
 
 install_files() {
     sha256sum --check --quiet SHA256SUMS || { echo 'Not installed: a file is not as it was packed.'; exit 1; }
+    # A program that is running cannot be overwritten.
+    for program in bin/*; do
+        rm -f "$prefix/$program" || exit
+    done
     for folder in */; do
         cp -R "${folder%/}" "$prefix" || exit
     done

@@ -1,7 +1,7 @@
 #!/usr/bin/env bash
 # Builds the archive and the Debian package twice, and compares the bytes. Unpacks the archive into an empty folder, installs
-# it and removes it again, installs the package by `dpkg --root`, and runs README's first shell block with the installed files
-# and nothing else from the clone. Checks the checksums, PROVED, and the package by lintian.
+# it and removes it again, installs the package by `dpkg --root` and removes it, and runs README's first shell block with the
+# installed files and nothing else from the clone. Checks the checksums, PROVED, and the package by lintian.
 #
 #   tests/package.sh [llvm | rattle | PROGRAM]
 #
@@ -20,11 +20,14 @@ version=${version#inrc2pb }
 archive=inrc2pb-$version-x86_64-linux
 package=inrc2pb_${version}_amd64.deb
 
-# built_twice WHAT SCRIPT FILE: the script writes the file, and the same bytes under other settings.
+# built_twice WHAT SCRIPT FILE: the script writes the file, and the same bytes under other settings and on another file system.
 built_twice() {
+    local elsewhere=/dev/shm
+    [ -w $elsewhere ] || elsewhere=$room
     begins_case "$1, built twice"
     "package/$2" "$room/first" > "$out" 2>&1 || complain "$2: $(tail -n 3 "$out")"
-    (umask 077 && TZ=Asia/Tokyo LANG=C.UTF-8 "package/$2" "$room/second" > "$out" 2>&1) || complain "$2: $(tail -n 3 "$out")"
+    (umask 077 && TZ=Asia/Tokyo LANG=C.UTF-8 TMPDIR=$elsewhere "package/$2" "$room/second" > "$out" 2>&1) ||
+        complain "$2: $(tail -n 3 "$out")"
     cmp -s "$room/first/$3" "$room/second/$3" || complain "$3 differs"
 }
 
@@ -55,22 +58,24 @@ states_proof() {
     package/proved.sh | grep -qxF "$(head -n 1 "$1")" || complain 'another commit'
 }
 
-# says_of_gate WHAT COMMIT LINE WANTED: the line of PROVED for a gate that left this commit and this last line.
+# says_of_gate WHAT COMMIT LINE KIT WANTED: the line of PROVED for a gate that left this commit, last line and kit.
 says_of_gate() {
     begins_case "PROVED after $1"
-    printf '%s\n' "$2" "$3" > "$room/gate"
-    GATE=$room/gate package/proved.sh | grep -qxF "gate: $4" || complain "not '$4'"
+    printf '%s\n' "$2" "$3" "$4" > "$room/gate"
+    GATE=$room/gate package/proved.sh | grep -qxF "gate: $5" || complain "not '$5'"
 }
 
 gates_are_told_apart() {
-    local commit not='has not passed on this commit on the machine that built this'
+    local commit kit not='has not passed on this commit on the machine that built this'
     commit=$(package/proved.sh | sed -n 's/^commit: //p')
+    kit=$(package/proved.sh | sed -n 's/^kit: //p')
     case $commit in
-        unknown | *-dirty) says_of_gate 'a gate of other files' "$commit" '9 passed, 0 failed' "$not" ;;
-        *) says_of_gate 'a gate that passed' "$commit" '9 passed, 0 failed' 'passed on this commit: 9 passed, 0 failed' ;;
+        unknown | *-dirty) says_of_gate 'a gate of other files' "$commit" '9 passed, 0 failed' "$kit" "$not" ;;
+        *) says_of_gate 'a gate that passed' "$commit" '9 passed, 0 failed' "$kit" 'passed on this commit: 9 passed, 0 failed' ;;
     esac
-    says_of_gate 'a gate that failed' "$commit" '8 passed, 1 failed' "$not"
-    says_of_gate 'a gate of another commit' "0$commit" '9 passed, 0 failed' "$not"
+    says_of_gate 'a gate that failed' "$commit" '8 passed, 1 failed' "$kit" "$not"
+    says_of_gate 'a gate of another commit' "0$commit" '9 passed, 0 failed' "$kit" "$not"
+    says_of_gate 'a gate of another kit' "$commit" '9 passed, 0 failed' "$kit, changed" "$not"
 }
 
 # Every command that is installed runs.
@@ -107,6 +112,32 @@ uninstalls() {
     [ -x "$(dirname "$1")/bin/inrc2pb" ] || complain 'the program is gone'
 }
 
+# by_dpkg WORD..: dpkg on an empty system in $room/root.
+by_dpkg() {
+    PATH=$PATH:/usr/sbin:/sbin dpkg --root="$room/root" --log=/dev/null --force-not-root --force-depends --force-script-chrootless "$@" \
+        > "$out" 2>&1 || complain "dpkg $* ends with $?: $(tail -n 3 "$out")"
+}
+
+# installs_package FILE: dpkg installs it, it works, and dpkg removes it with what Python left.
+installs_package() {
+    local pages=$room/root/usr/share/doc/inrc2pb
+    mkdir -p "$room/root/var/lib/dpkg/info" "$room/root/var/lib/dpkg/updates"
+    : > "$room/root/var/lib/dpkg/status"
+    begins_case 'dpkg --install'
+    by_dpkg --install "$1"
+    states_proof "$pages/PROVED"
+    works "$room/root/usr"
+    begins_case 'what the package needs'
+    dpkg-deb --field "$1" Depends Recommends > "$out"
+    has_line "Depends: libc6 (>= $(sed -n 's/^libc: \([0-9.]*\).*/\1/p' "$pages/PROVED")), python3 (>= 3.8)"
+    has_line 'Recommends: clasp, coinor-cbc'
+    begins_case 'dpkg --remove'
+    mkdir -p "$room/root/usr/share/inrc2pb/inrc2pb/__pycache__"
+    touch "$room/root/usr/share/inrc2pb/inrc2pb/__pycache__/files.pyc"
+    by_dpkg --remove inrc2pb
+    [ -z "$(find "$room/root" -path '*/usr/*' -type f)" ] || complain "left: $(find "$room/root" -path '*/usr/*' -type f | head -n 3)"
+}
+
 gates_are_told_apart
 built_twice 'the archive' archive.sh "$archive.tar.gz"
 begins_case 'the checksums'
@@ -124,13 +155,7 @@ uninstalls "$room/packed/$archive/install.sh"
 
 if command -v dpkg-deb dpkg strip | wc -l | grep -qx 3; then
     built_twice 'the package' deb.sh "$package"
-    begins_case 'dpkg --root'
-    mkdir -p "$room/root/var/lib/dpkg/info" "$room/root/var/lib/dpkg/updates"
-    : > "$room/root/var/lib/dpkg/status"
-    PATH=$PATH:/usr/sbin:/sbin dpkg --root="$room/root" --log=/dev/null --force-not-root --force-depends --force-script-chrootless \
-        -i "$room/first/$package" > "$out" 2>&1 || complain "it ends with $?: $(tail -n 3 "$out")"
-    states_proof "$room/root/usr/share/doc/inrc2pb/PROVED"
-    works "$room/root/usr"
+    installs_package "$room/first/$package"
     if command -v lintian > /dev/null; then
         begins_case 'lintian'
         lintian --fail-on error "$room/first/$package" > "$out" 2>&1 || complain "$(grep '^E:' "$out" | head -n 5)"
