@@ -1,10 +1,13 @@
 #!/usr/bin/env python3
 """Lets each installed solver solve some weeks, one run after another, and writes what it found to docs/solvers.md.
 
-    bench/solvers.py [--limit SECONDS ..] [--week NAME ..] [--solver NAME ..] [--only-table]
+    bench/solvers.py [--limit SECONDS ..] [--week NAME ..] [--solver NAME ..] [--missing [DAY]]
+    bench/solvers.py --merge FILE ..
+    bench/solvers.py --only-table
 
-The results of all runs are kept in bench/solvers.json, so that an interrupted measurement goes on with the runs that are
-missing; --again repeats them. The program is out/inrc2pb, or the one that INRC2PB names.
+The results of all runs are in bench/solvers.json. A new result replaces the old one of the same run; all others stay. After an
+interruption --missing, with the day on which the measurement began, makes the runs that are left. The program is out/inrc2pb, or
+the one that INRC2PB names.
 """
 
 import argparse
@@ -19,32 +22,48 @@ import tempfile
 import time
 from dataclasses import replace
 from pathlib import Path
-from typing import Callable, Dict, List, NamedTuple, Optional
+from typing import Callable, Dict, List, NamedTuple, Optional, Tuple
 
 ROOT = Path(__file__).resolve().parents[1]
 sys.path.insert(0, str(ROOT / "helpers"))
 
+from inrc2pb.command import processors  # noqa: E402
 from inrc2pb.improve import Progress, search  # noqa: E402
 from inrc2pb.linear_program import convert  # noqa: E402
 from inrc2pb.processes import Ended, Processes  # noqa: E402
 from inrc2pb.program import ProgramFault, WeekFiles, decode, encode  # noqa: E402
-from inrc2pb.solvers import CLASP_BOUND, Cbc, Clasp, CommandSolver, Outcome, Solver, Task, answer_of  # noqa: E402
+from inrc2pb.solvers import CLASP_BOUND, NONE_IN_TIME, Cbc, Clasp, CommandSolver, Outcome, Solver, Task, answer_of  # noqa: E402
 
 RESULTS = ROOT / "bench" / "solvers.json"
 PAGE = ROOT / "docs" / "solvers.md"
 BEGIN, END = "<!-- measured -->", "<!-- end of measured -->"
 EXAMPLES = ROOT / "examples"
 SAT4J = "/usr/share/java/org.sat4j.pb.jar"
+# The weeks and the seconds of the table.
+WEEKS = ["n005w4", "eight", "thirty", "thirty, second week", "ward of 120"]
+LIMITS = [60, 300]
+# toulbar2 searched to the end. If it is stopped it says nothing, or `No solution found in`.
+NO_ROSTER = re.compile(r"^No solution (?:in|found by initial propagation)\b", re.MULTILINE)
 
 
 class Result(NamedTuple):
-    """What a run found: the penalty of its roster and its lower bound, if any, and whether it proved the roster optimal."""
+    """What a run found: the penalty of its roster and its lower bound, if any, and whether it proved the roster optimal.
+
+    Also where it was measured: the machine, the processors that the run could use, and when it ended. Older results lack them.
+    """
 
     penalty: Optional[int]
     proved: bool
     bound: Optional[int]
     seconds: float
     fault: str
+    machine: str = ""
+    processors: Optional[int] = None
+    ended: str = ""
+
+
+# The results by week, solver and limit: `eight/cbc/60`.
+Results = Dict[str, Result]
 
 
 class FileSolver(Solver):
@@ -57,37 +76,46 @@ class FileSolver(Solver):
         lp, sol = task.folder / "model.lp", task.folder / "model.sol"
         if "{lp}" in self.words:
             convert(task.model, lp)
+        # The solver before may have left its roster there.
+        if sol.exists():
+            sol.unlink()
         words = [word.format(opb=task.model, lp=lp, sol=sol, seconds=int(task.seconds)) for word in self.words]
         ended = processes.run(words, task.seconds + 30, task.folder)
         self.bounds(ended, hear)
-        status = "optimal" if re.search(r"^Optimum: ", ended.output, re.MULTILINE) else None
-        return answer_of(sol, status) if sol.exists() else Outcome("s UNKNOWN\n")
+        if NO_ROSTER.search(ended.output):
+            return Outcome("s UNSATISFIABLE\n")
+        if not sol.exists():
+            return NONE_IN_TIME if ended.timed_out else Outcome("", f"it wrote no result file and ended with status {ended.status}")
+        return answer_of(sol, "optimal" if re.search(r"^Optimum: ", ended.output, re.MULTILINE) else None)
 
     def bounds(self, ended: Ended, hear: Optional[Callable[[int], None]]) -> None:
         for text in re.findall(self.pattern, ended.output) if hear else ():
             hear(int(float(text) + 0.999))
 
 
-def solvers() -> Dict[str, Solver]:
-    """The solvers that are installed, by the names in the table."""
+def known_solvers() -> Dict[str, Solver]:
+    """The solvers by the names in the table."""
     known: Dict[str, Solver] = {"clasp": Clasp(), "clasp, raising a bound": Clasp(*CLASP_BOUND), "cbc": Cbc()}
     known["glpsol"] = FileSolver("glpsol", "glpsol --lp {lp} --tmlim {seconds} -o {sol}", r"(?:mip =|>>>>>).*>=\s+([0-9.e+]+)")
     known["toulbar2"] = FileSolver("toulbar2", "toulbar2 {opb} -s=3 -w={sol} -w=3 -timer={seconds}", r"Optimality gap: \[([0-9.e+]+),")
     known["minisat+"] = CommandSolver("minisat+", ["minisat+"])
     known["Sat4j"] = CommandSolver("java", ["java", "-jar", SAT4J])
-    needs = {"Sat4j": "java"}
-    return {
-        name: solver
-        for name, solver in known.items()
-        if shutil.which(needs.get(name, name.split(",")[0])) and (name != "Sat4j" or os.path.exists(SAT4J))
-    }
+    return known
 
 
 IMPROVE = {"inrc2pb-improve": (), "inrc2pb-improve, clasp": ("clasp",)}
+SOLVERS = [*known_solvers(), *IMPROVE]
+
+
+def is_installed(name: str) -> bool:
+    """Whether this solver of the table can be run."""
+    if name == "Sat4j":
+        return bool(shutil.which("java")) and os.path.exists(SAT4J)
+    return name in IMPROVE or bool(shutil.which(name.split(",")[0]))
 
 
 def weeks(folder: Path) -> Dict[str, WeekFiles]:
-    """The weeks, by the names in the table."""
+    """The files of WEEKS."""
     found = {}
     for name, number in (("n005w4", 0), ("eight", 1), ("thirty", 3)):
         home = EXAMPLES / name
@@ -114,95 +142,161 @@ def run_solver(solver: Solver, files: WeekFiles, limit: float, folder: Path) -> 
         report = decode(files, outcome.answer or "s UNKNOWN\n")
     except ProgramFault as fault:
         proved = "UNSATISFIABLE" in fault.message
-        return Result(None, proved, bound, seconds, outcome.fault or ("" if fault.status == 5 else fault.message))
+        return Result(None, proved, None if proved else bound, seconds, outcome.fault or ("" if fault.status == 5 else fault.message))
     return Result(report.penalty, report.optimal, report.penalty if report.optimal else bound, seconds, "")
 
 
 def run_improve(names: List[str], files: WeekFiles, limit: float, folder: Path) -> Result:
-    """One run of `inrc2pb-improve` from nothing, with a job for each processor."""
+    """One run of `inrc2pb-improve` from nothing, with a job for each processor that it may use."""
     began = time.monotonic()
     try:
-        outcome = search(files, None, folder / "roster.txt", limit, 1, os.cpu_count() or 1, names, Progress(None))
+        outcome = search(files, None, folder / "roster.txt", limit, 1, processors(), names, Progress(None))
     except ProgramFault as fault:
         return Result(None, "no roster keeps" in fault.message, None, time.monotonic() - began, "")
     return Result(outcome.report.penalty, outcome.proved, outcome.bound, time.monotonic() - began, "")
 
 
-def cell(result: Optional[Dict[str, object]]) -> str:
+def cell(result: Optional[Result]) -> str:
     """A run in the table."""
     if result is None:
         return ""
-    if result["proved"]:
-        seconds = round(result["seconds"])
-        found = "none exists" if result["penalty"] is None else result["penalty"]
+    if result.proved:
+        seconds = round(result.seconds)
+        found = "none exists" if result.penalty is None else result.penalty
         return f"{found}, proved in {f'{seconds} s' if seconds else 'less than 1 s'}"
-    return str(result["penalty"] if result["penalty"] is not None else result["fault"] or "none")
+    return str(result.penalty if result.penalty is not None else result.fault or "none")
 
 
-def table(results: Dict[str, Dict[str, object]], limits: List[int]) -> str:
-    """The table of all results, by week."""
-    heads = " | ".join(f"after {limit} s" for limit in limits)
-    lines = [f"| week | solver | {heads} | lower bound |", "|---|---|" + "---|" * len(limits) + "---:|"]
-    pairs = dict.fromkeys(tuple(key.split("/")[:2]) for key in results)
-    order = ["n005w4", "eight", "thirty", "thirty, second week", "ward of 120"]
+def parts(key: str) -> Tuple[str, str, int]:
+    """Week, solver and limit of a result's key."""
+    week, solver, limit = key.split("/")
+    return week, solver, int(limit)
+
+
+def rank(key: str) -> Tuple[int, int, int]:
+    """The place of a result in the table; names that are no longer measured come last."""
+    week, solver, limit = parts(key)
+    return (
+        WEEKS.index(week) if week in WEEKS else len(WEEKS),
+        SOLVERS.index(solver) if solver in SOLVERS else len(SOLVERS),
+        limit,
+    )
+
+
+def table(shown: Results) -> str:
+    """The table of these results, by week."""
+    heads = " | ".join(f"after {limit} s" for limit in LIMITS)
+    lines = [f"| week | solver | {heads} | lower bound |", "|---|---|" + "---|" * len(LIMITS) + "---:|"]
     # A week without a roster has no lower bound that says anything.
-    solved = {key.split("/")[0] for key, run in results.items() if run["penalty"] is not None}
-    for week, solver in sorted(pairs, key=lambda pair: order.index(pair[0])):
-        runs = [results.get(f"{week}/{solver}/{limit}") for limit in limits]
-        bounds = [run["bound"] for run in runs if run and run["bound"] is not None and week in solved]
+    solved = {parts(key)[0] for key, run in shown.items() if run.penalty is not None}
+    for week, solver in dict.fromkeys(parts(key)[:2] for key in shown):
+        runs = [shown.get(f"{week}/{solver}/{limit}") for limit in LIMITS]
+        bounds = [run.bound for run in runs if run and run.bound is not None and week in solved]
         lines.append(f"| `{week}` | {solver} | {' | '.join(map(cell, runs))} | {max(bounds, default='')} |")
     return "\n".join(lines)
 
 
 def machine() -> str:
-    """The machine in words."""
-    model = re.search(r"^model name\s*: (.*)$", Path("/proc/cpuinfo").read_text(), re.MULTILINE) if os.path.exists("/proc/cpuinfo") else None
-    return f"{model.group(1).strip() if model else platform.processor()}, {os.cpu_count()} processors, {platform.system()}"
+    """This machine in words."""
+    info = Path("/proc/cpuinfo")
+    model = re.search(r"^model name\s*: (.*)$", info.read_text(), re.MULTILINE) if info.exists() else None
+    name = model.group(1).strip() if model else platform.processor() or platform.machine()
+    return f"{name}, {os.cpu_count()} processors, {platform.system()}"
 
 
-def write_page(results: Dict[str, Dict[str, object]], limits: List[int]) -> None:
+def measured_on(shown: Results) -> str:
+    """The machines of these results, and the processors that `inrc2pb-improve` had there."""
+    machines = dict.fromkeys(run.machine or "a machine that was not noted" for run in shown.values())
+    used = sorted({run.processors for key, run in shown.items() if run.processors and parts(key)[1] in IMPROVE})
+    said = f" `inrc2pb-improve` could use {' or '.join(map(str, used))} of them." if used else ""
+    return f"Measured on {'; '.join(machines)}.{said}"
+
+
+def write_page(results: Results) -> None:
     """Puts the table into the page, between its markers."""
+    shown = {key: results[key] for key in sorted(results, key=rank) if parts(key)[2] in LIMITS}
     before, _, rest = PAGE.read_text().partition(BEGIN)
     _, _, after = rest.partition(END)
-    PAGE.write_text(f"{before}{BEGIN}\n\nMeasured on {machine()}.\n\n{table(results, limits)}\n\n{END}{after}")
+    PAGE.write_text(f"{before}{BEGIN}\n\n{measured_on(shown)}\n\n{table(shown)}\n\n{END}{after}")
+
+
+def read_results(path: Path) -> Results:
+    return {key: Result(**run) for key, run in json.loads(path.read_text()).items()}
+
+
+def write_results(results: Results) -> None:
+    in_order = {key: results[key]._asdict() for key in sorted(results, key=rank)}
+    RESULTS.write_text(json.dumps(in_order, indent=1) + "\n")
+
+
+def merge(results: Results, others: Results) -> None:
+    """Takes over the results of another file. Of two results of one run the one that ended later stays."""
+    for key, run in others.items():
+        if key not in results or results[key].ended <= run.ended:
+            results[key] = run if run.machine else run._replace(machine=machine())
 
 
 def arguments() -> argparse.Namespace:
     words = argparse.ArgumentParser(description=__doc__, formatter_class=argparse.RawDescriptionHelpFormatter)
-    words.add_argument("--limit", type=int, nargs="+", default=[60, 300], metavar="SECONDS", help="seconds of a run (default: 60 and 300)")
-    words.add_argument("--week", nargs="+", metavar="NAME", help="only these weeks")
-    words.add_argument("--solver", nargs="+", metavar="NAME", help="only these solvers")
-    words.add_argument("--again", action="store_true", help="repeat runs that were measured before")
-    words.add_argument("--only-table", action="store_true", help="only write the table anew")
+    words.add_argument("--limit", type=int, nargs="+", default=LIMITS, metavar="SECONDS", help="seconds of a run (default: 60 and 300)")
+    words.add_argument("--week", nargs="+", choices=WEEKS, default=WEEKS, metavar="NAME", help=f"only these of the weeks: {'; '.join(WEEKS)}")
+    words.add_argument(
+        "--solver", nargs="+", choices=SOLVERS, default=SOLVERS, metavar="NAME", help=f"only these of the solvers: {'; '.join(SOLVERS)}"
+    )
+    words.add_argument(
+        "--missing", nargs="?", const="", metavar="DAY", help="only the runs without a result, or without one of DAY (2026-11-26) or later"
+    )
+    words.add_argument(
+        "--merge",
+        nargs="+",
+        type=Path,
+        default=[],
+        metavar="FILE",
+        help="measure nothing: take over the results in these files, as measured on this machine if they name none",
+    )
+    words.add_argument("--only-table", action="store_true", help="measure nothing: only write the table anew")
     return words.parse_args()
 
 
-def measure(given: argparse.Namespace, results: Dict[str, Dict[str, object]]) -> None:
-    """Makes the runs that are missing."""
+def measure(given: argparse.Namespace, results: Results) -> None:
+    """Makes the runs. A run is left out if a shorter one of the same solver proved its result."""
     with tempfile.TemporaryDirectory() as room:
         folder = Path(room)
-        known = solvers()
-        for limit in given.limit:
-            for week, files in weeks(folder).items():
-                for name in [*known, *IMPROVE]:
-                    key = f"{week}/{name}/{limit}"
-                    shorter = [results.get(f"{week}/{name}/{less}") for less in given.limit if less < limit]
-                    if any(run and run["proved"] for run in shorter) or (key in results and not given.again):
-                        continue
-                    if (given.week and week not in given.week) or (given.solver and name not in given.solver):
-                        continue
-                    run = run_solver(known[name], files, limit, folder) if name in known else run_improve(list(IMPROVE[name]), files, limit, folder)
-                    results[key] = run._asdict()
-                    RESULTS.write_text(json.dumps(results, indent=1) + "\n")
-                    print(f"{key}: {cell(results[key])}, bound {run.bound}", flush=True)
+        known = known_solvers()
+        limits = sorted(given.limit)
+        chosen = [
+            (limit, week, files, name)
+            for limit in limits
+            for week, files in weeks(folder).items()
+            for name in SOLVERS
+            if week in given.week and name in given.solver and is_installed(name)
+        ]
+        for limit, week, files, name in chosen:
+            key = f"{week}/{name}/{limit}"
+            shorter = [results.get(f"{week}/{name}/{less}") for less in limits if less < limit]
+            if any(run and run.proved for run in shorter):
+                results.pop(key, None)
+                continue
+            if given.missing is not None and key in results and results[key].ended >= given.missing:
+                continue
+            run = run_solver(known[name], files, limit, folder) if name in known else run_improve(list(IMPROVE[name]), files, limit, folder)
+            ended = time.strftime("%Y-%m-%dT%H:%M:%SZ", time.gmtime())
+            results[key] = run._replace(machine=machine(), processors=processors(), ended=ended)
+            write_results(results)
+            print(f"{key}: {cell(run)}, bound {run.bound}", flush=True)
 
 
 def main() -> None:
     given = arguments()
-    results: Dict[str, Dict[str, object]] = json.loads(RESULTS.read_text()) if RESULTS.exists() else {}
-    if not given.only_table:
+    results = read_results(RESULTS) if RESULTS.exists() else {}
+    for path in given.merge:
+        merge(results, read_results(path))
+    if not given.merge and not given.only_table:
         measure(given, results)
-    write_page(results, [60, 300])
+    if not results:
+        sys.exit(f"there is no result: the table of {PAGE.relative_to(ROOT)} stays")
+    write_results(results)
+    write_page(results)
 
 
 if __name__ == "__main__":

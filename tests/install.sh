@@ -16,15 +16,27 @@ make_target() {
     make -s -C "$clone" "$@" PROGRAM="$program" WHO_FITS="$clone/crates/who_fits/out/who_fits" > "$out" 2>&1
 }
 
-# The pages and files that an installed page names are installed too.
+# The pages and files that an installed page names are installed too, with the headings that it names.
 links_hold() {
-    local page link
+    local page link target
     while read -r page; do
         begins_case "the links of ${page#"$installed"/}"
         while read -r link; do
-            [ -e "$(dirname "$page")/$link" ] || complain "there is no $link"
-        done < <(grep -oE '\]\([^)#]+' "$page" | sed 's/^](//' | grep -v '://')
+            target=$(dirname "$page")/${link%%#*}
+            [[ $link != '#'* ]] || target=$page
+            if [ ! -e "$target" ]; then
+                complain "there is no $link"
+            elif [[ $link == *'#'* ]]; then
+                anchors_of "$target" | grep -qxF -- "${link#*#}" || complain "there is no heading for $link"
+            fi
+        done < <(grep -oE '\]\([^)]+' "$page" | sed 's/^](//' | grep -v '://')
     done < <(find "$installed/share/doc" -name '*.md')
+}
+
+# The headings of a page as GitHub names them in links: lower case, without punctuation, with a hyphen for each blank.
+anchors_of() {
+    awk '/^```/ { code = !code } !code && /^##* / { sub(/^#* */, ""); print tolower($0) }' "$1" |
+        sed 's/[^[:alnum:]_ -]//g; s/ /-/g'
 }
 
 # Sources are in the clone only. An installed page names each that the clone's page links to.
@@ -46,6 +58,19 @@ runs() {
         > "$out" 2> "$err" || complain "it ends with $?: $(tail -n 3 "$err")"
 }
 
+# converts_result WEEK.. ROSTER: a result file like cbc's, with the values of the roster, becomes an answer and the roster again.
+converts_result() {
+    local week=("${@:1:$#-1}") roster=${!#}
+    runs inrc2pb extend "${week[@]}" --from "$roster"
+    awk 'BEGIN { print "Stopped on time - objective value 20.00000000" }
+        /^v/ { for (at = 2; at <= NF; at++) if ($at ~ /^x/) print number++, $at, 1, 0 }' "$out" > "$room/elsewhere/week.sol"
+    runs inrc2pb-lp answer week.sol
+    has_line 's SATISFIABLE'
+    cp "$out" "$room/elsewhere/answer.txt"
+    runs inrc2pb decode "${week[@]}" --answer answer.txt --sol same.txt
+    cmp -s "$room/elsewhere/same.txt" "$roster" || complain 'another roster'
+}
+
 # Each helper does its work on the installed examples.
 runs_commands() {
     local ward=$installed/share/doc/inrc2pb/examples/ward command
@@ -65,6 +90,7 @@ runs_commands() {
     cmp -s "$room/elsewhere/history-1.txt" "$ward/history-1.txt" || complain 'another history'
     runs inrc2pb-keep --keep Mon,Tue "$ward/roster-0.txt" --out kept.txt
     runs inrc2pb-lp model week.opb --lp week.lp
+    converts_result "${week[@]}" "$ward/roster-0.txt"
     begins_case 'the installed library'
     (cd "$room/elsewhere" && PYTHONPATH=$installed/share/inrc2pb PATH=$installed/bin:$PATH python3 -B -c 'import sys
 from inrc2pb import files, program
@@ -81,11 +107,11 @@ print(program.penalty_of(program.WeekFiles(*sys.argv[1:4]), sys.argv[4]))' "$war
 # follows_page PAGE: whoever follows the page in an empty folder, with the installed examples, comes to its end.
 follows_page() {
     local pages=$installed/share/doc/inrc2pb
-    begins_case "docs/$1 in an empty folder"
+    begins_case "$1 in an empty folder"
     rm -rf "$room/planner"
     mkdir "$room/planner"
     cp -r "$pages/examples" "$room/planner"
-    awk '/^```sh$/ { inside = 1; next } /^```/ { inside = 0 } inside' "$pages/docs/$1" > "$room/blocks"
+    awk '/^```sh$/ { inside = 1; next } /^```/ { inside = 0 } inside' "$pages/$1" > "$room/blocks"
     [ -s "$room/blocks" ] || complain 'no block'
     (cd "$room/planner" && env -i HOME="$room" PATH="$installed/bin:/usr/local/bin:/usr/bin:/bin:/usr/games" \
         timeout 900 bash -eu "$room/blocks") > "$out" 2> "$err" || complain "it ends with $?: $(tail -n 3 "$err")"
@@ -108,9 +134,13 @@ links_hold
 names_sources
 manual_names_commands
 runs_commands
-follows_page helpers.md
+follows_page docs/helpers.md
 has_line 'Amara Bruno 110'
-! command -v clasp > /dev/null || follows_page your_ward.md
+if command -v clasp > /dev/null; then
+    for page in README.md docs/your_ward.md docs/solvers.md; do
+        follows_page $page
+    done
+fi
 begins_case 'a helper without its library'
 mv "$installed/share/inrc2pb" "$room/away"
 "$installed/bin/inrc2pb-table" --help > "$out" 2> "$err" && complain 'it runs'
