@@ -11,7 +11,7 @@
 run_tests() {
     local ran
     what='helpers/tests'
-    INRC2PB=$program python3 -B -W error::SyntaxWarning -m unittest discover -s helpers/tests > "$out" 2> "$err" ||
+    INRC2PB=$program timeout 1500 python3 -B -W error::SyntaxWarning -m unittest discover -s helpers/tests > "$out" 2> "$err" ||
         complain "$(grep -A 25 -m 3 -E '^(FAIL|ERROR): ' "$err" | head -n 60)"
     ran=$(sed -n 's/^Ran \([0-9]*\) tests\{0,1\} .*/\1/p' "$err")
     checked=$((checked + ${ran:-0}))
