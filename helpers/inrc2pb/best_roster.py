@@ -1,5 +1,6 @@
 """The best roster of a search, shared by its workers: only rosters that `decode` accepted get in."""
 
+import contextlib
 import tempfile
 import threading
 import time
@@ -111,11 +112,11 @@ class BestRoster:
 
     def report(self) -> Report:
         """The report of the roster in the file; its status is OPTIMUM FOUND if a solver proved it."""
-        with tempfile.TemporaryDirectory() as folder:
+        with contextlib.ExitStack() as until_read:
             written = self._solution
             if not written.is_file():
                 # Nothing can be read from a device.
-                written = Path(folder, "roster.txt")
+                written = Path(until_read.enter_context(tempfile.TemporaryDirectory()), "roster.txt")
                 write_solution(written, self._best.roster)
             answer, report = extend(self._files, written)
         if self.is_proved():

@@ -59,14 +59,18 @@ class Progress:
 
 
 class Outcome:
-    """The result of a search: the report of the best roster, the lower bound if any, and how the search ended."""
+    """The result of a search: the report of the best roster, the lower bound if any, and how the search ended.
 
-    def __init__(self, best: BestRoster, stopped: bool) -> None:
+    `stopped` says whether the user stopped it; `fault` is the fault that ended it, if one did.
+    """
+
+    def __init__(self, best: BestRoster, stopped: bool, fault: Optional[BaseException]) -> None:
         self.report = best.report()
         self.bound = best.bound
         self.bound_by = best.bound_by
         self.proved = best.is_proved()
         self.stopped = stopped
+        self.fault = fault
 
     def lines(self) -> List[str]:
         """What a user reads after the report."""
@@ -83,9 +87,11 @@ def improve(files: WeekFiles, start: Optional[Path], solution: Path, seconds: fl
     """Searches for these seconds, writes the best roster to `solution` and returns its report.
 
     `start` is the roster to begin with, if any; `solvers` has names (clasp, cbc) or commands, and none means those that
-    are installed. Ctrl-C or TERM end the search: the roster is written, then KeyboardInterrupt is raised.
+    are installed. Ctrl-C, TERM or a fault end the search: the roster is written, then KeyboardInterrupt or the fault is raised.
     """
     outcome = search(files, start, solution, seconds, seed, jobs, solvers, Progress(None))
+    if outcome.fault:
+        raise outcome.fault
     if outcome.stopped:
         raise KeyboardInterrupt
     return outcome.report
@@ -94,7 +100,7 @@ def improve(files: WeekFiles, start: Optional[Path], solution: Path, seconds: fl
 def search(
     files: WeekFiles, start: Optional[Path], solution: Path, seconds: float, seed: int, jobs: int, solvers: Sequence[str], progress: Progress
 ) -> Outcome:
-    """As `improve`, with its progress printed, and more in its result. A signal ends the search early and is no fault."""
+    """As `improve`, with its progress printed, and more in its result. A fault is raised only if there is no roster; a signal is no fault."""
     solution = Path(solution).absolute()
     found = find_solvers(solvers or installed_solvers())
     week = read_files(files.scenario, files.history, files.week)
@@ -109,14 +115,17 @@ def search(
             if start:
                 best.offer(read_start(files, start, week, fixed), Snapshot(), None, folder, "the given roster")
             with signals.calling(running.stop):
-                running.run(folder, seed, jobs)
+                fault = running.run(folder, seed, jobs)
         finally:
             progress.finish()
             shutil.rmtree(folder, ignore_errors=True)
         if not best.now().version:
             advice = f"no roster was found in {seconds:.0f} s: give it more with --time"
-            raise ProgramFault(5, "stopped before the first roster" if signals.caught else advice)
-        return Outcome(best, bool(signals.caught))
+            raise fault or ProgramFault(5, "stopped before the first roster" if signals.caught else advice)
+        try:
+            return Outcome(best, bool(signals.caught), fault)
+        except (ProgramFault, OSError) as unreported:
+            raise fault or unreported
 
 
 def held_rows(fix: Path, week: Week, progress: Progress) -> Sequence[Assignment]:
@@ -186,3 +195,5 @@ def main(words: Optional[List[str]] = None) -> None:
         outcome = search(week_files(given), given.start, given.sol, given.time, given.seed, given.jobs, given.solver, Progress(sys.stderr))
         print(outcome.report.text, end="")
         print("\n".join(outcome.lines()), flush=True)
+        if outcome.fault:
+            raise outcome.fault

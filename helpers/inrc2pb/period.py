@@ -21,8 +21,8 @@ from .program import SOFT_RULES, ProgramFault, Report, WeekFiles, decode, encode
 from .shared_totals import shared_week
 from .solvers import Task, find_solver, installed_solvers
 
-# Plans a week: writes its roster to the file, and returns whether the user stopped it.
-Plan = Callable[[WeekFiles, Path], bool]
+# Plans a week: writes its roster to the file. Returns what ended it early, if anything did: a fault, or KeyboardInterrupt.
+Plan = Callable[[WeekFiles, Path], Optional[BaseException]]
 
 
 @dataclass(frozen=True)
@@ -41,7 +41,7 @@ def plan_once(solver_name: str, seconds: float) -> Plan:
     """Lets a solver solve the whole week once."""
     solver = find_solver(solver_name).whole()[0]
 
-    def plan(files: WeekFiles, solution: Path) -> bool:
+    def plan(files: WeekFiles, solution: Path) -> Optional[BaseException]:
         if files.fix:
             week = read_files(files.scenario, files.history, files.week)
             held_rows(files.fix, week, Progress(sys.stderr))
@@ -56,7 +56,7 @@ def plan_once(solver_name: str, seconds: float) -> Plan:
         if outcome.fault:
             raise Misuse(f"the solver {solver.name} has no answer: {outcome.fault}; try its command by hand")
         decode(files, outcome.answer, solution)
-        return False
+        return None
 
     return plan
 
@@ -66,8 +66,9 @@ def plan_by_improving(solvers: Sequence[str], seconds: float, seed: int, jobs: i
     for name in solvers:
         find_solver(name)
 
-    def plan(files: WeekFiles, solution: Path) -> bool:
-        return search(files, None, solution, seconds, seed, jobs, solvers, Progress(sys.stderr)).stopped
+    def plan(files: WeekFiles, solution: Path) -> Optional[BaseException]:
+        outcome = search(files, None, solution, seconds, seed, jobs, solvers, Progress(sys.stderr))
+        return outcome.fault or (KeyboardInterrupt() if outcome.stopped else None)
 
     return plan
 
@@ -102,7 +103,7 @@ class Period:
             raise PermissionError(errno.EACCES, os.strerror(errno.EACCES), str(folder))
 
     def run(self) -> None:
-        """Plans all weeks. After a fault, or if the user stops it, the weeks before have their files and reports."""
+        """Plans all weeks. After a fault, or if the user stops it, the weeks that have a roster have their files and reports."""
         with interrupts() as signals:
             for number, path in enumerate(self.files.weeks, self.first):
                 self._plan_and_report(number, path, signals)
@@ -114,10 +115,10 @@ class Period:
         shared = self.files.share and number + 1 < self.scenario.weeks
         print(f"week {number}" + (", penalties with its share of the totals" if shared else ""), file=sys.stderr, flush=True)
         try:
-            stopped = self.plan_week(files, roster)
+            ended = self.plan_week(files, roster)
             _, report = extend(files, roster)
         except (FileFault, Misuse, ProgramFault) as fault:
-            raise Misuse(f"week {number}: {fault_line(fault)}") from fault
+            raise _of_week(number, fault) from fault
         assert report is not None
         self.reports[number] = report
         print(f"week {number}: penalty {report.penalty}, {roster}", flush=True)
@@ -126,11 +127,13 @@ class Period:
             self.history = next_history(self.scenario, self.history, rows)
             self.history_file = self.folder / f"history-{number + 1}.txt"
             write_history(self.history_file, self.history)
-        if stopped or signals.caught:
+        if ended:
+            raise _of_week(number, ended)
+        if signals.caught:
             raise KeyboardInterrupt
 
-    def plan_week(self, files: WeekFiles, roster: Path) -> bool:
-        """Plans a week, if asked for with its share of the totals; whether the user stopped it."""
+    def plan_week(self, files: WeekFiles, roster: Path) -> Optional[BaseException]:
+        """Plans a week, if asked for with its share of the totals. Returns what ended it early, if anything did."""
         if not self.files.share:
             return self.plan(files, roster)
         real = Week(self.scenario, self.history, read_week(files.week, self.scenario))
@@ -149,6 +152,13 @@ class Period:
         sums = [sum(int(row[at]) for row in rows) for at in range(1, 2 + len(SOFT_RULES))]
         lines = [["", "penalty", *SOFT_RULES], *rows, ["period", *sums]]
         return ["".join(f"{cell:{'<8' if at == 0 else '>8' if at == 1 else '>6'}}" for at, cell in enumerate(line)).rstrip() for line in lines]
+
+
+def _of_week(number: int, fault: BaseException) -> BaseException:
+    """The fault with its week's number. One of the operating system, and KeyboardInterrupt, are as they were."""
+    if isinstance(fault, (FileFault, Misuse, ProgramFault)):
+        return Misuse(f"week {number}: {fault_line(fault)}")
+    return fault
 
 
 def _fixes(texts: Sequence[str]) -> Dict[int, Path]:

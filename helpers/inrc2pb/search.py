@@ -62,8 +62,8 @@ class Search:
         self._ended.set()
         self._processes.stop()
 
-    def run(self, folder: Path, seed: int, jobs: int) -> None:
-        """Searches with this many workers at once; their files are in the folder."""
+    def run(self, folder: Path, seed: int, jobs: int) -> Optional[BaseException]:
+        """Searches with this many workers at once; their files are in the folder. Returns the fault that ended it, if one did."""
         threads = []
         for number in range(jobs):
             room = folder / str(number)
@@ -78,8 +78,7 @@ class Search:
             self._ended.wait(0.1)
             if self._ended.is_set():
                 time.sleep(0.02)
-        if self._failure:
-            raise self._failure
+        return self._failure
 
     def _work(self, number: int, jobs: int, chance: random.Random, folder: Path) -> None:
         """One worker. A fault ends the search; after `stop` faults mean nothing."""

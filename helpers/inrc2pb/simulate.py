@@ -42,6 +42,8 @@ def main() -> Optional[int]:
         if given.cusOut:
             write_text(given.cusOut, f"{week.history.week + 1}\n")
         print(outcome.report.text, end="", flush=True)
+        if outcome.fault:
+            raise outcome.fault
     return 0
 
 

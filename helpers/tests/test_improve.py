@@ -120,7 +120,9 @@ class BadSolvers(HelperTest):
             with self.subTest(how=how):
                 shutil.copy(ROSTER, self.folder / "best.txt")
                 status, report, faults = self.improve("--solver", fake(how), "--from", ROSTER)
-                self.assertEqual((status, report), (1, ""))
+                self.assertEqual(status, 1)
+                self.assertIn("penalty 20\n", report)
+                self.assertTrue(report.endswith("no lower bound\n"), report)
                 self.assertIn(says, faults)
                 self.assertIn("choose another solver with --solver", faults.splitlines()[-1])
                 self.assertEqual(program.penalty_of(WEEK_FILES, self.folder / "best.txt"), program.penalty_of(WEEK_FILES, ROSTER))
@@ -130,8 +132,23 @@ class BadSolvers(HelperTest):
         proud = self.folder / "answer.txt"
         proud.write_text(answer.replace("s SATISFIABLE", "s OPTIMUM FOUND"))
         status, report, faults = self.improve("--solver", f"sh -c 'cat {proud}'", "--from", ROSTER)
-        self.assertEqual((status, report), (1, ""))
+        self.assertEqual(status, 1)
+        self.assertIn("penalty 20\n", report)
         self.assertIn("sh: it calls a roster of penalty 110 the best, and one of 20 is known: skipped", faults)
+
+    def test_after_a_fault_the_roster_is_reported(self):
+        # The solver removes the folder of the search, so that the next model cannot be written.
+        status, report, faults = self.improve("--from", ROSTER, "--jobs", 1, "--solver", "sh -c 'rm -r \"${0%/*}\"' {}")
+        self.assertEqual(status, 3)
+        self.assertIn("penalty 20\n", report)
+        self.assertRegex(faults.splitlines()[-1], "^inrc2pb-improve: .*No such file or directory: look at its name and folder$")
+
+    def test_after_a_fault_that_allows_no_report_there_is_the_fault_alone(self):
+        mine = shutil.copy(program.find_program(), self.folder / "inrc2pb")
+        words = ("--sol", self.folder / "best.txt", "--from", ROSTER, "--jobs", 1, "--solver", f"sh -c 'rm {mine}'")
+        status, report, faults = run("improve", *WEEK_OPTIONS, *words, environment={"INRC2PB": str(mine)})
+        self.assertEqual((status, report), (127, ""))
+        self.assertIn(f"there is no program {mine}", faults.splitlines()[-1])
 
     @unittest.skipUnless(HAS_CLASP, "needs clasp")
     def test_the_others_go_on(self):

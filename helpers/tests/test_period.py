@@ -7,7 +7,7 @@ import unittest
 from dataclasses import replace
 from pathlib import Path
 
-from ward import HISTORY, ROOT, SCENARIO, WARD, WEEK, WEEK_OPTIONS, HelperTest, files, program, run
+from ward import HISTORY, ROOT, ROSTER, SCENARIO, WARD, WEEK, WEEK_FILES, WEEK_OPTIONS, HelperTest, files, program, run
 
 from inrc2pb.shared_totals import shared_week
 
@@ -43,6 +43,12 @@ class Shares(unittest.TestCase):
 
 
 class PeriodTest(HelperTest):
+    def answers_once(self, early=False):
+        """A solver that has an answer of penalty 20 to the ward's week when it is called first, and none later."""
+        answer = self.folder / "answer.txt"
+        answer.write_text(program.extend(replace(WEEK_FILES, early=early), ROSTER, False)[0])
+        return f"sh -c 'mkdir {self.folder}/called 2> /dev/null && cat {answer}'"
+
     def assert_period(self, printed, options, count, early=False):
         """The report has what `extend` reports for each week, and the sums."""
         table = [line.split() for line in printed.split("\n\n")[-1].splitlines()]
@@ -87,9 +93,17 @@ class Periods(PeriodTest):
             self.assertIn("Grace Sat Day Nurse\n", (self.folder / "roster-1.txt").read_text())
 
 
-class PeriodFaults(HelperTest):
+class PeriodFaults(PeriodTest):
     def period(self, *words):
         return run("period", *words, "--out", self.folder, "--time", 1)
+
+    def test_after_a_fault_the_week_that_has_a_roster_is_reported(self):
+        words = ("--out", self.folder, "--time", 60, "--jobs", 1, "--solver", self.answers_once())
+        status, printed, said = run("period", *WARD_OPTIONS, *words)
+        self.assertEqual((status, printed.splitlines()[0]), (1, f"week 0: penalty 20, {self.folder / 'roster-0.txt'}"))
+        self.assert_period(printed, WARD_OPTIONS, 1)
+        self.assertTrue((self.folder / "history-1.txt").exists())
+        self.assertRegex(said.splitlines()[-1], "^inrc2pb-period: week 0: sh: .*choose another solver with --solver$")
 
     def test_a_solver_without_an_answer(self):
         for solver in BAD_SOLVERS:
@@ -147,8 +161,16 @@ class PeriodFaults(HelperTest):
         self.assertIn("'Chan' is no nurse of NURSES: did you mean 'Chen'?", said)
 
 
-@unittest.skipUnless(shutil.which("clasp"), "clasp is not installed")
-class Simulation(HelperTest):
+class Simulation(PeriodTest):
+    def test_after_a_fault_the_roster_is_reported(self):
+        solution, custom = self.folder / "solution.txt", self.folder / "custom.txt"
+        words = ("--sol", solution, "--cusOut", custom, "--timeout", 60, "--jobs", 1, "--solver", self.answers_once(early=True))
+        status, printed, said = run("simulate", *WEEK_OPTIONS, *words)
+        self.assertEqual((status, custom.read_text()), (1, "1\n"))
+        self.assertIn("penalty 20\n", printed)
+        self.assertRegex(said, "^inrc2pb-simulate: sh: .*choose another solver with --solver\n$")
+
+    @unittest.skipUnless(shutil.which("clasp"), "clasp is not installed")
     def test_the_command_line_of_the_competition(self):
         solution, custom = self.folder / "solution.txt", self.folder / "custom.txt"
         words = ("--sol", solution, "--cusOut", custom, "--rand", 7, "--timeout", 20)
