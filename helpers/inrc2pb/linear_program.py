@@ -12,7 +12,7 @@ import re
 import sys
 from dataclasses import dataclass
 from pathlib import Path
-from typing import Iterator, List, Optional, TextIO, Tuple
+from typing import Callable, Iterator, List, Optional, TextIO, Tuple
 
 from .command import Misuse, parser
 from .files import replacing
@@ -25,6 +25,10 @@ CHUNK = 1 << 18
 _HEADER = re.compile(r"\* #variable= ([0-9]{1,10}) #constraint= ([0-9]{1,10})\s*")
 _TERMS = re.compile(r"(?:\s*[+-][0-9]{1,17}\s+x[1-9][0-9]{0,9}(?!\S))*\s*")
 _DEGREE = re.compile(r"\s*([+-]?[0-9]{1,17})\s*")
+
+
+# Called before each piece of a model: an exception that it raises ends the conversion.
+Check = Optional[Callable[[], None]]
 
 
 class ModelFault(Misuse):
@@ -40,7 +44,7 @@ class ModelSize:
     step: int
 
 
-def write_linear_program(opb: TextIO, lp: TextIO) -> ModelSize:
+def write_linear_program(opb: TextIO, lp: TextIO, check: Check = None) -> ModelSize:
     """Writes the model in the file `opb` to the file `lp`."""
     header = opb.readline()
     match = _HEADER.fullmatch(header)
@@ -48,18 +52,18 @@ def write_linear_program(opb: TextIO, lp: TextIO) -> ModelSize:
         raise ModelFault("the model does not begin with `* #variable= V #constraint= C`: give a file that `inrc2pb encode` wrote")
     variables, constraints = int(match.group(1)), int(match.group(2))
     lp.write("Minimize\n obj:")
-    step, found = _write_statements(opb, lp)
+    step, found = _write_statements(_pieces(opb, check), lp)
     if found != constraints:
         raise ModelFault(f"the model has {found} constraints and announces {constraints}: it is cut, so encode the week again")
     _write_binaries(variables, lp)
     return ModelSize(variables, constraints, step)
 
 
-def _write_statements(opb: TextIO, lp: TextIO) -> Tuple[int, int]:
+def _write_statements(pieces: Iterator[Tuple[str, bool]], lp: TextIO) -> Tuple[int, int]:
     """Writes the objective and the constraints; returns the objective's step, and the number of constraints."""
     step = number = 0
     in_objective = False
-    for text, ends in _pieces(opb):
+    for text, ends in pieces:
         start = text.lstrip()
         if number == 0 and not in_objective and start.startswith("min:"):
             in_objective, text = True, start[len("min:") :]
@@ -79,7 +83,7 @@ def _write_statements(opb: TextIO, lp: TextIO) -> Tuple[int, int]:
     return step, max(0, number - 1)
 
 
-def _pieces(opb: TextIO) -> Iterator[Tuple[str, bool]]:
+def _pieces(opb: TextIO, check: Check) -> Iterator[Tuple[str, bool]]:
     """The statements in pieces: each with whether its statement ends there. A piece ends between two terms.
 
     Only the objective comes in pieces: a constraint is short.
@@ -87,6 +91,8 @@ def _pieces(opb: TextIO) -> Iterator[Tuple[str, bool]]:
     rest = ""
     long = False
     for chunk in iter(lambda: opb.read(CHUNK), ""):
+        if check:
+            check()
         *whole, rest = (rest + chunk).split(";")
         for statement in whole:
             yield statement, True
@@ -130,10 +136,10 @@ def _write_binaries(variables: int, lp: TextIO) -> None:
     lp.write("End\n")
 
 
-def convert(model: Path, lp: Path) -> ModelSize:
+def convert(model: Path, lp: Path, check: Check = None) -> ModelSize:
     """Converts the file `model` to the file `lp`, in the way of `replacing`."""
     with open(model, encoding="ascii", errors="replace") as opb, replacing(lp) as target:
-        return write_linear_program(opb, target)
+        return write_linear_program(opb, target, check)
 
 
 def _arguments() -> argparse.ArgumentParser:

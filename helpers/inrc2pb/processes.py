@@ -60,6 +60,11 @@ class Processes:
             status = process.wait()
         return Ended(status, output.decode("utf-8", errors="replace"), timed_out)
 
+    @property
+    def stopped(self) -> bool:
+        """Whether they were stopped."""
+        return self._stopped
+
     def stop(self) -> None:
         """Ends all processes, permanently."""
         with self._lock:

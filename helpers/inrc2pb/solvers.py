@@ -113,6 +113,10 @@ class Clasp(CommandSolver):
         return [Clasp(), self]
 
 
+class _TimeIsOver(Exception):
+    """A conversion took until the solver's time was over or the search was stopped."""
+
+
 class Cbc(Solver):
     """cbc, which reads an LP file."""
 
@@ -121,7 +125,15 @@ class Cbc(Solver):
     def solve(self, task: Task, processes: Processes, hear: Optional[HearBound] = None) -> Outcome:
         limit = time.monotonic() + task.seconds
         lp, solution = task.folder / "model.lp", task.folder / "model.sol"
-        size = convert(task.model, lp)
+
+        def check() -> None:
+            if processes.stopped or time.monotonic() >= limit:
+                raise _TimeIsOver
+
+        try:
+            size = convert(task.model, lp, check)
+        except _TimeIsOver:
+            return NONE_IN_TIME
         if solution.exists():
             solution.unlink()
         left = limit - time.monotonic()

@@ -93,6 +93,16 @@ class Searches(HelperTest):
         self.assertIn(f"penalty {program.penalty_of(held, target)}\n", report)
 
     @unittest.skipUnless(HAS_CBC, "needs cbc")
+    def test_a_conversion_ends_with_its_search(self):
+        model, stopped = self.model(THIRTY_FILES), Processes()
+        stopped.stop()
+        for processes, seconds in ((stopped, 60), (Processes(), 0.01)):
+            with self.subTest(seconds=seconds):
+                self.assertEqual(Cbc().solve(Task(model, seconds, self.folder), processes).answer, "s UNKNOWN\n")
+                # The conversion did not come to its end.
+                self.assertEqual([path.name for path in self.folder.iterdir()], ["week.opb"])
+
+    @unittest.skipUnless(HAS_CBC, "needs cbc")
     def test_bounds_of_cbc_are_multiples_of_the_step(self):
         bounds = []
         model = self.model(WEEK_FILES)
