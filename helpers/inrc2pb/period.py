@@ -49,14 +49,17 @@ def plan_once(solver_name: str, seconds: float) -> Plan:
         with interrupts() as signals, tempfile.TemporaryDirectory() as folder:
             model = Path(folder, "week.opb")
             encode(files, model)
-            with signals.calling(processes.stop):
+            with signals.calling(processes.ask_to_end):
                 outcome = solver.solve(Task(model, seconds, Path(folder)), processes)
-        if signals.caught:
-            raise KeyboardInterrupt
-        if outcome.fault:
+        if outcome.fault and not signals.caught:
             raise Misuse(f"the solver {solver.name} has no answer: {outcome.fault}; try its command by hand")
-        decode(files, outcome.answer, solution)
-        return None
+        try:
+            decode(files, outcome.answer, solution)
+        except ProgramFault as fault:
+            if not signals.caught:
+                raise
+            raise ProgramFault(5, "stopped before the first roster") from fault
+        return KeyboardInterrupt() if signals.caught else None
 
     return plan
 

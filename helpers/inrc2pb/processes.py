@@ -8,7 +8,7 @@ import threading
 import time
 from dataclasses import dataclass
 from pathlib import Path
-from typing import Callable, List, Optional, Sequence, Set, Tuple
+from typing import Callable, Dict, List, Optional, Sequence, Tuple
 
 # Seconds that a process has to print its answer after it was asked to end.
 GRACE = 2.0
@@ -29,7 +29,8 @@ class Processes:
 
     def __init__(self) -> None:
         self._lock = threading.Lock()
-        self._running: Set["subprocess.Popen[bytes]"] = set()
+        # Each with the signal that asks it to end.
+        self._running: Dict["subprocess.Popen[bytes]", int] = {}
         self._stopped = False
 
     def run(
@@ -47,12 +48,12 @@ class Processes:
             process = subprocess.Popen(
                 list(words), cwd=str(folder), stdin=subprocess.DEVNULL, stdout=subprocess.PIPE, stderr=subprocess.DEVNULL, start_new_session=True
             )
-            self._running.add(process)
+            self._running[process] = ending
         try:
             output, timed_out = _output_of(process, seconds, ending, hear)
         finally:
             with self._lock:
-                self._running.discard(process)
+                self._running.pop(process)
             if process.stdout:
                 process.stdout.close()
             _wait_without_reaping(process, 0.5)
@@ -62,8 +63,18 @@ class Processes:
 
     @property
     def stopped(self) -> bool:
-        """Whether they were stopped."""
+        """Whether no process starts any more."""
         return self._stopped
+
+    def ask_to_end(self) -> None:
+        """Lets all processes print their answers as if their time was over, and starts none any more."""
+        with self._lock:
+            self._stopped = True
+            for process, ending in self._running.items():
+                _signal_group(process, ending)
+        after_grace = threading.Timer(GRACE, self.stop)
+        after_grace.daemon = True
+        after_grace.start()
 
     def stop(self) -> None:
         """Ends all processes, permanently."""

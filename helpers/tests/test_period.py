@@ -2,12 +2,15 @@
 
 import os
 import shutil
+import signal
+import subprocess
 import sys
+import time
 import unittest
 from dataclasses import replace
 from pathlib import Path
 
-from ward import HISTORY, ROOT, ROSTER, SCENARIO, WARD, WEEK, WEEK_FILES, WEEK_OPTIONS, HelperTest, files, program, run
+from ward import HELPERS, HISTORY, ROOT, ROSTER, SCENARIO, WARD, WEEK, WEEK_FILES, WEEK_OPTIONS, HelperTest, files, program, run
 
 from inrc2pb.shared_totals import shared_week
 
@@ -111,6 +114,33 @@ class PeriodFaults(PeriodTest):
             self.assertNotEqual(status, 0)
             self.assertEqual((said.count("\n"), said.startswith("week 0\ninrc2pb-period: week 0: "), printed), (2, True, ""), said)
         self.assertEqual(list(self.folder.iterdir()), [])
+
+    def stopped(self, at_end):
+        """A period that gets TERM while its solver runs. The solver then does this."""
+        started = self.folder / "started"
+        started.unlink(missing_ok=True)
+        solver = f"sh -c 'trap \"{at_end}; exit 1\" TERM; touch {started}; sleep 60 & wait'"
+        words = (*WARD_OPTIONS, "--out", self.folder, "--time", 60, "--once", "--solver", solver)
+        command = [sys.executable, str(HELPERS / "inrc2pb-period"), *map(str, words)]
+        with subprocess.Popen(command, stdout=subprocess.PIPE, stderr=subprocess.PIPE) as period:
+            while not started.exists() and period.poll() is None:
+                time.sleep(0.05)
+            period.send_signal(signal.SIGTERM)
+            printed, said = period.communicate(timeout=30)
+        return period.returncode, printed.decode(), said.decode()
+
+    def test_after_a_stop_the_roster_that_the_solver_has_is_reported(self):
+        answer = self.folder / "answer.txt"
+        answer.write_text(program.extend(WEEK_FILES, ROSTER, False)[0])
+        status, printed, said = self.stopped(f"cat {answer}")
+        self.assertEqual((status, said), (130, "week 0\n"))
+        self.assert_period(printed, WARD_OPTIONS, 1)
+        self.assertTrue((self.folder / "history-1.txt").exists())
+
+    def test_after_a_stop_before_the_first_roster_there_is_none(self):
+        for at_end in (":", "echo s UNKNOWN"):
+            ended = self.stopped(at_end)
+            self.assertEqual(ended, (1, "", "week 0\ninrc2pb-period: week 0: stopped before the first roster\n"))
 
     def test_without_a_solver_or_the_program_no_folder_is_made(self):
         out = self.folder / "planned" / "here"
