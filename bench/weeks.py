@@ -10,27 +10,41 @@ the longest model: as large, and all its numbers are those that charge most. The
 each least demand with nurses of their own, and breaks no rule; all slacks of the model are true.
 """
 
-import os
 import sys
+from dataclasses import replace
+from pathlib import Path
+from typing import List, NamedTuple
 
-DAYS = ["Mon", "Tue", "Wed", "Thu", "Fri", "Sat", "Sun"]
+ROOT = Path(__file__).resolve().parent.parent
+sys.path.append(str(ROOT / "helpers"))
+
+from inrc2pb.files import DAYS, Contract, History, Limits, Nurse, NurseHistory, Place, Request, Requirement, Scenario  # noqa: E402
+from inrc2pb.files import ShiftType, Week, WeekData, history_text, scenario_text, week_text, write_text  # noqa: E402
+
+NAME = "bench"
+WEEKS = 4
 
 
-class Size:
-    def __init__(self, nurses, shifts, skills, contracts, requests):
-        self.nurses, self.shifts, self.skills = nurses, shifts, skills
-        self.contracts, self.requests = contracts, requests
+class Size(NamedTuple):
+    """The size of a week."""
 
-    # Each day asks for one nurse of each shift type and skill. They are the nurses of one block, and
-    # three blocks take turns, so that no nurse works on two days that follow one another.
-    def blocks(self):
+    nurses: int
+    shifts: int
+    skills: int
+    contracts: int
+    requests: int
+
+    def blocks(self) -> int:
+        """The nurses of a block. Each day asks for one nurse of each shift type and skill: they are the nurses of one block, and
+        three blocks take turns, so that no nurse works on two days that follow one another."""
         return self.shifts * self.skills
 
-    def worker(self, day, shift, skill):
+    def worker(self, day: int, shift: int, skill: int) -> int:
+        """The nurse who works there."""
         return day % 3 * self.blocks() + shift * self.skills + skill
 
-    # A nurse has half of the skills, from the one on with which her block wants her.
-    def skills_of(self, nurse):
+    def skills_of(self, nurse: int) -> List[int]:
+        """Half of the skills, from the one on with which her block wants her."""
         return sorted((nurse + step) % self.skills for step in range((self.skills + 1) // 2))
 
 
@@ -43,100 +57,92 @@ SIZES = {
 GROWTH = {nurses: Size(nurses=nurses, shifts=4, skills=4, contracts=4, requests=9 * nurses) for nurses in (10, 30, 120, 300, 1000)}
 
 
-def scenario(size):
-    yield "SCENARIO = bench"
-    yield "WEEKS = 4"
-    yield f"SKILLS = {size.skills}"
-    yield from (f"skill{k}" for k in range(size.skills))
-    yield f"SHIFT_TYPES = {size.shifts}"
-    yield from (f"shift{s} (2,{3 + s % 3})" for s in range(size.shifts))
-    yield "FORBIDDEN_SHIFT_TYPES_SUCCESSIONS"
-    for s in range(size.shifts):
-        after = [f"shift{t}" for t in range(max(0, s - 2), s)]
-        yield " ".join([f"shift{s}", str(len(after)), *after])
-    yield f"CONTRACTS = {size.contracts}"
-    for c in range(size.contracts):
-        yield f"contract{c} ({7 + c % 9},{11 + c % 12}) (3,{4 + c % 3}) (2,{3 + c % 3}) {1 + c % 2} {c % 2}"
-    yield f"NURSES = {size.nurses}"
-    for n in range(size.nurses):
-        skills = [f"skill{k}" for k in size.skills_of(n)]
-        yield " ".join([f"nurse{n}", f"contract{n % size.contracts}", str(len(skills)), *skills])
+def named(kind: str, count: int) -> List[str]:
+    """The names of so many shift types, skills, contracts or nurses."""
+    return [f"{kind}{number}" for number in range(count)]
 
 
-def history(size):
-    yield "HISTORY"
-    yield "3 bench"
-    yield "NURSE_HISTORY"
-    for n in range(size.nurses):
+def scenario(size: Size) -> Scenario:
+    """A scenario of this size."""
+    shifts, skills = named("shift", size.shifts), named("skill", size.skills)
+    types = {
+        name: ShiftType(name, Limits(2, 3 + number % 3), tuple(shifts[max(0, number - 2) : number])) for number, name in enumerate(shifts)
+    }
+    contracts = {
+        name: Contract(name, Limits(7 + c % 9, 11 + c % 12), Limits(3, 4 + c % 3), Limits(2, 3 + c % 3), 1 + c % 2, c % 2 == 1)
+        for c, name in enumerate(named("contract", size.contracts))
+    }
+    nurses = {
+        name: Nurse(name, f"contract{number % size.contracts}", tuple(skills[skill] for skill in size.skills_of(number)))
+        for number, name in enumerate(named("nurse", size.nurses))
+    }
+    return Scenario(NAME, WEEKS, tuple(skills), types, contracts, nurses)
+
+
+def history(size: Size) -> History:
+    """The history of the last week: each second nurse who is in no block has worked."""
+    pasts = {}
+    for n, name in enumerate(named("nurse", size.nurses)):
         works = n >= 3 * size.blocks() and n % 2 == 0
-        last = f"shift{n % size.shifts} {1 + n % 3} {2 + n % 3} 0" if works else f"None 0 0 {1 + n % 4}"
-        yield f"nurse{n} {6 + n % 12} {n % 4} {last}"
+        run = (f"shift{n % size.shifts}", 1 + n % 3, 2 + n % 3, 0) if works else (None, 0, 0, 1 + n % 4)
+        pasts[name] = NurseHistory(name, 6 + n % 12, n % 4, *run)
+    return History(WEEKS - 1, NAME, pasts)
 
 
-def week(size):
-    yield "WEEK_DATA"
-    yield "bench"
-    yield "REQUIREMENTS"
-    for s in range(size.shifts):
-        for k in range(size.skills):
-            pairs = (f"(1,{2 + (d + s + k) % 2})" for d in range(7))
-            yield " ".join([f"shift{s}", f"skill{k}", *pairs])
-    yield f"SHIFT_OFF_REQUESTS = {size.requests}"
-    for r in range(size.requests):
-        shift = f"shift{r % size.shifts}" if r % 3 else "Any"
-        yield f"nurse{r * 7 % size.nurses} {shift} {DAYS[r % 7]}"
+def week(size: Size) -> WeekData:
+    """One nurse is needed at each place."""
+    requirements = {
+        Place(day, f"shift{shift}", f"skill{skill}"): Requirement(1, 2 + (day + shift + skill) % 2)
+        for shift in range(size.shifts)
+        for skill in range(size.skills)
+        for day in range(len(DAYS))
+    }
+    requests = [Request(f"nurse{r * 7 % size.nurses}", f"shift{r % size.shifts}" if r % 3 else None, r % 7) for r in range(size.requests)]
+    return WeekData(NAME, requirements, tuple(requests))
 
 
-def greatest_scenario():
-    """Each succession is forbidden, no nurse has a skill, and limits with the least above the greatest charge both."""
-    names = [f"shift{s}" for s in range(16)]
-    skills = [f"skill{k}" for k in range(16)]
-    yield from ("SCENARIO = bench", "WEEKS = 4", "SKILLS = 16", *skills, "SHIFT_TYPES = 16")
-    yield from (f"{name} (9999,0)" for name in names)
-    yield "FORBIDDEN_SHIFT_TYPES_SUCCESSIONS"
-    yield from (" ".join([name, "16", *names]) for name in names)
-    yield from ("CONTRACTS = 1", "contract0 (9999,0) (9999,0) (9999,0) 0 1", "NURSES = 1000")
-    yield from (f"nurse{n} contract0 0" for n in range(1000))
+def greatest() -> Week:
+    """The week with the longest model. Each succession is forbidden, no nurse has a skill, and limits whose minimum is above the
+    maximum charge both."""
+    shifts, skills, nurses = tuple(named("shift", 16)), tuple(named("skill", 16)), named("nurse", 1000)
+    both = Limits(9999, 0)
+    contract = Contract("contract0", both, both, both, 0, True)
+    types = {name: ShiftType(name, both, shifts) for name in shifts}
+    ward = Scenario(NAME, WEEKS, skills, types, {contract.name: contract}, {name: Nurse(name, contract.name, ()) for name in nurses})
+    pasts = {name: NurseHistory(name, 0, 0, shifts[0], 1, 1, 1) for name in nurses}
+    requirements = {Place(day, shift, skill): Requirement(1, 9999) for shift in shifts for skill in skills for day in range(len(DAYS))}
+    requests = tuple(Request(nurses[r // 7 % 1000], None, r % 7) for r in range(9999))
+    return Week(ward, History(WEEKS - 1, NAME, pasts), WeekData(NAME, requirements, requests))
 
 
-def greatest_history():
-    yield from ("HISTORY", "3 bench", "NURSE_HISTORY")
-    yield from (f"nurse{n} 0 0 shift0 1 1 1" for n in range(1000))
+def write_week(folder: Path, made: Week) -> None:
+    """Writes the files of a week."""
+    folder.mkdir(parents=True, exist_ok=True)
+    write_text(folder / "scenario.txt", scenario_text(made.scenario))
+    write_text(folder / "history.txt", history_text(made.history))
+    write_text(folder / "week.txt", week_text(made.data))
 
 
-def greatest_week():
-    yield from ("WEEK_DATA", "bench", "REQUIREMENTS")
-    yield from (" ".join([f"shift{s}", f"skill{k}", *["(1,9999)"] * 7]) for s in range(16) for k in range(16))
-    yield "SHIFT_OFF_REQUESTS = 9999"
-    yield from (f"nurse{r // 7 % 1000} Any {DAYS[r % 7]}" for r in range(9999))
+def write_files(size: Size, folder: str) -> None:
+    """Writes a week of this size. `late.txt` is its history in a week that the scenario does not have: a run reads all files and
+    ends there."""
+    made = Week(scenario(size), history(size), week(size))
+    write_week(Path(folder), made)
+    write_text(Path(folder, "late.txt"), history_text(replace(made.history, week=WEEKS)))
 
 
-def late_history(size):
-    """The same history in a week that the scenario does not have: a run reads all files and ends there."""
-    return (line.replace("3 bench", "4 bench") for line in history(size))
+def write_greatest(folder: str) -> None:
+    """Writes the week with the longest model."""
+    write_week(Path(folder), greatest())
 
 
-def write_texts(folder, texts):
-    os.makedirs(folder, exist_ok=True)
-    for name, lines in texts.items():
-        with open(f"{folder}/{name}.txt", "w") as file:
-            file.writelines(f"{line}\n" for line in lines)
-
-
-def write_files(size, folder):
-    texts = {"scenario": scenario, "history": history, "late": late_history, "week": week}
-    write_texts(folder, {name: lines(size) for name, lines in texts.items()})
-
-
-def write_greatest(folder):
-    write_texts(folder, {"scenario": greatest_scenario(), "history": greatest_history(), "week": greatest_week()})
-
-
-def cell_variable(size, nurse, day, shift, skill):
+def cell_variable(size: Size, nurse: int, day: int, shift: int, skill: int) -> int:
+    """The variable of a cell, by docs/model.md."""
     return ((nurse * 7 + day) * size.shifts + shift) * size.skills + skill + 1
 
 
-def write_answer(size, model, answer):
+def write_answer(size: Size, model: str, answer: str) -> None:
+    """Writes the answer to the model of a week of this size."""
     with open(model) as file:
         words = file.readline().split()
     variables = int(words[words.index("#variable=") + 1])
@@ -154,7 +160,8 @@ def write_answer(size, model, answer):
         file.write("\n")
 
 
-def main():
+def main() -> None:
+    """Writes the files or the answer that the words ask for."""
     if len(sys.argv) == 4 and sys.argv[1:3] == ["files", "greatest"]:
         write_greatest(sys.argv[3])
     elif len(sys.argv) == 4 and sys.argv[1] == "files" and sys.argv[2] in SIZES:

@@ -6,177 +6,190 @@ usage: make_weeks.py FOLDER [NURSES]
 `thirty` is the last of four weeks of a ward with 30 nurses, four shift types and four skills. `month` has all four weeks
 of the same ward. `eight` is the second of four weeks of eight nurses, and no roster meets it: two nurses have the skill
 HeadNurse, and it is asked for on Wednesday night and, on Thursday, early and late. Nobody may work early or late on the
-day after a night. With NURSES, a multiple of 30, it writes only one week, like `thirty` for a ward of that size: `ward60`
-for 60 nurses. Needs Python 3.8 or later.
+day after a night. With NURSES, 12 or more, it writes only a ward of that size, such as `ward60` for 60 nurses: its last
+week, like `thirty`, and the three weeks before it, with the history of the first one. Needs Python 3.8 or later.
 """
 
 import argparse
-import os
+import itertools
+import sys
+from pathlib import Path
+from typing import Dict, Iterator, List, Sequence, TypeVar
 
-DAYS = ["Mon", "Tue", "Wed", "Thu", "Fri", "Sat", "Sun"]
-SHIFTS = ["Early", "Day", "Late", "Night"]
-SKILLS = ["HeadNurse", "Nurse", "Caretaker", "Trainee"]
-RULES = """\
-SHIFT_TYPES = 4
-Early (2,5)
-Day (2,28)
-Late (2,5)
-Night (3,5)
+HERE = Path(__file__).resolve().parent
+# The library is in the folder `helpers` of a clone, or in `share/inrc2pb` of an installation.
+sys.path += [str(HERE / "../helpers"), str(HERE / "../../../inrc2pb")]
+try:
+    from inrc2pb.files import ANY, DAYS, Contract, History, Limits, Nurse, NurseHistory, Place, Request, Requirement, Scenario
+    from inrc2pb.files import ShiftType, WeekData, history_text, scenario_text, week_text, write_text
+except ModuleNotFoundError:
+    sys.exit("make_weeks.py: there is no library inrc2pb: run it in a clone, or set PYTHONPATH as docs/helpers.md says")
 
-FORBIDDEN_SHIFT_TYPES_SUCCESSIONS
-Early 0
-Day 1 Early
-Late 2 Early Day
-Night 3 Early Day Late
-
-CONTRACTS = 3
-FullTime (15,22) (3,5) (2,3) 2 1
-PartTime (7,15) (3,5) (2,5) 2 1
-HalfTime (5,11) (3,5) (3,5) 1 1
-"""
+SKILLS = ("HeadNurse", "Nurse", "Caretaker", "Trainee")
+SHIFT_TYPES = (
+    ShiftType("Early", Limits(2, 5), ()),
+    ShiftType("Day", Limits(2, 28), ("Early",)),
+    ShiftType("Late", Limits(2, 5), ("Early", "Day")),
+    ShiftType("Night", Limits(3, 5), ("Early", "Day", "Late")),
+)
+SHIFTS = [shift.name for shift in SHIFT_TYPES]
+CONTRACTS = (
+    Contract("FullTime", Limits(15, 22), Limits(3, 5), Limits(2, 3), 2, True),
+    Contract("PartTime", Limits(7, 15), Limits(3, 5), Limits(2, 5), 2, True),
+    Contract("HalfTime", Limits(5, 11), Limits(3, 5), Limits(3, 5), 1, True),
+)
+WEEKS = 4
 NAMES = """
     Ada Berta Carla David Emil Frieda Greta Hanna Ida Jonas Karl Lena Mia Nora Otto Paula Quirin Rosa Simon Tilda
     Ulla Viktor Wanda Xaver Yara Zita Anton Bruno Clara Dora
 """.split()
+# The nurses of the ward whose demands `demands_of_ward` has. A ward of fewer than 12 would need nobody at most places.
+WARD, FEWEST, MOST = 30, 12, 1000
+
+Requirements = Dict[Place, Requirement]
+T = TypeVar("T")
 
 
 class Numbers:
     """The same row of numbers for the same seed, on every machine."""
 
-    def __init__(self, seed):
+    def __init__(self, seed: int) -> None:
         self.state = seed
 
-    def below(self, bound):
+    def below(self, bound: int) -> int:
+        """The next number, from 0 to below the bound."""
         self.state = (self.state * 6364136223846793005 + 1442695040888963407) % 2**64
         return (self.state >> 33) % bound
 
-    def one_of(self, choices):
+    def one_of(self, choices: Sequence[T]) -> T:
+        """One of the choices, by the next number."""
         return choices[self.below(len(choices))]
 
 
-def scenario(name, nurses):
-    yield f"SCENARIO = {name}\n\nWEEKS = 4\n\nSKILLS = {len(SKILLS)}"
-    yield from SKILLS
-    yield ""
-    yield RULES
-    yield f"NURSES = {len(nurses)}"
-    for nurse, contract, skills in nurses:
-        yield " ".join([nurse, contract, str(len(skills)), *skills])
+def scenario(name: str, nurses: Sequence[Nurse]) -> Scenario:
+    """The ward of these nurses."""
+    types, contracts = {shift.name: shift for shift in SHIFT_TYPES}, {contract.name: contract for contract in CONTRACTS}
+    return Scenario(name, WEEKS, SKILLS, types, contracts, {nurse.name: nurse for nurse in nurses})
 
 
-def history(name, week, nurses, numbers):
+def history(ward: Scenario, week: int, numbers: Numbers) -> History:
     """A nurse worked on the last days up to Sunday, or she was off on them."""
-    yield f"HISTORY\n{week} {name}\n\nNURSE_HISTORY"
     least = {"FullTime": 4, "PartTime": 3, "HalfTime": 2}
-    for nurse, contract, _ in nurses:
-        assignments = week * least[contract] + numbers.below(2 * week)
+    pasts = {}
+    for nurse in ward.nurses.values():
+        assignments = week * least[nurse.contract] + numbers.below(2 * week)
         weekends = numbers.below(min(week, 2) + 1)
         if numbers.below(5) < 3:
             run = 1 + numbers.below(4)
-            last = f"{numbers.one_of(SHIFTS)} {1 + numbers.below(run)} {run} 0"
+            pasts[nurse.name] = NurseHistory(nurse.name, assignments, weekends, numbers.one_of(SHIFTS), 1 + numbers.below(run), run, 0)
         else:
-            last = f"None 0 0 {1 + numbers.below(3)}"
-        yield f"{nurse} {assignments} {weekends} {last}"
+            pasts[nurse.name] = NurseHistory(nurse.name, assignments, weekends, None, 0, 0, 1 + numbers.below(3))
+    return History(week, ward.name, pasts)
 
 
-def week(name, demands, requests):
-    yield f"WEEK_DATA\n{name}\n\nREQUIREMENTS"
-    for (shift, skill), pairs in demands.items():
-        yield " ".join([shift, skill, *(f"({least},{best})" for least, best in pairs)])
-    yield f"\nSHIFT_OFF_REQUESTS = {len(requests)}"
-    yield from requests
+def first_history(ward: Scenario, numbers: Numbers) -> History:
+    """Each nurse was off on the last days before the period."""
+    return History(0, ward.name, {nurse: NurseHistory(nurse, 0, 0, None, 0, 0, 1 + numbers.below(3)) for nurse in ward.nurses})
 
 
-def requests(nurses, count, numbers):
-    return [
-        f"{numbers.one_of(nurses)[0]} {numbers.one_of(['Any', *SHIFTS])} {numbers.one_of(DAYS)}" for _ in range(count)
-    ]
+def week(ward: Scenario, requirements: Requirements, requests: int, numbers: Numbers) -> WeekData:
+    """A week with these requirements, and this number of requests."""
+    nurses = list(ward.nurses)
+    rows = [(numbers.one_of(nurses), numbers.one_of([ANY, *SHIFTS]), numbers.below(len(DAYS))) for _ in range(requests)]
+    return WeekData(ward.name, requirements, tuple(Request(nurse, None if shift == ANY else shift, day) for nurse, shift, day in rows))
 
 
-def write(folder, name, number, files):
-    names = [f"Sc-{name}.txt", f"H0-{name}-{number}.txt", f"WD-{name}-{number}.txt"]
-    write_files(f"{folder}/{name}", dict(zip(names, files)))
-
-
-def write_files(folder, files):
-    os.makedirs(folder, exist_ok=True)
-    for name, lines in files.items():
-        with open(f"{folder}/{name}", "w") as file:
-            file.writelines(f"{line}\n" for line in lines)
-
-
-def nurses_of_ward(count):
-    mixes = [["HeadNurse", "Nurse"], ["Nurse"], ["Nurse", "Caretaker"], ["Caretaker"], ["Caretaker", "Trainee"]]
+def nurses_of_ward(count: int) -> List[Nurse]:
+    """This number of nurses: each fifth has the same skills, each fourth the same contract."""
+    mixes = [("HeadNurse", "Nurse"), ("Nurse",), ("Nurse", "Caretaker"), ("Caretaker",), ("Caretaker", "Trainee")]
     contracts = ["FullTime", "FullTime", "PartTime", "HalfTime"]
-    names = [name + (str(more) if more else "") for more in range(count // 30) for name in NAMES]
-    return [(name, contracts[n % 4], mixes[n % 5]) for n, name in enumerate(names)]
+    names: Iterator[str] = (name + (str(more) if more else "") for more in itertools.count() for name in NAMES)
+    return [Nurse(name, contracts[n % 4], mixes[n % 5]) for n, name in enumerate(itertools.islice(names, count))]
 
 
-def demands_of_ward(numbers, wards=1):
-    """One nurse and one caretaker on each shift, two nurses early on weekdays, and some places for which more are best; all
-    times the number of wards of 30 nurses."""
+def demands_of_ward(numbers: Numbers, nurses: int = WARD) -> Requirements:
+    """For 30 nurses one nurse and one caretaker on each shift, two nurses early on weekdays, and some places for which one more is
+    best. For other numbers of nurses in proportion: a part of a nurse is rounded up at some places and down at others."""
     demands = {}
-    for shift in SHIFTS:
-        for skill, least in zip(SKILLS, (0, 1, 1, 0)):
-            pairs = [(least + (day < 5 and skill == "Nurse" and shift == "Early"), 0) for day in range(7)]
-            demands[shift, skill] = [(wards * low, wards * (low + (numbers.below(3) > 0))) for low, _ in pairs]
+    for at, (shift, skill, day) in enumerate(itertools.product(SHIFTS, SKILLS, range(len(DAYS)))):
+        least = int(skill in ("Nurse", "Caretaker")) + (day < 5 and skill == "Nurse" and shift == "Early")
+        best = least + (numbers.below(3) > 0)
+        up = 7 * at % WARD
+        demands[Place(day, shift, skill)] = Requirement((least * nurses + up) // WARD, (best * nurses + up) // WARD)
     return demands
 
 
-def ward(folder, name="thirty", count=30):
-    """A ward of `count` nurses in the last of four weeks."""
-    numbers, nurses, wards = Numbers(count), nurses_of_ward(count), count // 30
-    demands = demands_of_ward(numbers, wards)
-    write(folder, name, 3, [
-        scenario(name, nurses),
-        history(name, 3, nurses, numbers),
-        week(name, demands, requests(nurses, 25 * wards, numbers)),
-    ])  # fmt: skip
+def week_of_ward(ward: Scenario, numbers: Numbers) -> WeekData:
+    """A week with 25 requests for 30 nurses."""
+    return week(ward, demands_of_ward(numbers, len(ward.nurses)), 25 * len(ward.nurses) // WARD, numbers)
 
 
-def month(folder):
+def write(folder: Path, texts: Dict[str, str]) -> None:
+    """Writes files to the folder."""
+    folder.mkdir(parents=True, exist_ok=True)
+    for name, text in texts.items():
+        write_text(folder / name, text)
+
+
+def write_week(folder: Path, ward: Scenario, data: WeekData, past: History) -> None:
+    """Writes the files of a week, with the names that the competition has."""
+    names = [f"Sc-{ward.name}.txt", f"H0-{ward.name}-{past.week}.txt", f"WD-{ward.name}-{past.week}.txt"]
+    write(folder / ward.name, dict(zip(names, (scenario_text(ward), history_text(past), week_text(data)))))
+
+
+def last_week(folder: Path, ward: Scenario, numbers: Numbers) -> None:
+    """The last week of the ward, after a history that is made up."""
+    data = week_of_ward(ward, numbers)
+    write_week(folder, ward, data, history(ward, WEEKS - 1, numbers))
+
+
+def ward_of_size(folder: Path, count: int) -> None:
+    """A ward of `count` nurses: the last week, then the weeks before it."""
+    numbers, ward = Numbers(count), scenario(f"ward{count}", nurses_of_ward(count))
+    last_week(folder, ward, numbers)
+    weeks = {f"WD-{ward.name}-{number}.txt": week_text(week_of_ward(ward, numbers)) for number in range(WEEKS - 1)}
+    write(folder / ward.name, {f"H0-{ward.name}-0.txt": history_text(first_history(ward, numbers)), **weeks})
+
+
+def month(folder: Path) -> None:
     """30 nurses in all four weeks of a period."""
-    name, numbers, nurses = "month", Numbers(4), nurses_of_ward(30)
-    weeks = {f"week-{number}.txt": week(name, demands_of_ward(numbers), requests(nurses, 25, numbers)) for number in range(4)}
-    past = [f"HISTORY\n0 {name}\n\nNURSE_HISTORY", *(f"{nurse} 0 0 None 0 0 {1 + numbers.below(3)}" for nurse, _, _ in nurses)]
-    write_files(f"{folder}/{name}", {"ward.txt": scenario(name, nurses), "history-0.txt": past, **weeks})
+    numbers, ward = Numbers(4), scenario("month", nurses_of_ward(WARD))
+    weeks = {f"week-{number}.txt": week_text(week_of_ward(ward, numbers)) for number in range(WEEKS)}
+    past = history_text(first_history(ward, numbers))
+    write(folder / ward.name, {"ward.txt": scenario_text(ward), "history-0.txt": past, **weeks})
 
 
-def short_of_heads(folder):
+def short_of_heads(folder: Path) -> None:
     """Eight nurses, two of them head nurses, in the second of four weeks."""
-    name, numbers = "eight", Numbers(8)
-    mixes = [["HeadNurse", "Nurse"], ["Nurse", "Caretaker"], ["Nurse"], ["Caretaker", "Trainee"]]
+    numbers = Numbers(8)
+    mixes = [("HeadNurse", "Nurse"), ("Nurse", "Caretaker"), ("Nurse",), ("Caretaker", "Trainee")]
     contracts = ["FullTime", "PartTime", "FullTime"]
-    nurses = [(NAMES[n], contracts[n % 3], mixes[n % 4]) for n in range(8)]
-    demands = {
-        (shift, skill): [(0, 1 + numbers.below(2)) for _ in DAYS] for shift in SHIFTS for skill in SKILLS[1:3]
-    }
-    heads = {"Early": 3, "Late": 3, "Night": 2}
-    for shift, wanted in heads.items():
-        demands[shift, "HeadNurse"] = [(int(day == wanted), 1) for day in range(7)]
-    write(folder, name, 1, [
-        scenario(name, nurses),
-        history(name, 1, nurses, numbers),
-        week(name, demands, requests(nurses, 5, numbers)),
-    ])  # fmt: skip
+    ward = scenario("eight", [Nurse(NAMES[n], contracts[n % 3], mixes[n % 4]) for n in range(8)])
+    places = itertools.product(SHIFTS, SKILLS[1:3], range(len(DAYS)))
+    demands = {Place(day, shift, skill): Requirement(0, 1 + numbers.below(2)) for shift, skill, day in places}
+    for shift, wanted in {"Early": 3, "Late": 3, "Night": 2}.items():
+        demands.update({Place(day, shift, "HeadNurse"): Requirement(int(day == wanted), 1) for day in range(len(DAYS))})
+    data = week(ward, demands, 5, numbers)
+    write_week(folder, ward, data, history(ward, 1, numbers))
 
 
-def size_of_ward(word):
-    """A number of nurses: a multiple of 30, below the limit of 1000."""
-    if not word.isdecimal() or int(word) not in range(30, 1000, 30):
-        raise argparse.ArgumentTypeError("not a multiple of 30 from 30 to 990")
+def size_of_ward(word: str) -> int:
+    """A number of nurses within the limits."""
+    if not word.isdecimal() or not FEWEST <= int(word) <= MOST:
+        raise argparse.ArgumentTypeError(f"no number from {FEWEST} to {MOST}")
     return int(word)
 
 
-def main():
+def main() -> None:
+    """Writes the example weeks, or a ward."""
     parser = argparse.ArgumentParser(description=__doc__, formatter_class=argparse.RawDescriptionHelpFormatter, usage=argparse.SUPPRESS)
-    parser.add_argument("folder", metavar="FOLDER", help="the weeks get a folder each in this folder")
-    parser.add_argument("nurses", metavar="NURSES", nargs="?", type=size_of_ward, help="30, 60, 90, ..")
+    parser.add_argument("folder", metavar="FOLDER", type=Path, help="the weeks get a folder each in this folder")
+    parser.add_argument("nurses", metavar="NURSES", nargs="?", type=size_of_ward, help=f"a number from {FEWEST} to {MOST}")
     words = parser.parse_args()
     if words.nurses:
-        ward(words.folder, f"ward{words.nurses}", words.nurses)
+        ward_of_size(words.folder, words.nurses)
     else:
-        ward(words.folder)
+        last_week(words.folder, scenario("thirty", nurses_of_ward(WARD)), Numbers(WARD))
         month(words.folder)
         short_of_heads(words.folder)
 

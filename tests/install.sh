@@ -141,6 +141,9 @@ if command -v clasp > /dev/null; then
         follows_page $page
     done
 fi
+begins_case 'the installed examples/make_weeks.py'
+"$installed/share/doc/inrc2pb/examples/make_weeks.py" "$room/weeks" > "$out" 2> "$err" || complain "$(tail -n 1 "$err")"
+diff -r "$room/weeks/month" examples/month > "$out" || complain "$(head -n 3 "$out")"
 begins_case 'a helper without its library'
 mv "$installed/share/inrc2pb" "$room/away"
 "$installed/bin/inrc2pb-table" --help > "$out" 2> "$err" && complain 'it runs'

@@ -5,7 +5,8 @@ usage: next_history.py PROGRAM [--seed N] [--weeks N]
 
 On weeks and rosters made at random, its numbers are those of the definitions of docs/rules.md, counted here from Sunday
 backwards; on each PROGRAM reads what was written as the next week's history. Four weeks in a row go through clasp, where
-that is installed. Files that do not belong to one week are told.
+that is installed. Files that do not belong to one week are told. It formats its files itself: the library's writers are tested,
+and they cannot write a wrong name.
 """
 
 import argparse

@@ -1,0 +1,67 @@
+"""Tests of the wards that `examples/make_weeks.py` makes."""
+
+import shutil
+import subprocess
+import sys
+import unittest
+from dataclasses import replace
+
+from ward import ROOT, HelperTest, files, program
+
+from inrc2pb.processes import Processes
+from inrc2pb.solvers import Clasp, Task
+
+EXAMPLES = ROOT / "examples"
+SIZES = (12, 13, 29, 31, 45, 100)
+# The sum of all minimum numbers of a week, for 30 nurses.
+MINIMUM = 61
+
+
+class MadeWards(HelperTest):
+    def made(self, nurses):
+        """Makes a ward; its folder, or the fault."""
+        words = [sys.executable, str(EXAMPLES / "make_weeks.py"), str(self.folder), str(nurses)]
+        ran = subprocess.run(words, stdout=subprocess.PIPE, stderr=subprocess.PIPE)
+        return ran.stderr.decode() if ran.returncode else self.folder / f"ward{nurses}"
+
+    def test_the_last_week_of_thirty_nurses_is_the_example(self):
+        ward = self.made(30)
+        for name in ("Sc-{}.txt", "H0-{}-3.txt", "WD-{}-3.txt"):
+            text = (ward / name.format("ward30")).read_text()
+            self.assertEqual(text.replace("ward30", "thirty"), (EXAMPLES / "thirty" / name.format("thirty")).read_text())
+
+    def test_numbers_of_nurses_out_of_limits(self):
+        for nurses in ("11", "1001", "many"):
+            self.assertIn("no number from 12 to 1000\n", self.made(nurses))
+
+    def weeks(self, nurses):
+        """The weeks of a ward. Those in the middle get the first one's history: planning makes their own."""
+        name, ward = f"ward{nurses}", self.made(nurses)
+        for number in range(4):
+            past = 3 if number == 3 else 0
+            week = files.read_files(ward / f"Sc-{name}.txt", ward / f"H0-{name}-{past}.txt", ward / f"WD-{name}-{number}.txt")
+            yield replace(week, history=replace(week.history, week=number))
+
+    def test_the_minimum_is_in_proportion(self):
+        for nurses in SIZES:
+            for week in self.weeks(nurses):
+                self.assertEqual((len(week.scenario.nurses), len(week.data.requests)), (nurses, 25 * nurses // 30))
+                minimum = sum(required.minimum for required in week.data.requirements.values())
+                self.assertLess(abs(minimum - MINIMUM * nurses / 30), 3)
+
+    @unittest.skipUnless(shutil.which("clasp"), "needs clasp")
+    def test_each_week_has_a_roster(self):
+        names, model = [self.folder / f"{name}.txt" for name in ("scenario", "history", "week")], self.folder / "week.opb"
+        for nurses in SIZES:
+            for week in self.weeks(nurses):
+                with self.subTest(nurses=nurses, week=week.history.week):
+                    texts = (files.scenario_text(week.scenario), files.history_text(week.history), files.week_text(week.data))
+                    for path, text in zip(names, texts):
+                        files.write_text(path, text)
+                    program.encode(program.WeekFiles(*names), model)
+                    found = Clasp("--opt-mode=ignore").solve(Task(model, 60, self.folder), Processes())
+                    program.decode(program.WeekFiles(*names), found.answer)
+
+
+if __name__ == "__main__":
+    unittest.main()
