@@ -75,6 +75,7 @@ PAGES = $(SHARE)/doc/inrc2pb
 ZSH = $(SHARE)/zsh/site-functions
 HELPERS = $(wildcard helpers/inrc2pb-*)
 MODULES = $(wildcard helpers/inrc2pb/*.py)
+TOP_PAGES = README.md CHANGELOG.md CONTRIBUTING.md
 COMPLETIONS = "$(SHARE)/bash-completion/completions" "$(ZSH)" "$(SHARE)/fish/vendor_completions.d"
 
 # Installs the built programs, and builds nothing, so it can run as another user. Sources are in the clone only: an installed page
@@ -91,7 +92,7 @@ install:
 	install -m 644 docs/completions/inrc2pb.bash "$(SHARE)/bash-completion/completions/inrc2pb"
 	install -m 644 docs/completions/_inrc2pb "$(ZSH)/_inrc2pb"
 	install -m 644 docs/completions/inrc2pb.fish "$(SHARE)/fish/vendor_completions.d/inrc2pb.fish"
-	install -m 644 README.md CHANGELOG.md CONTRIBUTING.md "$(PAGES)"
+	install -m 644 $(TOP_PAGES) "$(PAGES)"
 	install -m 644 docs/*.md docs/*.svg "$(PAGES)/docs"
 	sed -E -i 's|\[[^]]*\]\(\.\./(crates/[^)]*)\)|`\1`|g' "$(PAGES)"/docs/*.md
 	install -m 644 bench/README.md bench/*.svg "$(PAGES)/bench"
@@ -99,12 +100,16 @@ install:
 	find "$(PAGES)/examples" \( -name __pycache__ -o -name '*.sh' \) -prune -exec rm -r {} +
 	chmod -R u=rwX,go=rX "$(PAGES)/examples"
 
-# Removes the files of `install`, with the same PREFIX, and no folders except its own.
+# Removes the files of `install`, with the same PREFIX, and what Python made of the library; then its own folders, if they are empty.
 uninstall:
 	rm -f "$(BIN)/inrc2pb" "$(BIN)/who_fits" $(patsubst docs/%,"$(SHARE)/man/man1/%",$(wildcard docs/*.1)) \
 	    "$(SHARE)/bash-completion/completions/inrc2pb" "$(ZSH)/_inrc2pb" "$(SHARE)/fish/vendor_completions.d/inrc2pb.fish"
 	rm -f $(patsubst helpers/%,"$(BIN)/%",$(HELPERS)) $(patsubst helpers/%,"$(SHARE)/man/man1/%.1",$(HELPERS))
-	rm -rf "$(PAGES)" "$(SHARE)/inrc2pb"
+	for page in $(TOP_PAGES) docs/*.md docs/*.svg bench/README.md bench/*.svg; do rm -f "$(PAGES)/$$page"; done
+	find examples -type f ! -name '*.sh' -exec rm -f "$(PAGES)/{}" \;
+	rm -f $(patsubst helpers/%,"$(SHARE)/inrc2pb/%",$(MODULES))
+	rm -rf "$(SHARE)/inrc2pb/inrc2pb/__pycache__"
+	for folder in "$(PAGES)" "$(SHARE)/inrc2pb"; do test ! -d "$$folder" || find "$$folder" -type d -empty -delete; done
 
 clean:
 	rm -rf out crates/*/out

@@ -149,10 +149,21 @@ mv "$installed/share/inrc2pb" "$room/away"
 "$installed/bin/inrc2pb-table" --help > "$out" 2> "$err" && complain 'it runs'
 grep -q '^inrc2pb-table: there is no folder share/inrc2pb: install it again' "$err" || complain "said: $(head -n 3 "$err")"
 mv "$room/away" "$installed/share/inrc2pb"
-begins_case 'make uninstall'
-find "$installed" -name __pycache__ -prune -exec rm -r {} +
+others=(share/doc/inrc2pb/docs/mine.txt share/doc/inrc2pb/examples/ward/mine.txt share/inrc2pb/mine.py)
+begins_case 'make uninstall beside files of others'
+for other in "${others[@]}"; do
+    touch "$installed/$other"
+done
 make_target uninstall DESTDIR="$room/installed" PREFIX=/usr || complain "it fails: $(tail -n 3 "$out")"
-[ -z "$(find "$installed" -type f)" ] || complain "left: $(find "$installed" -type f | head -n 3)"
+diff <(printf '%s\n' "${others[@]}") <(cd "$installed" && find . -type f -printf '%P\n' | sort) > "$room/diff" ||
+    complain "$(head -n 3 "$room/diff")"
+begins_case 'make uninstall, again'
+for other in "${others[@]}"; do
+    rm "$installed/$other"
+done
+make_target uninstall DESTDIR="$room/installed" PREFIX=/usr || complain "it fails: $(tail -n 3 "$out")"
+[ -z "$(find "$installed" -name '*inrc2pb*')" ] || complain "left: $(find "$installed" -name '*inrc2pb*' | head -n 3)"
+make_target uninstall DESTDIR="$room/installed" PREFIX=/usr || complain "it fails if nothing is installed: $(tail -n 3 "$out")"
 begins_case 'without a program'
 make -s install DESTDIR="$room/other" PROGRAM="$room/none" > "$out" 2>&1 && complain 'it installs where nothing was built'
 finish
