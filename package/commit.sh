@@ -11,6 +11,9 @@ if [ -e .git ]; then
     commit_time=$(git log -1 --format=%ct) || commit_time=$(date -r CHANGELOG.md +%s)
 fi
 
+# sum_of PROGRAM..: the checksum of these programs.
+sum_of() { cat "$@" | sha256sum | cut -d ' ' -f 1; }
+
 # is_committed: the files are those of the commit.
 is_committed() { [[ $commit != unknown && $commit != *-dirty ]]; }
 

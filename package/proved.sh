@@ -1,10 +1,11 @@
 #!/usr/bin/env bash
-# Prints the commit, the kit, and whether the gate passed on that commit with that kit: the file PROVED of an archive or a
-# package.
+# Prints the commit, the kit, and whether the gate passed on that commit with that kit and these programs: the file PROVED of an
+# archive or a package.
 #
 #   package/proved.sh
 #
-# The gate leaves its commit, its last line and its kit in out/gate; GATE names another file.
+# The gate leaves its commit, its last line, its kit and the checksum of the programs that it tested in out/gate; GATE names another
+# file. PROGRAM and WHO_FITS name other programs than out/inrc2pb and out/who_fits.
 set -u
 cd "$(dirname "$0")/.." || exit 2
 . package/commit.sh
@@ -12,9 +13,11 @@ cd "$(dirname "$0")/.." || exit 2
 kit=$(rt version 2> /dev/null || echo unknown)
 gate='has not passed on this commit on the machine that built this'
 if [ -r "${GATE:-out/gate}" ]; then
-    { read -r gate_commit; read -r gate_line; read -r gate_kit; } < "${GATE:-out/gate}"
+    { read -r gate_commit; read -r gate_line; read -r gate_kit; read -r gate_sum; } < "${GATE:-out/gate}"
     if [ "$gate_commit" = "$commit" ] && [ "$gate_kit" = "$kit" ] && is_committed && [[ $gate_line == *' passed, 0 failed' ]]; then
         gate="passed on this commit: $gate_line"
+        [ "$gate_sum" = "$(sum_of "${PROGRAM:-out/inrc2pb}" "${WHO_FITS:-out/who_fits}")" ] ||
+            gate='passed on this commit, but with another build of the programs'
     fi
 fi
 echo "commit: $commit"

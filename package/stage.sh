@@ -8,6 +8,7 @@ export LC_ALL=C TZ=UTC
 
 PROGRAM=$(realpath -m "${PROGRAM:-out/inrc2pb}")
 WHO_FITS=$(realpath -m "${WHO_FITS:-out/who_fits}")
+export PROGRAM WHO_FITS
 for program in "$PROGRAM" "$WHO_FITS"; do
     [ -x "$program" ] || { echo "There is no $program yet: 'make' builds it."; exit 2; }
 done

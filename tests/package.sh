@@ -58,24 +58,30 @@ states_proof() {
     package/proved.sh | grep -qxF "$(head -n 1 "$1")" || complain 'another commit'
 }
 
-# says_of_gate WHAT COMMIT LINE KIT WANTED: the line of PROVED for a gate that left this commit, last line and kit.
+# says_of_gate WHAT COMMIT LINE KIT SUM WANTED: the line of PROVED for a gate that left this commit, last line, kit and checksum.
 says_of_gate() {
     begins_case "PROVED after $1"
-    printf '%s\n' "$2" "$3" "$4" > "$room/gate"
-    GATE=$room/gate package/proved.sh | grep -qxF "gate: $5" || complain "not '$5'"
+    printf '%s\n' "$2" "$3" "$4" "$5" > "$room/gate"
+    GATE=$room/gate package/proved.sh | grep -qxF "gate: $6" || complain "not '$6'"
 }
 
 gates_are_told_apart() {
-    local commit kit not='has not passed on this commit on the machine that built this'
+    local commit kit sum not='has not passed on this commit on the machine that built this'
     commit=$(package/proved.sh | sed -n 's/^commit: //p')
     kit=$(package/proved.sh | sed -n 's/^kit: //p')
+    sum=$(cat "$PROGRAM" "$WHO_FITS" | sha256sum)
+    sum=${sum%% *}
     case $commit in
-        unknown | *-dirty) says_of_gate 'a gate of other files' "$commit" '9 passed, 0 failed' "$kit" "$not" ;;
-        *) says_of_gate 'a gate that passed' "$commit" '9 passed, 0 failed' "$kit" 'passed on this commit: 9 passed, 0 failed' ;;
+        unknown | *-dirty) says_of_gate 'a gate of other files' "$commit" '9 passed, 0 failed' "$kit" "$sum" "$not" ;;
+        *)
+            says_of_gate 'a gate that passed' "$commit" '9 passed, 0 failed' "$kit" "$sum" 'passed on this commit: 9 passed, 0 failed'
+            says_of_gate 'a gate of another program' "$commit" '9 passed, 0 failed' "$kit" "0$sum" \
+                'passed on this commit, but with another build of the programs'
+            ;;
     esac
-    says_of_gate 'a gate that failed' "$commit" '8 passed, 1 failed' "$kit" "$not"
-    says_of_gate 'a gate of another commit' "0$commit" '9 passed, 0 failed' "$kit" "$not"
-    says_of_gate 'a gate of another kit' "$commit" '9 passed, 0 failed' "$kit, changed" "$not"
+    says_of_gate 'a gate that failed' "$commit" '8 passed, 1 failed' "$kit" "$sum" "$not"
+    says_of_gate 'a gate of another commit' "0$commit" '9 passed, 0 failed' "$kit" "$sum" "$not"
+    says_of_gate 'a gate of another kit' "$commit" '9 passed, 0 failed' "$kit, changed" "$sum" "$not"
 }
 
 # Every command that is installed runs.

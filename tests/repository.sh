@@ -1,7 +1,7 @@
 #!/usr/bin/env bash
 # Checks facts that the repository states twice: the program's version is that of CHANGELOG.md, the example weeks are those of
-# their generator, and the libraries' examples are their tests. Checks that no crate takes more lemmas of another than before, and
-# the shell scripts by shellcheck, if that is installed.
+# their generator, the kit is the one that README.md names, and the libraries' examples are their tests. Checks that no crate
+# takes more lemmas of another than before, and the shell scripts by shellcheck, if that is installed.
 #
 #   tests/repository.sh [llvm | rattle | PROGRAM]
 #
@@ -23,6 +23,18 @@ weeks_are_made() {
         name=$(basename "$folder")
         diff -r "$folder" "examples/$name" > "$room/diff" || complain "examples/$name: $(head -n 5 "$room/diff")"
     done
+}
+
+# The kit at hand is the one that README.md names or a later one, with the logic that docs/trusted.md names.
+kit_is_named() {
+    local kit named sum
+    begins_case 'the kit in README.md'
+    command -v rt > /dev/null || return
+    kit=$(rt version)
+    named=$(grep -o -m 1 'rattle-kit-[0-9a-z]*' README.md)
+    sum=$(grep -oP -m 1 'sum=\K[0-9a-f]+' docs/trusted.md)
+    printf '%s\n' "$named" "${kit%% *}" | sort -VC || complain "$kit is older than $named"
+    [ "${kit#* }" = "logic $sum" ] || complain "$kit has another logic than $sum"
 }
 
 # The example with which a library opens is the text of a test, line for line.
@@ -53,6 +65,7 @@ scripts_are_clean() {
 
 version_is_in_preparation
 weeks_are_made
+kit_is_named
 examples_are_tests
 takes_contracts
 scripts_are_clean
