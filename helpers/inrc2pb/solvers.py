@@ -134,8 +134,7 @@ class Cbc(Solver):
             size = convert(task.model, lp, check)
         except _TimeIsOver:
             return NONE_IN_TIME
-        if solution.exists():
-            solution.unlink()
+        solution.unlink(missing_ok=True)
         left = limit - time.monotonic()
         if left <= 0:
             return NONE_IN_TIME
@@ -144,9 +143,12 @@ class Cbc(Solver):
         words = ["cbc", str(lp), "sec", f"{left:.1f}", "timem", "elapsed", *cutoff, "solve", "solution", str(solution)]
         listener = Listener(_CBC_BOUND, _rounded(hear, size.step)).hear if hear and size.step else None
         ended = processes.run(words, left + 1, task.folder, signal.SIGINT, listener)
+        late = limit - time.monotonic() < left / 2
         if not solution.exists():
             return NONE_IN_TIME if ended.timed_out else Outcome("", f"it wrote no result file and {_ending(ended.status)}")
-        return answer_of(solution)
+        outcome = answer_of(solution)
+        # cbc 2.10 calls a model infeasible if its time ends in its preprocessing, and its time may end a third before ours.
+        return NONE_IN_TIME if late and outcome.answer == "s UNSATISFIABLE\n" else outcome
 
 
 def answer_of(solution: Path, ended: Optional[str] = None) -> Outcome:

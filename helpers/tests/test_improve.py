@@ -10,6 +10,7 @@ import sys
 import time
 import unittest
 from pathlib import Path
+from unittest import mock
 
 from ward import HELPERS, ROOT, ROSTER, SCENARIO, WEEK_FILES, WEEK_OPTIONS, HelperTest, files, program, run
 
@@ -101,6 +102,14 @@ class Searches(HelperTest):
                 self.assertEqual(Cbc().solve(Task(model, seconds, self.folder), processes).answer, "s UNKNOWN\n")
                 # The conversion did not come to its end.
                 self.assertEqual([path.name for path in self.folder.iterdir()], ["week.opb"])
+
+    def test_cbc_is_not_believed_if_it_calls_a_model_infeasible_late(self):
+        model, cbc = self.model(WEEK_FILES), self.folder / "cbc"
+        for seconds, says in ((0, "s UNSATISFIABLE\n"), (2, "s UNKNOWN\n")):
+            cbc.write_text(f"#!/bin/sh\nsleep {seconds}\nfor last; do :; done\necho 'Integer infeasible - objective value 5' > $last\n")
+            cbc.chmod(0o755)
+            with mock.patch.dict(os.environ, PATH=f"{self.folder}:{os.environ['PATH']}"):
+                self.assertEqual(Cbc().solve(Task(model, 3, self.folder), Processes()).answer, says)
 
     @unittest.skipUnless(HAS_CBC, "needs cbc")
     def test_bounds_of_cbc_are_multiples_of_the_step(self):
