@@ -1,7 +1,6 @@
 """Tests of `inrc2pb-improve`: searches, solvers that fail, bad input, and a stop."""
 
 import os
-import random
 import re
 import shutil
 import signal
@@ -12,21 +11,17 @@ import unittest
 from pathlib import Path
 from unittest import mock
 
-from ward import HELPERS, ROOT, ROSTER, SCENARIO, WEEK_FILES, WEEK_OPTIONS, HelperTest, files, program, run
+from ward import HAS_CBC, HAS_CLASP, HELPERS, ROOT, ROSTER, SCENARIO, WEEK_FILES, WEEK_OPTIONS, HelperTest, files, program, run
 
-from inrc2pb.best_roster import BestRoster, Snapshot
 from inrc2pb.improve import Progress, improve, search
-from inrc2pb.interrupts import interrupts
-from inrc2pb.neighborhoods import Neighborhood, Neighborhoods
 from inrc2pb.processes import Processes
-from inrc2pb.solvers import CLASP_BOUND, Cbc, Clasp, Task, _rounded, find_solver, find_solvers
+from inrc2pb.solvers import Cbc, Task, find_solver
 
 FAKE = Path(__file__).resolve().parent / "fake_solver.py"
 THIRTY = ROOT / "examples" / "thirty"
 THIRTY_FILES = program.WeekFiles(THIRTY / "Sc-thirty.txt", THIRTY / "H0-thirty-3.txt", THIRTY / "WD-thirty-3.txt")
 # A roster of this week: clasp's answer to its model with --early.
 EARLY_ANSWER = ROOT / "tests" / "thirty_clasp_early.txt"
-HAS_CLASP, HAS_CBC = (shutil.which(name) is not None for name in ("clasp", "cbc"))
 
 
 def fake(how):
@@ -279,119 +274,6 @@ class Stops(HelperTest):
             self.assertEqual(search.returncode, 0)
             penalty = int(re.search(r"^penalty (\d+)$", report.decode(), re.MULTILINE).group(1))
             self.assertEqual(program.penalty_of(THIRTY_FILES, target), penalty)
-
-
-class Parts(HelperTest):
-    def choices(self, chosen, count=60):
-        """Some neighborhoods."""
-        chance, costs = random.Random(1), {f"n{n}": n for n in range(30)}
-        return [chosen.choose(["clasp"], costs, chance)[1] for _ in range(count)]
-
-    def test_sizes_follow_the_time(self):
-        chosen = Neighborhoods([f"n{n}" for n in range(30)])
-        first = self.choices(chosen)
-        self.assertEqual({freed.kind for freed in first}, {"nurses", "days", "both"})
-        for freed in first * 3:
-            chosen.learn("clasp", freed, True, 0, 0.1, 6.0)
-        self.assertTrue(all(chosen.is_whole(freed) for freed in self.choices(chosen) if freed.kind != "both"))
-        for freed in first * 4:
-            chosen.learn("clasp", freed, False, 0, 9.0, 6.0)
-        self.assertTrue(all(len(freed.nurses) <= 3 for freed in self.choices(chosen) if freed.kind == "nurses"))
-
-    def test_a_pair_that_gains_is_chosen_more_often(self):
-        chosen = Neighborhoods([f"n{n}" for n in range(30)])
-        freed = Neighborhood("both", frozenset(), frozenset())
-        before = sum(one.kind == "both" for one in self.choices(chosen))
-        for _ in range(5):
-            chosen.learn("clasp", freed, True, 50, 1.0, 6.0)
-        self.assertGreater(sum(one.kind == "both" for one in self.choices(chosen)), before)
-
-    def best_roster(self, kept, warnings=None):
-        """A best roster that notes the penalties of the rosters kept, and the warnings."""
-        warnings = [] if warnings is None else warnings
-        return BestRoster(WEEK_FILES, self.folder / "best.txt", lambda penalty, finder: kept.append(penalty), warnings.append)
-
-    def test_a_better_roster_is_kept_also_after_another(self):
-        kept, warnings, roster = [], [], files.read_solution(ROSTER)
-        best = self.best_roster(kept, warnings)
-        for penalty in (50, 40, 30):
-            best.offer(Snapshot(0, penalty, roster), Snapshot(), None, self.folder, "a test")
-        best.offer(Snapshot(0, 35, roster), Snapshot(), None, self.folder, "a test")
-        self.assertEqual(kept, [50, 40, 30])
-        best.raise_bound(25, "a solver")
-        self.assertFalse(best.is_proved())
-        best.offer(Snapshot(0, 20, roster), Snapshot(), None, self.folder, "a test")
-        self.assertEqual((best.bound, best.is_proved()), (None, False))
-        self.assertEqual(warnings, ["a solver: its lower bound 25 is wrong, since a roster costs 20"])
-
-    def test_two_improvements_are_merged_if_the_roster_costs_less(self):
-        kept = []
-        best = self.best_roster(kept)
-        roster = files.read_solution(ROSTER)
-        best.offer(Snapshot(0, 20, roster), Snapshot(), None, self.folder, "a test")
-        seen = Snapshot(0, 30, roster)
-        freed = Neighborhood("nurses", frozenset(["Amara"]), frozenset(range(7)))
-        best.offer(Snapshot(0, 25, roster), seen, freed, self.folder, "a test")
-        self.assertEqual(kept, [20])
-        self.assertFalse(best.is_proved())
-        best.raise_bound(20, "a test")
-        self.assertTrue(best.is_proved())
-        self.assertTrue(best.report().optimal)
-
-    def test_solvers_are_commands(self):
-        solver = find_solver(f"{sys.executable} -c 'print(1)' {{}} x")
-        self.assertEqual(solver.command(Path("week.opb"), 5)[1:], ["-c", "print(1)", "week.opb", "x"])
-
-    @unittest.skipUnless(HAS_CLASP, "needs clasp")
-    def test_solvers_have_names_of_their_own(self):
-        names = [solver.name for solver in find_solvers(["clasp", "clasp --quiet", "sh -c true"])]
-        self.assertEqual(names, ["clasp", "clasp --quiet", "sh"])
-
-    def test_bounds_in_the_output(self):
-        bounds = []
-        clasp = Clasp(*CLASP_BOUND).listener(bounds.append)
-        for piece in (b"o 530\nc Progression : [ 3", b"0;530] (Error: 16.6)\n", b"v x1 " + b"x2 " * 500, b"\nc Progression : [320;340]\n"):
-            clasp(piece)
-        self.assertEqual(bounds, [30, 320])
-        rows = {"590.02": 595, "595": 595, "595.004": 595, "2.00004e+08": 200002000, "nonsense": None}
-        for text, wanted in rows.items():
-            bounds.clear()
-            _rounded(bounds.append, 5)(text)
-            self.assertEqual(bounds, [] if wanted is None else [wanted], text)
-
-    def test_ignored_signals_stay_ignored(self):
-        before = signal.signal(signal.SIGHUP, signal.SIG_IGN)
-        try:
-            with interrupts() as signals:
-                os.kill(os.getpid(), signal.SIGHUP)
-                os.kill(os.getpid(), signal.SIGTERM)
-                called = []
-                with signals.calling(lambda: called.append(True)):
-                    self.assertEqual(called, [True])
-                self.assertEqual(signals.caught, [signal.SIGTERM])
-        finally:
-            signal.signal(signal.SIGHUP, before)
-
-    def test_groups_end(self):
-        processes = Processes()
-        began = time.monotonic()
-        ended = processes.run(["bash", "-c", "sleep 60 & sleep 60"], 0.3, self.folder)
-        self.assertTrue(ended.timed_out)
-        self.assertLess(time.monotonic() - began, 30)
-        processes.stop()
-        self.assertTrue(processes.run(["sleep", "60"], 60, self.folder).timed_out)
-
-    def test_processes_that_are_asked_to_end_and_do_not_are_killed(self):
-        processes, began = Processes(), time.monotonic()
-
-        def hear(data):
-            if data.startswith(b"ready"):
-                processes.ask_to_end()
-
-        script = "trap 'echo answer' TERM; echo ready; while true; do sleep 0.1; done"
-        ended = processes.run(["bash", "-c", script], 60, self.folder, hear=hear)
-        self.assertEqual((ended.status, ended.output), (-signal.SIGKILL, "ready\nanswer\n"))
-        self.assertLess(time.monotonic() - began, 30)
 
 
 if __name__ == "__main__":

@@ -1,6 +1,7 @@
 """The example ward, and runs of the helpers, for the tests of this folder."""
 
 import os
+import shutil
 import subprocess
 import sys
 import tempfile
@@ -17,6 +18,7 @@ WARD = ROOT / "examples" / "ward"
 SCENARIO, HISTORY, WEEK, ROSTER = (WARD / name for name in ("ward.txt", "history-0.txt", "week-0.txt", "roster-0.txt"))
 WEEK_OPTIONS = ("--sce", SCENARIO, "--his", HISTORY, "--week", WEEK)
 WEEK_FILES = program.WeekFiles(SCENARIO, HISTORY, WEEK)
+HAS_CLASP, HAS_CBC = (shutil.which(name) is not None for name in ("clasp", "cbc"))
 
 
 def run(helper, *words, environment=None):
