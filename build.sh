@@ -53,6 +53,7 @@ other=$!
 prove rota_pb 3
 prove inrc2pb_job 1
 wait $other
+prove inrc2pb_program 2
 
 # `rt run` leaves the program in its crate.
 (cd crates/inrc2pb && rt run --jobs 2 -- --version)

@@ -4,19 +4,10 @@
 //! into such an answer. `make tour` runs all three with a solver, and shows each command before it runs.
 #![tactic(auto)]
 
-mod command_line;
-mod fault_line;
-mod file_maker;
-mod files;
-mod job_fault;
-mod printers;
-mod process_words;
-mod program;
-mod stop;
-
-use crate::files::{HostFiles, HostOutputFiles, StandardInput, StandardOutput};
-use crate::printers::{StderrPrinter, StdoutPrinter};
-use crate::program::program;
+use inrc2pb_program::{
+    HostFiles, HostOutputFiles, StandardInput, StandardOutput, StderrPrinter, StdoutPrinter,
+    program,
+};
 use rota_core::FromRead;
 use std::env;
 use std::process::ExitCode;

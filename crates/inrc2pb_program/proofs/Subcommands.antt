@@ -1,0 +1,158 @@
+-- The meaning of a parse of the command for the subcommand that it found.
+use Rattle.std.proofs.Common.{◌≡◌, ◌∙◌, ◌⊎◌, inl, inr, ap, sym, refl, subst, cond, Bool, true, false, List, [], ◌∷◌, Bor}
+use Rattle.std.proofs.Common.{Option, Some, None, option_map, IsSomeAnd, Result, Ok, Err, IfOk, IfErr, IsErrAnd, OnOk}
+use Rattle.std.specs.List.{find}
+use Rattle.std.proofs.lemmas.Result.{IfErr-weaker, IfOk-weaker}
+use Rattle.clap.specs.Words.{App, HasKind, HasMatchesOf, Row, Shape, Text, built, fault_of, found_of, is_simple, is_simple_and_free}
+use Rattle.clap.specs.Words.{kind_of, rows_of, subcommand_of, subcommand_rows_of, takes}
+use Rattle.clap.specs.Matches.{subcommand_name_of}
+use Rattle.clap.specs.Simple.{argument_words, entered, label_of, names_of, rows_at}
+use Rattle.clap.specs.Walk.{answers_to, stop_after}
+use Rattle.clap.specs.declared.error.Error.{Error}
+use Rattle.clap.specs.declared.error.kind.ErrorKind.TheVariants.{OutOfMemory}
+use Rattle.clap.specs.declared.parser.matches.ArgMatches.{ArgMatches}
+use Rattle.clap.specs.declared.parser.matches.ArgMatches.TheViews.{out-ArgMatches}
+use Rattle.clap.proofs.OnLiterals.{clap_on_literals}
+use Rattle.inrc2pb_command.specs.CommandLine.{inrc2pb_app}
+use Rattle.inrc2pb_program.specs.Jobs.{IsJobFaultOf, IsForMemoryOr, IsJobOf, IsSubcommand, LacksPath, Matched, options_of}
+use Rattle.inrc2pb_job.specs.declared.job.Job.{Job}
+use Rattle.inrc2pb_program.specs.declared.job_fault.JobFault.{JobFault}
+use Rattle.inrc2pb_program.specs.declared.job_fault.JobFault.TheVariants.{Words, Missing, Memory}
+use Rattle.inrc2pb_program.specs.Stops.{IsStopFor, IsStopOf}
+use Rattle.inrc2pb_program.specs.declared.stop.Stop.{Stop}
+use Rattle.inrc2pb_program.specs.declared.stop.Stop.TheVariants as stopped
+
+-- ---- the command
+
+pub is_simple-inrc2pb : is_simple inrc2pb_app ≡ true
+unfolding clap_on_literals
+is_simple-inrc2pb = refl
+
+is_simple_and_free-inrc2pb : is_simple_and_free inrc2pb_app ≡ true
+unfolding clap_on_literals
+is_simple_and_free-inrc2pb = refl
+
+-- ---- the subcommand is one of the command's
+
+abbrev pub IsNamedIn : List Shape → Text → Type 0
+IsNamedIn [] name = ⊥
+IsNamedIn (s ∷ rest) name = (name ≡ s.name) ⊎ IsNamedIn rest name
+
+found_named : (test : Shape → Bool) (subs : List Shape) (s : Shape) → find test subs ≡ Some s → IsNamedIn subs s.name
+found_named test [] s e = absurd (cc)
+found_named test (x ∷ rest) s e = go (test x) e (found_named test rest s)
+  where
+    go : (b : Bool) → cond b (Some x) (find test rest) ≡ Some s → (find test rest ≡ Some s → IsNamedIn rest s.name) → IsNamedIn (x ∷ rest) s.name
+    go true is later = inl (let same : x ≡ s = cc in ap (λ (y : Shape). y.name) (sym same))
+    go false is later = inr (later is)
+
+entered_named : (a : App) (stop : Option (Text × List Text)) (p : Matched) → entered a stop ≡ Some p → IsNamedIn a.subs p.0
+entered_named a None p e = absurd (cc)
+entered_named a (Some q) p e = go (find (λ s. answers_to q.0 (label_of s)) a.subs) refl e
+  where
+    go : (o : Option Shape) → find (λ s. answers_to q.0 (label_of s)) a.subs ≡ o → option_map (λ s. rows_at s q.1) o ≡ Some p → IsNamedIn a.subs p.0
+    go None found is = absurd (cc)
+    go (Some s) found is =
+        let same : rows_at s q.1 ≡ p = cc in
+        subst (IsNamedIn a.subs) (ap (λ (m : Matched). m.0) same) (found_named (λ s. answers_to q.0 (label_of s)) a.subs s found)
+
+pub named_of : (a : App) (words : List Text) (p : Matched) → subcommand_of a words ≡ Some p → IsNamedIn (built a).subs p.0
+named_of a words p e = entered_named (built a) (stop_after (built a).top.rules (names_of (built a)) (argument_words a words)) p e
+
+-- ---- the subcommand that the caller reads
+
+module _ {A B : Type 0} (f : A → Text) (g : A → List Row) (h : B → Matched) where
+  paired : (o : Option A) (q : Option B) → option_map f o ≡ option_map (λ b. (h b).0) q →
+      option_map g o ≡ option_map (λ p. p.1) (option_map h q) → option_map (λ a. (f a, g a)) o ≡ option_map h q
+  paired None None e k = refl
+  paired None (Some b) e k = absurd (cc)
+  paired (Some a) None e k = absurd (cc)
+  paired (Some a) (Some b) e k =
+      let name : f a ≡ (h b).0 = cc in
+      let rows : g a ≡ (h b).1 = cc in
+      ap Some (λ i. (name i, rows i))
+
+-- the caller's view of a subcommand: its name and its matches
+abbrev pub Used : Type 0
+Used = Bor Text × Bor ArgMatches
+
+-- the name and the options, without references
+abbrev pub matched_at : Used → Matched
+matched_at p = (p.0.now, options_of p.1.now)
+
+-- `subcommand` returns the subcommand that the words name
+pub subcommand_read : (a : App) (words : List Text) (m : ArgMatches) (o : Option Used) (p : Used) → a ≡ inrc2pb_app
+    → HasMatchesOf a words m → option_map (λ p. p.0.now) o ≡ subcommand_name_of m
+    → option_map (λ p. rows_of (found_of p.1.now)) o ≡ option_map (λ p. p.1) (subcommand_rows_of m) → o ≡ Some p
+    → subcommand_of inrc2pb_app words ≡ Some (matched_at p)
+subcommand_read a words m o p is has name rows some =
+    let read = paired (λ p. p.0.now) (λ p. rows_of (found_of p.1.now)) _ o (out-ArgMatches m).subcommand name rows in
+    let named = (has (ap is_simple is ∙ is_simple-inrc2pb)).1 ∙ ap (λ x. subcommand_of x words) is in
+    sym (read ∙ named) ∙ ap (option_map matched_at) some
+
+-- ---- the meaning of the results of the job's functions, for the words
+
+pub ok_for : (o : Option Matched) (p : Matched) (r : Result Job JobFault) → o ≡ Some p → IfOk r (IsJobOf p) →
+    IfOk r (λ j. IsSomeAnd o (λ matched. IsJobOf matched j))
+ok_for o p r is = IfOk-weaker r _ _ (λ j h. subst (λ x. IsSomeAnd x (λ matched. IsJobOf matched j)) (sym is) h)
+
+fault_for : (words : List Text) (p : Matched) (e : JobFault) → fault_of inrc2pb_app words ≡ [] → subcommand_of inrc2pb_app words ≡ Some p
+    → IsForMemoryOr (LacksPath p) e → IsJobFaultOf words e
+fault_for words p (Words error) none is h = absurd h
+fault_for words p Missing none is h = (none, subst (λ x. IsSomeAnd x LacksPath) (sym is) h)
+fault_for words p Memory none is h = h
+
+pub err_for : (words : List Text) (p : Matched) (r : Result Job JobFault) → fault_of inrc2pb_app words ≡ [] → subcommand_of inrc2pb_app words ≡ Some p
+    → IfErr r (IsForMemoryOr (LacksPath p)) → IfErr r (IsJobFaultOf words)
+err_for words p r none is = IfErr-weaker r _ _ (λ e h. fault_for words p e none is h)
+
+-- words that are parsed have no fault
+pub fault_free : (a : App) (words : List Text) → a ≡ inrc2pb_app → (is_simple_and_free a ≡ true → fault_of a words ≡ []) →
+    fault_of inrc2pb_app words ≡ []
+fault_free a words is none = ap (λ x. fault_of x words) (sym is) ∙ none (ap is_simple_and_free is ∙ is_simple_and_free-inrc2pb)
+
+pub ok_whatever : {T E P : Type 0} (r : Result T E) → P → OnOk r P
+ok_whatever (Ok v) holds = holds
+ok_whatever (Err e) holds = tt
+
+pub subcommand_named : (words : List Text) (p : Matched) → subcommand_of inrc2pb_app words ≡ Some p → IsSubcommand p.0
+subcommand_named words p e = elim (named_of inrc2pb_app words p e) [
+  | inl h ↦ inl h
+  | inr rest ↦ elim rest [
+    | inl h ↦ inr (inl h)
+    | inr last ↦ elim last [ inl h ↦ inr (inr h) | inr none ↦ absurd none ]
+  ]
+]
+
+-- clap refuses words for their faults, or because memory ran out; words that the command accepts only because memory ran out
+pub words_refused : (a : App) (words : List Text) (e : Error) (r : Result Job JobFault) → a ≡ inrc2pb_app
+    → (takes a words ≡ true → kind_of e ≡ OutOfMemory) → (is_simple_and_free a ≡ true → HasKind (fault_of a words) e)
+    → IsErrAnd r (λ fault. fault ≡ Words e) → IfErr r (IsJobFaultOf words)
+words_refused a words e (Ok j) is passes kinds same = absurd same
+words_refused a words e (Err fault) is passes kinds same =
+    let kind = kinds (ap is_simple_and_free is ∙ is_simple_and_free-inrc2pb) in
+    subst (IsJobFaultOf words) (sym same)
+    (subst (λ (x : App). HasKind (fault_of x words) e) is kind, λ taken. passes (ap (λ x. takes x words) is ∙ taken))
+
+-- ---- the reason why the program then ends
+
+pub stop_for : (words : List Text) (fault : JobFault) (stop : Stop) → IsJobFaultOf words fault → IsStopOf fault stop
+    → IsStopFor (fault_of inrc2pb_app words) stop
+stop_for words (Words error) stop h is =
+    let kinds = fault_of inrc2pb_app words in
+    elim h.0 [
+      | inl memory ↦ subst (IsStopFor kinds) (sym (is.1 memory)) refl
+      | inr among ↦ elim is.2 [
+        | inl refused ↦ subst (IsStopFor kinds) (sym refused)
+            (among, λ log. let both : stopped.Shown error ≡ stopped.Words error = sym (is.0 log) ∙ refused in cc)
+        | inr rest ↦ elim rest [
+          | inl log ↦ subst (IsStopFor kinds) (sym (is.0 log)) (among, log)
+          | inr memory ↦ subst (IsStopFor kinds) (sym (is.1 memory)) refl
+        ]
+      ]
+    ]
+stop_for words Missing (stopped.Shown text) h is = absurd is
+stop_for words Missing (stopped.Words text) h is = absurd is
+stop_for words Missing (stopped.Usage text) h is = h.0
+stop_for words Missing (stopped.Job fault) h is = absurd is
+stop_for words Memory stop h is = subst (IsStopFor (fault_of inrc2pb_app words)) (sym is) refl

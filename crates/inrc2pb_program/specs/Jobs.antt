@@ -1,0 +1,81 @@
+-- The job that the matches of a subcommand spell.
+use Rattle.std.specs.Prelude.{◌≡◌, ◌⊎◌, Bool, List, [], Some, None, true, false, codes, ⊤}
+use Rattle.std.specs.Prelude.{IsSomeAnd, map, option_map, string_bytes}
+use Rattle.std.specs.Borrow.{Bor}
+use Rattle.clap.specs.Words.{Row, Text, first_of, found_of, kind_of, one_of, rows_of}
+use Rattle.clap.specs.Words.{HasKind, fault_of, subcommand_of, takes}
+use Rattle.clap.specs.declared.error.kind.ErrorKind.TheVariants.{OutOfMemory}
+use Rattle.clap.specs.declared.parser.matches.ArgMatches.{ArgMatches}
+use Rattle.inrc2pb_command.specs.CommandLine.{inrc2pb_app}
+use Rattle.inrc2pb_job.specs.declared.job.Inputs.{Inputs}
+use Rattle.inrc2pb_job.specs.declared.job.Job.{Job}
+use Rattle.inrc2pb_job.specs.declared.job.Job.TheVariants.{Encode, Decode, Extend}
+use Rattle.inrc2pb_program.specs.declared.job_fault.JobFault.{JobFault}
+use Rattle.inrc2pb_program.specs.declared.job_fault.JobFault.TheVariants.{Words, Missing, Memory}
+
+-- the words without references
+abbrev pub texts : List (Bor Text) → List Text
+texts = map (λ word. word.now)
+
+-- the options in the matches of one command
+abbrev pub options_of : ArgMatches → List Row
+options_of m = rows_of (found_of m)
+
+-- a subcommand's name, with its options
+abbrev pub Matched : Type 0
+Matched = Text × List Row
+
+abbrev pub IsSubcommand : Text → Type 0
+IsSubcommand name =
+    (name ≡ codes "encode") ⊎ ((name ≡ codes "decode") ⊎ (name ≡ codes "extend"))
+
+-- the flag is set if the text of its option is `true`, and not set if it is `false` or missing
+pub record HasFlag (id : Text) (options : List Row) (flag : Bool) : Type 0 where
+  pub set : one_of id options ≡ Some (codes "true") → flag ≡ true
+  pub unset : one_of id options ≡ Some (codes "false") → flag ≡ false
+  pub absent : one_of id options ≡ None → flag ≡ false
+
+-- the paths are the options' paths, unchanged, and so is the flag
+pub record HasInputs (options : List Row) (inputs : Inputs) : Type 0 where
+  pub sce : first_of (codes "sce") options ≡ Some (string_bytes inputs.sce)
+  pub his : first_of (codes "his") options ≡ Some (string_bytes inputs.his)
+  pub week : first_of (codes "week") options ≡ Some (string_bytes inputs.week)
+  pub fix : first_of (codes "fix") options ≡ option_map string_bytes inputs.fix
+  pub early : HasFlag (codes "early") options inputs.early
+
+-- the job is the subcommand, with the paths of its options
+abbrev pub IsJobOf : Matched → Job → Type 0
+IsJobOf matched (Encode inputs opb) = (matched.0 ≡ codes "encode") × HasInputs matched.1 inputs
+    × (first_of (codes "opb") matched.1 ≡ option_map string_bytes opb)
+IsJobOf matched (Decode inputs sol answer) = (matched.0 ≡ codes "decode")
+    × HasInputs matched.1 inputs × (first_of (codes "sol") matched.1 ≡ Some (string_bytes sol))
+    × (first_of (codes "answer") matched.1 ≡ option_map string_bytes answer)
+IsJobOf matched (Extend inputs from) = (matched.0 ≡ codes "extend") × HasInputs matched.1 inputs
+    × (first_of (codes "from") matched.1 ≡ Some (string_bytes from))
+
+abbrev pub LacksOption : Text → List Row → Type 0
+LacksOption id options = first_of id options ≡ None
+
+abbrev pub LacksInput : List Row → Type 0
+LacksInput options = LacksOption (codes "sce") options ⊎ (LacksOption (codes "his") options
+    ⊎ LacksOption (codes "week") options)
+
+-- a required path is missing
+abbrev pub LacksPath : Matched → Type 0
+LacksPath matched = LacksInput matched.1
+    ⊎ (((matched.0 ≡ codes "decode") × LacksOption (codes "sol") matched.1)
+    ⊎ ((matched.0 ≡ codes "extend") × LacksOption (codes "from") matched.1))
+
+-- memory ran out, or a path is missing if `lacks` says so
+abbrev pub IsForMemoryOr : Type 0 → JobFault → Type 0
+IsForMemoryOr lacks (Words error) = ⊥
+IsForMemoryOr lacks Missing = lacks
+IsForMemoryOr lacks Memory = ⊤
+
+-- why the words give no job: clap's error is of a kind that matches their fault, or memory ran out, which is the only reason if the
+-- command accepts them; a path is missing only if nothing is wrong with the words
+abbrev pub IsJobFaultOf : List Text → JobFault → Type 0
+IsJobFaultOf words (Words error) =
+    HasKind (fault_of inrc2pb_app words) error × (takes inrc2pb_app words ≡ true → kind_of error ≡ OutOfMemory)
+IsJobFaultOf words Missing = (fault_of inrc2pb_app words ≡ []) × IsSomeAnd (subcommand_of inrc2pb_app words) LacksPath
+IsJobFaultOf words Memory = ⊤

@@ -1,0 +1,82 @@
+-- The effects of a run of the program, from its words to its exit status.
+use Rattle.std.specs.Prelude.{◌≡◌, ◌≢◌, ℕ, false, List, [], Option, Result, Ok, Err, IsSomeAnd, map, string_bytes}
+use Rattle.std.specs.Vec.Iter.{into_iter_items}
+use Rattle.std.specs.declared.string.String.{String}
+use Rattle.std.specs.IoError.{error_kind}
+use Rattle.std.specs.declared.io.Error.{Error}
+use Rattle.std.specs.declared.io.ErrorKind.TheVariants.{OutOfMemory}
+use Rattle.std.specs.declared.vec.IntoIter.{IntoIter}
+use Rattle.clap.specs.Words.{Text, fault_of, subcommand_of}
+use Rattle.inrc2pb_command.specs.CommandLine.{inrc2pb_app}
+use Rattle.inrc2pb_job.specs.JobOutcomes.{JobOutcome, Opener}
+use Rattle.inrc2pb_job.specs.Jobs.{output_path_of}
+use Rattle.inrc2pb_job.specs.Paths.{Path}
+use Rattle.inrc2pb_job.specs.declared.job.Job.{Job}
+use Rattle.rota_core.specs.declared.ports.Target.{Ghosts}
+use Rattle.rota_pb.specs.RunPorts.{IsUntouched, Reader, Writer, writer_of}
+use Rattle.rota_pb.specs.declared.fault.Fault.{Fault}
+use Rattle.rota_pb.specs.declared.fault.Fault.TheVariants.{Memory}
+use Rattle.inrc2pb_program.specs.Exits.{IsExitOf, PrinterState}
+use Rattle.inrc2pb_program.specs.Jobs.{IsJobOf}
+use Rattle.inrc2pb_program.specs.Stops.{IsStopFor}
+use Rattle.inrc2pb_program.specs.declared.stop.Stop.{Stop}
+use Rattle.inrc2pb_program.specs.declared.stop.Stop.TheVariants as stops
+
+-- the words of the command line, or the reason why they are not text
+abbrev pub Given : Type 0 → Type 0 → Type 0
+Given X Z = Result (IntoIter (String X) Z) Error
+
+abbrev pub texts_in : {X Z : Type 0} → IntoIter (String X) Z → List Text
+texts_in words = map string_bytes (into_iter_items words)
+
+-- the job of the words, if nothing is wrong with them
+pub record IsJobFor (words : List Text) (job : Job) : Type 0 where
+  pub taken : fault_of inrc2pb_app words ≡ []
+  pub spelled : IsSomeAnd (subcommand_of inrc2pb_app words) (λ matched. IsJobOf matched job)
+
+abbrev pub IsJobGiven : {X Z : Type 0} → Given X Z → Job → Type 0
+IsJobGiven (Ok words) job = IsJobFor (texts_in words) job
+IsJobGiven (Err error) job = ⊥
+
+-- why words that are not text, or for which there was not enough memory, give no job
+abbrev pub IsStopForError : Error → Stop → Type 0
+IsStopForError error (stops.Shown text) = ⊥
+IsStopForError error (stops.Words text) = ⊥
+IsStopForError error (stops.Usage text) = error_kind error ≢ OutOfMemory
+IsStopForError error (stops.Job fault) = (fault ≡ Memory) × (error_kind error ≡ OutOfMemory)
+
+-- why the words give no job
+abbrev pub IsStopGiven : {X Z : Type 0} → Given X Z → Stop → Type 0
+IsStopGiven (Ok words) stop = IsStopFor (fault_of inrc2pb_app (texts_in words)) stop
+IsStopGiven (Err error) stop = IsStopForError error stop
+
+-- the files that a job may write: the port and the path of each
+pub record OutputFiles (G : Type 0) : Type 1 where
+  pub port : Ghosts G
+  pub path : G → Option Path
+
+abbrev pub output_files : {G : Type 0} → Ghosts G → (G → Option Path) → OutputFiles G
+output_files port path = record { port = port; path = path }
+
+-- a job ended with the outcome of its result
+abbrev pub IsEndOf : Result (Unit {0}) Fault → Result (Unit {0}) Stop → Type 0
+IsEndOf (Ok done) ended = ended ≡ Ok tt
+IsEndOf (Err fault) ended = ended ≡ Err (stops.Job fault)
+
+-- The words gave no job, or memory ran out before the job began: no file was asked for, and neither the input nor the output was touched.
+-- Or the words gave a job, and it was performed, with a file at its own path.
+pub data RunOutcome {F G X Z : Type 0} (opener : Opener F) (files : OutputFiles G) (words : Given X Z) (input : Reader) (output : Writer)
+    (ended : Result (Unit {0}) Stop) : Type 0 where
+  stopped : (stop : Stop) → ended ≡ Err stop → IsStopGiven words stop → opener.log ≡ opener.log_before →
+      IsUntouched input → IsUntouched output → RunOutcome opener files words input output ended
+  performed : (job : Job) → IsJobGiven words job → (before after : G) → files.path before ≡ output_path_of job →
+      files.port.has_failed before ≡ false →
+      (result : Result (Unit {0}) Fault) → JobOutcome opener job input (writer_of files.port before after) output result →
+      IsEndOf result ended → RunOutcome opener files words input output ended
+
+-- A run of the program, from its words to its status: its effects, its messages on the output and on the standard error, and its exit
+-- status.
+abbrev pub ProgramOutcome : {F G X Z : Type 0} → Opener F → OutputFiles G → Given X Z → Reader → Writer → PrinterState → PrinterState →
+    ℕ → Type 0
+ProgramOutcome opener files words input output help errors status =
+    (ended : Result (Unit {0}) Stop) × RunOutcome opener files words input output ended × IsExitOf ended help errors status

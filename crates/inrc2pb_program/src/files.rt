@@ -1,0 +1,267 @@
+//! The ports of the program: files that the runtime opens, standard input, and the file that a job writes.
+ghost use Rattle.std.specs.Prelude.{◌≡◌, ◌<◌, ◌≤◌, ◌||◌, None, true, false, length, is_err, IfErr, IfOk, IsErr, IsOk, OnOk, option_map, string_bytes};
+ghost use Rattle.std.specs.Fs.{new_options, with_create, with_truncate, with_write};
+ghost use Rattle.inrc2pb_program.specs.Files.{IsFlushed, IsWritten, left_of};
+ghost use Rattle.inrc2pb_job.specs.Paths.{unknown};
+ghost use Rattle.rota_core.specs.PortCalls.{SendsOnWrite};
+ghost use Rattle.rota_core.specs.Ports.{known_len};
+ghost use Rattle.rota_core.specs.StdPorts.{IsUnasked};
+
+use crate::file_maker::FileMaker;
+use inrc2pb_job::{HasPath, Opens};
+use rota_core::{FromRead, PortFault, Target, ToWrite};
+use std::alloc::AllocError;
+use std::fs::OpenOptions;
+use std::io::{Printer, Read};
+use std::rt::Files;
+use std::{fs, io};
+
+/// The files that the runtime opens. Their contents are not known, and each may be refused.
+#[derive(Drop)]
+pub struct HostFiles<'a, R> {
+    rt: &'a R,
+}
+
+impl<'a, R: Files> HostFiles<'a, R> {
+    /// The files of this runtime.
+    pub fn new(rt: &'a R) -> HostFiles<'a, R> {
+        HostFiles { rt }
+    }
+}
+
+impl<R: Files> Opens for HostFiles<'_, R> {
+    type File = FromRead<R::File>;
+
+    ghost at = { λ _ _. unknown };
+
+    ghost log = { λ _. None };
+
+    fn open(&mut self, path: &str) -> Result<FromRead<R::File>, PortFault> {
+        match fs::open(self.rt, path) {
+            Ok(file) => Ok(FromRead::new(file)),
+            Err(_) => Err(PortFault),
+        }
+    }
+}
+
+/// Standard input, which is opened at the first read.
+pub struct StandardInput<'a, R: Input> {
+    rt: &'a R,
+    reader: Option<R::Reader>,
+}
+
+impl<R: Input> Drop for StandardInput<'_, R> {
+    fn drop(self) {
+        let StandardInput { rt: _, reader: _ } = self;
+    }
+}
+
+impl<'a, R: Input> StandardInput<'a, R> {
+    /// The standard input of this runtime. It is not opened yet.
+    pub fn new(rt: &'a R) -> StandardInput<'a, R> {
+        StandardInput { rt, reader: None }
+    }
+}
+
+impl<R: Input> Read for StandardInput<'_, R> {
+    ghost remaining = { λ input. left_of R.Reader.remaining input.reader };
+
+    fn read(&mut self, bytes: &mut [u8]) -> io::Result<usize> {
+        let rt = self.rt;
+        self.reader.get_or_insert_with(|| rt.reader()).read(bytes)
+    }
+}
+
+/// A file that is created at the first write to it. A file that exists at the path loses its text then, and
+/// keeps it if nothing is written. Without a path each write fails.
+pub struct FileOnFirstWrite<'a, R: Files> {
+    rt: &'a R,
+    path: Option<String>,
+    file: Option<ToWrite<R::File>>,
+    failed: bool,
+}
+
+impl<R: Files> Drop for FileOnFirstWrite<'_, R> {
+    fn drop(self) {
+        let FileOnFirstWrite {
+            rt: _,
+            path: _,
+            file: _,
+            failed: _,
+        } = self;
+    }
+}
+
+impl<'a, R: Files> FileOnFirstWrite<'a, R> {
+    /// The file at the path, which is not created yet.
+    pub fn new(rt: &'a R, path: Option<String>) -> FileOnFirstWrite<'a, R>
+        ensures unmade { result.file ≡ None }
+        ensures sound { result.failed ≡ false }
+        ensures path { result.path ≡ path }
+    {
+        FileOnFirstWrite {
+            rt,
+            path,
+            file: None,
+            failed: false,
+        }
+    }
+
+    // Creates the file.
+    fn make(&self) -> Result<ToWrite<R::File>, PortFault> {
+        let Some(path) = &self.path else {
+            return Err(PortFault);
+        };
+        match made_anew().open(self.rt, path.as_str()) {
+            Ok(file) => Ok(ToWrite::new(file)),
+            Err(_) => Err(PortFault),
+        }
+    }
+}
+
+// The open mode of the file that a job writes: created if it does not exist, and truncated if it does.
+fn made_anew() -> OpenOptions
+    ensures { result ≡ with_truncate (with_create (with_write new_options true) true) true }
+{
+    let mut options = OpenOptions::new();
+    options.write(true).create(true).truncate(true);
+    options
+}
+
+impl<'a, R: Files> FileOnFirstWrite<'a, R> {
+    // Writes to the file, and creates it first if necessary.
+    fn write_made(&mut self, piece: &[u8]) -> Result<usize, PortFault>
+        ensures bound { IfOk result (λ n. n ≤ length piece.now) }
+        ensures progress { IfOk result (λ n. 0 < length piece.now → 0 < n) }
+        ensures passed_on { IsWritten R.File.contents self.old.file self.new.file result piece.now }
+        ensures path { self.new.path ≡ self.old.path }
+    {
+        if self.file.is_none() {
+            self.file = Some(self.make()?);
+        }
+        match &mut self.file {
+            Some(file) => file.write(piece),
+            None => unreachable!(),
+        }
+    }
+}
+
+impl<R: Files> Target for FileOnFirstWrite<'_, R> {
+    ghost sent = { λ _. None };
+
+    ghost flushed = { λ _. None };
+
+    ghost has_failed = { λ file. file.failed };
+
+    /// Writes with the file's own write. If the file cannot be created, the write fails.
+    fn write(&mut self, piece: &[u8]) -> Result<usize, PortFault>
+        ensures bound { IfOk result (λ n. n ≤ length piece.now) }
+        ensures progress { IfOk result (λ n. 0 < length piece.now → 0 < n) }
+        ensures silent { SendsOnWrite None result piece.now None }
+        ensures empty { length piece.now ≡ 0 → self.old.failed ≡ false → IsOk result }
+        ensures failure { self.new.failed ≡ (self.old.failed || is_err result) }
+        ensures for_good { self.old.failed ≡ true → IsErr result }
+        ensures passed_on { self.old.failed ≡ false →
+            IsWritten R.File.contents self.old.file self.new.file result piece.now }
+        ensures unasked { IsUnasked self.old.failed piece.now → self.new ≡ self.old }
+        ensures path { self.new.path ≡ self.old.path }
+    {
+        if self.failed {
+            return Err(PortFault);
+        }
+        if piece.is_empty() {
+            return Ok(0);
+        }
+        let written = self.write_made(piece);
+        self.failed = written.is_err();
+        written
+    }
+
+    /// Flushes with the file's own flush. A file that is not created has nothing to flush.
+    fn flush(&mut self) -> Result<(), PortFault>
+        ensures silent { OnOk result (None ≡ known_len None) }
+        ensures unflushed { IfErr result (λ _. known_len None ≡ None) }
+        ensures failure { self.new.failed ≡ (self.old.failed || is_err result) }
+        ensures for_good { self.old.failed ≡ true → IsErr result }
+        ensures passed_on { IsFlushed R.File.contents self.old.file self.new.file }
+        ensures unmade { self.old.file ≡ None → self.old.failed ≡ false → IsOk result }
+        ensures unasked { self.old.failed ≡ true → self.new ≡ self.old }
+        ensures path { self.new.path ≡ self.old.path }
+    {
+        if self.failed {
+            return Err(PortFault);
+        }
+        let flushed = match &mut self.file {
+            Some(file) => file.flush(),
+            None => Ok(()),
+        };
+        self.failed = flushed.is_err();
+        flushed
+    }
+}
+
+impl<R: Files> HasPath for FileOnFirstWrite<'_, R> {
+    ghost path = { λ file. option_map string_bytes file.path };
+}
+
+/// The files that jobs write, which are created at the first write to them.
+#[derive(Drop)]
+pub struct HostOutputFiles<'a, R> {
+    rt: &'a R,
+}
+
+impl<'a, R: Files + AllocGlobal> HostOutputFiles<'a, R> {
+    /// The output files of this runtime. None is created yet.
+    pub fn new(rt: &'a R) -> HostOutputFiles<'a, R> {
+        HostOutputFiles { rt }
+    }
+}
+
+impl<'a, R: Files + AllocGlobal> FileMaker for HostOutputFiles<'a, R> {
+    type File = FileOnFirstWrite<'a, R>;
+
+    fn file(&self, path: Option<&str>) -> Result<FileOnFirstWrite<'a, R>, AllocError> {
+        let path = match path {
+            Some(path) => Some(String::from_str(self.rt.alloc(), path)?),
+            None => None,
+        };
+        Ok(FileOnFirstWrite::new(self.rt, path))
+    }
+}
+
+/// Standard output.
+#[derive(Drop)]
+pub struct StandardOutput<'a, R> {
+    target: ToWrite<Printer<'a, R>>,
+}
+
+impl<'a, R: Print> StandardOutput<'a, R> {
+    /// The standard output of this runtime. It has not failed.
+    pub fn new(rt: &'a R) -> StandardOutput<'a, R>
+        ensures { ⟦<StandardOutput<'a, R> as Target>⟧.has_failed result ≡ false }
+    {
+        StandardOutput {
+            target: ToWrite::new(io::writer(rt)),
+        }
+    }
+}
+
+impl<R: Print> Target for StandardOutput<'_, R> {
+    ghost sent = { λ output. ⟦<ToWrite<Printer<'static, R>> as Target>⟧.sent output.target };
+
+    ghost flushed = { λ output. ⟦<ToWrite<Printer<'static, R>> as Target>⟧.flushed output.target };
+
+    ghost has_failed = { λ output. ⟦<ToWrite<Printer<'static, R>> as Target>⟧.has_failed output.target };
+
+    fn write(&mut self, piece: &[u8]) -> Result<usize, PortFault> {
+        self.target.write(piece)
+    }
+
+    fn flush(&mut self) -> Result<(), PortFault> {
+        self.target.flush()
+    }
+}
+
+impl<R: Print> HasPath for StandardOutput<'_, R> {
+    ghost path = { λ _. None };
+}

@@ -1,0 +1,19 @@
+//! The program under one contract: `program` does the work that the words of the command line ask for, over any files, input
+//! and outputs, and returns the exit code. The other types are its ports, and those of a host.
+#![tactic(auto)]
+
+mod command_line;
+mod fault_line;
+mod file_maker;
+mod files;
+mod job_fault;
+mod printers;
+mod process_words;
+mod run;
+mod stop;
+
+pub use file_maker::FileMaker;
+pub use files::{FileOnFirstWrite, HostFiles, HostOutputFiles, StandardInput, StandardOutput};
+pub use printers::{Printer, StderrPrinter, StdoutPrinter};
+pub use run::program;
+pub use stop::Stop;

@@ -1,0 +1,79 @@
+//! The printers of the program's last message.
+ghost use Rattle.std.specs.Prelude.{◌≡◌, ◌||◌, Bool, None, IfErr, IfOk, false, is_err};
+ghost use Rattle.inrc2pb_program.specs.Messages.{Messages, with_message};
+
+use crate::stop::Stop;
+use std::io;
+
+/// Prints why the program ended, and remembers whether a text could not be printed.
+pub trait Printer {
+    // whether a text could not be printed
+    ghost has_failed: { Self → Bool };
+
+    // the printed texts, one after the other, if they are known
+    ghost messages: { Self → Messages };
+
+    /// Prints the reason.
+    fn print_stop(&mut self, stop: &Stop) -> io::Result<()>
+        ensures failure { has_failed self.new ≡ (has_failed self.old || is_err result) }
+        ensures messages { IfOk result (λ _. messages self.new ≡ with_message (messages self.old) stop.now) }
+        ensures no_message { IfErr result (λ _. messages self.new ≡ messages self.old) };
+}
+
+/// Texts on standard output.
+#[derive(Drop)]
+pub struct StdoutPrinter<'a, R> {
+    rt: &'a R,
+    failed: bool,
+}
+
+impl<'a, R: Print> StdoutPrinter<'a, R> {
+    /// A printer on standard output. It has not failed.
+    pub fn new(rt: &'a R) -> StdoutPrinter<'a, R>
+        ensures { ⟦<StdoutPrinter<'a, R> as Printer>⟧.has_failed result ≡ false }
+    {
+        StdoutPrinter { rt, failed: false }
+    }
+}
+
+impl<R: Print> Printer for StdoutPrinter<'_, R> {
+    ghost has_failed = { λ output. output.failed };
+
+    // Nobody knows which messages a real output has.
+    ghost messages = { λ _. None };
+
+    fn print_stop(&mut self, stop: &Stop) -> io::Result<()> {
+        let printed = self.rt.print(stop);
+        self.failed = self.failed || printed.is_err();
+        printed
+    }
+}
+
+/// Texts on the standard error.
+#[derive(Drop)]
+pub struct StderrPrinter<'a, R> {
+    rt: &'a R,
+    failed: bool,
+}
+
+impl<'a, R: Eprint> StderrPrinter<'a, R> {
+    /// A printer on the standard error. It has not failed.
+    pub fn new(rt: &'a R) -> StderrPrinter<'a, R>
+        ensures { ⟦<StderrPrinter<'a, R> as Printer>⟧.has_failed result ≡ false }
+    {
+        StderrPrinter { rt, failed: false }
+    }
+}
+
+impl<R: Eprint> Printer for StderrPrinter<'_, R> {
+    ghost has_failed = { λ errors. errors.failed };
+
+    // Nobody knows which messages a real output has.
+    ghost messages = { λ _. None };
+
+    fn print_stop(&mut self, stop: &Stop) -> io::Result<()> {
+        let printed = self.rt.eprint(stop);
+        self.failed = self.failed || printed.is_err();
+        printed
+    }
+}

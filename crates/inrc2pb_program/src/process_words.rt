@@ -1,0 +1,56 @@
+//! The job that the words of the process ask for.
+ghost use Rattle.std.specs.Prelude.{◌≡◌, IfErr, IfOk, map, string_bytes};
+ghost use Rattle.inrc2pb_program.specs.Jobs.{texts};
+ghost use Rattle.clap.specs.Words.{fault_of};
+ghost use Rattle.inrc2pb_command.specs.CommandLine.{inrc2pb_app};
+ghost use Rattle.inrc2pb_program.specs.Programs.{IsJobFor, IsJobGiven, IsStopForError, IsStopGiven, texts_in};
+ghost use Rattle.inrc2pb_program.specs.Stops.{IsStopFor};
+
+use crate::command_line;
+use crate::stop::Stop;
+use inrc2pb_job::Job;
+use rota_pb::Fault;
+use std::alloc::{AllocError, Global};
+use std::env::Args;
+use std::io;
+
+/// The job that the words ask for, or the reason why the program ends without one.
+pub fn job_of_words(alloc: Global, words: io::Result<Args>) -> Result<Job, Stop>
+    ensures ok { IfOk result (IsJobGiven words) }
+    ensures err { IfErr result (IsStopGiven words) }
+{
+    match words {
+        Ok(words) => job_of_texts(alloc, words),
+        Err(error) => Err(stop_for_error(&error)),
+    }
+}
+
+fn job_of_texts(alloc: Global, words: Args) -> Result<Job, Stop>
+    ensures ok { IfOk result (λ job. IsJobFor (texts_in words) job) }
+    ensures err { IfErr result (IsStopFor (fault_of inrc2pb_app (texts_in words))) }
+{
+    let words = kept(alloc, words)?;
+    let words = borrowed(alloc, words.as_slice())?;
+    command_line::job_of_words(alloc, words.as_slice())
+}
+
+fn kept(alloc: Global, words: Args) -> Result<Vec<String>, AllocError>
+    ensures { IfOk result (λ kept. map string_bytes kept.items ≡ texts_in words) }
+{
+    words.collect(alloc)
+}
+
+fn borrowed<'a>(alloc: Global, words: &'a [String]) -> Result<Vec<&'a str>, AllocError>
+    ensures { IfOk result (λ borrowed. texts borrowed.items ≡ map string_bytes words.now) }
+{
+    words.iter().map(|word| word.as_str()).collect(alloc)
+}
+
+fn stop_for_error(error: &io::Error) -> Stop
+    ensures { IsStopForError error.now result }
+{
+    match error.kind() {
+        io::ErrorKind::OutOfMemory => Stop::Job(Fault::Memory),
+        _ => Stop::Usage("an argument is not text"),
+    }
+}

@@ -1,0 +1,133 @@
+//! Why the program ends before its work is done, and its message then.
+ghost use Rattle.std.specs.Prelude.{◌≡◌, false};
+ghost use Rattle.std.specs.Process.{exit_status as code_of};
+ghost use Rattle.inrc2pb_program.specs.Exits.{IsExitOf, IsReported, IsShown, IsPrinted, stop_text, printer_state};
+ghost use Rattle.inrc2pb_program.specs.Stops.{IsStopOf};
+ghost use Rattle.inrc2pb_program.specs.declared.stop.Stop.TheVariants.{Job};
+ghost use Rattle.rota_pb.specs.declared.fault.Fault.TheVariants.{Memory};
+
+use crate::fault_line::FaultLine;
+use crate::job_fault::JobFault;
+use crate::printers::Printer;
+use clap::error::ErrorKind;
+use rota_pb::{Fault, status_of};
+use std::alloc::AllocError;
+use std::fmt;
+use std::process::ExitCode;
+
+/// Why the program ends without its work: the text or the fault that it reports.
+#[derive(Drop)]
+pub enum Stop {
+    /// The words ask for help or the version, and this is the text.
+    Shown(clap::Error),
+    /// The words are refused, for the reason that this text gives.
+    Words(clap::Error),
+    /// A mistake in the words that clap does not see.
+    Usage(&'static str),
+    /// The job failed.
+    Job(Fault),
+}
+
+impl Stop {
+    /// Prints the reason: a requested text on the output, anything else on the standard error. Returns the
+    /// exit status of the program. Neither printer has failed before.
+    pub fn report<H: Printer, E: Printer>(&self, output: &mut H, errors: &mut E) -> u8
+        requires output { H.has_failed output.old ≡ false }
+        requires errors { E.has_failed errors.old ≡ false }
+        ensures { IsReported self.now (printer_state H.Printer output.old output.new)
+            (printer_state E.Printer errors.old errors.new) result }
+    {
+        match self {
+            Stop::Shown(_) => show(self, output, errors),
+            Stop::Words(_) | Stop::Usage(_) => refuse(self, 2, errors),
+            Stop::Job(fault) => refuse(self, status_of(fault), errors),
+        }
+    }
+}
+
+impl fmt::Display for Stop {
+    ghost output = { stop_text };
+
+    fn fmt<W: fmt::Write>(&self, f: &mut fmt::Formatter<W>) -> fmt::Result {
+        match self {
+            Stop::Shown(text) => write!(f, "{text}"),
+            Stop::Words(text) => write!(f, "{text}"),
+            Stop::Usage(text) => writeln!(f, "error: {text}"),
+            Stop::Job(fault) => writeln!(f, "{}", FaultLine::of(fault)),
+        }
+    }
+}
+
+/// The exit code of the process: 0 if the program did its work, otherwise the status of the reason why it
+/// stopped, which is printed. Neither printer has failed before.
+pub fn exit_code<H: Printer, E: Printer>(
+    ended: &Result<(), Stop>,
+    output: &mut H,
+    errors: &mut E,
+) -> ExitCode
+    requires output { H.has_failed output.old ≡ false }
+    requires errors { E.has_failed errors.old ≡ false }
+    ensures { IsExitOf ended.now (printer_state H.Printer output.old output.new)
+        (printer_state E.Printer errors.old errors.new) (code_of result) }
+{
+    match ended {
+        Ok(()) => ExitCode::SUCCESS,
+        Err(stop) => ExitCode::from(stop.report(output, errors)),
+    }
+}
+
+// Prints a requested text. Returns the status after it.
+fn show<H: Printer, E: Printer>(stop: &Stop, output: &mut H, errors: &mut E) -> u8
+    requires output { H.has_failed output.old ≡ false }
+    requires errors { E.has_failed errors.old ≡ false }
+    ensures { IsShown stop.now (printer_state H.Printer output.old output.new)
+        (printer_state E.Printer errors.old errors.new) result }
+{
+    match output.print_stop(stop) {
+        Ok(()) => 0,
+        Err(_) => refuse(&Stop::Job(Fault::Write), status_of(&Fault::Write), errors),
+    }
+}
+
+// Prints the reason on the standard error. Returns the status, even if its message could not be printed.
+fn refuse<E: Printer>(stop: &Stop, status: u8, errors: &mut E) -> u8
+    requires { E.has_failed errors.old ≡ false }
+    ensures printed { IsPrinted (printer_state E.Printer errors.old errors.new) stop.now }
+    ensures status { result ≡ status }
+{
+    match errors.print_stop(stop) {
+        Ok(()) | Err(_) => status,
+    }
+}
+
+impl From<JobFault> for Stop {
+    ghost from_gives = { IsStopOf };
+
+    fn from(fault: JobFault) -> Stop {
+        match fault {
+            JobFault::Words(error) => match error.kind() {
+                ErrorKind::OutOfMemory => Stop::Job(Fault::Memory),
+                ErrorKind::DisplayHelp | ErrorKind::DisplayVersion => Stop::Shown(error),
+                _ => Stop::Words(error),
+            },
+            JobFault::Missing => Stop::Usage("a required path is missing"),
+            JobFault::Memory => Stop::Job(Fault::Memory),
+        }
+    }
+}
+
+impl From<Fault> for Stop {
+    ghost from_gives = { λ fault stop. stop ≡ Job fault };
+
+    fn from(fault: Fault) -> Stop {
+        Stop::Job(fault)
+    }
+}
+
+impl From<AllocError> for Stop {
+    ghost from_gives = { λ _ stop. stop ≡ Job Memory };
+
+    fn from(_error: AllocError) -> Stop {
+        Stop::Job(Fault::Memory)
+    }
+}
