@@ -22,8 +22,15 @@ case $1 in '' | -*) usage ;; esac
 [ $action = uninstall ] || mkdir -p "$1" || exit 2
 prefix=$(cd "$1" && pwd -P) || exit 2
 cd "$(dirname "$0")" || exit 2
-sums=$(pwd -P)/SHA256SUMS
-[ "$prefix/SHA256SUMS" != "$sums" ] || { echo 'Choose another folder than this one.'; exit 2; }
+here=$(pwd -P)
+sums=$here/SHA256SUMS
+case $prefix/ in
+    "$here"/*)
+        rmdir "$prefix" 2> /dev/null
+        echo "Choose a folder outside $here, for example \"\$HOME/.local\"."
+        exit 2
+        ;;
+esac
 
 install_files() {
     sha256sum --check --quiet SHA256SUMS || { echo 'Not installed: a file is not as it was packed.'; exit 1; }
@@ -37,7 +44,7 @@ install_files() {
     echo "Installed to $prefix. The example weeks are in $prefix/share/doc/inrc2pb/examples."
     case :$PATH: in
         *":$prefix/bin:"*) ;;
-        *) echo "$prefix/bin is not on the path yet: PATH=\"$prefix/bin:\$PATH\"" ;;
+        *) printf '%s\n' 'The commands are not on your path yet. Add this line to ~/.bashrc:' "PATH=\"$prefix/bin:\$PATH\"" ;;
     esac
 }
 

@@ -11,7 +11,7 @@ cd "$(dirname "$0")/.." || exit 2
 . package/commit.sh
 
 kit=$(rt version 2> /dev/null || echo unknown)
-gate='has not passed on this commit on the machine that built this'
+gate='have not passed on this commit on the machine that built this'
 if [ -r "${GATE:-out/gate}" ]; then
     { read -r gate_commit; read -r gate_line; read -r gate_kit; read -r gate_sum; } < "${GATE:-out/gate}"
     if [ "$gate_commit" = "$commit" ] && [ "$gate_kit" = "$kit" ] && is_committed && [[ $gate_line == *' passed, 0 failed' ]]; then
@@ -22,4 +22,4 @@ if [ -r "${GATE:-out/gate}" ]; then
 fi
 echo "commit: $commit"
 echo "kit: $kit"
-echo "gate: $gate"
+echo "proofs and tests: $gate"

@@ -52,7 +52,7 @@ works() {
 # states_proof FILE: it names the commit, the kit, the gate's result and the C library.
 states_proof() {
     begins_case "${1#"$room"/}"
-    for word in commit kit gate libc; do
+    for word in commit kit 'proofs and tests' libc; do
         grep -q "^$word: ." "$1" || complain "no line '$word'"
     done
     package/proved.sh | grep -qxF "$(head -n 1 "$1")" || complain 'another commit'
@@ -62,11 +62,11 @@ states_proof() {
 says_of_gate() {
     begins_case "PROVED after $1"
     printf '%s\n' "$2" "$3" "$4" "$5" > "$room/gate"
-    GATE=$room/gate package/proved.sh | grep -qxF "gate: $6" || complain "not '$6'"
+    GATE=$room/gate package/proved.sh | grep -qxF "proofs and tests: $6" || complain "not '$6'"
 }
 
 gates_are_told_apart() {
-    local commit kit sum not='has not passed on this commit on the machine that built this'
+    local commit kit sum not='have not passed on this commit on the machine that built this'
     commit=$(package/proved.sh | sed -n 's/^commit: //p')
     kit=$(package/proved.sh | sed -n 's/^kit: //p')
     sum=$(cat "$PROGRAM" "$WHO_FITS" | sha256sum)
@@ -116,6 +116,8 @@ uninstalls() {
     begins_case 'install.sh in its own folder'
     ! (cd "$(dirname "$1")" && ./install.sh --uninstall .) > "$out" 2>&1 || complain 'it removes its own files'
     [ -x "$(dirname "$1")/bin/inrc2pb" ] || complain 'the program is gone'
+    ! (cd "$(dirname "$1")" && ./install.sh PREFIX) > "$out" 2>&1 || complain 'it installs into its own folder'
+    [ ! -e "$(dirname "$1")/PREFIX" ] || complain 'it leaves a folder in its own'
 }
 
 # by_dpkg WORD..: dpkg on an empty system in $room/root.
