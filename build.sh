@@ -9,8 +9,8 @@
 #
 # - `rt` first reads the sources of all crates below the program. Here each crate loads those below it, already proved.
 # - The functions of a crate wait for one another, so more jobs cost more than they give. Each crate gets the jobs that pay.
-# - No crate waits for the readers or the command line, so these two are proved at the same time as others, with one job each.
-#   `rt` lets one command at a time into a crate that two others use, so the readers are proved in a copy.
+# - The readers and the command line are not needed until late, so they are proved at the same time as other crates, with one job
+#   each. `rt` lets one command at a time into a crate that two others use, so the readers are proved in a copy.
 #
 # Proved crates take seconds.
 set -eu

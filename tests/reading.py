@@ -23,6 +23,8 @@ EXACT = CRATES / "rota_pb/specs/ExactModel.antt"
 ENCODE = ("rota_pb/src/encoding.rt", "run_encode")
 DECODE = ("rota_pb/src/decoding.rt", "run_decode")
 EXTEND = ("rota_pb/src/extending.rt", "run_extend")
+PERFORM = ("inrc2pb_job/src/job_run.rt", "perform")
+PROGRAM = ("inrc2pb_program/src/run.rt", "program")
 
 
 class FileList(NamedTuple):
@@ -40,6 +42,7 @@ LISTS = [
     FileList("The files and the run", [], [ENCODE], {EXACT}, True),
     FileList("The exact text", [], [ENCODE], set(), False),
     FileList("Decode and extend", [], [DECODE, EXTEND], set(), False),
+    FileList("The whole program", [], [PERFORM, PROGRAM], set(), False),
 ]
 USE = re.compile(r"(?m)^ *(?:pub )?(?:ghost )?use Rattle\.(\w+)\.specs\.([\w.]+?)(?:\.\{([^}]*)\})?(?: as \w+)?;?$")
 ROW = re.compile(r"(?m)^\| `([\w/]+\.antt)` \| (\d+) \| (\d+) \|")

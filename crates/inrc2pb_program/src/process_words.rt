@@ -15,7 +15,7 @@ use std::env::Args;
 use std::io;
 
 /// The job that the words ask for, or the reason why the program ends without one.
-pub fn job_of_words(alloc: Global, words: io::Result<Args>) -> Result<Job, Stop>
+pub fn job_of_args(alloc: Global, words: io::Result<Args>) -> Result<Job, Stop>
     ensures ok { IfOk result (IsJobGiven words) }
     ensures err { IfErr result (IsStopGiven words) }
 {

@@ -8,7 +8,7 @@ ghost use Rattle.rota_pb.specs.RunPorts.{reader_of, writer_of};
 
 use crate::file_maker::FileMaker;
 use crate::printers::Printer;
-use crate::process_words::job_of_words;
+use crate::process_words::job_of_args;
 use crate::stop::{Stop, exit_code};
 use inrc2pb_job::{HasPath, Opens, perform};
 use rota_core::{Source, Target};
@@ -59,7 +59,7 @@ pub fn run<O: Opens, A: Source, M: FileMaker, W: Target + HasPath>(
         (output_files M.File.Target M.File.path) words (reader_of A.Source input.old input.new)
         (writer_of W.Target output.old output.new) result }
 {
-    let job = job_of_words(alloc, words)?;
+    let job = job_of_args(alloc, words)?;
     let mut file = maker.file(job.output_path())?;
     ended(perform(alloc, &job, files, input, &mut file, output))
 }

@@ -116,14 +116,6 @@ impl From<JobFault> for Stop {
     }
 }
 
-impl From<Fault> for Stop {
-    ghost from_gives = { λ fault stop. stop ≡ Job fault };
-
-    fn from(fault: Fault) -> Stop {
-        Stop::Job(fault)
-    }
-}
-
 impl From<AllocError> for Stop {
     ghost from_gives = { λ _ stop. stop ≡ Job Memory };
 
