@@ -7,12 +7,14 @@ from typing import Dict, FrozenSet, List, Mapping, Sequence, Tuple
 from .files import DAYS, Assignment
 
 KINDS = ("nurses", "days", "both")
-_KIND_WEIGHTS = {"nurses": 6.0, "days": 2.0, "both": 2.0}
+_KIND_WEIGHTS = {"nurses": 6.0, "days": 1.5, "both": 2.0}
 _FIRST_SIZES = {"nurses": 7.0, "days": 1.5, "both": 7.0}
 _MIN_SIZES = {"nurses": 2.0, "days": 1.0, "both": 2.0}
-_GROWTH, _SHRINKAGE = 1.07, 0.92
+_GROWTH, _FAST_GROWTH, _SHRINKAGE = 1.07, 1.15, 0.92
 # The weight of the last results against the new one, and the weight of a pair that never gains.
-_MEMORY, _FLOOR = 0.8, 0.25
+_MEMORY, _FLOOR = 0.95, 0.2
+# The seconds that a neighborhood takes besides those of the solver, and with it at first.
+_SECONDS, _FIRST_SECONDS = 0.3, 1.0
 
 
 @dataclass(frozen=True)
@@ -40,6 +42,8 @@ class _Pair:
     size: float
     gain: float = 0.0
     seconds: float = 0.0
+    usual: float = _FIRST_SECONDS
+    tried: bool = False
 
     def rate(self) -> float:
         return (self.gain + 1.0) / (self.seconds + 1.0)
@@ -59,13 +63,21 @@ class Neighborhoods:
     def choose(self, solvers: Sequence[str], costs: Mapping[str, int], chance: random.Random) -> Tuple[str, Neighborhood]:
         """A random neighborhood, for one of the solvers. `costs` has what each nurse costs in the roster."""
         pairs = [(solver, kind) for solver in solvers for kind in KINDS]
-        rates = [self._pair(*pair).rate() for pair in pairs]
-        weights = [_KIND_WEIGHTS[kind] * (rate / max(rates) + _FLOOR) for (_, kind), rate in zip(pairs, rates)]
+        weights = self._weights(pairs)
         solver, kind = chance.choices(pairs, weights)[0]
         days, count = self._extent(kind, int(self._pair(solver, kind).size + chance.random()), chance)
         first = chance.randrange(len(DAYS))
         freed_days = frozenset((first + step) % len(DAYS) for step in range(days))
         return solver, Neighborhood(kind, frozenset(self._drawn(count, costs, chance)), freed_days)
+
+    def _weights(self, pairs: Sequence[Tuple[str, str]]) -> List[float]:
+        """How often each pair is chosen: so that its share of the time follows its rate. Each is tried early."""
+        known = [(kind, self._pair(solver, kind)) for solver, kind in pairs]
+        best = max((pair.rate() for _, pair in known if pair.tried), default=1.0)
+        return [
+            _KIND_WEIGHTS[kind] * (pair.rate() / best + _FLOOR) / (pair.usual + _SECONDS) if pair.tried else max(_KIND_WEIGHTS.values())
+            for kind, pair in known
+        ]
 
     def _extent(self, kind: str, size: int, chance: random.Random) -> Tuple[int, int]:
         """The numbers of days and nurses. The size is that of nurses if whole weeks are free."""
@@ -90,10 +102,12 @@ class Neighborhoods:
     def learn(self, solver: str, freed: Neighborhood, proved: bool, gain: int, seconds: float, patience: float) -> None:
         """The next neighborhood is larger if this one was proved in half of its time, and smaller if it was not proved."""
         pair = self._pair(solver, freed.kind)
-        pair.gain = _MEMORY * pair.gain + max(0, gain)
-        pair.seconds = _MEMORY * pair.seconds + seconds
+        for one in self._pairs.values():
+            one.gain, one.seconds = _MEMORY * one.gain, _MEMORY * one.seconds
+        pair.gain, pair.seconds, pair.tried = pair.gain + max(0, gain), pair.seconds + seconds, True
+        pair.usual = 0.7 * pair.usual + 0.3 * seconds
         most = len(DAYS) if freed.kind == "days" else len(self._nurses)
         if not proved:
             pair.size = max(_MIN_SIZES[freed.kind], pair.size * _SHRINKAGE)
         elif seconds < patience / 2:
-            pair.size = min(float(most), pair.size * _GROWTH)
+            pair.size = min(float(most), pair.size * (_FAST_GROWTH if seconds < patience / 10 else _GROWTH))
