@@ -13,7 +13,7 @@ from .rules import numbers
 def part_of(week: Week, roster: Sequence[Assignment], nurses: Collection[str]) -> Week:
     """The week of these nurses alone: the assignments of the others lower the numbers that it asks for.
 
-    So the part costs what its nurses and the missing nurses cost in the whole week.
+    So a roster of the part costs what the whole roster does, without the costs of the other nurses.
     """
     others = numbers([row for row in roster if row.nurse not in nurses])
     requirements = {
@@ -29,11 +29,10 @@ def part_of(week: Week, roster: Sequence[Assignment], nurses: Collection[str]) -
 def write_part(week: Week, roster: Solution, freed: Neighborhood, fixed: Collection[Assignment], early: bool, folder: Path) -> WeekFiles:
     """Writes the files of the part that the neighborhood frees. It holds what its nurses have on other days, and the fixed rows."""
     part = part_of(week, roster.assignments, freed.nurses)
-    files = WeekFiles(*(folder / f"part-{name}.txt" for name in ("scenario", "history", "week", "held")), early)
-    write_text(files.scenario, scenario_text(part.scenario))
-    write_text(files.history, history_text(part.history))
-    write_text(files.week, week_text(part.data))
+    scenario, history, data, fix = (folder / f"part-{name}.txt" for name in ("scenario", "history", "week", "held"))
+    write_text(scenario, scenario_text(part.scenario))
+    write_text(history, history_text(part.history))
+    write_text(data, week_text(part.data))
     held = [row for row in roster.assignments if row.nurse in freed.nurses and (row in fixed or not freed.frees(row))]
-    write_solution(files.fix, Solution(roster.week, roster.scenario, tuple(held)))
-    return files
-
+    write_solution(fix, replace(roster, assignments=tuple(held)))
+    return WeekFiles(scenario, history, data, fix, early)
