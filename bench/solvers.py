@@ -273,9 +273,8 @@ def measure(given: argparse.Namespace, results: Results) -> None:
             (limit, week, files, name)
             for limit in limits
             for week, files in weeks(folder).items()
-            for name in SOLVERS
+            for name in (LAST_WEEK_SOLVERS if week in LAST_WEEKS else SOLVERS)
             if week in given.week and name in given.solver and is_installed(name)
-            and (week not in LAST_WEEKS or name in LAST_WEEK_SOLVERS)
         ]
         for limit, week, files, name in chosen:
             key = f"{week}/{name}/{limit}"
