@@ -11,10 +11,12 @@ _KIND_WEIGHTS = {"nurses": 6.0, "days": 1.5, "both": 2.0}
 _FIRST_SIZES = {"nurses": 7.0, "days": 1.5, "both": 7.0}
 _MIN_SIZES = {"nurses": 2.0, "days": 1.0, "both": 2.0}
 _GROWTH, _FAST_GROWTH, _SHRINKAGE = 1.07, 1.15, 0.92
-# The weight of the last results against the new one, and the weight of a pair that never gains.
+# A neighborhood that is proved in this part of its time grows fast.
+_FAST = 0.1
+# The weight of the earlier results of all pairs against a new one, and the weight of a pair that never gains.
 _MEMORY, _FLOOR = 0.95, 0.2
-# The seconds that a neighborhood takes besides those of the solver, and with it at first.
-_SECONDS, _FIRST_SECONDS = 0.3, 1.0
+# The usual seconds of a pair: at first, the weight of the earlier ones, and what is added to them.
+_FIRST_SECONDS, _SECONDS_MEMORY, _MORE_SECONDS = 1.0, 0.7, 0.3
 
 
 @dataclass(frozen=True)
@@ -37,7 +39,8 @@ class Neighborhood:
 
 @dataclass
 class _Pair:
-    """What a solver did on neighborhoods of a kind: their size now, and what the last ones gained in how many seconds."""
+    """What a solver did on neighborhoods of a kind: their size now, what the last ones gained in how many seconds, and the usual
+    seconds of one."""
 
     size: float
     gain: float = 0.0
@@ -51,7 +54,7 @@ class _Pair:
 
 class Neighborhoods:
     """Chooses neighborhoods. Each pair of a solver and a kind has a size of its own, which follows the time that solving takes;
-    a pair that gains more in a second is chosen more often."""
+    a pair that gains more in a second has more of the time."""
 
     def __init__(self, nurses: Sequence[str]) -> None:
         self._nurses = list(nurses)
@@ -75,7 +78,7 @@ class Neighborhoods:
         known = [(kind, self._pair(solver, kind)) for solver, kind in pairs]
         best = max((pair.rate() for _, pair in known if pair.tried), default=1.0)
         return [
-            _KIND_WEIGHTS[kind] * (pair.rate() / best + _FLOOR) / (pair.usual + _SECONDS) if pair.tried else max(_KIND_WEIGHTS.values())
+            _KIND_WEIGHTS[kind] * (pair.rate() / best + _FLOOR) / (pair.usual + _MORE_SECONDS) if pair.tried else max(_KIND_WEIGHTS.values())
             for kind, pair in known
         ]
 
@@ -105,9 +108,9 @@ class Neighborhoods:
         for one in self._pairs.values():
             one.gain, one.seconds = _MEMORY * one.gain, _MEMORY * one.seconds
         pair.gain, pair.seconds, pair.tried = pair.gain + max(0, gain), pair.seconds + seconds, True
-        pair.usual = 0.7 * pair.usual + 0.3 * seconds
+        pair.usual = _SECONDS_MEMORY * pair.usual + (1 - _SECONDS_MEMORY) * seconds
         most = len(DAYS) if freed.kind == "days" else len(self._nurses)
         if not proved:
             pair.size = max(_MIN_SIZES[freed.kind], pair.size * _SHRINKAGE)
         elif seconds < patience / 2:
-            pair.size = min(float(most), pair.size * (_FAST_GROWTH if seconds < patience / 10 else _GROWTH))
+            pair.size = min(float(most), pair.size * (_FAST_GROWTH if seconds < _FAST * patience else _GROWTH))
