@@ -40,8 +40,11 @@ BEGIN, END = "<!-- measured -->", "<!-- end of measured -->"
 EXAMPLES = ROOT / "examples"
 SAT4J = "/usr/share/java/org.sat4j.pb.jar"
 # The weeks and the seconds of the table.
-WEEKS = ["n005w4", "eight", "thirty", "thirty, second week", "ward of 120"]
+WEEKS = ["n005w4", "eight", "thirty", "thirty, second week", "ward of 120", "last12", "last60", "last120"]
 LIMITS = [60, 300]
+# Last weeks of planned periods, and the solvers that are measured on them.
+LAST_WEEKS = ["last12", "last60", "last120"]
+LAST_WEEK_SOLVERS = ["clasp", "cbc", "inrc2pb-improve", "inrc2pb-improve, clasp"]
 # toulbar2 searched to the end. If it is stopped it says nothing, or `No solution found in`.
 NO_ROSTER = re.compile(r"^No solution (?:in|found by initial propagation)\b", re.MULTILINE)
 
@@ -126,6 +129,8 @@ def weeks(folder: Path) -> Dict[str, WeekFiles]:
     found["thirty, second week"] = replace(thirty, history=middle)
     subprocess.run([sys.executable, str(ROOT / "bench/weeks.py"), "files", "ward", str(folder / "ward")], check=True)
     found["ward of 120"] = WeekFiles(*(folder / "ward" / f"{name}.txt" for name in ("scenario", "history", "week")))
+    for name in LAST_WEEKS:
+        found[name] = WeekFiles(*(EXAMPLES / name / file for file in ("ward.txt", "history-3.txt", "week-3.txt")))
     return found
 
 
@@ -268,7 +273,7 @@ def measure(given: argparse.Namespace, results: Results) -> None:
             (limit, week, files, name)
             for limit in limits
             for week, files in weeks(folder).items()
-            for name in SOLVERS
+            for name in (LAST_WEEK_SOLVERS if week in LAST_WEEKS else SOLVERS)
             if week in given.week and name in given.solver and is_installed(name)
         ]
         for limit, week, files, name in chosen:

@@ -7,12 +7,16 @@ from typing import Dict, FrozenSet, List, Mapping, Sequence, Tuple
 from .files import DAYS, Assignment
 
 KINDS = ("nurses", "days", "both")
-_KIND_WEIGHTS = {"nurses": 6.0, "days": 2.0, "both": 2.0}
+_KIND_WEIGHTS = {"nurses": 6.0, "days": 1.5, "both": 2.0}
 _FIRST_SIZES = {"nurses": 7.0, "days": 1.5, "both": 7.0}
 _MIN_SIZES = {"nurses": 2.0, "days": 1.0, "both": 2.0}
-_GROWTH, _SHRINKAGE = 1.07, 0.92
-# The weight of the last results against the new one, and the weight of a pair that never gains.
-_MEMORY, _FLOOR = 0.8, 0.25
+_GROWTH, _FAST_GROWTH, _SHRINKAGE = 1.07, 1.15, 0.92
+# A neighborhood that is proved in this part of its time grows fast.
+_FAST = 0.1
+# The weight of the earlier results of all pairs against a new one, and the weight of a pair that never gains.
+_MEMORY, _FLOOR = 0.95, 0.2
+# The usual seconds of a pair: at first, the weight of the earlier ones, and what is added to them.
+_FIRST_SECONDS, _SECONDS_MEMORY, _MORE_SECONDS = 1.0, 0.7, 0.3
 
 
 @dataclass(frozen=True)
@@ -35,11 +39,14 @@ class Neighborhood:
 
 @dataclass
 class _Pair:
-    """What a solver did on neighborhoods of a kind: their size now, and what the last ones gained in how many seconds."""
+    """What a solver did on neighborhoods of a kind: their size now, what the last ones gained in how many seconds, and the usual
+    seconds of one."""
 
     size: float
     gain: float = 0.0
     seconds: float = 0.0
+    usual: float = _FIRST_SECONDS
+    tried: bool = False
 
     def rate(self) -> float:
         return (self.gain + 1.0) / (self.seconds + 1.0)
@@ -47,7 +54,7 @@ class _Pair:
 
 class Neighborhoods:
     """Chooses neighborhoods. Each pair of a solver and a kind has a size of its own, which follows the time that solving takes;
-    a pair that gains more in a second is chosen more often."""
+    a pair that gains more in a second has more of the time."""
 
     def __init__(self, nurses: Sequence[str]) -> None:
         self._nurses = list(nurses)
@@ -59,13 +66,21 @@ class Neighborhoods:
     def choose(self, solvers: Sequence[str], costs: Mapping[str, int], chance: random.Random) -> Tuple[str, Neighborhood]:
         """A random neighborhood, for one of the solvers. `costs` has what each nurse costs in the roster."""
         pairs = [(solver, kind) for solver in solvers for kind in KINDS]
-        rates = [self._pair(*pair).rate() for pair in pairs]
-        weights = [_KIND_WEIGHTS[kind] * (rate / max(rates) + _FLOOR) for (_, kind), rate in zip(pairs, rates)]
+        weights = self._weights(pairs)
         solver, kind = chance.choices(pairs, weights)[0]
         days, count = self._extent(kind, int(self._pair(solver, kind).size + chance.random()), chance)
         first = chance.randrange(len(DAYS))
         freed_days = frozenset((first + step) % len(DAYS) for step in range(days))
         return solver, Neighborhood(kind, frozenset(self._drawn(count, costs, chance)), freed_days)
+
+    def _weights(self, pairs: Sequence[Tuple[str, str]]) -> List[float]:
+        """How often each pair is chosen: so that its share of the time follows its rate. Each is tried early."""
+        known = [(kind, self._pair(solver, kind)) for solver, kind in pairs]
+        best = max((pair.rate() for _, pair in known if pair.tried), default=1.0)
+        return [
+            _KIND_WEIGHTS[kind] * (pair.rate() / best + _FLOOR) / (pair.usual + _MORE_SECONDS) if pair.tried else max(_KIND_WEIGHTS.values())
+            for kind, pair in known
+        ]
 
     def _extent(self, kind: str, size: int, chance: random.Random) -> Tuple[int, int]:
         """The numbers of days and nurses. The size is that of nurses if whole weeks are free."""
@@ -90,10 +105,12 @@ class Neighborhoods:
     def learn(self, solver: str, freed: Neighborhood, proved: bool, gain: int, seconds: float, patience: float) -> None:
         """The next neighborhood is larger if this one was proved in half of its time, and smaller if it was not proved."""
         pair = self._pair(solver, freed.kind)
-        pair.gain = _MEMORY * pair.gain + max(0, gain)
-        pair.seconds = _MEMORY * pair.seconds + seconds
+        for one in self._pairs.values():
+            one.gain, one.seconds = _MEMORY * one.gain, _MEMORY * one.seconds
+        pair.gain, pair.seconds, pair.tried = pair.gain + max(0, gain), pair.seconds + seconds, True
+        pair.usual = _SECONDS_MEMORY * pair.usual + (1 - _SECONDS_MEMORY) * seconds
         most = len(DAYS) if freed.kind == "days" else len(self._nurses)
         if not proved:
             pair.size = max(_MIN_SIZES[freed.kind], pair.size * _SHRINKAGE)
         elif seconds < patience / 2:
-            pair.size = min(float(most), pair.size * _GROWTH)
+            pair.size = min(float(most), pair.size * (_FAST_GROWTH if seconds < _FAST * patience else _GROWTH))

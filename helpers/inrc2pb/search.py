@@ -1,4 +1,4 @@
-"""Searches for a good roster: several workers solve neighborhoods of the best one, each with all else held."""
+"""Searches for a good roster: several workers solve neighborhoods of the best one, each as a small ward with all else held."""
 
 import itertools
 import random
@@ -11,10 +11,11 @@ from typing import Callable, List, Optional, Sequence, Tuple
 
 from .best_roster import BestRoster, Snapshot
 from .command import Misuse
-from .files import Assignment, Solution, Week, read_solution, write_solution
-from .neighborhoods import Neighborhoods
+from .files import Assignment, Week, read_solution, write_solution
+from .neighborhoods import Neighborhood, Neighborhoods
+from .part import write_part
 from .processes import Processes
-from .program import ProgramFault, WeekFiles, decode, encode
+from .program import ProgramFault, WeekFiles, decode, encode, penalty_of
 from .rules import nurse_costs
 from .solvers import Cbc, HearBound, Solver, Task
 
@@ -26,8 +27,8 @@ FIRST_SECONDS = 3.0
 # A solver ends this much before the search does, so that its answer is still checked; for a short search a tenth of its time.
 ANSWER_SECONDS = 1.0
 # After so many seconds without a better roster a neighborhood has twice the time, so that larger ones are proved; then more.
-STALL_SECONDS = 20.0
-MAX_PATIENCE = 3.0
+STALL_SECONDS = 10.0
+MAX_PATIENCE = 4.0
 # The share of the time for a proof of the whole week, if its worker has to search too.
 PROOF_SHARE = 0.2
 # The same with three workers or more: cbc has no roster to show until it ends, and the others improve the one that it finds.
@@ -108,7 +109,7 @@ class Search:
         elif number > 1:
             while self._goes_on() and not self._best.now().version:
                 time.sleep(0.05)
-        commands = itertools.cycle(command for solver in self._solvers for command in solver.whole())
+        commands = itertools.cycle(command for solver in self._solvers for command in (*solver.steps()[1:], *solver.whole()))
         seconds = min(FIRST_SECONDS, self._seconds / 6)
         while self._goes_on() and not self._best.now().version:
             self._whole(next(commands), min(seconds, self._left()), folder)
@@ -128,7 +129,7 @@ class Search:
     def _whole(self, solver: Solver, seconds: float, folder: Path) -> None:
         """Solves the whole week with one solver."""
         seen = self._best.now()
-        found = self._solve(solver, self._files, seconds, seen, folder, lambda bound: self._bound(bound, solver.name))
+        found = self._solve(solver, self._files, seconds, seen.penalty, folder, lambda bound: self._bound(bound, solver.name))
         if found:
             self._best.offer(found[0], seen, None, folder, f"{solver.name}, the whole week")
             if found[1]:
@@ -153,47 +154,50 @@ class Search:
     def _step(self, chance: random.Random, folder: Path) -> None:
         """Solves one neighborhood of the best roster."""
         seen = self._best.now()
-        solvers = {solver.name: solver for solver in self._usable()}
+        solvers = {step.name: step for solver in self._usable() for step in solver.steps()}
         costs = {nurse: sum(by_rule.values()) for nurse, by_rule in nurse_costs(self._week, seen.roster.assignments, self._files.early).items()}
         name, freed = self._neighborhoods.choose(list(solvers), costs, chance)
         solver = solvers[name]
-        files = self._held(seen.roster, [row for row in seen.roster.assignments if not freed.frees(row)], folder)
+        files = write_part(self._week, seen.roster, freed, self._fixed, self._files.early, folder)
+        held = sum(cost for nurse, cost in costs.items() if nurse not in freed.nurses)
         began = time.monotonic()
         patience = solver.patience * min(MAX_PATIENCE, 1 + (began - self._best.improved_at) / STALL_SECONDS)
-        found = self._solve(solver, files, min(patience, self._left()), seen, folder)
+        part = self._solve(solver, files, min(patience, self._left()), seen.penalty - held, folder)
+        found = self._joined(part[0], seen, freed, folder) if part else None
         seconds = time.monotonic() - began
         # What was found before the search ended counts.
         if found:
-            self._best.offer(found[0], seen, freed, folder, f"{solver.name}, {freed}")
+            self._best.offer(found, seen, freed, folder, f"{solver.name}, {freed}")
         if self._ended.is_set():
             return
-        proved = found is not None and found[1]
-        gain = seen.penalty - found[0].penalty if found else 0
+        proved = part is not None and part[1]
+        gain = seen.penalty - found.penalty if found else 0
         self._neighborhoods.learn(solver.name, freed, proved, gain, seconds, patience)
         if found and proved and self._neighborhoods.is_whole(freed):
-            self._prove(found[0].penalty, solver)
+            self._prove(found.penalty, solver)
         if self._best.is_proved():
             self.stop()
 
-    def _held(self, roster: Solution, rows: List[Assignment], folder: Path) -> WeekFiles:
-        """The week's files with these rows held, and the user's own."""
-        path = folder / "held.txt"
-        held = dict.fromkeys([*rows, *(row for row in roster.assignments if row in self._fixed)])
-        write_solution(path, Solution(roster.week, roster.scenario, tuple(held)))
-        return replace(self._files, fix=path)
+    def _joined(self, part: Snapshot, seen: Snapshot, freed: Neighborhood, folder: Path) -> Snapshot:
+        """The roster with the rows of the part in place of those of its nurses; the program prices it."""
+        rows = [row for row in seen.roster.assignments if row.nurse not in freed.nurses]
+        roster = replace(seen.roster, assignments=(*rows, *part.roster.assignments))
+        path = folder / "joined.txt"
+        write_solution(path, roster)
+        return Snapshot(0, penalty_of(self._files, path), roster)
 
     def _usable(self) -> List[Solver]:
         with self._lock:
             return list(self._solvers)
 
     def _solve(
-        self, solver: Solver, files: WeekFiles, seconds: float, seen: Snapshot, folder: Path, hear: Optional[HearBound] = None
+        self, solver: Solver, files: WeekFiles, seconds: float, known: Optional[int], folder: Path, hear: Optional[HearBound] = None
     ) -> Optional[Tuple[Snapshot, bool]]:
         """A roster that the solver found in these seconds and `decode` accepts, and whether it is proved optimal for its model."""
         model = folder / "model.opb"
         encode(files, model)
         began = time.monotonic()
-        outcome = solver.solve(Task(model, seconds, folder, seen.penalty), self._processes, hear)
+        outcome = solver.solve(Task(model, seconds, folder, known), self._processes, hear)
         early = time.monotonic() - began < seconds / 2
         if self._ended.is_set() and not outcome.answer:
             return None
@@ -204,13 +208,13 @@ class Search:
         try:
             report = decode(files, outcome.answer, path)
         except ProgramFault as fault:
-            self._judge(fault, solver, seen, early)
+            self._judge(fault, solver, known is not None, early)
             return None
         with self._lock:
             self._faults[solver.name] = 0
         return Snapshot(0, report.penalty, read_solution(path)), report.optimal
 
-    def _judge(self, fault: ProgramFault, solver: Solver, seen: Snapshot, early: bool) -> None:
+    def _judge(self, fault: ProgramFault, solver: Solver, known: bool, early: bool) -> None:
         """Reports an answer that `decode` did not accept. One without a roster is a fault if it is wrong, or came too early."""
         if fault.status in _REJECTED:
             self._blame(solver, f"its answer was rejected: {fault.message}")
@@ -220,7 +224,7 @@ class Search:
             self._blame(solver, "it does not support this model")
         elif "UNKNOWN" in fault.message and early:
             self._blame(solver, "it gave up before its time was over")
-        elif "UNSATISFIABLE" in fault.message and seen.version:
+        elif "UNSATISFIABLE" in fault.message and known and early:
             self._blame(solver, "it found no roster where there is one")
         elif "UNSATISFIABLE" in fault.message and not self._best.now().version:
             held = f" and has the rows of {self._files.fix}" if self._files.fix else ""

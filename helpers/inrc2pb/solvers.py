@@ -18,6 +18,8 @@ from .processes import Processes
 
 # Good on a neighborhood: the solver raises a lower bound until it is met.
 CLASP_BOUND = ("--configuration=crafty", "--opt-strategy=usc,k,0,7")
+# Good for the first roster, and for a neighborhood of a poor one: it lowers the cost step by step.
+CLASP_STEPS = ("--configuration=trendy", "--opt-heuristic=sign,model", "--restart-on-model", "--sat-prepro=no")
 _PACKAGES = {"clasp": "clasp", "cbc": "coinor-cbc", "minisat+": "minisat+", "toulbar2": "toulbar2"}
 _CLASP_BOUND = re.compile(r"^c Progression : \[\s*([0-9]+);")
 # A longer line has the values of variables, and no bound.
@@ -51,7 +53,7 @@ class Solver:
     """A solver with a name. It has `patience` seconds for a neighborhood."""
 
     name = ""
-    patience = 12.0
+    patience = 8.0
 
     def solve(self, task: "Task", processes: Processes, hear: Optional[HearBound] = None) -> Outcome:
         """Solves the task; `hear` gets each lower bound that the solver proves."""
@@ -59,6 +61,10 @@ class Solver:
 
     def whole(self) -> List["Solver"]:
         """The same solver for a whole week, in the order of use."""
+        return [self]
+
+    def steps(self) -> List["Solver"]:
+        """The solver with each of its options for neighborhoods."""
         return [self]
 
 
@@ -95,7 +101,7 @@ class CommandSolver(Solver):
 class Clasp(CommandSolver):
     """clasp, which ends by itself when its time is over. It prints lower bounds with the options CLASP_BOUND."""
 
-    patience = 6.0
+    patience = 4.0
 
     def __init__(self, *options: str) -> None:
         super().__init__("clasp", ["clasp", *options])
@@ -111,6 +117,11 @@ class Clasp(CommandSolver):
 
     def whole(self) -> List[Solver]:
         return [Clasp(), self]
+
+    def steps(self) -> List[Solver]:
+        other = Clasp(*CLASP_STEPS)
+        other.name, other.patience = "clasp step by step", 2.0
+        return [self, other]
 
 
 class _TimeIsOver(Exception):

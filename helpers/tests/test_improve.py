@@ -11,17 +11,14 @@ import unittest
 from pathlib import Path
 from unittest import mock
 
-from ward import HAS_CBC, HAS_CLASP, HELPERS, ROOT, ROSTER, SCENARIO, WEEK_FILES, WEEK_OPTIONS, HelperTest, files, program, run
+from ward import EARLY_ANSWER, HAS_CBC, HAS_CLASP, HELPERS, ROOT, ROSTER, SCENARIO, THIRTY_FILES, WEEK_FILES, WEEK_OPTIONS
+from ward import HelperTest, files, program, run
 
 from inrc2pb.improve import Progress, improve, search
 from inrc2pb.processes import Processes
 from inrc2pb.solvers import Cbc, Task, find_solver
 
 FAKE = Path(__file__).resolve().parent / "fake_solver.py"
-THIRTY = ROOT / "examples" / "thirty"
-THIRTY_FILES = program.WeekFiles(THIRTY / "Sc-thirty.txt", THIRTY / "H0-thirty-3.txt", THIRTY / "WD-thirty-3.txt")
-# A roster of this week: clasp's answer to its model with --early.
-EARLY_ANSWER = ROOT / "tests" / "thirty_clasp_early.txt"
 
 
 def fake(how):

@@ -6,14 +6,17 @@ import signal
 import sys
 import time
 import unittest
+from collections import Counter
 from pathlib import Path
 
-from ward import HAS_CLASP, ROSTER, WEEK_FILES, HelperTest, files
+from ward import EARLY_ANSWER, HAS_CLASP, ROSTER, THIRTY_FILES, WEEK_FILES, HelperTest, files, program
 
 from inrc2pb.best_roster import BestRoster, Snapshot
 from inrc2pb.interrupts import interrupts
-from inrc2pb.neighborhoods import Neighborhood, Neighborhoods
+from inrc2pb.neighborhoods import KINDS, Neighborhood, Neighborhoods
+from inrc2pb.part import write_part
 from inrc2pb.processes import Processes
+from inrc2pb.rules import nurse_costs
 from inrc2pb.solvers import CLASP_BOUND, Clasp, _rounded, find_solver, find_solvers
 
 
@@ -36,11 +39,30 @@ class Parts(HelperTest):
 
     def test_a_pair_that_gains_is_chosen_more_often(self):
         chosen = Neighborhoods([f"n{n}" for n in range(30)])
-        freed = Neighborhood("both", frozenset(), frozenset())
-        before = sum(one.kind == "both" for one in self.choices(chosen))
+        first = Counter(freed.kind for freed in self.choices(chosen))
+        self.assertTrue(all(first[kind] > 10 for kind in KINDS), first)
+        for kind in KINDS:
+            chosen.learn("clasp", Neighborhood(kind, frozenset(), frozenset()), True, 0, 1.0, 6.0)
+        before = sum(freed.kind == "both" for freed in self.choices(chosen))
         for _ in range(5):
-            chosen.learn("clasp", freed, True, 50, 1.0, 6.0)
-        self.assertGreater(sum(one.kind == "both" for one in self.choices(chosen)), before)
+            chosen.learn("clasp", Neighborhood("both", frozenset(), frozenset()), True, 50, 1.0, 6.0)
+        self.assertGreater(sum(freed.kind == "both" for freed in self.choices(chosen)), before)
+
+    def test_a_part_costs_what_its_nurses_cost_in_the_whole_week(self):
+        whole, roster = self.folder / "whole.txt", self.folder / "roster.txt"
+        penalty = program.decode(THIRTY_FILES, EARLY_ANSWER.read_text(), whole).penalty
+        week = files.read_files(THIRTY_FILES.scenario, THIRTY_FILES.history, THIRTY_FILES.week)
+        solution = files.read_solution(whole)
+        costs = {nurse: sum(of.values()) for nurse, of in nurse_costs(week, solution.assignments).items()}
+        for kind, count, days in (("nurses", 1, range(7)), ("nurses", 9, range(7)), ("both", 12, range(2, 5)), ("days", 30, range(2))):
+            nurses = frozenset(random.Random(count).sample(list(week.scenario.nurses), count))
+            freed = Neighborhood(kind, nurses, frozenset(days))
+            rows = tuple(row for row in solution.assignments if row.nurse in nurses)
+            part = write_part(week, solution, freed, (), False, self.folder)
+            files.write_solution(roster, files.Solution(3, "thirty", rows))
+            others = sum(cost for nurse, cost in costs.items() if nurse not in nurses)
+            self.assertEqual(program.penalty_of(part, roster) + others, penalty)
+            self.assertEqual(set(files.read_solution(part.fix).assignments), {row for row in rows if row.day not in days})
 
     def best_roster(self, kept, warnings=None):
         """A best roster that notes the penalties of the rosters kept, and the warnings."""

@@ -1,4 +1,4 @@
-"""The example ward, and runs of the helpers, for the tests of this folder."""
+"""The example weeks, and runs of the helpers, for the tests of this folder."""
 
 import os
 import shutil
@@ -18,6 +18,10 @@ WARD = ROOT / "examples" / "ward"
 SCENARIO, HISTORY, WEEK, ROSTER = (WARD / name for name in ("ward.txt", "history-0.txt", "week-0.txt", "roster-0.txt"))
 WEEK_OPTIONS = ("--sce", SCENARIO, "--his", HISTORY, "--week", WEEK)
 WEEK_FILES = program.WeekFiles(SCENARIO, HISTORY, WEEK)
+THIRTY = ROOT / "examples" / "thirty"
+THIRTY_FILES = program.WeekFiles(THIRTY / "Sc-thirty.txt", THIRTY / "H0-thirty-3.txt", THIRTY / "WD-thirty-3.txt")
+# A roster of this week: clasp's answer to its model with --early.
+EARLY_ANSWER = ROOT / "tests" / "thirty_clasp_early.txt"
 HAS_CLASP, HAS_CBC = (shutil.which(name) is not None for name in ("clasp", "cbc"))
 
 
