@@ -2,7 +2,6 @@
 
 import argparse
 import contextlib
-import errno
 import math
 import os
 import shutil
@@ -14,12 +13,13 @@ from typing import List, Optional, Sequence, TextIO
 
 from .best_roster import BestRoster, Snapshot, read_start
 from .command import Misuse, add_week_options, parser, processors, week_files
-from .files import Assignment, Week, file_at, read_files
+from .files import Assignment, Week, read_files
 from .interrupts import interrupts
 from .misfits import read_held
 from .program import ProgramFault, Report, WeekFiles
 from .search import Search
 from .solvers import find_solvers, installed_solvers
+from .targets import check_inputs_stay, check_target
 
 
 class Progress:
@@ -106,7 +106,7 @@ def search(
     week = read_files(files.scenario, files.history, files.week)
     fixed = held_rows(files.fix, week, progress) if files.fix else ()
     check_target(solution)
-    _check_inputs_stay(files, solution)
+    check_inputs_stay((files.scenario, files.history, files.week, files.fix), solution, "the roster")
     best = BestRoster(files, solution, progress.improved, progress.warn)
     running = Search(files, week, fixed, best, found, seconds, progress.warn)
     with interrupts() as signals:
@@ -139,29 +139,6 @@ def check_effort(seconds: float, option: str, jobs: int) -> None:
         raise Misuse(f"{option} has to be a number of seconds above 0")
     if jobs < 1:
         raise Misuse("--jobs has to be at least 1")
-
-
-def _check_inputs_stay(files: WeekFiles, solution: Path) -> None:
-    """The roster may not replace a file that the search reads: held rows would change, for example."""
-    for path in (files.scenario, files.history, files.week, files.fix):
-        if path and solution.exists() and os.path.samefile(path, solution):
-            raise Misuse(f"{path} is read, so the roster cannot be written to it: choose another file")
-
-
-def check_target(solution: Path) -> None:
-    """It must be possible to write the file, before the search begins. A device such as /dev/null shows it only when it is written."""
-    target = file_at(solution)
-    if target.is_dir():
-        raise IsADirectoryError(errno.EISDIR, os.strerror(errno.EISDIR), str(solution))
-    if target.exists() and not target.is_file():
-        return
-    try:
-        handle, name = tempfile.mkstemp(prefix=f".{target.name}.", dir=target.parent)
-    except OSError as fault:
-        fault.filename = str(solution)
-        raise
-    os.close(handle)
-    os.unlink(name)
 
 
 def _arguments() -> argparse.ArgumentParser:

@@ -6,6 +6,7 @@ from typing import Iterable, List, Optional
 from .command import Misuse, parser, run
 from .files import DAYS, Assignment, Solution, read_scenario, read_solution, solution_text, write_text
 from .slots import closest, quoted
+from .targets import check_inputs_stay
 
 
 def kept(rows: Iterable[Assignment], days: Iterable[int] = (), nurses: Iterable[str] = (), others: bool = False) -> List[Assignment]:
@@ -49,6 +50,8 @@ def main() -> Optional[int]:
     given = words.parse_args()
     if not given.keep and not given.nurses:
         raise Misuse("nothing says which rows to keep: give --keep Mon,Tue or --nurses NAME,NAME")
+    if given.out:
+        check_inputs_stay((given.roster, given.sce), given.out, "the kept rows")
     scenario = read_scenario(given.sce) if given.sce else None
     solution = read_solution(given.roster, scenario)
     days = _days(given.keep) if given.keep else ()

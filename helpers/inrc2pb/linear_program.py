@@ -17,6 +17,7 @@ from typing import Callable, Iterator, List, Optional, TextIO, Tuple
 from .command import Misuse, parser
 from .files import replacing
 from .mip_solution import STATUSES, read_answer
+from .targets import check_inputs_stay
 
 # A term has at most 31 characters: a sign, 17 digits, a blank, `x` and 10 digits, and a blank. A line may have 560. Models of
 # `inrc2pb` have at most 10 and 8 digits.
@@ -171,6 +172,8 @@ def main(words: Optional[List[str]] = None) -> None:
         with open(given.solution, encoding="utf-8", errors="replace") as solution:
             read_answer(solution, given.status).write(sys.stdout)
         return
+    if given.lp:
+        check_inputs_stay([given.opb], given.lp, "the LP file")
     with contextlib.ExitStack() as open_files:
         opb = open_files.enter_context(open(given.opb or 0, encoding="ascii", errors="replace"))
         lp = open_files.enter_context(replacing(given.lp)) if given.lp else sys.stdout

@@ -5,6 +5,7 @@ from typing import Callable, Dict, Iterable, Optional
 
 from .command import Misuse, parser, run
 from .files import Assignment, History, NurseHistory, Scenario, history_text, read_history, read_scenario, read_solution, write_text
+from .targets import check_inputs_stay
 
 SATURDAY, SUNDAY = 5, 6
 
@@ -57,6 +58,8 @@ def main() -> Optional[int]:
     words.add_argument("--new-period", action="store_true", help="the next week is the first of a new period")
     words.add_argument("--out", metavar="FILE", type=Path, help="write to this file, not to standard output")
     given = words.parse_args()
+    if given.out:
+        check_inputs_stay((given.scenario, given.history, given.roster), given.out, "the next history")
     scenario = read_scenario(given.scenario)
     history = read_history(given.history, scenario)
     if history.scenario != scenario.name:

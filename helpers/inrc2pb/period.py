@@ -20,6 +20,7 @@ from .processes import Processes
 from .program import SOFT_RULES, ProgramFault, Report, WeekFiles, decode, encode, extend, find_program
 from .shared_totals import shared_week
 from .solvers import Task, find_solver, installed_solvers
+from .targets import check_inputs_stay
 
 # Plans a week: writes its roster to the file. Returns what ended it early, if anything did: a fault, or KeyboardInterrupt.
 Plan = Callable[[WeekFiles, Path], Optional[BaseException]]
@@ -100,10 +101,24 @@ class Period:
             read_held(path, self.scenario, known, lambda warning: None)
         for path in files.weeks:
             read_week(path, self.scenario)
+        self._check_inputs_stay(numbers)
         find_program()
         folder.mkdir(parents=True, exist_ok=True)
         if not os.access(folder, os.W_OK):
             raise PermissionError(errno.EACCES, os.strerror(errno.EACCES), str(folder))
+
+    def _check_inputs_stay(self, numbers: Sequence[int]) -> None:
+        """No roster or history of these weeks may replace a given file; those of an earlier run may be replaced."""
+        inputs = (self.files.scenario, self.files.history, *self.files.weeks, *self.files.fixes.values())
+        for number in numbers:
+            check_inputs_stay(inputs, self._roster_file(number), f"the roster of week {number}", "folder")
+            check_inputs_stay(inputs, self._history_file(number + 1), f"the history of week {number + 1}", "folder")
+
+    def _roster_file(self, number: int) -> Path:
+        return self.folder / f"roster-{number}.txt"
+
+    def _history_file(self, number: int) -> Path:
+        return self.folder / f"history-{number}.txt"
 
     def run(self) -> None:
         """Plans all weeks. After a fault, or if the user stops it, the weeks that have a roster have their files and reports."""
@@ -114,7 +129,7 @@ class Period:
     def _plan_and_report(self, number: int, path: Path, signals: Interrupts) -> None:
         """Plans a week, and writes its roster and the next history."""
         files = WeekFiles(self.files.scenario, self.history_file, path, self.files.fixes.get(number), self.files.early)
-        roster = self.folder / f"roster-{number}.txt"
+        roster = self._roster_file(number)
         shared = self.files.share and number + 1 < self.scenario.weeks
         print(f"week {number}" + (", penalties with its share of the totals" if shared else ""), file=sys.stderr, flush=True)
         try:
@@ -128,7 +143,7 @@ class Period:
         if number + 1 < self.scenario.weeks:
             rows = read_solution(roster, self.scenario).assignments
             self.history = next_history(self.scenario, self.history, rows)
-            self.history_file = self.folder / f"history-{number + 1}.txt"
+            self.history_file = self._history_file(number + 1)
             write_history(self.history_file, self.history)
         if ended:
             raise _of_week(number, ended)

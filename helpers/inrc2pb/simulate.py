@@ -5,10 +5,11 @@ from typing import List, Optional
 
 from .command import add_solver_options, parser, run
 from .files import read_files, write_text
-from .improve import Progress, check_effort, check_target, search
+from .improve import Progress, check_effort, search
 from .interrupts import interrupts
 from .program import WeekFiles
 from .solvers import installed_solvers
+from .targets import check_inputs_stay, check_target
 
 
 def main() -> Optional[int]:
@@ -35,6 +36,7 @@ def main() -> Optional[int]:
     files = WeekFiles(given.sce, given.his, given.week, early=not given.no_early)
     if given.cusOut:
         check_target(given.cusOut.absolute())
+        check_inputs_stay((given.sce, given.his, given.week), given.cusOut, "the number of the next week")
     # The last check and the file take a moment too.
     seconds = max(0.5, given.timeout - min(2.0, given.timeout / 10))
     with interrupts():

@@ -1,4 +1,4 @@
-"""Tests of rosters that `inrc2pb-improve` cannot write: a full disk, folders without permission, and paths that are no files."""
+"""Tests of files that cannot or may not be written: a full disk, folders without permission, paths that are no files, and inputs."""
 
 import contextlib
 import io
@@ -8,7 +8,7 @@ import unittest
 from pathlib import Path
 from unittest import mock
 
-from ward import ROSTER, WEEK_FILES, WEEK_OPTIONS, HelperTest, program, run
+from ward import HISTORY, ROSTER, SCENARIO, WEEK, WEEK_FILES, WEEK_OPTIONS, HelperTest, program, run
 
 from inrc2pb import command
 from inrc2pb.improve import main
@@ -95,6 +95,37 @@ class Targets(HelperTest):
             return handle
 
         return opened
+
+
+class InputsStay(HelperTest):
+    """An output that is an input, by its path or by a link, is refused, and the input stays."""
+
+    def test_each_command_refuses_it(self):
+        roster, model = self.folder / "roster-0.txt", self.folder / "week.opb"
+        program.encode(WEEK_FILES, model)
+        shutil.copy(ROSTER, roster)
+        week = {name: shutil.copy(path, self.folder / name) for name, path in (("history-1.txt", HISTORY), ("week.txt", WEEK))}
+        of_week = ("--sce", SCENARIO, "--his", HISTORY, "--week", week["week.txt"])
+        period = ("period", "--time", 1, "--out", self.folder, "--once", "--solver", "false", "--sce", SCENARIO, "--his")
+        for input_file, target, what, words in (
+            (roster, "file", "the next history", ("next", SCENARIO, HISTORY, roster, "--out")),
+            (week["history-1.txt"], "file", "the next history", ("next", SCENARIO, week["history-1.txt"], roster, "--out")),
+            (roster, "file", "the kept rows", ("keep", "--keep", "Mon", roster, "--out")),
+            (model, "file", "the LP file", ("lp", "model", model, "--lp")),
+            (week["week.txt"], "file", "the roster", ("simulate", *of_week, "--solver", "false", "--sol")),
+            (week["week.txt"], "file", "the number of the next week", ("simulate", *of_week, "--sol", "/dev/null", "--cusOut")),
+            (roster, "folder", "the roster of week 0", (*period, HISTORY, "--week", WEEK, "--fix", f"0={roster}")),
+            (week["history-1.txt"], "folder", "the history of week 1", (*period, week["history-1.txt"], "--week", WEEK)),
+        ):
+            before = Path(input_file).read_bytes()
+            link = self.folder / "link.txt"
+            link.symlink_to(input_file)
+            for path in [[input_file], [link]] if target == "file" else [[]]:
+                with self.subTest(what, path=path):
+                    line = f"{input_file} is read, so {what} cannot be written to it: choose another {target}"
+                    self.assert_fault(run(*words, *path), f"inrc2pb-{words[0]}: {line}")
+                    self.assertEqual(Path(input_file).read_bytes(), before)
+            link.unlink()
 
 
 if __name__ == "__main__":

@@ -1,0 +1,33 @@
+"""Checks of the files that a command will write, before its work begins."""
+
+import errno
+import os
+import tempfile
+from pathlib import Path
+from typing import Iterable, Optional
+
+from .command import Misuse
+from .files import file_at
+
+
+def check_inputs_stay(inputs: Iterable[Optional[Path]], target: Path, what: str, choose: str = "file") -> None:
+    """The target may not replace a file that the command reads, neither by its path nor by a link."""
+    for path in inputs:
+        if path and path.is_file() and target.is_file() and os.path.samefile(path, target):
+            raise Misuse(f"{path} is read, so {what} cannot be written to it: choose another {choose}")
+
+
+def check_target(solution: Path) -> None:
+    """It must be possible to write the file. A device such as /dev/null shows it only when it is written."""
+    target = file_at(solution)
+    if target.is_dir():
+        raise IsADirectoryError(errno.EISDIR, os.strerror(errno.EISDIR), str(solution))
+    if target.exists() and not target.is_file():
+        return
+    try:
+        handle, name = tempfile.mkstemp(prefix=f".{target.name}.", dir=target.parent)
+    except OSError as fault:
+        fault.filename = str(solution)
+        raise
+    os.close(handle)
+    os.unlink(name)
