@@ -9,7 +9,7 @@ from pathlib import Path
 from typing import Callable, Optional, Sequence
 
 from .files import Assignment, Solution, Week, write_solution
-from .misfits import explained, read_roster
+from .misfits import explained, other_week, read_roster
 from .neighborhoods import Neighborhood
 from .program import ProgramFault, Report, WeekFiles, decode, extend, penalty_of
 
@@ -126,9 +126,11 @@ class BestRoster:
 
 
 def read_start(files: WeekFiles, start: Path, week: Week, held: Sequence[Assignment]) -> Snapshot:
-    """The roster with which a search begins. One that breaks a hard rule is a ProgramFault that says in which line, and why."""
+    """The roster with which a search begins. One that breaks a hard rule is a ProgramFault that says why."""
     rows = read_roster(start, week.scenario, week.history).assignments
     try:
         return Snapshot(0, penalty_of(files, start), Solution(week.history.week, week.scenario.name, rows))
     except ProgramFault as fault:
-        raise explained(fault, start, week, held) from fault
+        found = other_week(start, week.scenario, week.history) if "roster breaks" in fault.message else ""
+        said = ProgramFault(fault.status, f"{start} breaks a hard rule; {found}") if found else explained(fault, start, week, held)
+        raise said from fault

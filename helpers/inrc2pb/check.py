@@ -2,7 +2,6 @@
 
 import argparse
 import os
-import re
 import tempfile
 from pathlib import Path
 from typing import Callable, Iterator, List, Optional, Tuple
@@ -14,43 +13,6 @@ from .files import check_week_number, read_history, read_scenario, read_solution
 from .misfits import explained, other_week, read_held, read_roster
 from .program import NO_PROGRAM, ProgramFault, encode, extend
 from .rules import first_broken
-from .slots import quoted, text_of
-
-COUNTED = re.compile(r"\s*(SKILLS|SHIFT_TYPES|CONTRACTS|NURSES|SHIFT_OFF_REQUESTS|ASSIGNMENTS)\s*=\s*(\d+)\s*$")
-HEADING = re.compile(
-    r"\s*(SCENARIO|WEEKS|SKILLS|SHIFT_TYPES|FORBIDDEN_SHIFT_TYPES_SUCCESSIONS|CONTRACTS|NURSES|HISTORY|NURSE_HISTORY"
-    r"|WEEK_DATA|REQUIREMENTS|SHIFT_OFF_REQUESTS|SOLUTION|ASSIGNMENTS)\b"
-)
-
-
-def count_hint(path: Path, line: int) -> str:
-    """The last list up to this line that has another number of lines than it announces, in words; else nothing."""
-    try:
-        lines = text_of(path).split("\n")
-    except FileFault:
-        return ""
-    hint = ""
-    for at, text in enumerate(lines[:line]):
-        heading = COUNTED.match(text)
-        if heading:
-            rows = 0
-            for below in lines[at + 1 :]:
-                if HEADING.match(below):
-                    break
-                rows += bool(below.strip())
-            if rows != int(heading.group(2)):
-                hint = f"; '{text.strip()}' on line {at + 1} announces {heading.group(2)}, and {rows} lines follow it"
-    return hint
-
-
-def missing_lines_hint(path: Path, scenario: Scenario) -> str:
-    """The nurses without a line in a history, in words; else nothing."""
-    try:
-        listed = {line.split()[0] for line in text_of(path).split("\n") if line.strip()}
-    except FileFault:
-        return ""
-    missing = [nurse for nurse in scenario.nurses if nurse not in listed]
-    return f"; no line begins with {quoted(missing)}" if missing else ""
 
 
 def scenario_warnings(scenario: Scenario) -> Iterator[str]:
@@ -99,13 +61,11 @@ class Check:
         self.given = given
         self.mistakes = 0
 
-    def reads(self, path: Path, reader: Callable[[], object], hint: Callable[[FileFault], str] = lambda fault: "") -> Optional[object]:
+    def reads(self, reader: Callable[[], object]) -> Optional[object]:
         """The reader's value of the file, or None after a mistake."""
         try:
             return reader()
-        except FileFault as fault:
-            self.mistake(f"{fault}{count_hint(path, fault.line)}{hint(fault)}")
-        except OSError as fault:
+        except (FileFault, OSError) as fault:
             self.mistake(fault_line(fault))
         return None
 
@@ -126,12 +86,12 @@ class Check:
 
     def held(self, path: Path, scenario: Scenario, history: Optional[History]) -> List[Assignment]:
         """Checks a fix file: its assignments, if it has no mistake."""
-        solution = self.reads(path, lambda: read_held(path, scenario, history, lambda warning: self.warns(path, iter([warning]))))
+        solution = self.reads(lambda: read_held(path, scenario, history, lambda warning: self.warns(path, iter([warning]))))
         return list(solution.assignments) if isinstance(solution, Solution) else []
 
     def roster(self, path: Path, scenario: Scenario, history: Optional[History]) -> None:
         """Checks a roster."""
-        if self.reads(path, lambda: read_roster(path, scenario, history)):
+        if self.reads(lambda: read_roster(path, scenario, history)):
             self.warns(path, filter(None, [other_week(path, scenario, history)]))
 
     def history(self, scenario: Scenario) -> Optional[History]:
@@ -143,7 +103,7 @@ class Check:
             check_week_number(path, history, scenario)
             return history
 
-        history = self.reads(path, read, lambda fault: missing_lines_hint(path, scenario))
+        history = self.reads(read)
         if not isinstance(history, History):
             return None
         self.warns(path, self.name(path, history.scenario, scenario))
@@ -153,14 +113,14 @@ class Check:
     def all_files(self) -> Tuple[Optional[Week], List[Assignment]]:
         """Checks each file that is given: the week, if its three files have no mistake, and the held assignments."""
         given = self.given
-        scenario = self.reads(given.sce, lambda: read_scenario(given.sce))
+        scenario = self.reads(lambda: read_scenario(given.sce))
         if not isinstance(scenario, Scenario):
             if given.his or given.week or given.fix or given.roster:
                 print("The other files are checked when this one has no mistake.")
             return None, []
         self.warns(given.sce, scenario_warnings(scenario))
         history = self.history(scenario) if given.his else None
-        data = self.reads(given.week, lambda: read_week(given.week, scenario)) if given.week else None
+        data = self.reads(lambda: read_week(given.week, scenario)) if given.week else None
         if isinstance(data, WeekData):
             self.warns(given.week, self.name(given.week, data.name, scenario))
             self.warns(given.week, week_warnings(scenario, data))
@@ -212,6 +172,8 @@ def _explain(number: int, week: Week, held: List[Assignment], given: argparse.Na
     print(f"constraint {number}, line {line} of the model: {block.rule}: {block.origin}")
     print(row)
     print(named_row(row, week))
+    if not (given.fix or given.early):
+        print("The model is the one without --fix and --early: give these options too if encode had them.")
 
 
 def main() -> Optional[int]:

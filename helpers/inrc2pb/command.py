@@ -5,7 +5,7 @@ import errno
 import os
 import sys
 from pathlib import Path
-from typing import Callable, Optional
+from typing import Callable, NoReturn, Optional
 
 from .program import ProgramFault, WeekFiles
 from .slots import FileFault
@@ -49,9 +49,30 @@ class Misuse(Exception):
     """Something that the user has to change, in one line."""
 
 
+class Parser(argparse.ArgumentParser):
+    """A parser that says how to correct a word that it does not know, and options that are missing."""
+
+    def error(self, message: str) -> NoReturn:
+        """Prints the fault and its advice, and exits."""
+        _, unknown, words = message.partition("unrecognized arguments: ")
+        if unknown and not words.startswith("-"):
+            message += ": write a path with a blank in quotes, and its option before each file"
+        if "--sce, --his, --week" in message:
+            message += ": is WEEK set in this terminal?"
+        super().error(message)
+
+
 def parser(description: str, epilog: Optional[str] = None) -> argparse.ArgumentParser:
     """A parser whose help keeps the lines of its description."""
-    return argparse.ArgumentParser(description=description, epilog=epilog, formatter_class=argparse.RawDescriptionHelpFormatter)
+    return Parser(description=description, epilog=epilog, formatter_class=argparse.RawDescriptionHelpFormatter)
+
+
+def number_of_seconds(text: str) -> float:
+    """The number of seconds that an option gives."""
+    try:
+        return float(text)
+    except ValueError:
+        raise argparse.ArgumentTypeError(f"'{text}' is no number: give seconds, such as 60 or 2.5") from None
 
 
 def add_week_options(words: argparse.ArgumentParser, required: bool = True) -> None:
@@ -91,7 +112,7 @@ def fault_line(fault: BaseException) -> str:
     elif isinstance(fault, ProgramFault):
         of_line = next((advice for part, advice in _PROGRAM_ADVICE if part in fault.message), "")
         advice = _os_advice(fault.__cause__) if isinstance(fault.__cause__, OSError) else of_line
-    return (f"{line}: {advice}" if advice else line).replace("\n", " ")
+    return (f"{line}: {advice}" if advice and not line.endswith("?") else line).replace("\n", " ")
 
 
 def _os_advice(fault: OSError) -> str:

@@ -4,14 +4,12 @@ The readers accept exactly the files that `inrc2pb` accepts, and report a fault 
 layouts. The values that they return are those of `records`. A `text` is what the file holds, if it was read already.
 """
 
-import contextlib
-import os
-from pathlib import Path
-from typing import Dict, Iterable, Iterator, Optional, TextIO, Tuple
+from typing import Dict, Iterable, Optional, Tuple
 
-from .records import ANY, DAYS, NONE, Assignment, Contract, History, Nurse, NurseHistory, Place, Request
+from .records import ANY, DAYS, NONE, Assignment, Contract, History, Limits, Nurse, NurseHistory, Place, Request
 from .records import Requirement, Scenario, ShiftType, Solution, Week, WeekData
-from .slots import FileFault, Limits, PathLike, Slots, Token
+from .slots import FileFault, PathLike, Slots, Token
+from .writing import file_at, replacing, write_text
 
 __all__ = [
     "ANY", "Assignment", "Contract", "DAYS", "FileFault", "History", "Limits", "NONE", "Nurse", "NurseHistory", "Place",
@@ -53,11 +51,12 @@ def _shift_types(slots: Slots) -> Dict[str, ShiftType]:
         limits[shift] = slots.pair(f"consecutive {shift} shifts")
     slots.words("FORBIDDEN_SHIFT_TYPES_SUCCESSIONS")
     after: Dict[str, Tuple[str, ...]] = {}
-    for _ in limits:
-        token = slots.known_name("shift type", limits, "SHIFT_TYPES")
-        _only_once(slots, token, after, f"the successions of '{token.text}' are")
-        count = slots.number(f"the number of shift types that may not follow {token.text}", 0, len(limits))
-        after[token.text] = _names_once(slots, count, "shift type", limits, "SHIFT_TYPES")
+    with slots.line_for_each(limits, "FORBIDDEN_SHIFT_TYPES_SUCCESSIONS"):
+        for _ in limits:
+            token = slots.known_name("shift type", limits, "SHIFT_TYPES")
+            _only_once(slots, token, after, f"the successions of '{token.text}' are")
+            count = slots.number(f"the number of shift types that may not follow {token.text}", 0, len(limits))
+            after[token.text] = _names_once(slots, count, "shift type", limits, "SHIFT_TYPES")
     return {shift: ShiftType(shift, limits[shift], after[shift]) for shift in limits}
 
 
@@ -99,16 +98,21 @@ def read_history(path: PathLike, scenario: Scenario, text: Optional[str] = None)
     name = slots.any_word("the scenario's name").text
     slots.words("NURSE_HISTORY")
     nurses: Dict[str, NurseHistory] = {}
-    for _ in scenario.nurses:
-        token = slots.known_name("nurse", scenario.nurses, "NURSES")
-        _only_once(slots, token, nurses, f"the history of '{token.text}' is")
-        assignments = slots.number(f"the assignments of {token.text}")
-        weekends = slots.number(f"the weekends of {token.text}")
-        last = slots.known_name("shift type", scenario.shift_types, "SHIFT_TYPES", (NONE,)).text
-        runs = [slots.number(f"the consecutive {what} of {token.text}") for what in ("assignments to one shift type", "working days", "days off")]
-        nurses[token.text] = NurseHistory(token.text, assignments, weekends, None if last == NONE else last, *runs)
+    with slots.line_for_each(scenario.nurses, "NURSE_HISTORY"):
+        for _ in scenario.nurses:
+            token = slots.known_name("nurse", scenario.nurses, "NURSES")
+            _only_once(slots, token, nurses, f"the history of '{token.text}' is")
+            nurses[token.text] = _nurse_history(slots, token.text, scenario)
     slots.end("nurse's history")
     return History(week, name, nurses)
+
+
+def _nurse_history(slots: Slots, nurse: str, scenario: Scenario) -> NurseHistory:
+    assignments = slots.number(f"the assignments of {nurse}")
+    weekends = slots.number(f"the weekends of {nurse}")
+    last = slots.known_name("shift type", scenario.shift_types, "SHIFT_TYPES", (NONE,)).text
+    runs = [slots.number(f"the consecutive {what} of {nurse}") for what in ("assignments to one shift type", "working days", "days off")]
+    return NurseHistory(nurse, assignments, weekends, None if last == NONE else last, *runs)
 
 
 def check_week_number(path: PathLike, history: History, scenario: Scenario) -> None:
@@ -223,79 +227,6 @@ def history_text(history: History) -> str:
         for past in history.nurses.values()
     )
     return f"HISTORY\n{history.week} {history.scenario}\n\nNURSE_HISTORY\n{rows}"
-
-
-def file_at(path: PathLike) -> Path:
-    """The file that a path names: the one that a link leads to, but for the links to open files in /dev and /proc."""
-    target = Path(path)
-    if target.is_symlink() and target.is_file() and target.absolute().parts[1] not in ("dev", "proc"):
-        return Path(os.path.realpath(target))
-    return target
-
-
-def write_text(path: PathLike, text: str) -> None:
-    """Writes a text to a file, with the bytes that its reader found. After a fault a file that was there has its old text."""
-    target = file_at(path)
-    try:
-        if target.is_file() and not target.is_symlink() and not _may_be_replaced(target):
-            _overwrite(target, text.encode("utf-8", errors="surrogateescape"))
-        else:
-            with replacing(target) as file:
-                file.write(text)
-    except OSError as fault:
-        fault.filename = str(path)
-        raise
-
-
-@contextlib.contextmanager
-def replacing(path: PathLike) -> Iterator[TextIO]:
-    """A new file that takes the place of this one at the end of the block; after a fault it is removed, and the old one stays.
-
-    Only a device, and a file in a folder that takes no new one, are written at once.
-    """
-    target = file_at(path)
-    if not _may_be_replaced(target):
-        with open(target, "w", encoding="utf-8", errors="surrogateescape") as file:
-            yield file
-        return
-    mode = target.stat().st_mode & 0o777 if target.exists() else None
-    name = target.with_name(f".{target.name[:50]}.{os.urandom(4).hex()}")
-    try:
-        # The system applies the umask: to ask for it, one has to change it for all threads.
-        handle = os.open(name, os.O_WRONLY | os.O_CREAT | os.O_EXCL, 0o666 if mode is None else 0o600)
-    except OSError as fault:
-        fault.filename = str(path)
-        raise
-    try:
-        with open(handle, "w", encoding="utf-8", errors="surrogateescape") as file:
-            yield file
-        if mode is not None:
-            os.chmod(name, mode)
-        os.replace(name, target)
-    except BaseException:
-        name.unlink(missing_ok=True)
-        raise
-
-
-def _may_be_replaced(target: Path) -> bool:
-    """Whether a new file may take the place of this one: it is no device and no link, and its folder takes a new file."""
-    return (target.is_file() or not target.exists()) and not target.is_symlink() and os.access(target.parent, os.W_OK)
-
-
-def _overwrite(target: Path, data: bytes) -> None:
-    """Writes over a file in its place. After a fault its old bytes are written back: they need no new space."""
-    old = target.read_bytes()
-    try:
-        _write_over(target, data)
-    except BaseException:
-        _write_over(target, old)
-        raise
-
-
-def _write_over(target: Path, data: bytes) -> None:
-    with open(target, "r+b") as file:
-        file.write(data)
-        file.truncate()
 
 
 def write_solution(path: PathLike, solution: Solution) -> None:

@@ -12,7 +12,7 @@ from pathlib import Path
 from typing import List, Optional, Sequence, TextIO
 
 from .best_roster import BestRoster, Snapshot, read_start
-from .command import Misuse, add_week_options, parser, processors, week_files
+from .command import Misuse, add_week_options, number_of_seconds, parser, processors, week_files
 from .files import Assignment, Week, read_files
 from .interrupts import interrupts
 from .misfits import read_held
@@ -150,7 +150,7 @@ def _arguments() -> argparse.ArgumentParser:
     add_week_options(words)
     words.add_argument("--sol", metavar="FILE", type=Path, required=True, help="the roster to write; it always has the best one of this run")
     words.add_argument("--from", dest="start", metavar="FILE", type=Path, help="the roster to begin with (default: none)")
-    words.add_argument("--time", metavar="SECONDS", type=float, default=120.0, help="seconds to search (default: %(default).0f)")
+    words.add_argument("--time", metavar="SECONDS", type=number_of_seconds, default=120.0, help="seconds to search (default: %(default).0f)")
     words.add_argument("--seed", metavar="N", type=int, default=1, help="seed of the random choices (default: %(default)s)")
     words.add_argument("--jobs", metavar="N", type=int, default=processors(), help="solvers at once (default: the processors)")
     words.add_argument(

@@ -5,7 +5,8 @@ from typing import Iterable, List, Optional
 
 from .command import Misuse, parser, run
 from .files import DAYS, Assignment, Solution, read_scenario, read_solution, solution_text, write_text
-from .slots import closest, quoted
+from .hints import quoted
+from .slots import closest
 from .targets import check_inputs_stay
 
 

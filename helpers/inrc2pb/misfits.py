@@ -101,7 +101,7 @@ def explained(fault: ProgramFault, path: Path, week: Week, held: Iterable[Assign
         return fault
     solution = read_roster(path, week.scenario, week.history)
     found = next(_misfits_of(rule.group(1), path, solution, week, held), None)
-    reason = f"{rule.group()}{f': {found.reason}' if found else ''}{_hint(path, week.scenario, week.history)}"
+    reason = f"{rule.group()}{f': {found.reason}' if found else ''}"
     return ProgramFault(fault.status, str(FileFault(path, found.line if found else 0, reason)))
 
 

@@ -9,7 +9,7 @@ from dataclasses import dataclass, replace
 from pathlib import Path
 from typing import Callable, Dict, List, Optional, Sequence
 
-from .command import Misuse, add_solver_options, fault_line, parser, run
+from .command import Misuse, add_solver_options, fault_line, number_of_seconds, parser, run
 from .files import FileFault, History, Scenario, Week, check_week_number, read_files, read_history, read_scenario, read_solution
 from .files import history_text, read_week, scenario_text, write_history, write_text
 from .improve import Progress, check_effort, held_rows, search
@@ -204,7 +204,7 @@ def _words() -> argparse.ArgumentParser:
     totals = words.add_mutually_exclusive_group()
     totals.add_argument("--early", action="store_true", help="charge excess assignments and weekends as soon as they occur")
     totals.add_argument("--share", action="store_true", help="plan each week with its share of the totals that are left")
-    words.add_argument("--time", metavar="SECONDS", type=float, default=60, help="seconds for each week (default: 60)")
+    words.add_argument("--time", metavar="SECONDS", type=number_of_seconds, default=60, help="seconds for each week (default: 60)")
     add_solver_options(words)
     words.add_argument("--once", action="store_true", help="let the first solver solve each week once, without improving its roster")
     words.add_argument("--seed", metavar="N", type=int, default=1, help="the seed of the search (default: 1)")

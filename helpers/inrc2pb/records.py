@@ -3,10 +3,15 @@
 from dataclasses import dataclass
 from typing import Dict, NamedTuple, Optional, Tuple
 
-from .slots import Limits
-
 DAYS = ("Mon", "Tue", "Wed", "Thu", "Fri", "Sat", "Sun")
 NONE, ANY = "None", "Any"
+
+
+class Limits(NamedTuple):
+    """A minimum and a maximum."""
+
+    minimum: int
+    maximum: int
 
 
 @dataclass(frozen=True)

@@ -3,7 +3,7 @@
 from pathlib import Path
 from typing import List, Optional
 
-from .command import add_solver_options, parser, run
+from .command import add_solver_options, number_of_seconds, parser, run
 from .files import read_files, write_text
 from .improve import Progress, check_effort, search
 from .interrupts import interrupts
@@ -26,7 +26,7 @@ def main() -> Optional[int]:
     words.add_argument("--cusIn", metavar="FILE", type=Path, help="a solver's data from the week before: not read")
     words.add_argument("--cusOut", metavar="FILE", type=Path, help="the data for the next week: its number")
     words.add_argument("--rand", metavar="N", type=int, default=1, help="the seed (default: 1)")
-    words.add_argument("--timeout", metavar="SECONDS", type=float, default=60, help="seconds until the solution is written (default: 60)")
+    words.add_argument("--timeout", metavar="SECONDS", type=number_of_seconds, default=60, help="seconds until the solution is written (default: 60)")
     add_solver_options(words)
     words.add_argument("--no-early", action="store_true", help="charge excess assignments and weekends in the last week only")
     given = words.parse_args()

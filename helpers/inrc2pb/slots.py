@@ -1,9 +1,13 @@
 """The tokens of a file, taken one after another, with faults that name the word and say how to fix it."""
 
+import contextlib
 import difflib
 import re
 from pathlib import Path
-from typing import Collection, Iterable, List, NamedTuple, NoReturn, Optional, Tuple, Union
+from typing import Collection, Iterable, Iterator, List, NamedTuple, NoReturn, Optional, Tuple, Union
+
+from .hints import HEADINGS, is_no_text, quoted, reasons
+from .records import Limits
 
 MAX_FILE_LEN = 4_194_304
 MAX_NUMBER = 9999
@@ -30,13 +34,6 @@ class FileFault(Exception):
     def __str__(self) -> str:
         where = f"{self.path} line {self.line}" if self.line else f"{self.path}"
         return f"{where}: {self.message}"
-
-
-class Limits(NamedTuple):
-    """A minimum and a maximum."""
-
-    minimum: int
-    maximum: int
 
 
 class Token(NamedTuple):
@@ -68,13 +65,6 @@ def tokens_of(text: str) -> List[Token]:
     return found
 
 
-def quoted(names: Iterable[str], limit: int = 12) -> str:
-    """The names in a sentence, the first ones if there are many."""
-    words = list(names)
-    more = f", .. ({len(words)} in all)" if len(words) > limit else ""
-    return ", ".join(words[:limit]) + more if words else "none"
-
-
 def closest(word: str, names: Iterable[str]) -> Optional[str]:
     """The name that the word most likely means, also if only its case differs."""
     words = list(names)
@@ -89,20 +79,34 @@ class Slots:
 
     def __init__(self, path: PathLike, text: Optional[str] = None) -> None:
         self.path = Path(path)
-        self.tokens = tokens_of(text_of(path) if text is None else text)
+        self.text = text_of(path) if text is None else text
+        self.tokens = tokens_of(self.text)
         self.at = 0
+        self._names: Collection[str] = ()
+        self._heading = ""
+
+    @contextlib.contextmanager
+    def line_for_each(self, names: Collection[str], heading: str) -> Iterator[None]:
+        """Within the block a fault also says which of the names have no line below the heading."""
+        self._names, self._heading = names, heading
+        yield
+        self._names, self._heading = (), ""
 
     def fault(self, token: Token, fault: str, message: str) -> NoReturn:
-        """Raises a fault at this token."""
+        """Raises a fault at this token, with its probable reasons."""
         if token.text.startswith(_COMMENT_STARTS):
             message = f"'{token.text}' looks like a comment: the files have none, so remove it"
+        if is_no_text(self.text):
+            message = "this is no text file: save it as plain text"
+        else:
+            message += reasons(self.text.split("\n"), token.line, token.text, self._names, self._heading)
         raise FileFault(self.path, token.line, message, fault)
 
     def next(self, wanted: str) -> Token:
         """The next token, of any kind."""
         if self.at == len(self.tokens):
             line = self.tokens[-1].line if self.tokens else 1
-            raise FileFault(self.path, line, f"the file ends where {wanted} should come", "end of file")
+            self.fault(Token("", line), "end of file", f"the file ends where {wanted} should come")
         self.at += 1
         return self.tokens[self.at - 1]
 
@@ -135,7 +139,7 @@ class Slots:
         """A number in decimal digits within its limits."""
         token = self.next(what)
         if not re.fullmatch("[0-9]+", token.text):
-            self.fault(token, "number expected", f"'{token.text}' where {what} should be, a number")
+            self.fault(token, "number expected", f"'{token.text}' where {what} should be, a whole number")
         digits = token.text.lstrip("0") or "0"
         if len(digits) > 9 or not least <= int(digits) <= most:
             self.fault(token, "out of limits", f"{what} is {token.text[:20]}: it has to be from {least} to {most}")
@@ -166,6 +170,8 @@ class Slots:
 
     def unknown(self, token: Token, kind: str, names: Collection[str], source: str) -> NoReturn:
         """Raises the fault of a name that is not in its list, with the closest one that is."""
+        if token.text in HEADINGS:
+            self.fault(token, "unknown name", f"'{token.text}' where a {kind} should be")
         meant = closest(token.text, names)
         message = f"'{token.text}' is no {kind} of {source}: " + (f"did you mean '{meant}'?" if meant else f"it has {quoted(names)}")
         self.fault(token, "unknown name", message)

@@ -77,16 +77,34 @@ MISTAKES = [
     (SCENARIO, "NURSES = 7", "NURSES = 8", "--sce", 30, "'NURSES = 8' on line 23 announces 8, and 7 lines follow it"),
     (SCENARIO, "NURSES = 7", "NURSES = 6", "--sce", 30, "'NURSES = 6' on line 23 announces 6, and 7 lines follow it"),
     (SCENARIO, "SKILLS = 2", "SKILLS = 3", "--sce", 9, "'SKILLS = 3' on line 5 announces 3, and 2 lines follow it"),
-    (SCENARIO, "(2,5)", "(2-5)", "--sce", 10, "'2-5' where the minimum of consecutive Day shifts should be, a number"),
+    (SCENARIO, "(2,5)", "(2-5)", "--sce", 10, "'2-5' where the minimum of consecutive Day shifts should be, a whole number"),
+    (SCENARIO, "(17,21)", "(17,5,21)", "--sce", 20, "',' where ')' should be; '(17,5,21)' is no pair of two whole numbers"),
+    (SCENARIO, "Day 0\n", "", "--sce", 18, "'CONTRACTS' where a shift type should be; no line begins with Day"),
+    (SCENARIO, "Night 2 Day Late", "Night 2 Day", "--sce", 19, "Night announces 2 shift types, and the line has 1"),
+    (SCENARIO, "Late 1 Day", "Late 2 Day", "--sce", 17, "Late announces 2 shift types, and the line has 1"),
+    (SCENARIO, "Chen Full 1 Nurse", "Chen Full 2 Nurse", "--sce", 27, "Chen announces 2 skills, and the line has 1"),
+    (SCENARIO, "Amara Full 2", "Amara Full 1", "--sce", 25, "Amara announces 1 skill, and the line has 2"),
+    (SCENARIO, "Chen Full", "Chen Li Full", "--sce", 26, "does a name in 'Chen Li Full' have a blank? write _ for it"),
+    (SCENARIO, "Full (17", "Full Time (17", "--sce", 20, "does a name in 'Full Time' have a blank? write _ for it"),
     (SCENARIO, "SKILLS", "# the skills\nSKILLS", "--sce", 5, "looks like a comment: the files have none, so remove it"),
     (SCENARIO, "WEEKS = 4", "WEEKS = 53", "--sce", 3, "the number of weeks is 53: it has to be from 1 to 52"),
     (SCENARIO, "Chen", "Bruno", "--sce", 26, "the nurse 'Bruno' is there already: use another name"),
     (HISTORY, "Grace", "Gracy", "--his", 11, "'Gracy' is no nurse of NURSES: did you mean 'Grace'?; no line begins with Grace"),
+    (HISTORY, "Bruno 0 0", "Bruno 0 0,5", "--his", 6, "; '0,5' is no whole number"),
+    (HISTORY, "Bruno 0 0 None 0 0 2", "Bruno 0 0 None 0 0", "--his", 7, "; Bruno has 5 entries, and 6 are needed"),
+    (HISTORY, "Bruno 0 0 None 0 0 2\n", "", "--his", 10, "the file ends where a nurse should come; no line begins with Bruno"),
     (HISTORY, "0 ward", "4 ward", "--his", 0, "week 4 is not below WEEKS = 4: the period is over"),
     (WEEK, "Dilek Any Fri", "Dilek Any Friday", "--week", 12, "'Friday' is no day of the week: did you mean 'Fri'?"),
     (WEEK, "Chen Any", "Chen Noon", "--week", 11, "'Noon' is no shift type of SHIFT_TYPES: it has Day, Late, Night, Any"),
+    (WEEK, "Grace Night Tue", "Grace Tue Night", "--week", 13, "; the shift type comes first, then the day"),
+    (WEEK, "Day Charge (1,1)", "Day Charge", "--week", 6, "'Day' where '(' should be; Day Charge has 6 pairs, and 7 are needed"),
+    (WEEK, "Day Charge", "Day Charge (1,1)", "--week", 5, "'(' where a shift type should be; Day Charge has 8 pairs, and 7 are needed"),
+    (WEEK, WEEK.read_text()[WEEK.read_text().index("SHIFT_OFF") :], "", "--week", 8, "without requests write SHIFT_OFF_REQUESTS = 0"),
     (ROSTER, "ASSIGNMENTS = 33", "ASSIGNMENTS = 32", "--roster", 37, "announces 32, and 33 lines follow it"),
+    (ROSTER, "Amara Mon Day Charge\n", "Amara Day Mon Charge\n", "--roster", 5, "; the day comes first, then the shift type"),
     (ROSTER, "Amara Mon Day Charge", "Amara Mon Day Charg", "--roster", 5, "did you mean 'Charge'?"),
+    (ROSTER, "SOLUTION", "PK\x03\x04\0\1", "--roster", 1, ": this is no text file: save it as plain text"),
+    (ROSTER, "SOLUTION", "{\\rtf1 SOLUTION", "--roster", 1, ": this is no text file: save it as plain text"),
 ]
 
 
@@ -101,6 +119,18 @@ class Mistakes(HelperTest):
                 where = f"{changed} line {line}: " if line else f"{changed}: "
                 self.assertTrue(printed.startswith(where), printed)
                 self.assertIn(message, printed.splitlines()[0])
+
+    def test_each_helper_says_that_a_row_is_missing(self):
+        roster = self.changed(ROSTER, "Amara Mon Day Charge\n", "")
+        said = f"{roster} line 36: the file ends where a nurse should come; 'ASSIGNMENTS = 33' on line 4 announces 33, and 32 lines follow it"
+        self.assertEqual(run("check", "--sce", SCENARIO, "--roster", roster), (1, said + "\n", ""))
+        for words in (("next", SCENARIO, HISTORY, roster), ("table", roster), ("keep", "--keep", "Mon", roster)):
+            self.assert_fault(run(*words), f"inrc2pb-{words[0]}: {said}")
+
+    def test_one_line_follows(self):
+        fix = self.solution("Chen Mon Day Nurse")
+        _, printed, _ = run("check", "--sce", SCENARIO, "--fix", self.changed(fix, "= 1", "= 2"))
+        self.assertIn("'ASSIGNMENTS = 2' on line 4 announces 2, and 1 line follows it\n", printed)
 
     def test_other_encodings(self):
         text = SCENARIO.read_text()
@@ -218,6 +248,9 @@ class Constraints(HelperTest):
         lines = printed.splitlines()
         self.assertEqual((status, said, lines[0]), (0, "", "constraint 60, line 62 of the model: H2: Wed Day Nurse needs at least 1"))
         self.assertIn("+1 [Amara Wed Day Nurse]", lines[2])
+        without = ["The model is the one without --fix and --early: give these options too if encode had them."]
+        self.assertEqual(lines[3:], without)
+        self.assertEqual(run("check", *WEEK_OPTIONS, "--early", "--constraint", 60)[1].splitlines()[3:], [])
 
     def test_a_number_that_the_model_has_not(self):
         _, _, said = run("check", *WEEK_OPTIONS, "--constraint", 99999)

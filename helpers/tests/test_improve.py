@@ -246,6 +246,8 @@ class BadInput(HelperTest):
         self.assertIn("penalty 20\n", report)
         self.assertEqual(run("improve", *words, "--from", other)[0], 0)
         self.assertTrue(target.read_text().startswith("SOLUTION\n0 ward\n"))
+        broken = self.changed(other, "Amara Tue Day Charge", "Amara Mon Late Nurse")
+        self.assert_refused(6, f"inrc2pb-improve: {broken} breaks a hard rule; {hint}\n", *words, "--from", broken)
 
     @unittest.skipUnless(HAS_CLASP, "needs clasp")
     def test_a_week_that_no_roster_meets(self):

@@ -6,7 +6,7 @@ import subprocess
 import unittest
 from unittest import mock
 
-from ward import HELPERS, HISTORY, ROSTER, SCENARIO, WEEK, WEEK_FILES, HelperTest, files, program
+from ward import HELPERS, HISTORY, ROSTER, SCENARIO, WEEK, WEEK_FILES, HelperTest, files, program, run
 
 from inrc2pb import command, rules
 
@@ -86,6 +86,20 @@ class CommandLines(unittest.TestCase):
             with self.subTest(errno.errorcode[number]):
                 line = command.fault_line(OSError(number, os.strerror(number), "some\nfile"))
                 self.assertRegex(line, f"^some file: {os.strerror(number)}: [a-z].{{10,}}$")
+
+    def test_words_that_do_not_fit_have_their_advice(self):
+        improve, week = ("improve", "--sol", "best.txt"), ("--sce", SCENARIO, "--his", HISTORY, "--week")
+        for words, line in (
+            ((*improve, *week, "my", "week.txt"), "unrecognized arguments: week.txt: write a path with a blank in quotes, and its option before each file"),
+            ((*improve, *week, WEEK, "--tine", "5"), "unrecognized arguments: --tine 5"),
+            (improve, "the following arguments are required: --sce, --his, --week: is WEEK set in this terminal?"),
+            ((*improve, *week, WEEK, "--time", "2,5"), "argument --time: '2,5' is no number: give seconds, such as 60 or 2.5"),
+            (("simulate", *week, WEEK, "--timeout", "1m"), "argument --timeout: '1m' is no number: give seconds, such as 60 or 2.5"),
+            (("period", *week, WEEK, "--time", ""), "argument --time: '' is no number: give seconds, such as 60 or 2.5"),
+        ):
+            with self.subTest(words):
+                status, printed, said = run(*words)
+                self.assertEqual((status, printed, said.splitlines()[-1]), (2, "", f"inrc2pb-{words[0]}: error: {line}"))
 
     def test_processors_that_the_process_may_use(self):
         with mock.patch("os.sched_getaffinity", return_value={1, 5}, create=True):

@@ -1,0 +1,167 @@
+"""Probable reasons of a fault in a file, by the file's lines and the layouts of docs/formats.md."""
+
+import re
+from typing import Callable, Collection, Dict, Iterable, Iterator, List, Optional, Sequence
+
+from .records import DAYS
+
+HEADINGS = (
+    "SCENARIO", "WEEKS", "SKILLS", "SHIFT_TYPES", "FORBIDDEN_SHIFT_TYPES_SUCCESSIONS", "CONTRACTS", "NURSES", "HISTORY",
+    "NURSE_HISTORY", "WEEK_DATA", "REQUIREMENTS", "SHIFT_OFF_REQUESTS", "SOLUTION", "ASSIGNMENTS",
+)  # fmt: skip
+_COUNTED = re.compile(r"\s*(?:SKILLS|SHIFT_TYPES|CONTRACTS|NURSES|SHIFT_OFF_REQUESTS|ASSIGNMENTS)\s*=\s*([0-9]{1,9})\s*$")
+_BEGINS = ("PK\x03\x04", "%PDF", "{\\rtf")
+_IN_BRACKETS = re.compile(r"\([^()]*\)")
+_PAIR = re.compile(r"\(\s*[0-9]+\s*,\s*[0-9]+\s*\)")
+
+
+def plural(count: int, noun: str) -> str:
+    """The number and its noun, as `1 line` or `2 lines`."""
+    return f"{count} {noun}{'' if count == 1 else 's'}"
+
+
+def quoted(names: Iterable[str], limit: int = 12) -> str:
+    """The names in a sentence, the first ones if there are many."""
+    words = list(names)
+    more = f", .. ({len(words)} in all)" if len(words) > limit else ""
+    return ", ".join(words[:limit]) + more if words else "none"
+
+
+def is_no_text(text: str) -> bool:
+    """Whether the file is one of a word processor, for example, and no plain text."""
+    return "\0" in text or text.startswith(_BEGINS)
+
+
+def reasons(lines: Sequence[str], line: int, word: str, names: Collection[str] = (), heading: str = "") -> str:
+    """The probable reasons of a fault at this word of a line (none: at the end of the file), as the end of its sentence.
+
+    Each of the names should have a line below the heading.
+    """
+    found = [*_wrong_count(lines, line), *_without_line(lines, names, heading), *_wrong_row(lines, line), *_wrong_number(lines[line - 1], word)]
+    if not word:
+        found += _no_requests(lines)
+    return "".join(f"; {reason}" for reason in found)
+
+
+def _heading_of(line: str) -> str:
+    """The heading with which the line begins, if it is one."""
+    words = re.split(r"[\s=]+", line.strip(), maxsplit=1)
+    return words[0] if words[0] in HEADINGS else ""
+
+
+def _rows_below(lines: Sequence[str], at: int) -> Iterator[str]:
+    """The lines below a heading, but for empty ones."""
+    for line in lines[at + 1 :]:
+        if _heading_of(line):
+            return
+        if line.strip():
+            yield line
+
+
+def _wrong_count(lines: Sequence[str], line: int) -> Iterator[str]:
+    """The last list up to this line that has another number of lines than it announces."""
+    for at in reversed(range(line)):
+        heading = _COUNTED.match(lines[at])
+        rows = len(list(_rows_below(lines, at))) if heading else 0
+        if heading and rows != int(heading.group(1)):
+            follow = f"{plural(rows, 'line')} {'follows' if rows == 1 else 'follow'} it"
+            yield f"'{lines[at].strip()}' on line {at + 1} announces {heading.group(1)}, and {follow}"
+            return
+
+
+def _without_line(lines: Sequence[str], names: Collection[str], heading: str) -> Iterator[str]:
+    """The names with which no line below the heading begins."""
+    begins = {row.split()[0] for at, line in enumerate(lines) if heading and _heading_of(line) == heading for row in _rows_below(lines, at)}
+    missing = [name for name in names if name not in begins]
+    if missing:
+        yield f"no line begins with {quoted(missing)}"
+
+
+def _wrong_row(lines: Sequence[str], line: int) -> Iterator[str]:
+    """What is wrong with the row before the fault, else with the row of the fault: a wrong number of words, or their order."""
+    rows = [at for at in range(line) if lines[at].strip()]
+    for at in rows[-2:]:
+        section = next((heading for heading in map(_heading_of, reversed(lines[:at])) if heading), "")
+        reason = None if _heading_of(lines[at]) or section not in _ROWS else _ROWS[section](lines[at])
+        if reason:
+            yield reason
+            return
+
+
+def _wrong_number(line: str, word: str) -> Iterator[str]:
+    """Brackets with something else than a pair, and a number with a comma, if a comma is where the fault is."""
+    pairs = _IN_BRACKETS.findall(line)
+    wrong = next((pair for pair in pairs if not _PAIR.fullmatch(pair)), None)
+    number = re.search(r"\b[0-9]+,[0-9]+\b", _IN_BRACKETS.sub(" ", line)) if word == "," else None
+    if wrong:
+        yield f"'{wrong}' is no pair of two whole numbers"
+    elif number:
+        yield f"'{number.group()}' is no whole number"
+
+
+def _no_requests(lines: Sequence[str]) -> Iterator[str]:
+    if any(_heading_of(line) == "REQUIREMENTS" for line in lines):
+        if not any(re.match(r"\s*SHIFT_OFF_REQUESTS\s*=\s*[0-9]", line) for line in lines):
+            yield "without requests write SHIFT_OFF_REQUESTS = 0"
+
+
+# ---- rows by their section
+
+
+def _names_of(row: str) -> List[str]:
+    """The words with which a row begins, before its first number or bracket."""
+    return re.split(r"(?:^|\s)[0-9]|\(", row, maxsplit=1)[0].split()
+
+
+def _blank_in(row: str, count: int) -> Optional[str]:
+    """A reason if a row begins with more words than it should have names."""
+    names = _names_of(row)
+    return f"does a name in '{' '.join(names)}' have a blank? write _ for it" if len(names) > count else None
+
+
+def _announced(names: int, noun: str) -> Callable[[str], Optional[str]]:
+    """Rows that have some names, a number, and so many words."""
+
+    def reason(row: str) -> Optional[str]:
+        words = row.split()
+        number, count = words[names] if len(words) > names else "", len(words) - names - 1
+        if re.fullmatch("[0-9]{1,9}", number) and int(number) != count:
+            return f"{words[0]} announces {plural(int(number), noun)}, and the line has {count}"
+        return _blank_in(row, names)
+
+    return reason
+
+
+def _required(row: str) -> Optional[str]:
+    names, pairs = " ".join(_names_of(row)), row.count("(")
+    return f"{names} has {plural(pairs, 'pair')}, and {len(DAYS)} are needed" if names and pairs != len(DAYS) else None
+
+
+def _requested(row: str) -> Optional[str]:
+    words = row.split()
+    turned = len(words) == 3 and words[1] in DAYS and words[2] not in DAYS
+    return "the shift type comes first, then the day" if turned else None
+
+
+def _assigned(row: str) -> Optional[str]:
+    words = row.split()
+    turned = len(words) == 4 and words[1] not in DAYS and words[2] in DAYS
+    return "the day comes first, then the shift type" if turned else None
+
+
+def _past(row: str) -> Optional[str]:
+    words = row.split()
+    return _blank_in(row, 1) or (None if len(words) == 7 else f"{words[0]} has {len(words) - 1} entries, and 6 are needed")
+
+
+_ROWS: Dict[str, Callable[[str], Optional[str]]] = {
+    "SKILLS": lambda row: _blank_in(row, 1),
+    "SHIFT_TYPES": lambda row: _blank_in(row, 1),
+    "FORBIDDEN_SHIFT_TYPES_SUCCESSIONS": _announced(1, "shift type"),
+    "CONTRACTS": lambda row: _blank_in(row, 1),
+    "NURSES": _announced(2, "skill"),
+    "NURSE_HISTORY": _past,
+    "REQUIREMENTS": _required,
+    "SHIFT_OFF_REQUESTS": _requested,
+    "ASSIGNMENTS": _assigned,
+}
