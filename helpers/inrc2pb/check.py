@@ -8,50 +8,12 @@ from typing import Callable, Iterator, List, Optional, Tuple
 
 from .command import Misuse, add_week_options, fault_line, parser, run, week_files
 from .constraint import block_of, blocks, named_row, row_of
-from .files import Assignment, FileFault, History, Limits, Scenario, Solution, Week, WeekData
+from .files import Assignment, FileFault, History, Scenario, Solution, Week, WeekData
 from .files import check_week_number, read_history, read_scenario, read_solution, read_week
 from .misfits import explained, other_week, read_held, read_roster
+from .odd_values import history_warnings, scenario_warnings, week_warnings
 from .program import NO_PROGRAM, ProgramFault, encode, extend
 from .rules import first_broken
-
-
-def scenario_warnings(scenario: Scenario) -> Iterator[str]:
-    """Warnings about a scenario."""
-
-    def reversed_limits(what: str, limits: Limits) -> Iterator[str]:
-        if limits.minimum > limits.maximum:
-            yield f"{what}: the minimum of ({limits.minimum},{limits.maximum}) is above its maximum"
-
-    for shift in scenario.shift_types.values():
-        yield from reversed_limits(f"shift type {shift.name}", shift.consecutive)
-    for contract in scenario.contracts.values():
-        for what, limits in (("assignments", contract.assignments), ("working days", contract.working_days), ("days off", contract.days_off)):
-            yield from reversed_limits(f"contract {contract.name}, {what}", limits)
-    for nurse in scenario.nurses.values():
-        if not nurse.skills:
-            yield f"{nurse.name} has no skill, so nobody can plan her"
-
-
-def history_warnings(history: History) -> Iterator[str]:
-    """Warnings about a history."""
-    for past in history.nurses.values():
-        if past.last_shift is None and (past.consecutive_shifts or past.working_days):
-            yield f"{past.nurse} was off on Sunday (None), but has consecutive shifts or working days"
-        if past.last_shift is not None and past.days_off:
-            yield f"{past.nurse} worked on Sunday ({past.last_shift}), but has {past.days_off} days off in a row"
-        if past.last_shift is not None and not 1 <= past.consecutive_shifts <= past.working_days:
-            yield f"{past.nurse} worked on Sunday ({past.last_shift}): her consecutive shifts should be from 1 to her working days"
-
-
-def week_warnings(scenario: Scenario, data: WeekData) -> Iterator[str]:
-    """Warnings about a week's requirements."""
-    have = {skill: sum(skill in nurse.skills for nurse in scenario.nurses.values()) for skill in scenario.skills}
-    for place, required in data.requirements.items():
-        row = f"{place.shift} {place.skill}, day {place.day + 1}"
-        if required.minimum > have[place.skill]:
-            yield f"{row}: at least {required.minimum} are needed, and {have[place.skill]} nurses have the skill: no roster can meet it"
-        elif 0 < required.optimal < required.minimum:
-            yield f"{row}: ({required.minimum},{required.optimal}) has a minimum above the optimal number"
 
 
 class Check:
