@@ -72,7 +72,8 @@ begins_case 'the picture'
 shows "${week[@]}" --fix promised.txt --svg held.txt
 has_part 'prefers-color-scheme: dark'
 has_part 'class="frame"'
-has_part 'Late Nurse*'
+has_part 'Late Nu*'
+has_part 'He = HeadNurse  Nu = Nurse'
 python3 -c 'import xml.dom.minidom; xml.dom.minidom.parse("out")' || complain 'it is no XML'
 begins_case 'files of two weeks'
 sed 's/Patrick/Paul/' plain.txt > other.txt

@@ -5,7 +5,7 @@ from html import escape
 from typing import Iterator, List, Sequence
 
 from .files import DAYS
-from .roster_text import COLORS, cuts, ink_on
+from .roster_text import COLORS, abbreviations, cuts, ink_on
 from .roster_view import HELD, Cell, RosterView, costs_text
 
 STYLE = """<style>
@@ -15,8 +15,29 @@ STYLE = """<style>
 .page { fill: #14171c } .ink { fill: #e8e8e8 } .weekend { fill: #272c35 } .off { stroke: #474e5a } .frame { stroke: #e8e8e8 }
 }
 </style>"""
-LEFT, HIGH, COST_WIDTH = 130, 26, 230
+LEFT, HIGH, COST_WIDTH, LEGEND_WIDTH = 130, 26, 230, 90
 WEEKEND_GAP, WEEK_GAP = 12, 18
+# The width of a character in a cell, in a picture of one week and of more weeks, and in a name outside of the cells.
+CELL_LETTERS, LETTER = (6.6, 6.4), 8
+# How many letters of a shift type and of a skill a cell has, if they fit; fewer come last. Two names never look alike.
+LETTERS = ((99, 99), (99, 2), (5, 2), (1, 2))
+
+
+class CellTexts:
+    """The texts of the cells: full names, or the longest abbreviations that fit a cell with so many characters."""
+
+    def __init__(self, view: RosterView, room: int) -> None:
+        cells = [view.cells(week, nurse, day) for week in range(len(view.weeks)) for nurse in view.nurses for day in range(7)]
+        for letters in LETTERS:
+            self.shifts, self.skills = cuts(view.shifts, letters[0]), cuts(view.skills, letters[1])
+            # Two shifts of a nurse on one day have halves of the cell.
+            self.longest = max([len(of_day) * len(self.text(cell)) for of_day in cells for cell in of_day], default=0)
+            if self.longest <= room:
+                break
+
+    def text(self, cell: Cell) -> str:
+        """The text of a cell."""
+        return f"{self.shifts[cell.shift]} {self.skills[cell.skill]}{cell.marks}"
 
 
 class Picture:
@@ -25,15 +46,20 @@ class Picture:
     def __init__(self, view: RosterView) -> None:
         self.view = view
         self.single = len(view.weeks) == 1
-        self.wide = 86 if self.single else 34
-        self.short = cuts(view.shifts, 6 if self.single else 3)
+        letter = CELL_LETTERS[0 if self.single else 1]
+        self.texts = CellTexts(view, 12 if self.single else 5)
+        self.wide = max(86 if self.single else 34, 5 + round(letter * self.texts.longest))
         self.top = 60 if self.single else 80
         week = 7 * self.wide + WEEKEND_GAP
-        self.starts = [LEFT + at * (week + WEEK_GAP) for at in range(len(view.weeks))]
+        left = max([LEFT, *(20 + LETTER * len(nurse) for nurse in view.nurses)])
+        self.starts = [left + at * (week + WEEK_GAP) for at in range(len(view.weeks))]
         self.right = self.starts[-1] + week + (COST_WIDTH if view.has_costs else 10)
         self.bottom = self.top + len(view.nurses) * HIGH
-        self.under = self.bottom + 24 + 20 * ((len(view.shifts) + 7) // 8)
-        self.below = [part for line in view.legend() + view.missing() for part in textwrap.wrap(line, self.right // 7, subsequent_indent="    ")]
+        self.step = max([LEGEND_WIDTH, *(30 + LETTER * len(shift) for shift in view.shifts)])
+        self.in_line = max(1, min(8, self.right // self.step))
+        self.under = self.bottom + 24 + 20 * -(-len(view.shifts) // self.in_line)
+        lines = abbreviations(self.texts.shifts, self.texts.skills) + view.legend() + view.missing()
+        self.below = [part for line in lines for part in textwrap.wrap(line, self.right // 7, subsequent_indent="    ")]
 
     def left(self, week: int, day: int) -> int:
         """Where the column of a day begins."""
@@ -54,9 +80,9 @@ class Picture:
         for row, nurse in enumerate(self.view.nurses):
             yield from self.row(nurse, self.top + row * HIGH)
         for at, shift in enumerate(self.view.shifts):
-            x, y = 10 + at % 8 * 90, self.bottom + 18 + at // 8 * 20
+            x, y = 10 + at % self.in_line * self.step, self.bottom + 18 + at // self.in_line * 20
             yield _place(x, y, 14, 14, at, False)
-            yield f'<text class="ink" x="{x + 20}" y="{y + 12}">{escape(shift[:9])}</text>'
+            yield f'<text class="ink" x="{x + 20}" y="{y + 12}">{escape(shift)}</text>'
         for at, line in enumerate(self.below):
             yield f'<text class="ink" x="10" y="{self.under + 10 + 18 * at}" xml:space="preserve">{escape(line)}</text>'
         yield "</svg>"
@@ -72,7 +98,7 @@ class Picture:
 
     def row(self, nurse: str, y: int) -> Iterator[str]:
         """A nurse's name, her cells and, if it is known, what she costs."""
-        yield f'<text class="ink" x="10" y="{y + 17}">{escape(nurse[:16])}</text>'
+        yield f'<text class="ink" x="10" y="{y + 17}">{escape(nurse)}</text>'
         for week in range(len(self.view.weeks)):
             for day in range(7):
                 yield from self.cells(self.view.cells(week, nurse, day), self.left(week, day), y)
@@ -88,8 +114,7 @@ class Picture:
             yield f'<rect class="off" x="{x}" y="{y}" width="{width}" height="{height}"/>'
         for at, cell in enumerate(cells):
             part, number = width / len(cells), self.view.shifts.index(cell.shift)
-            skill = f" {cell.skill[:5]}" if self.single else ""
-            text = escape(f"{self.short[cell.shift]}{skill}{cell.marks}")
+            text = escape(self.texts.text(cell))
             yield _place(x + at * part, y, part, height, number, HELD in cell.marks)
             yield (
                 f'<text x="{x + (at + 0.5) * part:g}" y="{y + 15}" font-size="{11 if self.single else 10}" text-anchor="middle" '

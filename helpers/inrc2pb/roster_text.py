@@ -26,6 +26,12 @@ def cuts(names: Sequence[str], least: int) -> Dict[str, str]:
     return {name: name[:length] for name in names}
 
 
+def abbreviations(*shortened: Dict[str, str]) -> List[str]:
+    """A line with the meaning of each name that was cut, if one was."""
+    cut = [f"{short} = {name}" for names in shortened for name, short in names.items() if short != name]
+    return ["  ".join(cut)] * bool(cut)
+
+
 def in_color(text: str, number: int) -> str:
     """A cell's text on the color of its shift type."""
     color = number % len(COLORS)
@@ -83,8 +89,7 @@ class TextTable:
             cost = f"  {sum(costs.values()):4}  {costs_text(costs)}" if view.has_costs else ""
             lines.append(f"{name:{self.first}}  {'  ||  '.join(weeks)}{cost}".rstrip())
         names = (self.shifts, self.skills) if self.single else (self.shifts,)
-        cut = [f"{short} = {name}" for shortened in names for name, short in shortened.items() if short != name]
-        below = ["  ".join(cut)] * bool(cut) + view.legend() + view.missing()
+        below = abbreviations(*names) + view.legend() + view.missing()
         return lines + [""] * bool(below) + below
 
 

@@ -2,6 +2,7 @@
 
 import csv
 import io
+import re
 import subprocess
 import unittest
 import xml.dom.minidom
@@ -75,6 +76,29 @@ class Tables(HelperTest):
         self.assertEqual(status, 0)
         self.assertIn("missing on Mon: Day Charge (0 of 1, at least 1)", printed)
         xml.dom.minidom.parseString(printed)
+
+    def test_the_texts_of_a_picture_fit_their_cells(self):
+        ward, path = ROSTER.read_text(), self.folder / "roster.txt"
+        for old, new, count, cell, legend in (
+            ("Charge", "Charge", 1, "Day Charge", ""),
+            ("Charge", "Charge_Nurse", 1, "Day Ch", "Ch = Charge_Nurse  Nu = Nurse"),
+            ("Late", "Late_Afternoon", 1, "Late_ Nu", "Late_ = Late_Afternoon  Ch = Charge  Nu = Nurse"),
+            ("Nurse", "Charge_Nurse", 1, "D Charge_", "D = Day  L = Late  N = Night  Charge_ = Charge_Nurse"),
+            ("Amara", "Amara_van_der_Longname", 2, "D Ch", "D = Day  L = Late  N = Night  Ch = Charge  Nu = Nurse"),
+        ):
+            with self.subTest(new, count=count):
+                path.write_text(ward.replace(old, new))
+                picture = run("table", "--svg", *[path] * count)[1]
+                self.assertIn(f">{cell}<title>", picture)
+                self.assertIn(f">{legend}</text>\n</svg>" if legend else ">Night</text>\n</svg>", picture)
+                self.assert_texts_fit(picture)
+
+    def assert_texts_fit(self, picture):
+        """Each cell has room for its text, at six pixels for a letter."""
+        cells = re.findall(r'width="([0-9.]+)" height="22" rx="3".*\n<text [^>]*>([^<]*)<title>', picture)
+        self.assertGreaterEqual(len(cells), 33)
+        for width, text in cells:
+            self.assertLessEqual(6 * len(text), float(width), text)
 
     def test_colors_have_the_order_of_the_scenario(self):
         pictures = [run("table", "--svg", *words)[1] for words in (TWO_WEEKS, ("--sce", SCENARIO, ROSTER))]
