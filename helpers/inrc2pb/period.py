@@ -93,7 +93,7 @@ class Period:
                 f"{len(files.weeks)} weeks are given, and {self.scenario.weeks - self.first} are left from week {self.first} "
                 f"of {self.scenario.weeks}: give the files of these weeks only"
             )
-        numbers = range(self.first, self.first + len(files.weeks))
+        self.numbers = numbers = range(self.first, self.first + len(files.weeks))
         for number, path in files.fixes.items():
             if number not in numbers:
                 raise Misuse(f"--fix {number}={path}: week {number} is not planned, the weeks are {numbers[0]} to {numbers[-1]}")
@@ -101,16 +101,16 @@ class Period:
             read_held(path, self.scenario, known, lambda warning: None)
         for path in files.weeks:
             read_week(path, self.scenario)
-        self._check_inputs_stay(numbers)
+        self._check_inputs_stay()
         find_program()
         folder.mkdir(parents=True, exist_ok=True)
         if not os.access(folder, os.W_OK):
             raise PermissionError(errno.EACCES, os.strerror(errno.EACCES), str(folder))
 
-    def _check_inputs_stay(self, numbers: Sequence[int]) -> None:
+    def _check_inputs_stay(self) -> None:
         """No roster or history of these weeks may replace a given file; those of an earlier run may be replaced."""
         inputs = (self.files.scenario, self.files.history, *self.files.weeks, *self.files.fixes.values())
-        for number in numbers:
+        for number in self.numbers:
             check_inputs_stay(inputs, self._roster_file(number), f"the roster of week {number}", "folder")
             check_inputs_stay(inputs, self._history_file(number + 1), f"the history of week {number + 1}", "folder")
 
@@ -123,7 +123,7 @@ class Period:
     def run(self) -> None:
         """Plans all weeks. After a fault, or if the user stops it, the weeks that have a roster have their files and reports."""
         with interrupts() as signals:
-            for number, path in enumerate(self.files.weeks, self.first):
+            for number, path in zip(self.numbers, self.files.weeks):
                 self._plan_and_report(number, path, signals)
 
     def _plan_and_report(self, number: int, path: Path, signals: Interrupts) -> None:
@@ -170,6 +170,16 @@ class Period:
         sums = [sum(int(row[at]) for row in rows) for at in range(1, 2 + len(SOFT_RULES))]
         lines = [["", "penalty", *SOFT_RULES], *rows, ["period", *sums]]
         return ["".join(f"{cell:{'<8' if at == 0 else '>8' if at == 1 else '>6'}}" for at, cell in enumerate(line)).rstrip() for line in lines]
+
+    def stop_line(self) -> str:
+        """That the period was stopped, and which weeks have a roster."""
+        left = [number for number in self.numbers if number not in self.reports]
+        return f"stopped: {_weeks(list(self.reports))} planned" + (f", {_weeks(left)} not" if left else "")
+
+
+def _weeks(numbers: Sequence[int]) -> str:
+    """The weeks and their verb."""
+    return f"week {numbers[0]} is" if len(numbers) == 1 else f"weeks {numbers[0]} to {numbers[-1]} are"
 
 
 def _of_week(number: int, fault: BaseException) -> BaseException:
@@ -219,13 +229,12 @@ def main() -> Optional[int]:
     plan = plan_once(solvers[0], given.time) if given.once else plan_by_improving(solvers, given.time, given.seed, given.jobs)
     files = PeriodFiles(given.sce, given.his, given.week, _fixes(given.fix), given.early, given.share)
     period = Period(files, plan, given.out)
-    with interrupts():
+    with interrupts() as signals:
         try:
             period.run()
         finally:
             if period.reports:
-                print("\n".join(["", *period.table()]))
-                sys.stdout.flush()
+                print("\n".join(["", *period.table(), *[period.stop_line()] * bool(signals.caught)]), flush=True)
     return 0
 
 

@@ -12,6 +12,7 @@ from pathlib import Path
 
 from ward import HELPERS, HISTORY, ROOT, ROSTER, SCENARIO, WARD, WEEK, WEEK_FILES, WEEK_OPTIONS, HelperTest, files, program, run
 
+from inrc2pb.period import Period, PeriodFiles, plan_once
 from inrc2pb.shared_totals import shared_week
 
 MONTH = ROOT / "examples" / "month"
@@ -106,6 +107,7 @@ class PeriodFaults(PeriodTest):
         self.assertEqual((status, printed.splitlines()[0]), (1, f"week 0: penalty 20, {self.folder / 'roster-0.txt'}"))
         self.assert_period(printed, WARD_OPTIONS, 1)
         self.assertTrue((self.folder / "history-1.txt").exists())
+        self.assertNotIn("stopped", printed)
         self.assertRegex(said.splitlines()[-1], "^inrc2pb-period: week 0: sh: .*choose another solver with --solver$")
 
     def test_a_solver_without_an_answer(self):
@@ -135,7 +137,19 @@ class PeriodFaults(PeriodTest):
         status, printed, said = self.stopped(f"cat {answer}")
         self.assertEqual((status, said), (130, "week 0\n"))
         self.assert_period(printed, WARD_OPTIONS, 1)
+        self.assertEqual(printed.splitlines()[-1], "stopped: week 0 is planned, week 1 is not")
         self.assertTrue((self.folder / "history-1.txt").exists())
+
+    def test_the_weeks_that_a_stopped_period_has(self):
+        period = Period(PeriodFiles(*MONTH_OPTIONS[1::2], MONTH_WEEKS[1::2], {}), plan_once("false", 1), self.folder)
+        for planned, says in (
+            (1, "week 0 is planned, weeks 1 to 3 are not"),
+            (2, "weeks 0 to 1 are planned, weeks 2 to 3 are not"),
+            (3, "weeks 0 to 2 are planned, week 3 is not"),
+            (4, "weeks 0 to 3 are planned"),
+        ):
+            period.reports = dict.fromkeys(range(planned))
+            self.assertEqual(period.stop_line(), f"stopped: {says}")
 
     def test_after_a_stop_before_the_first_roster_there_is_none(self):
         for at_end in (":", "echo s UNKNOWN"):
