@@ -149,7 +149,7 @@ def main() -> Optional[int]:
     words.add_argument("--constraint", metavar="N", type=int, help="print the constraint N of the week's model, and its rule")
     given = words.parse_args()
     if not given.sce:
-        raise Misuse("no scenario is given: give --sce FILE, and the files to check")
+        raise Misuse("no scenario is given: give --sce FILE, and the files to check; is WEEK set in this terminal?")
     if given.constraint is not None and not (given.his and given.week):
         raise Misuse("--constraint needs the whole week: give --sce, --his and --week")
     check = Check(given)

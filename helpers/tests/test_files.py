@@ -177,6 +177,10 @@ class Mistakes(HelperTest):
         for part in ("the minimum of (5,2) is above its maximum", "at least 5 are needed, and", "Bruno was off on Sunday"):
             self.assertIn(part, printed)
 
+    def test_no_file(self):
+        line = "inrc2pb-check: no scenario is given: give --sce FILE, and the files to check; is WEEK set in this terminal?"
+        self.assert_fault(run("check"), line)
+
     def test_a_file_that_is_missing(self):
         missing = self.folder / "ward.txt"
         status, printed, _ = run("check", "--sce", missing)
