@@ -163,7 +163,7 @@ class BadSolvers(HelperTest):
 
     @unittest.skipUnless(HAS_CLASP, "needs clasp")
     def test_the_others_go_on(self):
-        status, report, faults = self.improve("--solver", fake("rejected"), "--solver", "clasp", "--time", 10)
+        status, report, faults = self.improve("--solver", fake("rejected"), "--solver", "clasp", "--time", 10, "--jobs", 1)
         self.assertEqual(status, 0, faults)
         self.assertRegex(report, "penalty [0-9]+\n")
         self.assertIn("rejected", faults)
