@@ -1,6 +1,5 @@
 """The best roster of a search, shared by its workers: only rosters that `decode` accepted get in."""
 
-import contextlib
 import tempfile
 import threading
 import time
@@ -111,13 +110,11 @@ class BestRoster:
         return self.bound is not None and self._best.penalty is not None and self._best.penalty <= self.bound
 
     def report(self) -> Report:
-        """The report of the roster in the file; its status is OPTIMUM FOUND if a solver proved it."""
-        with contextlib.ExitStack() as until_read:
-            written = self._solution
-            if not written.is_file():
-                # Nothing can be read from a device.
-                written = Path(until_read.enter_context(tempfile.TemporaryDirectory()), "roster.txt")
-                write_solution(written, self._best.roster)
+        """The report of the best roster; its status is OPTIMUM FOUND if a solver proved it."""
+        with tempfile.TemporaryDirectory() as folder:
+            # The file `solution` may be a device or a pipe, from which nothing can be read.
+            written = Path(folder, "roster.txt")
+            write_solution(written, self._best.roster)
             answer, report = extend(self._files, written)
         if self.is_proved():
             return decode(self._files, answer.replace("s SATISFIABLE", "s OPTIMUM FOUND", 1))

@@ -63,8 +63,8 @@ class Parser(argparse.ArgumentParser):
 
 
 def parser(description: str, epilog: Optional[str] = None) -> argparse.ArgumentParser:
-    """A parser whose help keeps the lines of its description."""
-    return Parser(description=description, epilog=epilog, formatter_class=argparse.RawDescriptionHelpFormatter)
+    """A parser whose help keeps the lines of its description. An option has to be written out, as for `inrc2pb`."""
+    return Parser(description=description, epilog=epilog, formatter_class=argparse.RawDescriptionHelpFormatter, allow_abbrev=False)
 
 
 def number_of_seconds(text: str) -> float:

@@ -77,7 +77,7 @@ class Outcome:
         if self.bound is None:
             return ["no lower bound"]
         if self.proved:
-            return [f"lower bound {self.bound} ({self.bound_by})", "no roster costs less"]
+            return [f"lower bound {self.bound} ({self.bound_by})", f"no roster costs less, says {self.bound_by}"]
         gap = self.report.penalty - self.bound
         share = f", {100 * gap / self.report.penalty:.1f} %" if self.report.penalty else ""
         return [f"lower bound {self.bound} ({self.bound_by}): the gap is {gap}{share}"]
@@ -114,14 +114,13 @@ def search(
         try:
             if start:
                 best.offer(read_start(files, start, week, fixed), Snapshot(), None, folder, "the given roster")
-            with signals.calling(running.stop):
+            with signals.calling(running.interrupt):
                 fault = running.run(folder, seed, jobs)
         finally:
             progress.finish()
             shutil.rmtree(folder, ignore_errors=True)
         if not best.now().version:
-            advice = f"no roster was found in {seconds:.0f} s: give it more with --time"
-            raise fault or ProgramFault(5, "stopped before the first roster" if signals.caught else advice)
+            raise fault or (ProgramFault(5, "stopped before the first roster") if signals.caught else running.without_roster())
         try:
             return Outcome(best, bool(signals.caught), fault)
         except (ProgramFault, OSError) as unreported:

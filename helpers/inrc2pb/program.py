@@ -1,5 +1,6 @@
 """The program `inrc2pb` as functions: `encode`, `decode` and `extend` run it and return values."""
 
+import functools
 import os
 import shutil
 import signal
@@ -10,7 +11,9 @@ from pathlib import Path
 from typing import Dict, List, Optional, Tuple
 
 SOFT_RULES = ("S1", "S2", "S3", "S4", "S5", "S6", "S7")
-NO_PROGRAM = 127
+READ_OR_WRITE, NO_PROGRAM = 3, 127
+# A run takes less, also of the largest week; one that waits for a pipe that nobody writes would not end.
+LONGEST_RUN = 1800.0
 
 
 class ProgramFault(Exception):
@@ -64,6 +67,8 @@ def find_program() -> Path:
         found = shutil.which(named)
         if not found:
             raise ProgramFault(NO_PROGRAM, f"there is no program {named}: correct or unset the variable INRC2PB")
+        if not _is_inrc2pb(found):
+            raise ProgramFault(NO_PROGRAM, f"INRC2PB names {named}, which is not inrc2pb: correct or unset the variable")
         return Path(found).absolute()
     helper = Path(sys.argv[0] or ".")
     in_path = shutil.which("inrc2pb")
@@ -72,6 +77,16 @@ def find_program() -> Path:
         if place.is_file() and os.access(place, os.X_OK):
             return place.absolute()
     raise ProgramFault(NO_PROGRAM, "there is no inrc2pb: run `make` in its folder, install it, or name it in the variable INRC2PB")
+
+
+@functools.lru_cache(maxsize=None)
+def _is_inrc2pb(program: str) -> bool:
+    """Whether the program prints the version of `inrc2pb`. One that does not run, or that a signal ends, is judged when it is used."""
+    try:
+        ran = subprocess.run([program, "--version"], stdin=subprocess.DEVNULL, stdout=subprocess.PIPE, stderr=subprocess.DEVNULL, timeout=LONGEST_RUN)
+    except (OSError, subprocess.TimeoutExpired):
+        return True
+    return ran.returncode < 0 or ran.stdout.startswith(b"inrc2pb ")
 
 
 def run_program(*words: str, given: str = "") -> str:
@@ -87,7 +102,11 @@ def run_program(*words: str, given: str = "") -> str:
             stdout=subprocess.PIPE,
             stderr=subprocess.PIPE,
             start_new_session=True,
+            timeout=LONGEST_RUN,
         )
+    except subprocess.TimeoutExpired as fault:
+        advice = "a pipe can be read only once, so give files"
+        raise ProgramFault(READ_OR_WRITE, f"inrc2pb {words[0]} did not end in {LONGEST_RUN:.0f} s: {advice}") from fault
     except OSError as fault:
         raise ProgramFault(NO_PROGRAM, f"{program} does not run: {fault.strerror}") from fault
     if ran.returncode:

@@ -55,13 +55,23 @@ class Search:
         self._processes = Processes()
         self._ended = threading.Event()
         self._faults: "Counter[str]" = Counter()
+        # The solvers that claim that no roster exists.
+        self._deniers: List[str] = []
         self._lock = threading.Lock()
         self._failure: Optional[BaseException] = None
 
     def stop(self) -> None:
-        """Ends the search now: from a signal handler too."""
+        """Ends the search now."""
         self._ended.set()
         self._processes.stop()
+
+    def interrupt(self) -> None:
+        """Ends the search as the user asks, now or, before there is a roster, as soon as the solvers have printed theirs."""
+        if self._ended.is_set() or self._best.now().version:
+            self.stop()
+        else:
+            self._ended.set()
+            self._processes.ask_to_end()
 
     def run(self, folder: Path, seed: int, jobs: int) -> Optional[BaseException]:
         """Searches with this many workers at once; their files are in the folder. Returns the fault that ended it, if one did."""
@@ -109,10 +119,12 @@ class Search:
         elif number > 1:
             while self._goes_on() and not self._best.now().version:
                 time.sleep(0.05)
-        commands = itertools.cycle(command for solver in self._solvers for command in (*solver.steps()[1:], *solver.whole()))
         seconds = min(FIRST_SECONDS, self._seconds / 6)
-        while self._goes_on() and not self._best.now().version:
-            self._whole(next(commands), min(seconds, self._left()), folder)
+        for turn in itertools.count():
+            if not self._goes_on() or self._best.now().version:
+                break
+            commands = [command for solver in self._usable() for command in (*solver.steps()[1:], *solver.whole())]
+            self._whole(commands[turn % len(commands)], min(seconds, self._left()), folder)
             seconds *= 1.5
         if jobs == 1 and self._goes_on():
             self._whole(self._solvers[-1].whole()[-1], self._seconds * PROOF_SHARE, folder)
@@ -131,7 +143,7 @@ class Search:
         seen = self._best.now()
         found = self._solve(solver, self._files, seconds, seen.penalty, folder, lambda bound: self._bound(bound, solver.name))
         if found:
-            self._best.offer(found[0], seen, None, folder, f"{solver.name}, the whole week")
+            self._best.offer(found[0], seen, None, folder, f"{solver.title}, the whole week")
             if found[1]:
                 self._prove(found[0].penalty, solver)
 
@@ -154,7 +166,7 @@ class Search:
     def _step(self, chance: random.Random, folder: Path) -> None:
         """Solves one neighborhood of the best roster."""
         seen = self._best.now()
-        solvers = {step.name: step for solver in self._usable() for step in solver.steps()}
+        solvers = {step.title: step for solver in self._usable() for step in solver.steps()}
         costs = {nurse: sum(by_rule.values()) for nurse, by_rule in nurse_costs(self._week, seen.roster.assignments, self._files.early).items()}
         name, freed = self._neighborhoods.choose(list(solvers), costs, chance)
         solver = solvers[name]
@@ -167,12 +179,12 @@ class Search:
         seconds = time.monotonic() - began
         # What was found before the search ended counts.
         if found:
-            self._best.offer(found, seen, freed, folder, f"{solver.name}, {freed}")
+            self._best.offer(found, seen, freed, folder, f"{solver.title}, {freed}")
         if self._ended.is_set():
             return
         proved = part is not None and part[1]
         gain = seen.penalty - found.penalty if found else 0
-        self._neighborhoods.learn(solver.name, freed, proved, gain, seconds, patience)
+        self._neighborhoods.learn(solver.title, freed, proved, gain, seconds, patience)
         if found and proved and self._neighborhoods.is_whole(freed):
             self._prove(found.penalty, solver)
         if self._best.is_proved():
@@ -187,6 +199,7 @@ class Search:
         return Snapshot(0, penalty_of(self._files, path), roster)
 
     def _usable(self) -> List[Solver]:
+        """The solvers that are still used: at least one."""
         with self._lock:
             return list(self._solvers)
 
@@ -224,12 +237,31 @@ class Search:
             self._blame(solver, "it does not support this model")
         elif "UNKNOWN" in fault.message and early:
             self._blame(solver, "it gave up before its time was over")
-        elif "UNSATISFIABLE" in fault.message and known and early:
-            self._blame(solver, "it found no roster where there is one")
         elif "UNSATISFIABLE" in fault.message and not self._best.now().version:
-            held = f" and has the rows of {self._files.fix}" if self._files.fix else ""
-            advice = "docs/your_ward.md shows how to find out why"
-            raise ProgramFault(_NO_ROSTER, f"no roster keeps the hard rules{held}, says {solver.name}: {advice}")
+            self._drop_denier(solver)
+        elif "UNSATISFIABLE" in fault.message and (early or not known):
+            self._blame(solver, "it found no roster where there is one")
+
+    def _drop_denier(self, solver: Solver) -> None:
+        """A solver claims that no roster exists. It is believed if no other solver is left."""
+        with self._lock:
+            if self._ended.is_set() or solver.name in self._deniers:
+                return
+            self._deniers.append(solver.name)
+            others = [one for one in self._solvers if one.name != solver.name]
+            if not others:
+                raise self.without_roster()
+            self._solvers = others
+        self._warn(f"{solver.name}: it claims that no roster keeps the hard rules: the search goes on without it")
+
+    def without_roster(self) -> ProgramFault:
+        """Why there is no roster."""
+        if not self._deniers:
+            return ProgramFault(_NO_ROSTER, f"no roster was found in {self._seconds:.0f} s: give it more time")
+        held = f" and has the rows of {self._files.fix}" if self._files.fix else ""
+        says = "says" if len(self._deniers) == 1 else "say"
+        claim = f"no roster keeps the hard rules{held}, {says} {' and '.join(self._deniers)}"
+        return ProgramFault(_NO_ROSTER, f"{claim}: docs/your_ward.md shows how to find out why")
 
     def _blame(self, solver: Solver, message: str) -> None:
         """Reports a fault of a solver; after some in a row the solver is not used any more."""
@@ -242,7 +274,8 @@ class Search:
                 self._warn(f"{solver.name}: {message}: skipped")
             if count < MAX_FAULTS:
                 return
-            self._solvers = [one for one in self._solvers if one.name != solver.name]
-            if not self._solvers:
+            others = [one for one in self._solvers if one.name != solver.name]
+            if not others:
                 raise Misuse(f"{solver.name}: {message}, {count} times: correct its command, or choose another solver with --solver")
+            self._solvers = others
             self._warn(f"{solver.name}: not used any more, after {count} faults in a row")

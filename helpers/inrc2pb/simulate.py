@@ -1,5 +1,7 @@
 """The command line of the INRC-II competition: `inrc2pb-simulate --sce F --his F --week F --sol F [..]`."""
 
+import os
+import time
 from pathlib import Path
 from typing import List, Optional
 
@@ -10,6 +12,25 @@ from .interrupts import interrupts
 from .program import WeekFiles
 from .solvers import installed_solvers
 from .targets import check_inputs_stay, check_target
+
+# The least seconds, and the least share of the time, that the last check, the file and the end of Python may take.
+END_SECONDS, END_SHARE = 0.5, 0.05
+# A search takes at least this, even if the time is over.
+LEAST_SECONDS = 0.2
+
+
+def seconds_since_start() -> float:
+    """The seconds by the clock since this process began; if the system does not say, the seconds of processor time."""
+    try:
+        words = Path("/proc/self/stat").read_text(encoding="utf-8", errors="replace").rpartition(")")[2].split()
+        return time.clock_gettime(time.CLOCK_BOOTTIME) - int(words[19]) / os.sysconf("SC_CLK_TCK")
+    except (OSError, AttributeError, ValueError, IndexError):
+        return time.process_time()
+
+
+def search_seconds(timeout: float, used: float) -> float:
+    """The seconds to search, if the process has to end after `timeout` seconds and has used some of them."""
+    return max(LEAST_SECONDS, timeout - max(END_SECONDS, END_SHARE * timeout) - used)
 
 
 def main() -> Optional[int]:
@@ -26,7 +47,7 @@ def main() -> Optional[int]:
     words.add_argument("--cusIn", metavar="FILE", type=Path, help="a solver's data from the week before: not read")
     words.add_argument("--cusOut", metavar="FILE", type=Path, help="the data for the next week: its number")
     words.add_argument("--rand", metavar="N", type=int, default=1, help="the seed (default: 1)")
-    words.add_argument("--timeout", metavar="SECONDS", type=number_of_seconds, default=60, help="seconds until the solution is written (default: 60)")
+    words.add_argument("--timeout", metavar="SECONDS", type=number_of_seconds, default=60, help="seconds in which this process ends, its start included (default: 60)")
     add_solver_options(words)
     words.add_argument("--no-early", action="store_true", help="charge excess assignments and weekends in the last week only")
     given = words.parse_args()
@@ -37,8 +58,7 @@ def main() -> Optional[int]:
     if given.cusOut:
         check_target(given.cusOut.absolute())
         check_inputs_stay((given.sce, given.his, given.week), given.cusOut, "the number of the next week")
-    # The last check and the file take a moment too.
-    seconds = max(0.5, given.timeout - min(2.0, given.timeout / 10))
+    seconds = search_seconds(given.timeout, seconds_since_start())
     with interrupts():
         outcome = search(files, None, given.sol, seconds, given.rand, given.jobs, solvers, Progress(None))
         if given.cusOut:

@@ -50,10 +50,16 @@ class Task:
 
 
 class Solver:
-    """A solver with a name. It has `patience` seconds for a neighborhood."""
+    """A solver with a name, and the name of its options if it has several. It has `patience` seconds for a neighborhood."""
 
     name = ""
+    variant = ""
     patience = 8.0
+
+    @property
+    def title(self) -> str:
+        """The name with that of its options."""
+        return f"{self.name} {self.variant}".rstrip()
 
     def solve(self, task: "Task", processes: Processes, hear: Optional[HearBound] = None) -> Outcome:
         """Solves the task; `hear` gets each lower bound that the solver proves."""
@@ -116,11 +122,13 @@ class Clasp(CommandSolver):
         return Listener(_CLASP_BOUND, lambda text: report(int(text))).hear
 
     def whole(self) -> List[Solver]:
-        return [Clasp(), self]
+        plain = Clasp()
+        plain.name = self.name
+        return [plain, self]
 
     def steps(self) -> List[Solver]:
         other = Clasp(*CLASP_STEPS)
-        other.name, other.patience = "clasp step by step", 2.0
+        other.name, other.variant, other.patience = self.name, "step by step", 2.0
         return [self, other]
 
 
@@ -216,6 +224,8 @@ def _ending(status: int) -> str:
 
 def find_solvers(texts: Sequence[str]) -> List[Solver]:
     """The solvers of these names or commands. Each has a name of its own: its program, or else the whole command."""
+    if isinstance(texts, str) or not all(isinstance(text, str) for text in texts):
+        raise TypeError(f"the solvers have to be a list of texts, such as ['clasp', 'cbc'], and not {texts!r}")
     solvers = {text: find_solver(text) for text in texts}
     names = [solver.name for solver in solvers.values()]
     for text, solver in solvers.items():

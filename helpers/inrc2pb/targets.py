@@ -24,6 +24,8 @@ def check_target(solution: Path) -> None:
         raise IsADirectoryError(errno.EISDIR, os.strerror(errno.EISDIR), str(solution))
     if target.exists() and not target.is_file():
         return
+    if target.exists() and _is_standard_output(target):
+        raise Misuse(f"{solution} is standard output, where the report goes: name another file")
     try:
         handle, name = tempfile.mkstemp(prefix=f".{target.name}.", dir=target.parent)
     except OSError as fault:
@@ -31,3 +33,10 @@ def check_target(solution: Path) -> None:
         raise
     os.close(handle)
     os.unlink(name)
+
+
+def _is_standard_output(target: Path) -> bool:
+    try:
+        return os.path.samestat(os.fstat(1), target.stat())
+    except OSError:
+        return False

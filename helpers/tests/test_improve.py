@@ -11,11 +11,12 @@ import unittest
 from pathlib import Path
 from unittest import mock
 
-from ward import EARLY_ANSWER, HAS_CBC, HAS_CLASP, HELPERS, ROOT, ROSTER, SCENARIO, THIRTY_FILES, WEEK_FILES, WEEK_OPTIONS
+from ward import EARLY_ANSWER, HAS_CBC, HAS_CLASP, HELPERS, HISTORY, ROOT, ROSTER, SCENARIO, THIRTY_FILES, WEEK, WEEK_FILES, WEEK_OPTIONS
 from ward import HelperTest, files, program, run
 
 from inrc2pb.improve import Progress, improve, search
 from inrc2pb.processes import Processes
+from inrc2pb.search import MAX_FAULTS, Search
 from inrc2pb.solvers import Cbc, Task, find_solver
 
 FAKE = Path(__file__).resolve().parent / "fake_solver.py"
@@ -46,7 +47,7 @@ class Searches(HelperTest):
         status, report, progress = run("improve", *WEEK_OPTIONS, "--sol", target, "--time", 100, "--jobs", 2, "--seed", 7)
         self.assertEqual(status, 0)
         self.assertIn("status OPTIMUM FOUND\nobjective 20\npenalty 20\n", report)
-        self.assertIn("no roster costs less\n", report)
+        self.assertRegex(report, "\nno roster costs less, says (clasp|cbc)\n$")
         self.assertIn("penalty 20", progress)
         self.assertEqual(program.penalty_of(WEEK_FILES, target), 20)
 
@@ -67,6 +68,26 @@ class Searches(HelperTest):
         self.assertEqual(progress.penalties[0], before)
         self.assertLess(found, before)
         self.assertEqual(program.penalty_of(THIRTY_FILES, target), found)
+
+    @unittest.skipUnless(HAS_CLASP, "needs clasp")
+    def test_a_roster_written_to_standard_output(self):
+        command = [sys.executable, str(HELPERS / "inrc2pb-improve"), *map(str, WEEK_OPTIONS), "--sol", "/dev/stdout", "--solver", "clasp"]
+        with open(self.folder / "printed", "wb") as regular:
+            ran = subprocess.run(command, stdout=regular, stderr=subprocess.PIPE, timeout=300)
+        self.assertEqual(ran.returncode, 1)
+        self.assertIn(b"/dev/stdout is standard output, where the report goes: name another file\n", ran.stderr)
+        ran = subprocess.run(command, stdout=subprocess.PIPE, stderr=subprocess.PIPE, timeout=300)
+        self.assertEqual(ran.returncode, 0)
+        self.assertTrue(ran.stdout.startswith(b"SOLUTION\n0 ward\n"))
+        self.assertTrue(ran.stdout.endswith(b"\nno roster costs less, says clasp\n"))
+        for device in ("/dev/null", "/dev/stdout"):
+            command[command.index("--sol") + 1] = device
+            self.assertEqual(subprocess.run(command, stdout=subprocess.DEVNULL, stderr=subprocess.PIPE, timeout=300).returncode, 0)
+
+    def test_solvers_are_texts(self):
+        for solvers in ("clasp", [Cbc()]):
+            with self.assertRaisesRegex(TypeError, "a list of texts, such as .'clasp', 'cbc'."):
+                improve(WEEK_FILES, None, self.folder / "best.txt", 5, 1, 1, solvers)
 
     def model(self, week):
         path = self.folder / "week.opb"
@@ -142,10 +163,32 @@ class BadSolvers(HelperTest):
         answer, _ = program.extend(WEEK_FILES, self.swapped("Amara", "Bruno"))
         proud = self.folder / "answer.txt"
         proud.write_text(answer.replace("s SATISFIABLE", "s OPTIMUM FOUND"))
-        status, report, faults = self.improve("--solver", f"sh -c 'cat {proud}'", "--from", ROSTER)
+        status, report, faults = self.improve("--solver", f"sh -c 'cat {proud}'", "--from", ROSTER, "--jobs", 1)
         self.assertEqual(status, 1)
         self.assertIn("penalty 20\n", report)
         self.assertIn("sh: it calls a roster of penalty 110 the best, and one of 20 is known: skipped", faults)
+
+    @unittest.skipUnless(HAS_CLASP, "needs clasp")
+    def test_another_solver_goes_on_after_a_wrong_claim(self):
+        status, report, faults = self.improve("--solver", fake("liar"), "--solver", "clasp", "--jobs", 1, "--time", 20)
+        self.assertEqual(status, 0, faults)
+        self.assertIn("penalty 20\n", report)
+        self.assertIn(": it claims that no roster keeps the hard rules: the search goes on without it\n", faults)
+
+    def test_a_claim_is_believed_if_no_other_solver_is_left(self):
+        status, report, faults = self.improve("--solver", fake("liar"))
+        self.assertEqual((status, report), (5, ""))
+        self.assertRegex(faults, "no roster keeps the hard rules, says [^ ]*python")
+
+    @unittest.skipUnless(HAS_CLASP, "needs clasp")
+    def test_faults_of_a_variant_are_those_of_its_solver(self):
+        clasp, other = find_solver("clasp"), find_solver(fake("liar"))
+        warnings, week = [], files.read_files(SCENARIO, HISTORY, WEEK)
+        running = Search(WEEK_FILES, week, (), mock.Mock(), [clasp, other], 10, warnings.append)
+        for _ in range(MAX_FAULTS):
+            running._blame(clasp.steps()[1], "a fault")
+        self.assertEqual(warnings, ["clasp: a fault: skipped", f"clasp: not used any more, after {MAX_FAULTS} faults in a row"])
+        self.assertEqual(running._usable(), [other])
 
     def test_after_a_fault_the_roster_is_reported(self):
         # The solver removes the folder of the search, so that the next model cannot be written.
@@ -174,7 +217,7 @@ class BadSolvers(HelperTest):
                 began = time.monotonic()
                 status, _, faults = run("improve", *WEEK_OPTIONS, "--sol", self.folder / "new.txt", "--time", 2, "--jobs", 1, "--solver", fake(how))
                 self.assertEqual(status, 5)
-                self.assertIn("give it more with --time", faults)
+                self.assertIn("no roster was found in 2 s: give it more time", faults)
                 self.assertLess(time.monotonic() - began, 60)
                 self.assertFalse((self.folder / "new.txt").exists())
 
@@ -253,10 +296,29 @@ class BadInput(HelperTest):
     def test_a_week_that_no_roster_meets(self):
         eight = ROOT / "examples" / "eight"
         words = ("--sce", eight / "Sc-eight.txt", "--his", eight / "H0-eight-1.txt", "--week", eight / "WD-eight-1.txt")
-        self.assert_refused(5, "no roster keeps the hard rules", *words, "--sol", self.folder / "best.txt")
+        for solvers in ((), ("--solver", "clasp")):
+            status, report, said = run("improve", *words, "--sol", self.folder / "best.txt", "--time", 60, *solvers)
+            self.assertEqual((status, report), (5, ""))
+            self.assertRegex(said.splitlines()[-1], "no roster keeps the hard rules, says? .*clasp")
 
 
 class Stops(HelperTest):
+    def test_before_the_first_roster_a_solver_prints_what_it_has(self):
+        answer, target, running = self.folder / "answer.txt", self.folder / "best.txt", self.folder / "running"
+        answer.write_text(program.extend(WEEK_FILES, ROSTER, False)[0])
+        slow = self.folder / "slow.sh"
+        slow.write_text(f"#!/bin/sh\ntrap 'cat {answer}; exit' TERM\ntouch {running}\nwhile :; do sleep 0.1; done\n")
+        slow.chmod(0o755)
+        words = [*WEEK_FILES.options(), "--sol", target, "--time", "600", "--jobs", "1", "--solver", slow]
+        search = subprocess.Popen([sys.executable, str(HELPERS / "inrc2pb-improve"), *map(str, words)], stdout=subprocess.PIPE, stderr=subprocess.DEVNULL)
+        while not running.exists():
+            time.sleep(0.05)
+        search.send_signal(signal.SIGINT)
+        report, _ = search.communicate(timeout=120)
+        self.assertEqual(search.returncode, 0)
+        self.assertIn(b"penalty 20\n", report)
+        self.assertEqual(program.penalty_of(WEEK_FILES, target), 20)
+
     @unittest.skipUnless(HAS_CLASP, "needs clasp")
     def test_the_best_roster_is_reported(self):
         for number in (signal.SIGINT, signal.SIGTERM):

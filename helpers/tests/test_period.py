@@ -14,6 +14,7 @@ from ward import HELPERS, HISTORY, ROOT, ROSTER, SCENARIO, WARD, WEEK, WEEK_FILE
 
 from inrc2pb.period import Period, PeriodFiles, plan_once
 from inrc2pb.shared_totals import shared_week
+from inrc2pb.simulate import search_seconds, seconds_since_start
 
 MONTH = ROOT / "examples" / "month"
 WARD_OPTIONS = ("--sce", SCENARIO, "--his", HISTORY, "--week", WEEK, "--week", WARD / "week-1.txt")
@@ -213,6 +214,26 @@ class Simulation(PeriodTest):
         self.assertEqual((status, custom.read_text()), (1, "1\n"))
         self.assertIn("penalty 20\n", printed)
         self.assertRegex(said, "^inrc2pb-simulate: sh: .*choose another solver with --solver\n$")
+
+    def test_seconds_to_search(self):
+        self.assertAlmostEqual(search_seconds(3, 0.25), 2.25)
+        self.assertAlmostEqual(search_seconds(100, 1), 94)
+        self.assertGreater(search_seconds(0.1, 1), 0)
+        self.assertTrue(0 < seconds_since_start() < 3600)
+
+    def test_the_process_ends_in_its_time(self):
+        # On a machine with other work a run may be late.
+        for _ in range(3):
+            shutil.rmtree(self.folder / "called", ignore_errors=True)
+            solver = f"{self.answers_once(early=True)[:-1]} || exec sleep 60'"
+            began = time.monotonic()
+            status, printed, said = run("simulate", *WEEK_OPTIONS, "--sol", self.folder / "solution.txt", "--timeout", 3, "--solver", solver)
+            seconds = time.monotonic() - began
+            self.assertEqual(status, 0, said)
+            self.assertIn("penalty 20\n", printed)
+            if seconds < 3:
+                return
+        self.fail(f"it took {seconds:.2f} s")
 
     @unittest.skipUnless(shutil.which("clasp"), "clasp is not installed")
     def test_the_command_line_of_the_competition(self):

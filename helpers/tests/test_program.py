@@ -52,6 +52,18 @@ class Finding(HelperTest):
             with self.assertRaisesRegex(program.ProgramFault, "there is no program /nowhere/inrc2pb: correct or unset"):
                 program.find_program()
 
+    def test_a_program_that_is_not_inrc2pb(self):
+        for name in ("true", "false"):
+            with mock.patch.dict(os.environ, {"INRC2PB": f"/bin/{name}"}):
+                with self.assertRaisesRegex(program.ProgramFault, f"^INRC2PB names /bin/{name}, which is not inrc2pb: correct or unset the variable$") as caught:
+                    program.find_program()
+            self.assertEqual(caught.exception.status, program.NO_PROGRAM)
+
+    def test_a_program_that_does_not_end(self):
+        with mock.patch.object(program, "LONGEST_RUN", 0.2):
+            fault = self.fault_of("#!/bin/sh\nexec sleep 60\n")
+        self.assertEqual((fault.status, str(fault)[:40]), (3, "inrc2pb --version did not end in 0 s: a "))
+
     def fault_of(self, text):
         """The fault of a program with this text."""
         broken = self.folder / "inrc2pb"
@@ -100,6 +112,13 @@ class CommandLines(unittest.TestCase):
             with self.subTest(words):
                 status, printed, said = run(*words)
                 self.assertEqual((status, printed, said.splitlines()[-1]), (2, "", f"inrc2pb-{words[0]}: error: {line}"))
+
+    def test_options_are_written_out(self):
+        for helper, words in (("simulate", ("--time", 3)), ("lp", ("model", "--l", "week.lp"))):
+            status, printed, said = run(helper, *words)
+            self.assertEqual((status, printed), (2, ""))
+            self.assertIn("error:", said)
+        self.assertNotIn("--lp", said.splitlines()[-1])
 
     def test_processors_that_the_process_may_use(self):
         with mock.patch("os.sched_getaffinity", return_value={1, 5}, create=True):
