@@ -69,8 +69,10 @@ def _successions(week: Week, nurse: str) -> Iterator[Block]:
                 yield Block("H3", f"{nurse} has not {earlier} on {DAYS[day - 1]} and {later} on {DAYS[day]}", 1)
 
 
-def _run(rule: str, origin: str, history: int, limits: Limits) -> Block:
-    return Block(rule, origin, windows_of(history, limits) + patterns_of(history, limits))
+def _run(rule: str, origin: str, history: int, limits: Limits) -> Iterator[Block]:
+    """The constraints of a run: first those of its maximum, then those of its minimum."""
+    yield Block(rule, f"{origin} should be at most {limits.maximum}", windows_of(history, limits))
+    yield Block(rule, f"{origin} should be at least {limits.minimum}", patterns_of(history, limits))
 
 
 def _soft_blocks(week: Week, early: bool) -> Iterator[Block]:
@@ -83,10 +85,10 @@ def _soft_blocks(week: Week, early: bool) -> Iterator[Block]:
         past = histories[nurse]
         for name, shift in scenario.shift_types.items():
             before = past.consecutive_shifts if past.last_shift == name else 0
-            yield _run("S2", f"runs of {name} of {nurse}", before, shift.consecutive)
-        yield _run("S2", f"working days in a row of {nurse}", past.working_days, scenario.contract_of(nurse).working_days)
+            yield from _run("S2", f"runs of {name} of {nurse}", before, shift.consecutive)
+        yield from _run("S2", f"working days in a row of {nurse}", past.working_days, scenario.contract_of(nurse).working_days)
     for nurse in scenario.nurses:
-        yield _run("S3", f"days off in a row of {nurse}", histories[nurse].days_off, scenario.contract_of(nurse).days_off)
+        yield from _run("S3", f"days off in a row of {nurse}", histories[nurse].days_off, scenario.contract_of(nurse).days_off)
     for nurse in scenario.nurses:
         yield Block("S5", f"half a weekend of {nurse}", 2 * scenario.contract_of(nurse).complete_weekends)
     for nurse in scenario.nurses:

@@ -256,6 +256,11 @@ class Constraints(HelperTest):
         self.assertEqual(lines[3:], without)
         self.assertEqual(run("check", *WEEK_OPTIONS, "--early", "--constraint", 60)[1].splitlines()[3:], [])
 
+    def test_a_constraint_of_a_run_names_its_limit(self):
+        for number, limit in ((298, "at most 5"), (299, "at least 2")):
+            _, printed, _ = run("check", *WEEK_OPTIONS, "--constraint", number)
+            self.assertIn(f": S2: runs of Day of Chen should be {limit}\n", printed)
+
     def test_a_number_that_the_model_has_not(self):
         _, _, said = run("check", *WEEK_OPTIONS, "--constraint", 99999)
         self.assertIn("there is no constraint 99999", said)
