@@ -147,7 +147,7 @@ def _arguments() -> argparse.ArgumentParser:
     words = parser(
         "Lets a MIP solver solve a model: converts the OPB model to an LP file, and the solver's result file to an answer.",
         "Example:\n"
-        "  inrc2pb encode $WEEK | inrc2pb-lp model > week.lp\n"
+        "  inrc2pb encode $WEEK | inrc2pb-lp model --lp week.lp\n"
         "  cbc week.lp sec 60 timem elapsed solve solution week.sol\n"
         "  inrc2pb-lp answer week.sol | inrc2pb decode $WEEK --sol roster.txt",
     )

@@ -2,14 +2,17 @@
 
 import os
 import random
+import shutil
 import signal
 import sys
 import time
 import unittest
 from collections import Counter
+from dataclasses import replace
 from pathlib import Path
+from unittest import mock
 
-from ward import EARLY_ANSWER, HAS_CLASP, ROSTER, THIRTY_FILES, WEEK_FILES, HelperTest, files, program
+from ward import EARLY_ANSWER, HAS_CLASP, HELPERS, ROOT, ROSTER, THIRTY_FILES, WEEK_FILES, HelperTest, files, program
 
 from inrc2pb.best_roster import BestRoster, Snapshot
 from inrc2pb.interrupts import interrupts
@@ -17,7 +20,7 @@ from inrc2pb.neighborhoods import KINDS, Neighborhood, Neighborhoods
 from inrc2pb.part import write_part
 from inrc2pb.processes import Processes
 from inrc2pb.rules import nurse_costs
-from inrc2pb.solvers import CLASP_BOUND, Clasp, _rounded, find_solver, find_solvers
+from inrc2pb.solvers import CLASP_BOUND, Clasp, Task, _rounded, find_solver, find_solvers
 
 
 class Parts(HelperTest):
@@ -99,6 +102,18 @@ class Parts(HelperTest):
     def test_solvers_are_commands(self):
         solver = find_solver(f"{sys.executable} -c 'print(1)' {{}} x")
         self.assertEqual(solver.command(Path("week.opb"), 5)[1:], ["-c", "print(1)", "week.opb", "x"])
+
+    @unittest.skipUnless(shutil.which("glpsol"), "needs glpsol")
+    def test_the_solver_of_the_page_on_helpers(self):
+        page = (ROOT / "docs" / "helpers.md").read_text()
+        script, model = self.folder / "glpsol.sh", self.folder / "week.opb"
+        script.write_text(page.split("cat > glpsol.sh << 'END'\n")[1].split("END\n")[0])
+        script.chmod(0o755)
+        held = replace(WEEK_FILES, fix=ROSTER)
+        program.encode(held, model)
+        with mock.patch.dict(os.environ, PATH=f"{HELPERS}:{os.environ['PATH']}"):
+            outcome = find_solver(str(script)).solve(Task(model, 60, self.folder), Processes())
+        self.assertEqual(program.decode(held, outcome.answer).penalty, 20)
 
     @unittest.skipUnless(HAS_CLASP, "needs clasp")
     def test_solvers_have_names_of_their_own(self):
