@@ -177,4 +177,8 @@ def main(words: Optional[List[str]] = None) -> None:
     with contextlib.ExitStack() as open_files:
         opb = open_files.enter_context(open(given.opb or 0, encoding="ascii", errors="replace"))
         lp = open_files.enter_context(replacing(given.lp)) if given.lp else sys.stdout
-        write_linear_program(opb, lp)
+        try:
+            write_linear_program(opb, lp)
+        except ModelFault as fault:
+            unusable = "" if given.lp else "; the printed LP text is cut too: do not use it"
+            raise ModelFault(f"{fault}{unusable}") from fault

@@ -13,15 +13,25 @@ from typing import Callable, Dict, List, Optional, Sequence, Tuple
 # Seconds that a process has to print its answer after it was asked to end.
 GRACE = 2.0
 MAX_OUTPUT = 1 << 28
+# The last bytes of standard error that are kept.
+LAST_BYTES = 200
 
 
 @dataclass(frozen=True)
 class Ended:
-    """How a process ended: its exit status, its output, and whether it was ended because its time was over."""
+    """How a process ended: its exit status, its output, whether it was ended because its time was over, and the end of its
+    standard error."""
 
     status: int
     output: str
     timed_out: bool
+    errors: str = ""
+
+    @property
+    def last_error(self) -> str:
+        """The last line of standard error, if it has one."""
+        lines = self.errors.strip().splitlines()
+        return "".join(char for char in lines[-1] if char.isprintable()) if lines else ""
 
 
 class Processes:
@@ -46,20 +56,21 @@ class Processes:
             if self._stopped:
                 return Ended(-signal.SIGKILL, "", True)
             process = subprocess.Popen(
-                list(words), cwd=str(folder), stdin=subprocess.DEVNULL, stdout=subprocess.PIPE, stderr=subprocess.DEVNULL, start_new_session=True
+                list(words), cwd=str(folder), stdin=subprocess.DEVNULL, stdout=subprocess.PIPE, stderr=subprocess.PIPE, start_new_session=True
             )
             self._running[process] = ending
         try:
-            output, timed_out = _output_of(process, seconds, ending, hear)
+            output, errors, timed_out = _output_of(process, seconds, ending, hear)
         finally:
             with self._lock:
                 self._running.pop(process)
-            if process.stdout:
-                process.stdout.close()
+            for stream in (process.stdout, process.stderr):
+                if stream:
+                    stream.close()
             _wait_without_reaping(process, 0.5)
             _signal_group(process, signal.SIGKILL)
             status = process.wait()
-        return Ended(status, output.decode("utf-8", errors="replace"), timed_out)
+        return Ended(status, output.decode("utf-8", errors="replace"), timed_out, errors.decode("utf-8", errors="replace"))
 
     @property
     def stopped(self) -> bool:
@@ -100,18 +111,25 @@ def _signal_group(process: "subprocess.Popen[bytes]", number: int) -> None:
 
 def _output_of(
     process: "subprocess.Popen[bytes]", seconds: float, ending: int, hear: Optional[Callable[[bytes], None]]
-) -> Tuple[bytes, bool]:
-    """The output until its end; at the limit the process is asked to end, and after the grace it is killed."""
-    assert process.stdout is not None
+) -> Tuple[bytes, bytes, bool]:
+    """The output until its end, with the last bytes of standard error; at the limit the process is asked to end, and after the
+    grace it is killed."""
+    assert process.stdout is not None and process.stderr is not None
+    streams = [process.stdout, process.stderr]
     parts: List[bytes] = []
-    size, timed_out = 0, False
+    size, errors, timed_out = 0, b"", False
     limit = time.monotonic() + seconds
     while True:
-        ready, _, _ = select.select([process.stdout], [], [], max(0.0, limit - time.monotonic()))
-        if ready:
+        ready, _, _ = select.select(streams, [], [], max(0.0, limit - time.monotonic()))
+        if process.stderr in ready:
+            data = os.read(process.stderr.fileno(), 1 << 16)
+            errors = (errors + data)[-LAST_BYTES:]
+            if not data:
+                streams.remove(process.stderr)
+        if process.stdout in ready:
             data = os.read(process.stdout.fileno(), 1 << 16)
             if not data:
-                return b"".join(parts), timed_out
+                return b"".join(parts), errors, timed_out
             size += len(data)
             parts.append(data)
             if hear:
@@ -119,7 +137,7 @@ def _output_of(
         if time.monotonic() >= limit or size > MAX_OUTPUT:
             if timed_out or size > MAX_OUTPUT:
                 _signal_group(process, signal.SIGKILL)
-                return b"".join(parts) if size <= MAX_OUTPUT else b"", True
+                return b"".join(parts) if size <= MAX_OUTPUT else b"", errors, True
             timed_out = True
             limit = time.monotonic() + GRACE
             _signal_group(process, ending)

@@ -7,7 +7,7 @@ import time
 from collections import Counter
 from dataclasses import replace
 from pathlib import Path
-from typing import Callable, List, Optional, Sequence, Tuple
+from typing import Callable, Dict, List, Optional, Sequence, Tuple
 
 from .best_roster import BestRoster, Snapshot
 from .command import Misuse
@@ -55,8 +55,9 @@ class Search:
         self._processes = Processes()
         self._ended = threading.Event()
         self._faults: "Counter[str]" = Counter()
-        # The solvers that claim that no roster exists.
+        # The solvers that claim that no roster exists, and whether each solver printed nothing until now.
         self._deniers: List[str] = []
+        self._silent: Dict[str, bool] = {}
         self._lock = threading.Lock()
         self._failure: Optional[BaseException] = None
 
@@ -217,6 +218,8 @@ class Search:
         if outcome.fault:
             self._blame(solver, outcome.fault)
             return None
+        with self._lock:
+            self._silent[solver.name] = outcome.silent and self._silent.get(solver.name, True)
         path = folder / "found.txt"
         try:
             report = decode(files, outcome.answer, path)
@@ -256,8 +259,10 @@ class Search:
 
     def without_roster(self) -> ProgramFault:
         """Why there is no roster."""
+        silent = " and ".join(name for name, is_silent in self._silent.items() if is_silent)
         if not self._deniers:
-            return ProgramFault(_NO_ROSTER, f"no roster was found in {self._seconds:.0f} s: give it more time")
+            advice = f"{silent} printed nothing; give it more time, or check its command" if silent else "give it more time"
+            return ProgramFault(_NO_ROSTER, f"no roster was found in {self._seconds:.0f} s: {advice}")
         held = f" and has the rows of {self._files.fix}" if self._files.fix else ""
         says = "says" if len(self._deniers) == 1 else "say"
         claim = f"no roster keeps the hard rules{held}, {says} {' and '.join(self._deniers)}"

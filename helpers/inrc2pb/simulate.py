@@ -47,7 +47,8 @@ def main() -> Optional[int]:
     words.add_argument("--cusIn", metavar="FILE", type=Path, help="a solver's data from the week before: not read")
     words.add_argument("--cusOut", metavar="FILE", type=Path, help="the data for the next week: its number")
     words.add_argument("--rand", metavar="N", type=int, default=1, help="the seed (default: 1)")
-    words.add_argument("--timeout", metavar="SECONDS", type=number_of_seconds, default=60, help="seconds in which this process ends, its start included (default: 60)")
+    timeout = "seconds in which this process ends, its start included (default: 60)"
+    words.add_argument("--timeout", metavar="SECONDS", type=number_of_seconds, default=60, help=timeout)
     add_solver_options(words)
     words.add_argument("--no-early", action="store_true", help="charge excess assignments and weekends in the last week only")
     given = words.parse_args()

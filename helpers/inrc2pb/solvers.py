@@ -2,19 +2,20 @@
 
 import io
 import math
+import os
 import re
 import shlex
 import shutil
 import signal
 import time
-from dataclasses import dataclass
+from dataclasses import dataclass, replace
 from pathlib import Path
 from typing import Callable, List, Optional, Sequence, Tuple
 
 from .command import Misuse
 from .linear_program import convert
 from .mip_solution import SolutionFault, read_answer
-from .processes import Processes
+from .processes import Ended, Processes
 
 # Good on a neighborhood: the solver raises a lower bound until it is met.
 CLASP_BOUND = ("--configuration=crafty", "--opt-strategy=usc,k,0,7")
@@ -29,10 +30,11 @@ _CBC_BOUND = re.compile(r"best possible\s+([-+0-9.e]+)|Lower bound:\s+([-+0-9.e]
 
 @dataclass(frozen=True)
 class Outcome:
-    """A solver's answer. `fault` says why there is none, if the solver failed."""
+    """A solver's answer. `fault` says why there is none, if the solver failed; `silent` whether it printed nothing in its time."""
 
     answer: str
     fault: str = ""
+    silent: bool = False
 
 
 NONE_IN_TIME = Outcome("s UNKNOWN\n")
@@ -96,8 +98,8 @@ class CommandSolver(Solver):
         if re.search(r"^s(?:[ \t\r]|$)", ended.output, re.MULTILINE):
             return Outcome(ended.output)
         if ended.timed_out:
-            return NONE_IN_TIME
-        return Outcome("", f"it printed no answer and {_ending(ended.status)}")
+            return replace(NONE_IN_TIME, silent=not ended.output)
+        return Outcome("", f"it printed no answer and {_ending(ended)}")
 
     def listener(self, hear: Optional[HearBound]) -> Optional[Callable[[bytes], None]]:
         """Finds lower bounds in the output, if the solver prints some."""
@@ -164,7 +166,7 @@ class Cbc(Solver):
         ended = processes.run(words, left + 1, task.folder, signal.SIGINT, listener)
         late = limit - time.monotonic() < left / 2
         if not solution.exists():
-            return NONE_IN_TIME if ended.timed_out else Outcome("", f"it wrote no result file and {_ending(ended.status)}")
+            return NONE_IN_TIME if ended.timed_out else Outcome("", f"it wrote no result file and {_ending(ended)}")
         outcome = answer_of(solution)
         # cbc 2.10 calls a model infeasible if its time ends in its preprocessing, and its time may end a third before ours.
         return NONE_IN_TIME if late and outcome.answer == "s UNSATISFIABLE\n" else outcome
@@ -213,13 +215,15 @@ def _rounded(report: HearBound, step: int) -> Callable[[str], None]:
     return take
 
 
-def _ending(status: int) -> str:
-    if status >= 0:
-        return f"ended with status {status}"
+def _ending(ended: Ended) -> str:
+    """How the process ended, with the last line of its standard error."""
+    said = f": {ended.last_error}" if ended.last_error else ""
+    if ended.status >= 0:
+        return f"ended with status {ended.status}{said}"
     try:
-        return f"was ended by {signal.Signals(-status).name}"
+        return f"was ended by {signal.Signals(-ended.status).name}{said}"
     except ValueError:
-        return f"was ended by signal {-status}"
+        return f"was ended by signal {-ended.status}{said}"
 
 
 def find_solvers(texts: Sequence[str]) -> List[Solver]:
@@ -243,12 +247,21 @@ def find_solver(text: str) -> Solver:
     if not words:
         raise Misuse("a solver has no name: give clasp, cbc or a command")
     if not shutil.which(words[0]):
-        package = _PACKAGES.get(words[0])
-        advice = f"install it (Debian: apt-get install {package})" if package else "correct its name or path"
-        raise Misuse(f"there is no solver {words[0]}: {advice}, or choose another with --solver")
+        raise Misuse(f"{_why_not_run(words[0])}, or choose another with --solver")
     if text == "clasp":
         return Clasp(*CLASP_BOUND)
     return Cbc() if text == "cbc" else CommandSolver(words[0].rsplit("/", 1)[-1], words)
+
+
+def _why_not_run(name: str) -> str:
+    """Why the solver with this name or path does not run, and what to do."""
+    if Path(name).is_file() and not os.access(name, os.X_OK):
+        return f"the solver {name} is not executable: type chmod +x {shlex.quote(name)}"
+    if Path(name).is_file() and "/" not in name:
+        return f"there is no solver {name} in PATH: name the one in this folder ./{name}"
+    package = _PACKAGES.get(name)
+    advice = f"install it (Debian: apt-get install {package})" if package else "correct its name or path"
+    return f"there is no solver {name}: {advice}"
 
 
 def installed_solvers() -> Tuple[str, ...]:

@@ -14,6 +14,7 @@ from unittest import mock
 from ward import EARLY_ANSWER, HAS_CBC, HAS_CLASP, HELPERS, HISTORY, ROOT, ROSTER, SCENARIO, THIRTY_FILES, WEEK, WEEK_FILES, WEEK_OPTIONS
 from ward import HelperTest, files, program, run
 
+from inrc2pb.command import Misuse
 from inrc2pb.improve import Progress, improve, search
 from inrc2pb.processes import Processes
 from inrc2pb.search import MAX_FAULTS, Search
@@ -217,7 +218,7 @@ class BadSolvers(HelperTest):
                 began = time.monotonic()
                 status, _, faults = run("improve", *WEEK_OPTIONS, "--sol", self.folder / "new.txt", "--time", 2, "--jobs", 1, "--solver", fake(how))
                 self.assertEqual(status, 5)
-                self.assertIn("no roster was found in 2 s: give it more time", faults)
+                self.assertIn("no roster was found in 2 s: ", faults)
                 self.assertLess(time.monotonic() - began, 60)
                 self.assertFalse((self.folder / "new.txt").exists())
 
@@ -228,6 +229,27 @@ class BadSolvers(HelperTest):
             self.assertEqual(status, 1)
             self.assertIn(says, faults)
             self.assertEqual(faults.count("\n"), 1)
+
+    def test_a_file_that_is_no_command(self):
+        script = self.folder / "my solver.sh"
+        script.write_text("#!/bin/sh\n")
+        _, _, faults = self.improve("--solver", f"'{script}' {{}}")
+        self.assertIn(f"the solver {script} is not executable: type chmod +x '{script}', or choose another with --solver\n", faults)
+        script.chmod(0o755)
+        with mock.patch("pathlib.Path.is_file", return_value=True), mock.patch("os.access", return_value=True):
+            with self.assertRaisesRegex(Misuse, "^there is no solver mine.sh in PATH: name the one in this folder ./mine.sh, or"):
+                find_solver("mine.sh")
+
+    def test_the_last_line_of_standard_error(self):
+        script = "echo first >&2; yes '' | head -c 300000 >&2; echo the license has ended >&2; exit 7"
+        status, _, faults = self.improve("--solver", f"sh -c '{script}'", "--from", ROSTER)
+        self.assertEqual(status, 1)
+        self.assertIn("sh: it printed no answer and ended with status 7: the license has ended: skipped\n", faults)
+
+    def test_a_solver_that_prints_nothing_is_named(self):
+        status, _, faults = self.improve("--solver", "sh -c 'sleep 60'", "--time", 3)
+        self.assertEqual(status, 5)
+        self.assertIn("no roster was found in 3 s: sh printed nothing; give it more time, or check its command\n", faults)
 
     def test_a_solver_in_the_users_folder(self):
         (self.folder / "mine.sh").write_text("#!/bin/sh\ncat answer.txt\n")
@@ -310,7 +332,8 @@ class Stops(HelperTest):
         slow.write_text(f"#!/bin/sh\ntrap 'cat {answer}; exit' TERM\ntouch {running}\nwhile :; do sleep 0.1; done\n")
         slow.chmod(0o755)
         words = [*WEEK_FILES.options(), "--sol", target, "--time", "600", "--jobs", "1", "--solver", slow]
-        search = subprocess.Popen([sys.executable, str(HELPERS / "inrc2pb-improve"), *map(str, words)], stdout=subprocess.PIPE, stderr=subprocess.DEVNULL)
+        command = [sys.executable, str(HELPERS / "inrc2pb-improve"), *map(str, words)]
+        search = subprocess.Popen(command, stdout=subprocess.PIPE, stderr=subprocess.DEVNULL)
         while not running.exists():
             time.sleep(0.05)
         search.send_signal(signal.SIGINT)

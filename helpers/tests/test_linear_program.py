@@ -210,6 +210,15 @@ class Command(unittest.TestCase):
     def run_it(self, *words, given=""):
         return subprocess.run([str(COMMAND), *map(str, words)], input=given, stdout=subprocess.PIPE, stderr=subprocess.PIPE, text=True)
 
+    def test_a_cut_model(self):
+        cut = "* #variable= 1 #constraint= 2\n+1 x1 >= 1 ;\n"
+        advice = "; the printed LP text is cut too: do not use it"
+        with tempfile.TemporaryDirectory() as folder:
+            for words, ends in (((), advice), (("--lp", Path(folder, "week.lp")), "")):
+                ran = self.run_it("model", *words, given=cut)
+                self.assertEqual(ran.returncode, 1)
+                self.assertTrue(ran.stderr.endswith(f"it is cut, so encode the week again{ends}\n"), ran.stderr)
+
     def test_both_directions(self):
         model = (SOLUTIONS / "model.opb").read_text()
         ran = self.run_it("model", given=model)
