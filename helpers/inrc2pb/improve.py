@@ -19,7 +19,7 @@ from .misfits import read_held
 from .program import ProgramFault, Report, WeekFiles
 from .search import Search
 from .solvers import find_solvers, installed_solvers
-from .targets import check_inputs_stay, check_target
+from .targets import check_inputs_stay, check_no_pipes, check_target
 
 
 class Progress:
@@ -101,6 +101,7 @@ def search(
     files: WeekFiles, start: Optional[Path], solution: Path, seconds: float, seed: int, jobs: int, solvers: Sequence[str], progress: Progress
 ) -> Outcome:
     """As `improve`, with its progress printed, and more in its result. A fault is raised only if there is no roster; a signal is no fault."""
+    check_no_pipes((files.scenario, files.history, files.week, files.fix, start))
     solution = Path(solution).absolute()
     found = find_solvers(solvers or installed_solvers())
     week = read_files(files.scenario, files.history, files.week)

@@ -13,7 +13,7 @@ from typing import Dict, List, Optional, Tuple
 SOFT_RULES = ("S1", "S2", "S3", "S4", "S5", "S6", "S7")
 READ_OR_WRITE, NO_PROGRAM = 3, 127
 # A run takes less, also of the largest week; one that waits for a pipe that nobody writes would not end.
-LONGEST_RUN = 1800.0
+LONGEST_RUN = 600.0
 
 
 class ProgramFault(Exception):

@@ -1,4 +1,4 @@
-"""Checks of the files that a command will write, before its work begins."""
+"""Checks of the files that a command will read or write, before its work begins."""
 
 import errno
 import os
@@ -15,6 +15,13 @@ def check_inputs_stay(inputs: Iterable[Optional[Path]], target: Path, what: str,
     for path in inputs:
         if path and path.is_file() and target.is_file() and os.path.samefile(path, target):
             raise Misuse(f"{path} is read, so {what} cannot be written to it: choose another {choose}")
+
+
+def check_no_pipes(inputs: Iterable[Optional[Path]]) -> None:
+    """Files that are read again and again may not be pipes."""
+    for path in inputs:
+        if path and Path(path).is_fifo():
+            raise Misuse(f"{path} is a pipe, which can be read only once: give a file")
 
 
 def check_target(solution: Path) -> None:

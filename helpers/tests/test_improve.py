@@ -6,11 +6,12 @@ import shutil
 import signal
 import subprocess
 import sys
+import threading
 import time
 import unittest
 from unittest import mock
 
-from ward import EARLY_ANSWER, HAS_CBC, HAS_CLASP, HELPERS, ROOT, ROSTER, SCENARIO, THIRTY_FILES, WEEK_FILES, WEEK_OPTIONS
+from ward import EARLY_ANSWER, HAS_CBC, HAS_CLASP, HELPERS, ROOT, ROSTER, SCENARIO, THIRTY_FILES, WEEK, WEEK_FILES, WEEK_OPTIONS
 from ward import HelperTest, files, program, run
 
 from inrc2pb.improve import Progress, improve, search
@@ -146,6 +147,16 @@ class BadInput(HelperTest):
         broken = self.changed(SCENARIO, "Chen Full", "Chen Ful", "broken.txt")
         self.assert_refused(1, "line 26", "--sce", broken, *WEEK_OPTIONS[2:], *target)
         self.assertFalse((self.folder / "best.txt").exists())
+
+    @unittest.skipUnless(HAS_CLASP, "needs clasp")
+    def test_a_pipe_in_place_of_a_file(self):
+        pipe = self.folder / "pipe"
+        os.mkfifo(pipe)
+        writer = threading.Thread(target=lambda: pipe.write_bytes(WEEK.read_bytes()), daemon=True)
+        writer.start()
+        says = f"{pipe} is a pipe, which can be read only once: give a file\n"
+        self.assert_refused(1, says, *WEEK_OPTIONS[:4], "--week", pipe, "--sol", self.folder / "best.txt")
+        self.assert_refused(1, says, *WEEK_OPTIONS, "--from", pipe, "--sol", self.folder / "best.txt")
 
     @unittest.skipUnless(HAS_CLASP, "needs clasp")
     def test_held_rows_that_do_not_fit(self):
