@@ -4,16 +4,18 @@ import argparse
 import os
 import tempfile
 from pathlib import Path
-from typing import Callable, Iterator, List, Optional, Tuple
+from typing import Callable, Iterator, List, Optional, Tuple, TypeVar
 
 from .command import Misuse, add_week_options, fault_line, parser, run, week_files
 from .constraint import block_of, blocks, named_row, row_of
-from .files import Assignment, FileFault, History, Scenario, Solution, Week, WeekData
+from .files import Assignment, FileFault, History, Scenario, Week, WeekData
 from .files import check_week_number, read_history, read_scenario, read_solution, read_week
 from .misfits import explained, other_week, read_held, read_roster
 from .odd_values import history_warnings, scenario_warnings, week_warnings
 from .program import NO_PROGRAM, ProgramFault, encode, extend
 from .rules import first_broken
+
+Contents = TypeVar("Contents")
 
 
 class Check:
@@ -23,8 +25,8 @@ class Check:
         self.given = given
         self.mistakes = 0
 
-    def reads(self, reader: Callable[[], object]) -> Optional[object]:
-        """The reader's value of the file, or None after a mistake."""
+    def reads(self, reader: Callable[[], Contents]) -> Optional[Contents]:
+        """What the reader finds in the file, or None after a mistake."""
         try:
             return reader()
         except (FileFault, OSError) as fault:
@@ -49,7 +51,7 @@ class Check:
     def held(self, path: Path, scenario: Scenario, history: Optional[History]) -> List[Assignment]:
         """Checks a fix file: its assignments, if it has no mistake."""
         solution = self.reads(lambda: read_held(path, scenario, history, lambda warning: self.warns(path, iter([warning]))))
-        return list(solution.assignments) if isinstance(solution, Solution) else []
+        return list(solution.assignments) if solution else []
 
     def roster(self, path: Path, scenario: Scenario, history: Optional[History]) -> None:
         """Checks a roster."""
@@ -66,30 +68,35 @@ class Check:
             return history
 
         history = self.reads(read)
-        if not isinstance(history, History):
-            return None
-        self.warns(path, self.name(path, history.scenario, scenario))
-        self.warns(path, history_warnings(history))
+        if history:
+            self.warns(path, self.name(path, history.scenario, scenario))
+            self.warns(path, history_warnings(history))
         return history
+
+    def week_data(self, scenario: Scenario) -> Optional[WeekData]:
+        """Checks the week data."""
+        path = self.given.week
+        data = self.reads(lambda: read_week(path, scenario))
+        if data:
+            self.warns(path, self.name(path, data.name, scenario))
+            self.warns(path, week_warnings(scenario, data))
+        return data
 
     def all_files(self) -> Tuple[Optional[Week], List[Assignment]]:
         """Checks each file that is given: the week, if its three files have no mistake, and the held assignments."""
         given = self.given
         scenario = self.reads(lambda: read_scenario(given.sce))
-        if not isinstance(scenario, Scenario):
+        if not scenario:
             if given.his or given.week or given.fix or given.roster:
                 print("The other files are checked when this one has no mistake.")
             return None, []
         self.warns(given.sce, scenario_warnings(scenario))
         history = self.history(scenario) if given.his else None
-        data = self.reads(lambda: read_week(given.week, scenario)) if given.week else None
-        if isinstance(data, WeekData):
-            self.warns(given.week, self.name(given.week, data.name, scenario))
-            self.warns(given.week, week_warnings(scenario, data))
+        data = self.week_data(scenario) if given.week else None
         held = self.held(given.fix, scenario, history) if given.fix else []
         for roster in given.roster:
             self.roster(roster, scenario, history)
-        week = Week(scenario, history, data) if history and isinstance(data, WeekData) else None
+        week = Week(scenario, history, data) if history and data else None
         return week, held
 
     def model(self, week: Week, held: List[Assignment]) -> None:

@@ -2,10 +2,11 @@
 
 import argparse
 import errno
+import io
 import os
 import sys
 from pathlib import Path
-from typing import Callable, NoReturn, Optional
+from typing import Callable, NoReturn, Optional, TextIO
 
 from .program import ProgramFault, WeekFiles
 from .slots import FileFault
@@ -119,14 +120,19 @@ def _os_advice(fault: OSError) -> str:
     return _ADVICE.get(errno.errorcode.get(fault.errno or 0, ""), "")
 
 
+def _utf8_stream(stream: Optional[TextIO], errors: str) -> TextIO:
+    """The stream, which writes UTF-8 from now on. Python has no stream for a descriptor that was closed, as by `>&-`."""
+    stream = stream or open(os.devnull, "w")
+    if isinstance(stream, io.TextIOWrapper):
+        stream.reconfigure(encoding="utf-8", errors=errors)
+    return stream
+
+
 def run(main: Callable[[], Optional[int]]) -> None:
     """Runs a helper and exits: faults are one line on standard error, with status 1 or the program's own."""
     name = os.path.basename(sys.argv[0])
-    # Python has no stream for a descriptor that was closed, as by `>&-`.
-    sys.stdout = sys.stdout or open(os.devnull, "w")
-    sys.stderr = sys.stderr or open(os.devnull, "w")
-    sys.stdout.reconfigure(encoding="utf-8", errors="surrogateescape")  # type: ignore[union-attr]
-    sys.stderr.reconfigure(encoding="utf-8", errors="backslashreplace")  # type: ignore[union-attr]
+    sys.stdout = _utf8_stream(sys.stdout, "surrogateescape")
+    sys.stderr = _utf8_stream(sys.stderr, "backslashreplace")
     try:
         status = main() or 0
         sys.stdout.flush()

@@ -4,7 +4,7 @@ The readers accept exactly the files that `inrc2pb` accepts, and report a fault 
 layouts. The values that they return are those of `records`. A `text` is what the file holds, if it was read already.
 """
 
-from typing import Dict, Iterable, Optional, Tuple
+from typing import Dict, Iterable, List, Optional, Tuple
 
 from .records import ANY, DAYS, NONE, Assignment, Contract, History, Limits, Nurse, NurseHistory, Place, Request
 from .records import Requirement, Scenario, ShiftType, Solution, Week, WeekData
@@ -77,7 +77,8 @@ def _contracts(slots: Slots) -> Dict[str, Contract]:
 
 
 def _names_once(slots: Slots, count: int, kind: str, names: Iterable[str], source: str) -> Tuple[str, ...]:
-    known, found = list(names), []
+    known = list(names)
+    found: List[str] = []
     for _ in range(count):
         token = slots.known_name(kind, known, source)
         _only_once(slots, token, found, f"the {kind} '{token.text}' is")

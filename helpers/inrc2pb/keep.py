@@ -56,7 +56,7 @@ def main() -> Optional[int]:
     scenario = read_scenario(given.sce) if given.sce else None
     solution = read_solution(given.roster, scenario)
     days = _days(given.keep) if given.keep else ()
-    known = scenario.nurses if scenario else dict.fromkeys(row.nurse for row in solution.assignments)
+    known = list(scenario.nurses) if scenario else list(dict.fromkeys(row.nurse for row in solution.assignments))
     nurses = _nurses(given.nurses, known, str(given.sce or given.roster)) if given.nurses else ()
     rows = kept(solution.assignments, days, nurses, given.others)
     text = solution_text(Solution(solution.week, solution.scenario, tuple(rows)))

@@ -109,7 +109,7 @@ def _words(lines: Iterable[Line]) -> Iterator[Tuple[int, List[str]]]:
     return ((number, line.split()) for number, line in lines)
 
 
-def _of_cbc(first: Line, lines: Iterator[Line], _: str) -> Answer:
+def _of_cbc(first: Line, lines: Iterator[Line], _ended: str) -> Answer:
     """`Optimal - objective value 320.0`, then index, name, value and reduced cost; `**` marks an infeasible row."""
     says, _, objective = first[1].partition(" - objective value")
     if "nfeasible" in says:
@@ -128,7 +128,7 @@ _GLPSOL = {
 }
 
 
-def _of_glpsol(_: Line, lines: Iterator[Line], __: str) -> Answer:
+def _of_glpsol(_first: Line, lines: Iterator[Line], _ended: str) -> Answer:
     """The printed form, `glpsol -o`: a table of rows, then one of columns: number, name, `*`, value and bounds."""
     status, objective = "", None
     for _number, line in lines:
@@ -155,7 +155,7 @@ def _columns(lines: Iterator[Line]) -> Iterator[Tuple[int, List[str]]]:
             return
 
 
-def _of_highs(_: Line, lines: Iterator[Line], __: str) -> Answer:
+def _of_highs(_first: Line, lines: Iterator[Line], _ended: str) -> Answer:
     """`Model status`, the status, and the section of the columns."""
     says = next(lines, (0, ""))[1]
     if says in ("Infeasible", "Primal infeasible or unbounded", "Unbounded or infeasible"):
@@ -183,7 +183,7 @@ def _until_comment(lines: Iterator[Line]) -> Iterator[Tuple[int, List[str]]]:
         yield number, words
 
 
-def _of_scip(first: Line, lines: Iterator[Line], _: str) -> Answer:
+def _of_scip(first: Line, lines: Iterator[Line], _ended: str) -> Answer:
     """`solution status: ..`, `objective value: ..`, then a name, a value and `(obj:..)` a line."""
     says = first[1].partition(":")[2].strip()
     if says == "infeasible":
@@ -195,7 +195,7 @@ def _of_scip(first: Line, lines: Iterator[Line], _: str) -> Answer:
     return Answer(STATUSES[status], _objective(second.partition(":")[2].strip()), _values(_words(lines)))
 
 
-def _of_raw_glpsol(first: Line, _: Iterator[Line], __: str) -> Answer:
+def _of_raw_glpsol(_first: Line, _lines: Iterator[Line], _ended: str) -> Answer:
     raise SolutionFault("this is the solution without names that `glpsol -w` writes: let `glpsol -o` write it")
 
 

@@ -7,7 +7,7 @@ import sys
 import tempfile
 from dataclasses import dataclass, replace
 from pathlib import Path
-from typing import Callable, Dict, List, Optional, Sequence
+from typing import Callable, Dict, Iterable, List, Optional, Sequence
 
 from .command import Misuse, add_solver_options, fault_line, number_of_seconds, parser, run
 from .files import FileFault, History, Scenario, Week, check_week_number, read_files, read_history, read_scenario, read_solution
@@ -166,15 +166,22 @@ class Period:
 
     def table(self) -> List[str]:
         """The penalty and the costs of each week, and their sums."""
-        rows = [[f"week {number}", report.penalty, *report.by_rule.values()] for number, report in self.reports.items()]
-        sums = [sum(int(row[at]) for row in rows) for at in range(1, 2 + len(SOFT_RULES))]
-        lines = [["", "penalty", *SOFT_RULES], *rows, ["period", *sums]]
-        return ["".join(f"{cell:{'<8' if at == 0 else '>8' if at == 1 else '>6'}}" for at, cell in enumerate(line)).rstrip() for line in lines]
+        weeks = {f"week {number}": [report.penalty, *report.by_rule.values()] for number, report in self.reports.items()}
+        sums = [sum(costs[at] for costs in weeks.values()) for at in range(1 + len(SOFT_RULES))]
+        lines = [_table_line("", ("penalty", *SOFT_RULES))]
+        lines += [_table_line(name, map(str, costs)) for name, costs in weeks.items()]
+        return [*lines, _table_line("period", map(str, sums))]
 
     def stop_line(self) -> str:
         """That the period was stopped, and which weeks have a roster."""
         left = [number for number in self.numbers if number not in self.reports]
         return f"stopped: {_weeks(list(self.reports))} planned" + (f", {_weeks(left)} not" if left else "")
+
+
+def _table_line(name: str, cells: Iterable[str]) -> str:
+    """A line of the table: the name of a week, its penalty and its costs."""
+    penalty, *costs = cells
+    return (f"{name:<8}{penalty:>8}" + "".join(f"{cost:>6}" for cost in costs)).rstrip()
 
 
 def _weeks(numbers: Sequence[int]) -> str:

@@ -2,7 +2,7 @@
 
 from dataclasses import dataclass
 from pathlib import Path
-from typing import Dict, Iterable, Iterator, List, NamedTuple, Optional, Sequence, Set
+from typing import Callable, Dict, Iterable, Iterator, List, NamedTuple, Optional, Sequence, Set
 
 from . import rules
 from .command import Misuse
@@ -103,15 +103,15 @@ class RosterView:
     def legend(self) -> List[str]:
         """The meaning of the marks, and notes on the whole roster."""
         marks = {mark for week in self.weeks for row in week.rows for mark in week.marks(row)}
-        return [f"{mark} = {MEANINGS[mark]}" for mark in sorted(marks, reverse=True)] + self._with_week("notes")
+        return [f"{mark} = {MEANINGS[mark]}" for mark in sorted(marks, reverse=True)] + self._with_week(lambda week: week.notes)
 
     def missing(self) -> List[str]:
         """A line for each day with places that are short of nurses."""
-        return self._with_week("missing")
+        return self._with_week(lambda week: week.missing)
 
-    def _with_week(self, lines: str) -> List[str]:
+    def _with_week(self, lines_of: Callable[[WeekView], List[str]]) -> List[str]:
         prefixed = len(self.weeks) > 1
-        return [f"week {week.number}: {line}" if prefixed else line for week in self.weeks for line in getattr(week, lines)]
+        return [f"week {week.number}: {line}" if prefixed else line for week in self.weeks for line in lines_of(week)]
 
 
 def costs_text(costs: Dict[str, int]) -> str:
@@ -139,12 +139,17 @@ def read_view(files: RosterFiles) -> RosterView:
             view.number = histories[at].week
             _add_costs(view, Week(scenario, histories[at], datas[at]), held, files.early)
         views.append(view)
-    rows_of_all = [row for view in views for row in view.rows]
     if scenario:
         warnings = list(_other_weeks(files, texts, scenario, histories))
         return RosterView(scenario.name, list(scenario.nurses), list(scenario.shift_types), list(scenario.skills), views, warnings)
-    ordered = [list(dict.fromkeys(getattr(row, field) for row in rows_of_all)) for field in ("nurse", "shift", "skill")]
-    return RosterView(solutions[0].scenario, *ordered, views)
+    shown = [row for view in views for row in view.rows]
+    nurses, shifts, skills = (row.nurse for row in shown), (row.shift for row in shown), (row.skill for row in shown)
+    return RosterView(solutions[0].scenario, _each_once(nurses), _each_once(shifts), _each_once(skills), views)
+
+
+def _each_once(names: Iterable[str]) -> List[str]:
+    """The names in the order in which they first occur."""
+    return list(dict.fromkeys(names))
 
 
 def _check_numbers(files: RosterFiles) -> None:

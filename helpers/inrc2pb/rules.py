@@ -17,11 +17,11 @@ Shifts = Dict[Tuple[str, int], List[str]]
 
 
 class Count(NamedTuple):
-    """A count of a soft rule: how often something occurs, and the weight of each time."""
+    """A count of a soft rule: how many times something occurs, and the weight of each time."""
 
     rule: str
     what: str
-    count: int
+    times: int
     weight: int
 
 
@@ -140,7 +140,7 @@ def _total_counts(week: Week, contract: Contract, history: NurseHistory, works: 
 def _cost_by_rule(counted: Iterable[Count]) -> Dict[str, int]:
     cost = dict.fromkeys(SOFT_RULES, 0)
     for count in counted:
-        cost[count.rule] += count.count * count.weight
+        cost[count.rule] += count.times * count.weight
     return cost
 
 
