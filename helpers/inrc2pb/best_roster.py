@@ -16,13 +16,12 @@ from .program import ProgramFault, Report, WeekFiles, decode, extend, penalty_of
 _TRIES = 5
 
 
-@dataclass(frozen=True)
+@dataclass(frozen=True, eq=False)
 class Snapshot:
-    """A roster with its penalty. `version` counts the rosters of the search; 0 is none."""
+    """A roster with its penalty. Each roster that a search finds is an object of its own, even if it equals an earlier one."""
 
-    version: int = 0
-    penalty: Optional[int] = None
-    roster: Optional[Solution] = None
+    penalty: int
+    roster: Solution
 
 
 Announce = Callable[[int, str], None]
@@ -37,29 +36,27 @@ class BestRoster:
         self._announce = announce
         self._warn = warn
         self._lock = threading.Lock()
-        self._best = Snapshot()
+        self._best: Optional[Snapshot] = None
         self.improved_at = time.monotonic()
         self.bound: Optional[int] = None
         self.bound_by = ""
 
-    def now(self) -> Snapshot:
-        """The best roster until now."""
+    def now(self) -> Optional[Snapshot]:
+        """The best roster until now, if there is one."""
         return self._best
 
-    def offer(self, found: Snapshot, seen: Snapshot, freed: Optional[Neighborhood], folder: Path, finder: str) -> None:
+    def offer(self, found: Snapshot, seen: Optional[Snapshot], freed: Optional[Neighborhood], folder: Path, finder: str) -> None:
         """Keeps the roster `found`, which came from `seen`, or its merger with the best one, if it costs less than the best.
 
         At the same cost it is kept if no other worker has found one since, so that the search moves on.
         """
         for _ in range(_TRIES):
             now, better, name = self._best, found, finder
-            if freed and now.version != seen.version and found.penalty < seen.penalty:
+            if now and seen and freed and now is not seen and found.penalty < seen.penalty:
                 merged = self._merged(found, now, freed, folder)
                 if merged and merged.penalty < found.penalty:
                     better, name = merged, f"{finder}, merged"
-            if now.penalty is not None and better.penalty > now.penalty:
-                return
-            if better.penalty == now.penalty and now.version != seen.version:
+            if now and (better.penalty > now.penalty or (better.penalty == now.penalty and now is not seen)):
                 return
             if self._keep(better, now, name):
                 return
@@ -72,23 +69,23 @@ class BestRoster:
         path = folder / "merged.txt"
         write_solution(path, roster)
         try:
-            return Snapshot(0, penalty_of(self._files, path), roster)
+            return Snapshot(penalty_of(self._files, path), roster)
         except ProgramFault as fault:
             if fault.status != 6:
                 raise
             return None
 
-    def _keep(self, better: Snapshot, now: Snapshot, finder: str) -> bool:
+    def _keep(self, better: Snapshot, now: Optional[Snapshot], finder: str) -> bool:
         """Keeps the roster if it costs less than the best one, or `now` is still the best."""
         with self._lock:
-            less = self._best.penalty is None or better.penalty < self._best.penalty
-            if not less and self._best.version != now.version:
+            less = self._best is None or better.penalty < self._best.penalty
+            if not less and self._best is not now:
                 return False
             if less:
                 write_solution(self._solution, better.roster)
                 self.improved_at = time.monotonic()
                 self._check_bound(better.penalty)
-            self._best = Snapshot(self._best.version + 1, better.penalty, better.roster)
+            self._best = better
             if less:
                 self._announce(better.penalty, finder)
         return True
@@ -107,18 +104,20 @@ class BestRoster:
 
     def is_proved(self) -> bool:
         """Whether the best roster costs no more than the lower bound."""
-        return self.bound is not None and self._best.penalty is not None and self._best.penalty <= self.bound
+        return self.bound is not None and self._best is not None and self._best.penalty <= self.bound
 
-    def report(self) -> Report:
-        """The report of the best roster; its status is OPTIMUM FOUND if a solver proved it."""
+    def report(self) -> Optional[Report]:
+        """The report of the best roster, if there is one; its status is OPTIMUM FOUND if a solver proved it."""
+        best = self._best
+        if not best:
+            return None
         with tempfile.TemporaryDirectory() as folder:
             # The file `solution` may be a device or a pipe, from which nothing can be read.
             written = Path(folder, "roster.txt")
-            write_solution(written, self._best.roster)
+            write_solution(written, best.roster)
             answer, report = extend(self._files, written)
         if self.is_proved():
             return decode(self._files, answer.replace("s SATISFIABLE", "s OPTIMUM FOUND", 1))
-        assert report is not None
         return report
 
 
@@ -126,7 +125,7 @@ def read_start(files: WeekFiles, start: Path, week: Week, held: Sequence[Assignm
     """The roster with which a search begins. One that breaks a hard rule is a ProgramFault that says why."""
     rows = read_roster(start, week.scenario, week.history).assignments
     try:
-        return Snapshot(0, penalty_of(files, start), Solution(week.history.week, week.scenario.name, rows))
+        return Snapshot(penalty_of(files, start), Solution(week.history.week, week.scenario.name, rows))
     except ProgramFault as fault:
         found = other_week(start, week.scenario, week.history) if "roster breaks" in fault.message else ""
         said = ProgramFault(fault.status, f"{start} breaks a hard rule; {found}") if found else explained(fault, start, week, held)

@@ -12,7 +12,7 @@ from .files import Assignment, FileFault, History, Scenario, Week, WeekData
 from .files import check_week_number, read_history, read_scenario, read_solution, read_week
 from .misfits import explained, other_week, read_held, read_roster
 from .odd_values import history_warnings, scenario_warnings, week_warnings
-from .program import NO_PROGRAM, ProgramFault, encode, extend
+from .program import NO_PROGRAM, ProgramFault, answer_with, encode
 from .rules import first_broken
 
 Contents = TypeVar("Contents")
@@ -114,7 +114,7 @@ class Check:
         for roster in self.given.roster:
             try:
                 if has_program:
-                    extend(files, roster, with_report=False)
+                    answer_with(files, roster)
                 else:
                     _compare(roster, week, held)
             except ProgramFault as fault:

@@ -11,7 +11,7 @@ import time
 from pathlib import Path
 from typing import List, Optional, Sequence, TextIO
 
-from .best_roster import BestRoster, Snapshot, read_start
+from .best_roster import BestRoster, read_start
 from .command import Misuse, add_week_options, number_of_seconds, parser, processors, week_files
 from .files import Assignment, Week, read_files
 from .interrupts import interrupts
@@ -64,8 +64,8 @@ class Outcome:
     `stopped` says whether the user stopped it; `fault` is the fault that ended it, if one did.
     """
 
-    def __init__(self, best: BestRoster, stopped: bool, fault: Optional[BaseException]) -> None:
-        self.report = best.report()
+    def __init__(self, report: Report, best: BestRoster, stopped: bool, fault: Optional[BaseException]) -> None:
+        self.report = report
         self.bound = best.bound
         self.bound_by = best.bound_by
         self.proved = best.is_proved()
@@ -114,18 +114,19 @@ def search(
         folder = Path(tempfile.mkdtemp(prefix="inrc2pb-improve-"))
         try:
             if start:
-                best.offer(read_start(files, start, week, fixed), Snapshot(), None, folder, "the given roster")
+                best.offer(read_start(files, start, week, fixed), None, None, folder, "the given roster")
             with signals.calling(running.interrupt):
                 fault = running.run(folder, seed, jobs)
         finally:
             progress.finish()
             shutil.rmtree(folder, ignore_errors=True)
-        if not best.now().version:
-            raise fault or (ProgramFault(5, "stopped before the first roster") if signals.caught else running.without_roster())
         try:
-            return Outcome(best, bool(signals.caught), fault)
+            report = best.report()
         except (ProgramFault, OSError) as unreported:
             raise fault or unreported
+        if not report:
+            raise fault or (ProgramFault(5, "stopped before the first roster") if signals.caught else running.without_roster())
+        return Outcome(report, best, bool(signals.caught), fault)
 
 
 def held_rows(fix: Path, week: Week, progress: Progress) -> Sequence[Assignment]:

@@ -137,7 +137,6 @@ class Period:
             _, report = extend(files, roster)
         except (FileFault, Misuse, ProgramFault) as fault:
             raise _of_week(number, fault) from fault
-        assert report is not None
         self.reports[number] = report
         print(f"week {number}: penalty {report.penalty}, {roster}", flush=True)
         if number + 1 < self.scenario.weeks:

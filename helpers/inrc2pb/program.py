@@ -142,16 +142,20 @@ def decode(files: WeekFiles, answer: str, solution: Optional[Path] = None) -> Re
     return report_of(run_program("decode", *files.options(), "--sol", str(solution or os.devnull), given=answer))
 
 
-def extend(files: WeekFiles, roster: Path, with_report: bool = True) -> Tuple[str, Optional[Report]]:
+def answer_with(files: WeekFiles, roster: Path) -> str:
+    """The answer whose roster this is, by `extend`; a roster that breaks a hard rule is a ProgramFault."""
+    return run_program("extend", *files.options(), "--from", str(roster))
+
+
+def extend(files: WeekFiles, roster: Path) -> Tuple[str, Report]:
     """The answer whose roster this is, and its report; a roster that breaks a hard rule is a ProgramFault."""
-    answer = run_program("extend", *files.options(), "--from", str(roster))
-    return answer, decode(files, answer) if with_report else None
+    answer = answer_with(files, roster)
+    return answer, decode(files, answer)
 
 
 def penalty_of(files: WeekFiles, roster: Path) -> int:
     """The penalty of a roster, by `extend`."""
-    answer, _ = extend(files, roster, with_report=False)
-    return int(answer.split("\n", 1)[0].split()[1])
+    return int(answer_with(files, roster).split("\n", 1)[0].split()[1])
 
 
 def report_of(text: str) -> Report:

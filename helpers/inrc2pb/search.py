@@ -68,7 +68,7 @@ class Search:
 
     def interrupt(self) -> None:
         """Ends the search as the user asks, now or, before there is a roster, as soon as the solvers have printed theirs."""
-        if self._ended.is_set() or self._best.now().version:
+        if self._ended.is_set() or self._best.now():
             self.stop()
         else:
             self._ended.set()
@@ -96,8 +96,8 @@ class Search:
         """One worker. A fault ends the search; after `stop` faults mean nothing."""
         try:
             self._first(number, jobs, folder)
-            while self._goes_on():
-                self._step(chance, folder)
+            while self._goes_on() and (seen := self._best.now()):
+                self._step(seen, chance, folder)
         except BaseException as fault:  # noqa: B902
             with self._lock:
                 if not self._ended.is_set() and not self._failure:
@@ -118,11 +118,11 @@ class Search:
         if proof:
             self._whole(proof[0], min(proof[1], self._left() - min(3.0, self._seconds / 10)), folder)
         elif number > 1:
-            while self._goes_on() and not self._best.now().version:
+            while self._goes_on() and not self._best.now():
                 time.sleep(0.05)
         seconds = min(FIRST_SECONDS, self._seconds / 6)
         for turn in itertools.count():
-            if not self._goes_on() or self._best.now().version:
+            if not self._goes_on() or self._best.now():
                 break
             commands = [command for solver in self._usable() for command in (*solver.steps()[1:], *solver.whole())]
             self._whole(commands[turn % len(commands)], min(seconds, self._left()), folder)
@@ -142,7 +142,8 @@ class Search:
     def _whole(self, solver: Solver, seconds: float, folder: Path) -> None:
         """Solves the whole week with one solver."""
         seen = self._best.now()
-        found = self._solve(solver, self._files, seconds, seen.penalty, folder, lambda bound: self._bound(bound, solver.name))
+        known = seen.penalty if seen else None
+        found = self._solve(solver, self._files, seconds, known, folder, lambda bound: self._bound(bound, solver.name))
         if found:
             self._best.offer(found[0], seen, None, folder, f"{solver.title}, the whole week")
             if found[1]:
@@ -150,23 +151,22 @@ class Search:
 
     def _bound(self, bound: int, solver: str) -> None:
         # A solver that cuts off rosters above the best one may report a bound above it.
-        known = self._best.now().penalty
-        self._best.raise_bound(bound if known is None else min(bound, known), solver)
+        best = self._best.now()
+        self._best.raise_bound(min(bound, best.penalty) if best else bound, solver)
         if self._best.is_proved():
             self.stop()
 
     def _prove(self, penalty: int, solver: Solver) -> None:
         """A solver claims that no roster costs less than its own. It is wrong if there is one."""
-        best = self._best.now().penalty
-        if best is not None and best < penalty:
-            self._blame(solver, f"it calls a roster of penalty {penalty} the best, and one of {best} is known")
+        best = self._best.now()
+        if best and best.penalty < penalty:
+            self._blame(solver, f"it calls a roster of penalty {penalty} the best, and one of {best.penalty} is known")
             return
         self._best.raise_bound(penalty, solver.name)
         self.stop()
 
-    def _step(self, chance: random.Random, folder: Path) -> None:
+    def _step(self, seen: Snapshot, chance: random.Random, folder: Path) -> None:
         """Solves one neighborhood of the best roster."""
-        seen = self._best.now()
         solvers = {step.title: step for solver in self._usable() for step in solver.steps()}
         costs = {nurse: sum(by_rule.values()) for nurse, by_rule in nurse_costs(self._week, seen.roster.assignments, self._files.early).items()}
         name, freed = self._neighborhoods.choose(list(solvers), costs, chance)
@@ -197,7 +197,7 @@ class Search:
         roster = replace(seen.roster, assignments=(*rows, *part.roster.assignments))
         path = folder / "joined.txt"
         write_solution(path, roster)
-        return Snapshot(0, penalty_of(self._files, path), roster)
+        return Snapshot(penalty_of(self._files, path), roster)
 
     def _usable(self) -> List[Solver]:
         """The solvers that are still used: at least one."""
@@ -228,7 +228,7 @@ class Search:
             return None
         with self._lock:
             self._faults[solver.name] = 0
-        return Snapshot(0, report.penalty, read_solution(path)), report.optimal
+        return Snapshot(report.penalty, read_solution(path)), report.optimal
 
     def _judge(self, fault: ProgramFault, solver: Solver, known: bool, early: bool) -> None:
         """Reports an answer that `decode` did not accept. One without a roster is a fault if it is wrong, or came too early."""
@@ -240,7 +240,7 @@ class Search:
             self._blame(solver, "it does not support this model")
         elif "UNKNOWN" in fault.message and early:
             self._blame(solver, "it gave up before its time was over")
-        elif "UNSATISFIABLE" in fault.message and not self._best.now().version:
+        elif "UNSATISFIABLE" in fault.message and not self._best.now():
             self._drop_denier(solver)
         elif "UNSATISFIABLE" in fault.message and (early or not known):
             self._blame(solver, "it found no roster where there is one")

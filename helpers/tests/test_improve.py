@@ -199,7 +199,7 @@ class BadInput(HelperTest):
 class Stops(HelperTest):
     def test_before_the_first_roster_a_solver_prints_what_it_has(self):
         answer, target, running = self.folder / "answer.txt", self.folder / "best.txt", self.folder / "running"
-        answer.write_text(program.extend(WEEK_FILES, ROSTER, False)[0])
+        answer.write_text(program.answer_with(WEEK_FILES, ROSTER))
         slow = self.folder / "slow.sh"
         slow.write_text(f"#!/bin/sh\ntrap 'cat {answer}; exit' TERM\ntouch {running}\nwhile :; do sleep 0.1; done\n")
         slow.chmod(0o755)

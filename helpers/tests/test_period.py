@@ -51,7 +51,7 @@ class PeriodTest(HelperTest):
     def answers_once(self, early=False):
         """A solver that has an answer of penalty 20 to the ward's week when it is called first, and none later."""
         answer = self.folder / "answer.txt"
-        answer.write_text(program.extend(replace(WEEK_FILES, early=early), ROSTER, False)[0])
+        answer.write_text(program.answer_with(replace(WEEK_FILES, early=early), ROSTER))
         return f"sh -c 'mkdir {self.folder}/called 2> /dev/null && cat {answer}'"
 
     def assert_period(self, printed, options, count, early=False):
@@ -134,7 +134,7 @@ class PeriodFaults(PeriodTest):
 
     def test_after_a_stop_the_roster_that_the_solver_has_is_reported(self):
         answer = self.folder / "answer.txt"
-        answer.write_text(program.extend(WEEK_FILES, ROSTER, False)[0])
+        answer.write_text(program.answer_with(WEEK_FILES, ROSTER))
         status, printed, said = self.stopped(f"cat {answer}")
         self.assertEqual((status, said), (130, "week 0\n"))
         self.assert_period(printed, WARD_OPTIONS, 1)
