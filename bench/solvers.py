@@ -92,8 +92,9 @@ class FileSolver(Solver):
         return answer_of(sol, "optimal" if re.search(r"^Optimum: ", ended.output, re.MULTILINE) else None)
 
     def bounds(self, ended: Ended, hear: Optional[Callable[[int], None]]) -> None:
-        for text in re.findall(self.pattern, ended.output) if hear else ():
-            hear(int(float(text) + 0.999))
+        if hear:
+            for text in re.findall(self.pattern, ended.output):
+                hear(int(float(text) + 0.999))
 
 
 def known_solvers() -> Dict[str, Solver]:
@@ -128,9 +129,11 @@ def weeks(folder: Path) -> Dict[str, WeekFiles]:
     middle.write_text(thirty.history.read_text().replace("\n3 thirty\n", "\n1 thirty\n", 1))
     found["thirty, second week"] = replace(thirty, history=middle)
     subprocess.run([sys.executable, str(ROOT / "bench/weeks.py"), "files", "ward", str(folder / "ward")], check=True)
-    found["ward of 120"] = WeekFiles(*(folder / "ward" / f"{name}.txt" for name in ("scenario", "history", "week")))
+    ward = folder / "ward"
+    found["ward of 120"] = WeekFiles(ward / "scenario.txt", ward / "history.txt", ward / "week.txt")
     for name in LAST_WEEKS:
-        found[name] = WeekFiles(*(EXAMPLES / name / file for file in ("ward.txt", "history-3.txt", "week-3.txt")))
+        home = EXAMPLES / name
+        found[name] = WeekFiles(home / "ward.txt", home / "history-3.txt", home / "week-3.txt")
     return found
 
 
