@@ -32,7 +32,7 @@ class Answer:
 
     status: str
     objective: Optional[int] = None
-    variables: array = field(default_factory=lambda: array("L"))
+    variables: "array[int]" = field(default_factory=lambda: array("L"))
 
     def write(self, target: TextIO) -> None:
         """Writes the `s`, `o` and `v` lines. Variables that no line names are false."""
@@ -77,7 +77,7 @@ def _objective(text: str) -> Optional[int]:
     return round(value)
 
 
-def _put_value(line: int, name: str, text: str, variables: array) -> None:
+def _put_value(line: int, name: str, text: str, variables: "array[int]") -> None:
     """Keeps the variable if its value is 1."""
     match = _VARIABLE.fullmatch(name)
     if not match:
@@ -95,7 +95,7 @@ def _put_value(line: int, name: str, text: str, variables: array) -> None:
         variables.append(int(match.group(1)))
 
 
-def _values(rows: Iterable[Tuple[int, List[str]]], name: int = 0, value: int = 1) -> array:
+def _values(rows: Iterable[Tuple[int, List[str]]], name: int = 0, value: int = 1) -> "array[int]":
     """The true variables of rows that have the name and the value at these indices."""
     variables = array("L")
     for number, words in rows:

@@ -1,13 +1,13 @@
 """Searches for a good roster: several workers solve neighborhoods of the best one, each as a small ward with all else held."""
 
+import collections
 import itertools
 import random
 import threading
 import time
-from collections import Counter
 from dataclasses import replace
 from pathlib import Path
-from typing import Callable, Dict, List, Optional, Sequence, Tuple
+from typing import Callable, Counter, Dict, List, Optional, Sequence, Tuple
 
 from .best_roster import BestRoster, Snapshot
 from .command import Misuse
@@ -54,7 +54,7 @@ class Search:
         self._fixed = frozenset(fixed)
         self._processes = Processes()
         self._ended = threading.Event()
-        self._faults: "Counter[str]" = Counter()
+        self._faults: Counter[str] = collections.Counter()
         # The solvers that claim that no roster exists, and whether each solver printed nothing until now.
         self._deniers: List[str] = []
         self._silent: Dict[str, bool] = {}
