@@ -1,10 +1,11 @@
 #!/usr/bin/env bash
-# Runs the tests of the helpers, helpers/tests, on the program. Compares the options in their manual page with their help, and
-# the fault texts of docs/answers.md with those that docs/your_ward.md explains.
+# Runs the tests of the helpers, helpers/tests, on the program. Checks the types of their library, and of the programs that use
+# it, by mypy. Compares the options in their manual page with their help, and the fault texts of docs/answers.md with those that
+# docs/your_ward.md explains.
 #
 #   tests/helpers.sh [llvm | rattle | PROGRAM]
 #
-# Needs Python 3.8; tests that need clasp or cbc are skipped if it is not installed.
+# Needs Python 3.8; tests that need clasp or cbc are skipped if it is not installed. Without mypy the script says so.
 . "$(dirname "$0")/kit.sh"
 
 # One case for each test of Python.
@@ -16,6 +17,15 @@ run_tests() {
     ran=$(sed -n 's/^Ran \([0-9]*\) tests\{0,1\} .*/\1/p' "$err")
     checked=$((checked + ${ran:-0}))
     [ "${ran:-0}" -gt 0 ] || complain "no test ran: $(tail -n 3 "$err")"
+}
+
+# types_hold [WORD..]: mypy finds no mistake.
+types_hold() { MYPYPATH=helpers mypy --cache-dir "$room/types" "$@" > "$out" 2>&1; }
+
+checks_types() {
+    command -v mypy > /dev/null || { echo 'helpers.sh: mypy is not installed, so the types were not checked'; return; }
+    begins_case 'the types of the helpers'
+    { types_hold --strict helpers/inrc2pb && types_hold bench/*.py examples/make_weeks.py; } || complain "$(head -n 20 "$out")"
 }
 
 # The options on standard input, one a line.
@@ -62,6 +72,7 @@ explains_each_fault() {
 }
 
 run_tests
+checks_types
 manual_has_each_option
 explains_each_fault
 finish
