@@ -10,6 +10,8 @@ from dataclasses import dataclass
 from pathlib import Path
 from typing import Dict, List, Optional, Tuple
 
+from .processes import Processes
+
 SOFT_RULES = ("S1", "S2", "S3", "S4", "S5", "S6", "S7")
 READ_OR_WRITE, NO_PROGRAM = 3, 127
 # A run takes less, also of the largest week; one that waits for a pipe that nobody writes would not end.
@@ -108,17 +110,22 @@ def run_program(*words: str, given: str = "") -> str:
         advice = "a pipe can be read only once, so give files"
         raise ProgramFault(READ_OR_WRITE, f"inrc2pb {words[0]} did not end in {LONGEST_RUN:.0f} s: {advice}") from fault
     except OSError as fault:
-        raise ProgramFault(NO_PROGRAM, f"{program} does not run: {fault.strerror}") from fault
-    if ran.returncode:
-        raise ProgramFault(ran.returncode, _fault_line(ran.returncode, ran.stderr))
+        raise _no_run(program, fault) from fault
+    _check_status(ran.returncode, ran.stderr.decode("utf-8", errors="replace"))
     return ran.stdout.decode("utf-8", errors="surrogateescape")
 
 
-def _fault_line(status: int, said: bytes) -> str:
-    lines = said.decode("utf-8", errors="replace").strip().splitlines()
+def _no_run(program: str, fault: OSError) -> ProgramFault:
+    return ProgramFault(NO_PROGRAM, f"{program} does not run: {fault.strerror}")
+
+
+def _check_status(status: int, errors: str) -> None:
+    """A status other than 0 is a ProgramFault, with the first line of standard error."""
+    lines = errors.strip().splitlines()
     if status < 0:
-        return f"inrc2pb: ended by {_signal_name(-status)}"
-    return lines[0] if lines else f"inrc2pb: ended with status {status}"
+        raise ProgramFault(status, f"inrc2pb: ended by {_signal_name(-status)}")
+    if status:
+        raise ProgramFault(status, lines[0] if lines else f"inrc2pb: ended with status {status}")
 
 
 def _signal_name(number: int) -> str:
@@ -129,9 +136,26 @@ def _signal_name(number: int) -> str:
         return f"signal {number}"
 
 
+def _encode_words(files: WeekFiles, model: Path) -> List[str]:
+    return ["encode", *files.options(), "--opb", str(model)]
+
+
 def encode(files: WeekFiles, model: Path) -> None:
     """Writes the model of the week to the file `model`."""
-    run_program("encode", *files.options(), "--opb", str(model))
+    run_program(*_encode_words(files, model))
+
+
+def encode_unless_stopped(files: WeekFiles, model: Path, processes: Processes) -> bool:
+    """As `encode`, in one of the `processes`. Returns whether the model is whole: it is not if they are stopped before."""
+    program = str(find_program())
+    try:
+        ended = processes.run([program, *_encode_words(files, model)], LONGEST_RUN, Path.cwd())
+    except OSError as fault:
+        raise _no_run(program, fault) from fault
+    if processes.stopped:
+        return False
+    _check_status(ended.status, ended.errors)
+    return True
 
 
 def decode(files: WeekFiles, answer: str, solution: Optional[Path] = None) -> Report:

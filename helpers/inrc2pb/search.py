@@ -15,7 +15,7 @@ from .files import Assignment, Week, read_solution, write_solution
 from .neighborhoods import Neighborhood, Neighborhoods
 from .part import write_part
 from .processes import Processes
-from .program import ProgramFault, WeekFiles, decode, encode, penalty_of
+from .program import ProgramFault, WeekFiles, decode, encode_unless_stopped, penalty_of
 from .rules import nurse_costs
 from .solvers import Cbc, HearBound, Solver, Task
 
@@ -209,7 +209,8 @@ class Search:
     ) -> Optional[Tuple[Snapshot, bool]]:
         """A roster that the solver found in these seconds and `decode` accepts, and whether it is proved optimal for its model."""
         model = folder / "model.opb"
-        encode(files, model)
+        if not encode_unless_stopped(files, model, self._processes):
+            return None
         began = time.monotonic()
         outcome = solver.solve(Task(model, seconds, folder, known), self._processes, hear)
         early = time.monotonic() - began < seconds / 2

@@ -197,22 +197,44 @@ class BadInput(HelperTest):
 
 
 class Stops(HelperTest):
-    def test_before_the_first_roster_a_solver_prints_what_it_has(self):
-        answer, target, running = self.folder / "answer.txt", self.folder / "best.txt", self.folder / "running"
-        answer.write_text(program.answer_with(WEEK_FILES, ROSTER))
-        slow = self.folder / "slow.sh"
-        slow.write_text(f"#!/bin/sh\ntrap 'cat {answer}; exit' TERM\ntouch {running}\nwhile :; do sleep 0.1; done\n")
-        slow.chmod(0o755)
-        words = [*WEEK_FILES.options(), "--sol", target, "--time", "600", "--jobs", "1", "--solver", slow]
+    def script(self, name, text):
+        """A shell script in the test's folder."""
+        path = self.folder / name
+        path.write_text(f"#!/bin/sh\n{text}")
+        path.chmod(0o755)
+        return path
+
+    def stopped(self, running, *words, environment=None):
+        """A search of ten minutes that gets Ctrl-C when the file `running` exists: its status and its report."""
+        words = [*WEEK_FILES.options(), "--time", "600", "--jobs", "1", *words]
         command = [sys.executable, str(HELPERS / "inrc2pb-improve"), *map(str, words)]
-        search = subprocess.Popen(command, stdout=subprocess.PIPE, stderr=subprocess.DEVNULL)
-        while not running.exists():
+        search = subprocess.Popen(command, stdout=subprocess.PIPE, stderr=subprocess.DEVNULL, env={**os.environ, **(environment or {})})
+        self.addCleanup(search.kill)
+        while not running.exists() and search.poll() is None:
             time.sleep(0.05)
         search.send_signal(signal.SIGINT)
         report, _ = search.communicate(timeout=120)
-        self.assertEqual(search.returncode, 0)
-        self.assertIn(b"penalty 20\n", report)
+        return search.returncode, report.decode()
+
+    def test_before_the_first_roster_a_solver_prints_what_it_has(self):
+        answer, target, running = self.folder / "answer.txt", self.folder / "best.txt", self.folder / "running"
+        answer.write_text(program.answer_with(WEEK_FILES, ROSTER))
+        slow = self.script("slow.sh", f"trap 'cat {answer}; exit' TERM\ntouch {running}\nwhile :; do sleep 0.1; done\n")
+        status, report = self.stopped(running, "--sol", target, "--solver", slow)
+        self.assertEqual(status, 0)
+        self.assertIn("penalty 20\n", report)
         self.assertEqual(program.penalty_of(WEEK_FILES, target), 20)
+
+    def test_a_stop_does_not_wait_for_a_model(self):
+        running = self.folder / "running"
+        encodes_slowly = f'[ "$1" != encode ] || {{ touch {running}; exec sleep 200; }}\nexec {program.find_program()} "$@"\n'
+        slow = {"INRC2PB": str(self.script("inrc2pb", encodes_slowly))}
+        for start, status, says in ((("--from", ROSTER), 0, "penalty 20\n"), ((), 5, "")):
+            with self.subTest(start):
+                ran = self.stopped(running, "--sol", self.folder / "best.txt", "--solver", "true", *start, environment=slow)
+                self.assertEqual(ran[0], status)
+                self.assertIn(says, ran[1])
+            running.unlink(missing_ok=True)
 
     @unittest.skipUnless(HAS_CLASP, "needs clasp")
     def test_the_best_roster_is_reported(self):
