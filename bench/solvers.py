@@ -31,7 +31,7 @@ from inrc2pb.command import processors  # noqa: E402
 from inrc2pb.improve import Progress, search  # noqa: E402
 from inrc2pb.linear_program import convert  # noqa: E402
 from inrc2pb.processes import Ended, Processes  # noqa: E402
-from inrc2pb.program import ProgramFault, WeekFiles, decode, encode  # noqa: E402
+from inrc2pb.program import NO_ROSTER, ProgramFault, WeekFiles, decode, encode  # noqa: E402
 from inrc2pb.solvers import CLASP_BOUND, NONE_IN_TIME, Cbc, Clasp, CommandSolver, Outcome, Solver, Task, answer_of  # noqa: E402
 
 RESULTS = ROOT / "bench" / "solvers.json"
@@ -46,7 +46,7 @@ LIMITS = [60, 300]
 LAST_WEEKS = ["last12", "last60", "last120"]
 LAST_WEEK_SOLVERS = ["clasp", "cbc", "inrc2pb-improve", "inrc2pb-improve, clasp"]
 # toulbar2 searched to the end. If it is stopped it says nothing, or `No solution found in`.
-NO_ROSTER = re.compile(r"^No solution (?:in|found by initial propagation)\b", re.MULTILINE)
+SAYS_NO_ROSTER = re.compile(r"^No solution (?:in|found by initial propagation)\b", re.MULTILINE)
 
 
 class Result(NamedTuple):
@@ -85,7 +85,7 @@ class FileSolver(Solver):
         words = [word.format(opb=task.model, lp=lp, sol=sol, seconds=int(task.seconds)) for word in self.words]
         ended = processes.run(words, task.seconds + 30, task.folder)
         self.bounds(ended, hear)
-        if NO_ROSTER.search(ended.output):
+        if SAYS_NO_ROSTER.search(ended.output):
             return Outcome("s UNSATISFIABLE\n")
         if not sol.exists():
             return NONE_IN_TIME if ended.timed_out else Outcome("", f"it wrote no result file and ended with status {ended.status}")
@@ -150,7 +150,7 @@ def run_solver(solver: Solver, files: WeekFiles, limit: float, folder: Path) -> 
         report = decode(files, outcome.answer or "s UNKNOWN\n")
     except ProgramFault as fault:
         proved = "UNSATISFIABLE" in fault.message
-        return Result(None, proved, None if proved else bound, seconds, outcome.fault or ("" if fault.status == 5 else fault.message))
+        return Result(None, proved, None if proved else bound, seconds, outcome.fault or ("" if fault.status == NO_ROSTER else fault.message))
     return Result(report.penalty, report.optimal, report.penalty if report.optimal else bound, seconds, "")
 
 

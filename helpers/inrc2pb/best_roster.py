@@ -10,7 +10,7 @@ from typing import Callable, Optional, Sequence
 from .files import Assignment, Solution, Week, write_solution
 from .misfits import explained, other_week, read_roster
 from .neighborhoods import Neighborhood
-from .program import ProgramFault, Report, WeekFiles, decode, extend, penalty_of
+from .program import BROKEN_RULE, ProgramFault, Report, WeekFiles, decode, extend, penalty_of
 
 # How often a result is compared anew because another worker was faster.
 _TRIES = 5
@@ -71,7 +71,7 @@ class BestRoster:
         try:
             return Snapshot(penalty_of(self._files, path), roster)
         except ProgramFault as fault:
-            if fault.status != 6:
+            if fault.status != BROKEN_RULE:
                 raise
             return None
 

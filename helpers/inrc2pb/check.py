@@ -12,7 +12,7 @@ from .files import Assignment, FileFault, History, Scenario, Week, WeekData
 from .files import check_week_number, read_history, read_scenario, read_solution, read_week
 from .misfits import explained, other_week, read_held, read_roster
 from .odd_values import history_warnings, scenario_warnings, week_warnings
-from .program import NO_PROGRAM, ProgramFault, answer_with, encode
+from .program import BROKEN_RULE, FAULT, NO_PROGRAM, ProgramFault, answer_with, encode
 from .rules import first_broken
 
 Contents = TypeVar("Contents")
@@ -125,7 +125,7 @@ def _compare(roster: Path, week: Week, held: List[Assignment]) -> None:
     """Raises the fault of `inrc2pb extend` if the roster breaks a hard rule."""
     rule = first_broken(week, read_solution(roster, week.scenario).assignments, held)
     if rule:
-        raise ProgramFault(6, f"roster breaks {rule}")
+        raise ProgramFault(BROKEN_RULE, f"roster breaks {rule}")
 
 
 def _explain(number: int, week: Week, held: List[Assignment], given: argparse.Namespace) -> None:
@@ -169,7 +169,7 @@ def main() -> Optional[int]:
         print("warning: hard rules are not checked without the whole week: give --his and --week too")
     if not check.mistakes and given.constraint is None:
         print("No mistake found.")
-    return 1 if check.mistakes else 0
+    return FAULT if check.mistakes else 0
 
 
 if __name__ == "__main__":

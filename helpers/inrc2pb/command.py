@@ -8,8 +8,11 @@ import sys
 from pathlib import Path
 from typing import Callable, NoReturn, Optional, TextIO
 
-from .program import ProgramFault, WeekFiles
+from .program import FAULT, OUT_OF_MEMORY, READ_OR_WRITE, ProgramFault, WeekFiles
 from .slots import FileFault
+
+# The exit statuses with which a shell reports that the signals PIPE and INT ended a command.
+BROKEN_PIPE, INTERRUPTED = 141, 130
 
 # Advice after a fault of the operating system, by its number.
 _ADVICE = {
@@ -138,19 +141,19 @@ def run(main: Callable[[], Optional[int]]) -> None:
         sys.stdout.flush()
     except BrokenPipeError:
         os.dup2(os.open(os.devnull, os.O_WRONLY), 1)
-        status = 141
+        status = BROKEN_PIPE
     except KeyboardInterrupt:
-        status = 130
+        status = INTERRUPTED
     except ProgramFault as fault:
         print(f"{name}: {fault_line(fault)}", file=sys.stderr)
-        status = fault.status if 0 < fault.status < 256 else 1
+        status = fault.status if 0 < fault.status < 256 else FAULT
     except (FileFault, Misuse, OSError) as fault:
         print(f"{name}: {fault_line(fault)}", file=sys.stderr)
-        status = 3 if isinstance(fault, OSError) else 1
+        status = READ_OR_WRITE if isinstance(fault, OSError) else FAULT
         _drop_output()
     except MemoryError:
         print(f"{name}: out of memory", file=sys.stderr)
-        status = 4
+        status = OUT_OF_MEMORY
     sys.exit(status)
 
 

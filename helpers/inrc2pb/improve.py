@@ -16,7 +16,7 @@ from .command import Misuse, add_week_options, number_of_seconds, parser, proces
 from .files import Assignment, Week, read_files
 from .interrupts import interrupts
 from .misfits import read_held
-from .program import ProgramFault, Report, WeekFiles
+from .program import NO_ROSTER, ProgramFault, Report, WeekFiles
 from .search import Search
 from .solvers import find_solvers, installed_solvers
 from .targets import check_inputs_stay, check_no_pipes, check_target
@@ -125,7 +125,7 @@ def search(
         except (ProgramFault, OSError) as unreported:
             raise fault or unreported
         if not report:
-            raise fault or (ProgramFault(5, "stopped before the first roster") if signals.caught else running.without_roster())
+            raise fault or (ProgramFault(NO_ROSTER, "stopped before the first roster") if signals.caught else running.without_roster())
         return Outcome(report, best, bool(signals.caught), fault)
 
 

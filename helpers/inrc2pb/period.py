@@ -17,7 +17,7 @@ from .interrupts import Interrupts, interrupts
 from .misfits import read_held
 from .next_history import next_history
 from .processes import Processes
-from .program import SOFT_RULES, ProgramFault, Report, WeekFiles, decode, encode, extend, find_program
+from .program import NO_ROSTER, SOFT_RULES, ProgramFault, Report, WeekFiles, decode, encode, extend, find_program
 from .shared_totals import shared_week
 from .solvers import Task, find_solver, installed_solvers
 from .targets import check_inputs_stay
@@ -59,7 +59,7 @@ def plan_once(solver_name: str, seconds: float) -> Plan:
         except ProgramFault as fault:
             if not signals.caught:
                 raise
-            raise ProgramFault(5, "stopped before the first roster") from fault
+            raise ProgramFault(NO_ROSTER, "stopped before the first roster") from fault
         return KeyboardInterrupt() if signals.caught else None
 
     return plan

@@ -13,7 +13,8 @@ from typing import Dict, List, Optional, Tuple
 from .processes import Processes
 
 SOFT_RULES = ("S1", "S2", "S3", "S4", "S5", "S6", "S7")
-READ_OR_WRITE, NO_PROGRAM = 3, 127
+# The exit statuses of `inrc2pb`, which README.md explains, and the one with which a shell reports that there is no program.
+FAULT, READ_OR_WRITE, OUT_OF_MEMORY, NO_ROSTER, BROKEN_RULE, NO_PROGRAM = 1, 3, 4, 5, 6, 127
 # A run takes less, also of the largest week; one that waits for a pipe that nobody writes would not end.
 LONGEST_RUN = 600.0
 
@@ -110,12 +111,12 @@ def run_program(*words: str, given: str = "") -> str:
         advice = "a pipe can be read only once, so give files"
         raise ProgramFault(READ_OR_WRITE, f"inrc2pb {words[0]} did not end in {LONGEST_RUN:.0f} s: {advice}") from fault
     except OSError as fault:
-        raise _no_run(program, fault) from fault
+        raise _does_not_run(program, fault) from fault
     _check_status(ran.returncode, ran.stderr.decode("utf-8", errors="replace"))
     return ran.stdout.decode("utf-8", errors="surrogateescape")
 
 
-def _no_run(program: str, fault: OSError) -> ProgramFault:
+def _does_not_run(program: str, fault: OSError) -> ProgramFault:
     return ProgramFault(NO_PROGRAM, f"{program} does not run: {fault.strerror}")
 
 
@@ -151,7 +152,7 @@ def encode_unless_stopped(files: WeekFiles, model: Path, processes: Processes) -
     try:
         ended = processes.run([program, *_encode_words(files, model)], LONGEST_RUN, Path.cwd())
     except OSError as fault:
-        raise _no_run(program, fault) from fault
+        raise _does_not_run(program, fault) from fault
     if processes.stopped:
         return False
     _check_status(ended.status, ended.errors)

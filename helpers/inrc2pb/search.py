@@ -15,13 +15,10 @@ from .files import Assignment, Week, read_solution, write_solution
 from .neighborhoods import Neighborhood, Neighborhoods
 from .part import write_part
 from .processes import Processes
-from .program import ProgramFault, WeekFiles, decode, encode_unless_stopped, penalty_of
+from .program import BROKEN_RULE, FAULT, NO_ROSTER, ProgramFault, WeekFiles, decode, encode_unless_stopped, penalty_of
 from .rules import nurse_costs
 from .solvers import Cbc, HearBound, Solver, Task
 
-# The statuses with which `decode` ends: no roster in the answer, a fault in its text, or an unsatisfied constraint.
-_NO_ROSTER = 5
-_REJECTED = (1, 6)
 MAX_FAULTS = 3
 FIRST_SECONDS = 3.0
 # A solver ends this much before the search does, so that its answer is still checked; for a short search a tenth of its time.
@@ -233,9 +230,9 @@ class Search:
 
     def _judge(self, fault: ProgramFault, solver: Solver, known: bool, early: bool) -> None:
         """Reports an answer that `decode` did not accept. One without a roster is a fault if it is wrong, or came too early."""
-        if fault.status in _REJECTED:
+        if fault.status in (FAULT, BROKEN_RULE):
             self._blame(solver, f"its answer was rejected: {fault.message}")
-        elif fault.status != _NO_ROSTER:
+        elif fault.status != NO_ROSTER:
             raise fault
         elif "UNSUPPORTED" in fault.message:
             self._blame(solver, "it does not support this model")
@@ -263,11 +260,11 @@ class Search:
         silent = " and ".join(name for name, is_silent in self._silent.items() if is_silent)
         if not self._deniers:
             advice = f"{silent} printed nothing; give it more time, or check its command" if silent else "give it more time"
-            return ProgramFault(_NO_ROSTER, f"no roster was found in {self._seconds:.0f} s: {advice}")
+            return ProgramFault(NO_ROSTER, f"no roster was found in {self._seconds:.0f} s: {advice}")
         held = f" and has the rows of {self._files.fix}" if self._files.fix else ""
         says = "says" if len(self._deniers) == 1 else "say"
         claim = f"no roster keeps the hard rules{held}, {says} {' and '.join(self._deniers)}"
-        return ProgramFault(_NO_ROSTER, f"{claim}: docs/your_ward.md shows how to find out why")
+        return ProgramFault(NO_ROSTER, f"{claim}: docs/your_ward.md shows how to find out why")
 
     def _blame(self, solver: Solver, message: str) -> None:
         """Reports a fault of a solver; after some in a row the solver is not used any more."""
