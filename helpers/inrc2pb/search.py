@@ -1,16 +1,14 @@
 """Searches for a good roster: several workers solve neighborhoods of the best one, each as a small ward with all else held."""
 
-import collections
 import itertools
 import random
 import threading
 import time
 from dataclasses import replace
 from pathlib import Path
-from typing import Callable, Counter, Dict, List, Optional, Sequence, Tuple
+from typing import Callable, Optional, Sequence, Tuple
 
 from .best_roster import BestRoster, Snapshot
-from .command import Misuse
 from .files import Assignment, Week, read_solution, write_solution
 from .neighborhoods import Neighborhood, Neighborhoods
 from .part import write_part
@@ -18,8 +16,8 @@ from .processes import Processes
 from .program import BROKEN_RULE, FAULT, NO_ROSTER, ProgramFault, WeekFiles, decode, encode_unless_stopped, penalty_of
 from .rules import nurse_costs
 from .solvers import Cbc, HearBound, Solver, Task
+from .usable_solvers import UsableSolvers
 
-MAX_FAULTS = 3
 FIRST_SECONDS = 3.0
 # A solver ends this much before the search does, so that its answer is still checked; for a short search a tenth of its time.
 ANSWER_SECONDS = 1.0
@@ -42,19 +40,14 @@ class Search:
     ) -> None:
         self._files = files
         self._best = best
-        self._solvers = list(solvers)
         self._limit = time.monotonic() + seconds
         self._seconds = seconds
-        self._warn = warn
         self._week = week
         self._neighborhoods = Neighborhoods(list(week.scenario.nurses))
         self._fixed = frozenset(fixed)
         self._processes = Processes()
         self._ended = threading.Event()
-        self._faults: Counter[str] = collections.Counter()
-        # The solvers that claim that no roster exists, and whether each solver printed nothing until now.
-        self._deniers: List[str] = []
-        self._silent: Dict[str, bool] = {}
+        self._solvers = UsableSolvers(solvers, self._ended, warn)
         self._lock = threading.Lock()
         self._failure: Optional[BaseException] = None
 
@@ -121,19 +114,20 @@ class Search:
         for turn in itertools.count():
             if not self._goes_on() or self._best.now():
                 break
-            commands = [command for solver in self._usable() for command in (*solver.steps()[1:], *solver.whole())]
+            commands = [command for solver in self._solvers.now() for command in (*solver.steps()[1:], *solver.whole())]
             self._whole(commands[turn % len(commands)], min(seconds, self._left()), folder)
             seconds *= 1.5
         if jobs == 1 and self._goes_on():
-            self._whole(self._solvers[-1].whole()[-1], self._seconds * PROOF_SHARE, folder)
+            self._whole(self._solvers.now()[-1].whole()[-1], self._seconds * PROOF_SHARE, folder)
 
     def _proof(self, number: int, jobs: int) -> Optional[Tuple[Solver, float]]:
         """The solver with which this worker begins, to prove a bound or a small week, and its time."""
-        last = self._solvers[-1].whole()[-1]
+        solvers = self._solvers.now()
+        last = solvers[-1].whole()[-1]
         if number == 0 and jobs > 1:
             return last, self._seconds * (LONG_PROOF_SHARE if jobs > 2 and isinstance(last, Cbc) else PROOF_SHARE)
-        if number == 2 and len(self._solvers) > 1:
-            return self._solvers[0].whole()[-1], min(FIRST_SECONDS * 3, self._seconds * PROOF_SHARE)
+        if number == 2 and len(solvers) > 1:
+            return solvers[0].whole()[-1], min(FIRST_SECONDS * 3, self._seconds * PROOF_SHARE)
         return None
 
     def _whole(self, solver: Solver, seconds: float, folder: Path) -> None:
@@ -157,14 +151,14 @@ class Search:
         """A solver claims that no roster costs less than its own. It is wrong if there is one."""
         best = self._best.now()
         if best and best.penalty < penalty:
-            self._blame(solver, f"it calls a roster of penalty {penalty} the best, and one of {best.penalty} is known")
+            self._solvers.blame(solver, f"it calls a roster of penalty {penalty} the best, and one of {best.penalty} is known")
             return
         self._best.raise_bound(penalty, solver.name)
         self.stop()
 
     def _step(self, seen: Snapshot, chance: random.Random, folder: Path) -> None:
         """Solves one neighborhood of the best roster."""
-        solvers = {step.title: step for solver in self._usable() for step in solver.steps()}
+        solvers = {step.title: step for solver in self._solvers.now() for step in solver.steps()}
         costs = {nurse: sum(by_rule.values()) for nurse, by_rule in nurse_costs(self._week, seen.roster.assignments, self._files.early).items()}
         name, freed = self._neighborhoods.choose(list(solvers), costs, chance)
         solver = solvers[name]
@@ -196,11 +190,6 @@ class Search:
         write_solution(path, roster)
         return Snapshot(penalty_of(self._files, path), roster)
 
-    def _usable(self) -> List[Solver]:
-        """The solvers that are still used: at least one."""
-        with self._lock:
-            return list(self._solvers)
-
     def _solve(
         self, solver: Solver, files: WeekFiles, seconds: float, known: Optional[int], folder: Path, hear: Optional[HearBound] = None
     ) -> Optional[Tuple[Snapshot, bool]]:
@@ -214,71 +203,34 @@ class Search:
         if self._ended.is_set() and not outcome.answer:
             return None
         if outcome.fault:
-            self._blame(solver, outcome.fault)
+            self._solvers.blame(solver, outcome.fault)
             return None
-        with self._lock:
-            self._silent[solver.name] = outcome.silent and self._silent.get(solver.name, True)
+        self._solvers.note_silence(solver, outcome.silent)
         path = folder / "found.txt"
         try:
             report = decode(files, outcome.answer, path)
         except ProgramFault as fault:
             self._judge(fault, solver, known is not None, early)
             return None
-        with self._lock:
-            self._faults[solver.name] = 0
+        self._solvers.forgive(solver)
         return Snapshot(report.penalty, read_solution(path)), report.optimal
 
     def _judge(self, fault: ProgramFault, solver: Solver, known: bool, early: bool) -> None:
         """Reports an answer that `decode` did not accept. One without a roster is a fault if it is wrong, or came too early."""
         if fault.status in (FAULT, BROKEN_RULE):
-            self._blame(solver, f"its answer was rejected: {fault.message}")
+            self._solvers.blame(solver, f"its answer was rejected: {fault.message}")
         elif fault.status != NO_ROSTER:
             raise fault
         elif "UNSUPPORTED" in fault.message:
-            self._blame(solver, "it does not support this model")
+            self._solvers.blame(solver, "it does not support this model")
         elif "UNKNOWN" in fault.message and early:
-            self._blame(solver, "it gave up before its time was over")
+            self._solvers.blame(solver, "it gave up before its time was over")
         elif "UNSATISFIABLE" in fault.message and not self._best.now():
-            self._drop_denier(solver)
-        elif "UNSATISFIABLE" in fault.message and (early or not known):
-            self._blame(solver, "it found no roster where there is one")
-
-    def _drop_denier(self, solver: Solver) -> None:
-        """A solver claims that no roster exists. It is believed if no other solver is left."""
-        with self._lock:
-            if self._ended.is_set() or solver.name in self._deniers:
-                return
-            self._deniers.append(solver.name)
-            others = [one for one in self._solvers if one.name != solver.name]
-            if not others:
+            if self._solvers.drop_denier(solver):
                 raise self.without_roster()
-            self._solvers = others
-        self._warn(f"{solver.name}: it claims that no roster keeps the hard rules: the search goes on without it")
+        elif "UNSATISFIABLE" in fault.message and (early or not known):
+            self._solvers.blame(solver, "it found no roster where there is one")
 
     def without_roster(self) -> ProgramFault:
         """Why there is no roster."""
-        silent = " and ".join(name for name, is_silent in self._silent.items() if is_silent)
-        if not self._deniers:
-            advice = f"{silent} printed nothing; give it more time, or check its command" if silent else "give it more time"
-            return ProgramFault(NO_ROSTER, f"no roster was found in {self._seconds:.0f} s: {advice}")
-        held = f" and has the rows of {self._files.fix}" if self._files.fix else ""
-        says = "says" if len(self._deniers) == 1 else "say"
-        claim = f"no roster keeps the hard rules{held}, {says} {' and '.join(self._deniers)}"
-        return ProgramFault(NO_ROSTER, f"{claim}: docs/your_ward.md shows how to find out why")
-
-    def _blame(self, solver: Solver, message: str) -> None:
-        """Reports a fault of a solver; after some in a row the solver is not used any more."""
-        with self._lock:
-            if self._ended.is_set() or solver.name not in [one.name for one in self._solvers]:
-                return
-            self._faults[solver.name] += 1
-            count = self._faults[solver.name]
-            if count == 1:
-                self._warn(f"{solver.name}: {message}: skipped")
-            if count < MAX_FAULTS:
-                return
-            others = [one for one in self._solvers if one.name != solver.name]
-            if not others:
-                raise Misuse(f"{solver.name}: {message}, {count} times: correct its command, or choose another solver with --solver")
-            self._solvers = others
-            self._warn(f"{solver.name}: not used any more, after {count} faults in a row")
+        return self._solvers.without_roster(self._seconds, self._files.fix)

@@ -3,17 +3,18 @@
 import os
 import shutil
 import sys
+import threading
 import time
 import unittest
 from pathlib import Path
 from unittest import mock
 
-from ward import HAS_CLASP, HISTORY, ROSTER, SCENARIO, WEEK, WEEK_FILES, WEEK_OPTIONS, HelperTest, files, program, run
+from ward import HAS_CLASP, ROSTER, WEEK_FILES, WEEK_OPTIONS, HelperTest, program, run
 
 from inrc2pb.command import Misuse
 from inrc2pb.processes import Processes
-from inrc2pb.search import MAX_FAULTS, Search
 from inrc2pb.solvers import Task, find_solver
+from inrc2pb.usable_solvers import MAX_FAULTS, UsableSolvers
 
 FAKE = Path(__file__).resolve().parent / "fake_solver.py"
 
@@ -72,12 +73,12 @@ class BadSolvers(HelperTest):
     @unittest.skipUnless(HAS_CLASP, "needs clasp")
     def test_faults_of_a_variant_are_those_of_its_solver(self):
         clasp, other = find_solver("clasp"), find_solver(fake("liar"))
-        warnings, week = [], files.read_files(SCENARIO, HISTORY, WEEK)
-        running = Search(WEEK_FILES, week, (), mock.Mock(), [clasp, other], 10, warnings.append)
+        warnings = []
+        solvers = UsableSolvers([clasp, other], threading.Event(), warnings.append)
         for _ in range(MAX_FAULTS):
-            running._blame(clasp.steps()[1], "a fault")
+            solvers.blame(clasp.steps()[1], "a fault")
         self.assertEqual(warnings, ["clasp: a fault: skipped", f"clasp: not used any more, after {MAX_FAULTS} faults in a row"])
-        self.assertEqual(running._usable(), [other])
+        self.assertEqual(solvers.now(), [other])
 
     def test_after_a_fault_the_roster_is_reported(self):
         # The solver removes the folder of the search, so that the next model cannot be written.
