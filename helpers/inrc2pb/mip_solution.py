@@ -15,6 +15,8 @@ STATUSES = {"optimal": "OPTIMUM FOUND", "stopped": "SATISFIABLE", "infeasible": 
 TOLERANCE = 1e-6
 # A value that is off by no more is an integer by some solver's tolerance, such as Gurobi's own of 1e-5.
 SOLVER_TOLERANCE = 1e-3
+# An objective of more than 17 digits is not kept.
+MAX_OBJECTIVE = 1e17
 LITERALS_PER_LINE = 20
 _VARIABLE = re.compile(r"x([1-9][0-9]{0,8})")
 _NUMBER = re.compile(r"[+-]?(?:[0-9]+\.?[0-9]*|\.[0-9]+)(?:[eE][+-]?[0-9]+)?")
@@ -72,7 +74,7 @@ def _objective(text: str) -> Optional[int]:
     if not _NUMBER.fullmatch(text):
         return None
     value = float(text)
-    if abs(value) >= 1e17 or abs(value - round(value)) > 1e-3:
+    if abs(value) >= MAX_OBJECTIVE or abs(value - round(value)) > SOLVER_TOLERANCE:
         return None
     return round(value)
 

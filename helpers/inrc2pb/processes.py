@@ -15,6 +15,10 @@ GRACE = 2.0
 MAX_OUTPUT = 1 << 28
 # The last bytes of standard error that are kept.
 LAST_BYTES = 200
+# The bytes that are read at once.
+PIECE = 1 << 16
+# Seconds that a process has to end after its output did, and between two looks whether it has.
+EXIT_SECONDS, EXIT_PAUSE = 0.5, 0.005
 
 
 @dataclass(frozen=True)
@@ -67,7 +71,7 @@ class Processes:
             for stream in (process.stdout, process.stderr):
                 if stream:
                     stream.close()
-            _wait_without_reaping(process, 0.5)
+            _wait_without_reaping(process, EXIT_SECONDS)
             _signal_group(process, signal.SIGKILL)
             status = process.wait()
         return Ended(status, output.decode("utf-8", errors="replace"), timed_out, errors.decode("utf-8", errors="replace"))
@@ -99,7 +103,7 @@ def _wait_without_reaping(process: "subprocess.Popen[bytes]", seconds: float) ->
     """Waits until the process has ended, for at most these seconds. Its number stays its own, so its group can be ended."""
     limit = time.monotonic() + seconds
     while os.waitid(os.P_PID, process.pid, os.WEXITED | os.WNOHANG | os.WNOWAIT) is None and time.monotonic() < limit:
-        time.sleep(0.005)
+        time.sleep(EXIT_PAUSE)
 
 
 def _signal_group(process: "subprocess.Popen[bytes]", number: int) -> None:
@@ -122,12 +126,12 @@ def _output_of(
     while True:
         ready, _, _ = select.select(streams, [], [], max(0.0, limit - time.monotonic()))
         if process.stderr in ready:
-            data = os.read(process.stderr.fileno(), 1 << 16)
+            data = os.read(process.stderr.fileno(), PIECE)
             errors = (errors + data)[-LAST_BYTES:]
             if not data:
                 streams.remove(process.stderr)
         if process.stdout in ready:
-            data = os.read(process.stdout.fileno(), 1 << 16)
+            data = os.read(process.stdout.fileno(), PIECE)
             if not data:
                 return b"".join(parts), errors, timed_out
             size += len(data)

@@ -13,6 +13,14 @@ from .files import Assignment, Contract, Limits, NurseHistory, Place, Week, read
 
 SATURDAY, SUNDAY = 5, 6
 SOFT_RULES = ("S1", "S2", "S3", "S4", "S5", "S6", "S7")
+# The weights of S1 to S7.
+MISSING_NURSE = 30
+SHIFT_RUN, WORK_RUN = 15, 30
+DAYS_OFF_RUN = 30
+REQUEST = 10
+HALF_WEEKEND = 30
+ASSIGNMENT_TOTAL = 20
+WEEKEND_TOTAL = 30
 Shifts = Dict[Tuple[str, int], List[str]]
 
 
@@ -94,7 +102,7 @@ def counts(week: Week, roster: Sequence[Assignment], early: bool = False) -> Ite
     """Everything that the soft rules count."""
     shifts, number = shifts_by_day(roster), numbers(roster)
     for place, required in week.data.requirements.items():
-        yield Count("S1", "missing", max(0, required.optimal - number[place]), 30)
+        yield Count("S1", "missing", max(0, required.optimal - number[place]), MISSING_NURSE)
     for nurse in week.scenario.nurses:
         yield from nurse_counts(week, shifts, nurse, early)
 
@@ -106,20 +114,20 @@ def nurse_counts(week: Week, shifts: Shifts, nurse: str, early: bool = False) ->
     for name, shift in week.scenario.shift_types.items():
         before = history.consecutive_shifts if history.last_shift == name else 0
         above, below = run_counts([name in now for now in shift_on], before, shift.consecutive)
-        yield Count("S2", "shift above", above, 15)
-        yield Count("S2", "shift below", below, 15)
+        yield Count("S2", "shift above", above, SHIFT_RUN)
+        yield Count("S2", "shift below", below, SHIFT_RUN)
     above, below = run_counts([bool(now) for now in shift_on], history.working_days, contract.working_days)
-    yield Count("S2", "work above", above, 30)
-    yield Count("S2", "work below", below, 30)
+    yield Count("S2", "work above", above, WORK_RUN)
+    yield Count("S2", "work below", below, WORK_RUN)
     above, below = run_counts([not now for now in shift_on], history.days_off, contract.days_off)
-    yield Count("S3", "off above", above, 30)
-    yield Count("S3", "off below", below, 30)
+    yield Count("S3", "off above", above, DAYS_OFF_RUN)
+    yield Count("S3", "off below", below, DAYS_OFF_RUN)
     for request in week.data.requests:
         if request.nurse == nurse:
             matching = [shift for shift in shift_on[request.day] if request.shift in (None, shift)]
-            yield Count("S4", "Any" if request.shift is None else "shift", len(matching), 10)
+            yield Count("S4", "Any" if request.shift is None else "shift", len(matching), REQUEST)
     saturday, sunday = bool(shift_on[SATURDAY]), bool(shift_on[SUNDAY])
-    yield Count("S5", "half", int(contract.complete_weekends and saturday != sunday), 30)
+    yield Count("S5", "half", int(contract.complete_weekends and saturday != sunday), HALF_WEEKEND)
     yield from _total_counts(week, contract, history, sum(map(len, shift_on)), saturday or sunday, early)
 
 
@@ -128,13 +136,13 @@ def _total_counts(week: Week, contract: Contract, history: NurseHistory, works: 
     (least, greatest), most = contract.assignments, contract.max_weekends
     assignments, weekends = history.assignments + works, history.weekends + weekend
     if week.is_last:
-        yield Count("S6", "below", max(0, least - assignments), 20)
+        yield Count("S6", "below", max(0, least - assignments), ASSIGNMENT_TOTAL)
     if early:
-        yield Count("S6", "above", max(0, assignments - greatest) - max(0, history.assignments - greatest), 20)
-        yield Count("S7", "above", max(0, weekends - most) - max(0, history.weekends - most), 30)
+        yield Count("S6", "above", max(0, assignments - greatest) - max(0, history.assignments - greatest), ASSIGNMENT_TOTAL)
+        yield Count("S7", "above", max(0, weekends - most) - max(0, history.weekends - most), WEEKEND_TOTAL)
     elif week.is_last:
-        yield Count("S6", "above", max(0, assignments - greatest), 20)
-        yield Count("S7", "above", max(0, weekends - most), 30)
+        yield Count("S6", "above", max(0, assignments - greatest), ASSIGNMENT_TOTAL)
+        yield Count("S7", "above", max(0, weekends - most), WEEKEND_TOTAL)
 
 
 def _cost_by_rule(counted: Iterable[Count]) -> Dict[str, int]:

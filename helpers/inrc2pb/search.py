@@ -4,7 +4,7 @@ import itertools
 import random
 import threading
 import time
-from dataclasses import replace
+from dataclasses import dataclass, replace
 from pathlib import Path
 from typing import Callable, Optional, Sequence, Tuple
 
@@ -18,9 +18,11 @@ from .rules import nurse_costs
 from .solvers import Cbc, HearBound, Solver, Task
 from .usable_solvers import UsableSolvers
 
-FIRST_SECONDS = 3.0
-# A solver ends this much before the search does, so that its answer is still checked; for a short search a tenth of its time.
-ANSWER_SECONDS = 1.0
+# The seconds of the first solver, or this share of a short search; the next one has more.
+FIRST_SECONDS, FIRST_SHARE, FIRST_GROWTH = 3.0, 1 / 6, 1.5
+# A solver ends this much before the search does, so that its answer is still checked, and a first proof this much before that, so
+# that others may look for a roster; in a short search both are this share of its time.
+ANSWER_SECONDS, AFTER_PROOF_SECONDS, SHORT_SHARE = 1.0, 3.0, 0.1
 # After so many seconds without a better roster a neighborhood has twice the time, so that larger ones are proved; then more.
 STALL_SECONDS = 10.0
 MAX_PATIENCE = 4.0
@@ -28,8 +30,22 @@ MAX_PATIENCE = 4.0
 PROOF_SHARE = 0.2
 # The same with three workers or more: cbc has no roster to show until it ends, and the others improve the one that it finds.
 LONG_PROOF_SHARE = 0.7
+# The first solver of several begins with a proof too, for so many times the first seconds at most.
+SHORT_PROOF_FACTOR = 3
+# The seconds between two looks at the clock, at workers that are about to end, and for a first roster.
+CLOCK_PAUSE, END_PAUSE, ROSTER_PAUSE = 0.1, 0.02, 0.05
+# The distance between the seeds of two searches: their workers have the ones between.
+SEED_STEP = 1000
 
 Warn = Callable[[str], None]
+
+
+@dataclass(frozen=True)
+class Found:
+    """A roster that a solver found for a model, and whether it is proved optimal for it."""
+
+    snapshot: Snapshot
+    proved: bool
 
 
 class Search:
@@ -66,21 +82,26 @@ class Search:
 
     def run(self, folder: Path, seed: int, jobs: int) -> Optional[BaseException]:
         """Searches with this many workers at once; their files are in the folder. Returns the fault that ended it, if one did."""
-        threads = []
-        for number in range(jobs):
-            room = folder / str(number)
-            room.mkdir()
-            words = (number, jobs, random.Random(seed * 1000 + number), room)
-            threads.append(threading.Thread(target=self._work, args=words, daemon=True))
-        for thread in threads:
-            thread.start()
-        while any(thread.is_alive() for thread in threads):
+        workers = [self._worker(number, jobs, seed, folder / str(number)) for number in range(jobs)]
+        for worker in workers:
+            worker.start()
+        self._await_end(workers)
+        return self._failure
+
+    def _worker(self, number: int, jobs: int, seed: int, folder: Path) -> threading.Thread:
+        """A worker, with a folder and random choices of its own."""
+        folder.mkdir()
+        chance = random.Random(seed * SEED_STEP + number)
+        return threading.Thread(target=self._work, args=(number, jobs, chance, folder), daemon=True)
+
+    def _await_end(self, workers: Sequence[threading.Thread]) -> None:
+        """Waits until all workers have ended, and stops them when the time is over."""
+        while any(worker.is_alive() for worker in workers):
             if time.monotonic() >= self._limit:
                 self.stop()
-            self._ended.wait(0.1)
+            self._ended.wait(CLOCK_PAUSE)
             if self._ended.is_set():
-                time.sleep(0.02)
-        return self._failure
+                time.sleep(END_PAUSE)
 
     def _work(self, number: int, jobs: int, chance: random.Random, folder: Path) -> None:
         """One worker. A fault ends the search; after `stop` faults mean nothing."""
@@ -96,7 +117,7 @@ class Search:
 
     def _left(self) -> float:
         """The seconds that a solver may take now."""
-        return self._limit - min(ANSWER_SECONDS, self._seconds / 10) - time.monotonic()
+        return self._limit - min(ANSWER_SECONDS, self._seconds * SHORT_SHARE) - time.monotonic()
 
     def _goes_on(self) -> bool:
         """Whether there is time for another solver."""
@@ -106,19 +127,28 @@ class Search:
         """Solves the whole week: one worker until there is a roster, one or two more for a proof. The others wait for a roster."""
         proof = self._proof(number, jobs)
         if proof:
-            self._whole(proof[0], min(proof[1], self._left() - min(3.0, self._seconds / 10)), folder)
+            solver, seconds = proof
+            self._whole(solver, min(seconds, self._left() - min(AFTER_PROOF_SECONDS, self._seconds * SHORT_SHARE)), folder)
         elif number > 1:
-            while self._goes_on() and not self._best.now():
-                time.sleep(0.05)
-        seconds = min(FIRST_SECONDS, self._seconds / 6)
-        for turn in itertools.count():
-            if not self._goes_on() or self._best.now():
-                break
-            commands = [command for solver in self._solvers.now() for command in (*solver.steps()[1:], *solver.whole())]
-            self._whole(commands[turn % len(commands)], min(seconds, self._left()), folder)
-            seconds *= 1.5
+            self._await_roster()
+        self._find_roster(folder)
         if jobs == 1 and self._goes_on():
             self._whole(self._solvers.now()[-1].whole()[-1], self._seconds * PROOF_SHARE, folder)
+
+    def _await_roster(self) -> None:
+        """Waits until another worker has found a roster."""
+        while self._goes_on() and not self._best.now():
+            time.sleep(ROSTER_PAUSE)
+
+    def _find_roster(self, folder: Path) -> None:
+        """Solves the whole week with one solver after another, each with more time, until there is a roster."""
+        seconds = min(FIRST_SECONDS, self._seconds * FIRST_SHARE)
+        for turn in itertools.count():
+            if not self._goes_on() or self._best.now():
+                return
+            commands = [command for solver in self._solvers.now() for command in (*solver.steps()[1:], *solver.whole())]
+            self._whole(commands[turn % len(commands)], min(seconds, self._left()), folder)
+            seconds *= FIRST_GROWTH
 
     def _proof(self, number: int, jobs: int) -> Optional[Tuple[Solver, float]]:
         """The solver with which this worker begins, to prove a bound or a small week, and its time."""
@@ -127,7 +157,7 @@ class Search:
         if number == 0 and jobs > 1:
             return last, self._seconds * (LONG_PROOF_SHARE if jobs > 2 and isinstance(last, Cbc) else PROOF_SHARE)
         if number == 2 and len(solvers) > 1:
-            return solvers[0].whole()[-1], min(FIRST_SECONDS * 3, self._seconds * PROOF_SHARE)
+            return solvers[0].whole()[-1], min(FIRST_SECONDS * SHORT_PROOF_FACTOR, self._seconds * PROOF_SHARE)
         return None
 
     def _whole(self, solver: Solver, seconds: float, folder: Path) -> None:
@@ -136,12 +166,12 @@ class Search:
         known = seen.penalty if seen else None
         found = self._solve(solver, self._files, seconds, known, folder, lambda bound: self._bound(bound, solver.name))
         if found:
-            self._best.offer(found[0], seen, None, folder, f"{solver.title}, the whole week")
-            if found[1]:
-                self._prove(found[0].penalty, solver)
+            self._best.offer(found.snapshot, seen, None, folder, f"{solver.title}, the whole week")
+            if found.proved:
+                self._prove(found.snapshot.penalty, solver)
 
     def _bound(self, bound: int, solver: str) -> None:
-        # A solver that cuts off rosters above the best one may report a bound above it.
+        """A solver proved a lower bound. One that cuts off rosters above the best one may report a bound above it."""
         best = self._best.now()
         self._best.raise_bound(min(bound, best.penalty) if best else bound, solver)
         if self._best.is_proved():
@@ -167,14 +197,14 @@ class Search:
         began = time.monotonic()
         patience = solver.patience * min(MAX_PATIENCE, 1 + (began - self._best.improved_at) / STALL_SECONDS)
         part = self._solve(solver, files, min(patience, self._left()), seen.penalty - held, folder)
-        found = self._joined(part[0], seen, freed, folder) if part else None
+        found = self._joined(part.snapshot, seen, freed, folder) if part else None
         seconds = time.monotonic() - began
         # What was found before the search ended counts.
         if found:
             self._best.offer(found, seen, freed, folder, f"{solver.title}, {freed}")
         if self._ended.is_set():
             return
-        proved = part is not None and part[1]
+        proved = part is not None and part.proved
         gain = seen.penalty - found.penalty if found else 0
         self._neighborhoods.learn(solver.title, freed, proved, gain, seconds, patience)
         if found and proved and self._neighborhoods.is_whole(freed):
@@ -192,8 +222,8 @@ class Search:
 
     def _solve(
         self, solver: Solver, files: WeekFiles, seconds: float, known: Optional[int], folder: Path, hear: Optional[HearBound] = None
-    ) -> Optional[Tuple[Snapshot, bool]]:
-        """A roster that the solver found in these seconds and `decode` accepts, and whether it is proved optimal for its model."""
+    ) -> Optional[Found]:
+        """A roster that the solver found in these seconds and `decode` accepts, if there is one."""
         model = folder / "model.opb"
         if not encode_unless_stopped(files, model, self._processes):
             return None
@@ -213,7 +243,7 @@ class Search:
             self._judge(fault, solver, known is not None, early)
             return None
         self._solvers.forgive(solver)
-        return Snapshot(report.penalty, read_solution(path)), report.optimal
+        return Found(Snapshot(report.penalty, read_solution(path)), report.optimal)
 
     def _judge(self, fault: ProgramFault, solver: Solver, known: bool, early: bool) -> None:
         """Reports an answer that `decode` did not accept. One without a roster is a fault if it is wrong, or came too early."""

@@ -25,6 +25,8 @@ _PACKAGES = {"clasp": "clasp", "cbc": "coinor-cbc", "minisat+": "minisat+", "tou
 _CLASP_BOUND = re.compile(r"^c Progression : \[\s*([0-9]+);")
 # A longer line has the values of variables, and no bound.
 _BOUND_LINE = 200
+# A bound that cbc prints has six digits, so it is off by no more than this part of it. One that is not below the maximum is skipped.
+_CBC_ERROR, _MAX_CBC_BOUND = 1e-5, 1e15
 _CBC_BOUND = re.compile(r"best possible\s+([-+0-9.e]+)|Lower bound:\s+([-+0-9.e]+)|Continuous objective value is\s+([-+0-9.e]+)")
 
 
@@ -202,15 +204,15 @@ class Listener:
 
 
 def _rounded(report: HearBound, step: int) -> Callable[[str], None]:
-    """Reports a bound that cbc printed. It has six digits, and each value of the objective is a multiple of `step`."""
+    """Reports a bound that cbc printed, rounded up: each value of the objective is a multiple of `step`."""
 
     def take(text: str) -> None:
         try:
             value = float(text)
         except ValueError:
             return
-        if math.isfinite(value) and abs(value) < 1e15:
-            report(math.ceil((value - 1e-5 * max(1.0, abs(value))) / step) * step)
+        if math.isfinite(value) and abs(value) < _MAX_CBC_BOUND:
+            report(math.ceil((value - _CBC_ERROR * max(1.0, abs(value))) / step) * step)
 
     return take
 
