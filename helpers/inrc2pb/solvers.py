@@ -25,7 +25,8 @@ _PACKAGES = {"clasp": "clasp", "cbc": "coinor-cbc", "minisat+": "minisat+", "tou
 _CLASP_BOUND = re.compile(r"^c Progression : \[\s*([0-9]+);")
 # A longer line has the values of variables, and no bound.
 _BOUND_LINE = 200
-# A bound that cbc prints has six digits, so it is off by no more than this part of it. One that is not below the maximum is skipped.
+# A bound that cbc prints has six digits, so it is off by no more than this part of it. One that is not below the maximum is
+# skipped.
 _CBC_ERROR, _MAX_CBC_BOUND = 1e-5, 1e15
 _CBC_BOUND = re.compile(r"best possible\s+([-+0-9.e]+)|Lower bound:\s+([-+0-9.e]+)|Continuous objective value is\s+([-+0-9.e]+)")
 
