@@ -25,7 +25,10 @@ types_hold() { MYPYPATH=helpers mypy --cache-dir "$room/types" "$@" > "$out" 2>&
 checks_types() {
     command -v mypy > /dev/null || { echo 'helpers.sh: mypy is not installed, so the types were not checked'; return; }
     begins_case 'the types of the helpers'
-    { types_hold --disallow-untyped-defs --disallow-any-generics helpers/inrc2pb && types_hold bench/*.py examples/make_weeks.py; } || complain "$(head -n 20 "$out")"
+    {
+        types_hold --disallow-untyped-defs --disallow-any-generics helpers/inrc2pb &&
+            types_hold bench/*.py examples/make_weeks.py
+    } || complain "$(head -n 20 "$out")"
 }
 
 # The options on standard input, one a line.

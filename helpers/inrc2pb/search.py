@@ -20,8 +20,8 @@ from .usable_solvers import UsableSolvers
 
 # The seconds of the first solver, or this share of a short search; the next one has more.
 FIRST_SECONDS, FIRST_SHARE, FIRST_GROWTH = 3.0, 1 / 6, 1.5
-# A solver ends this much before the search does, so that its answer is still checked, and a first proof this much before that, so
-# that others may look for a roster; in a short search both are this share of its time.
+# A solver ends this much before the search does, so that its answer is still checked. A first proof ends this much before that,
+# so that its worker has time to look for a roster. In a short search both are this share of its time.
 ANSWER_SECONDS, AFTER_PROOF_SECONDS, SHORT_SHARE = 1.0, 3.0, 0.1
 # After so many seconds without a better roster a neighborhood has twice the time, so that larger ones are proved; then more.
 STALL_SECONDS = 10.0
