@@ -17,9 +17,9 @@ from .interrupts import Interrupts, interrupts
 from .misfits import read_held
 from .next_history import next_history
 from .processes import Processes
-from .program import NO_ROSTER, SOFT_RULES, ProgramFault, Report, WeekFiles, decode, encode, extend, find_program
+from .program import NO_ROSTER, SOFT_RULES, ProgramFault, Report, WeekFiles, decode, encode_unless_stopped, extend, find_program
 from .shared_totals import shared_week
-from .solvers import Task, find_solver, installed_solvers
+from .solvers import NONE_IN_TIME, Task, find_solver, installed_solvers
 from .targets import check_inputs_stay
 
 # Plans a week: writes its roster to the file. Returns what ended it early, if anything did: a fault, or KeyboardInterrupt.
@@ -49,9 +49,9 @@ def plan_once(solver_name: str, seconds: float) -> Plan:
         processes = Processes()
         with interrupts() as signals, tempfile.TemporaryDirectory() as folder:
             model = Path(folder, "week.opb")
-            encode(files, model)
             with signals.calling(processes.ask_to_end):
-                outcome = solver.solve(Task(model, seconds, Path(folder)), processes)
+                is_whole = encode_unless_stopped(files, model, processes)
+                outcome = solver.solve(Task(model, seconds, Path(folder)), processes) if is_whole else NONE_IN_TIME
         if outcome.fault and not signals.caught:
             raise Misuse(f"the solver {solver.name} has no answer: {outcome.fault}; try its command by hand")
         try:

@@ -197,13 +197,6 @@ class BadInput(HelperTest):
 
 
 class Stops(HelperTest):
-    def script(self, name, text):
-        """A shell script in the test's folder."""
-        path = self.folder / name
-        path.write_text(f"#!/bin/sh\n{text}")
-        path.chmod(0o755)
-        return path
-
     def stopped(self, running, *words, environment=None):
         """A search of ten minutes that gets Ctrl-C when the file `running` exists: its status and its report."""
         words = [*WEEK_FILES.options(), "--time", "600", "--jobs", "1", *words]
@@ -227,8 +220,7 @@ class Stops(HelperTest):
 
     def test_a_stop_does_not_wait_for_a_model(self):
         running = self.folder / "running"
-        encodes_slowly = f'[ "$1" != encode ] || {{ touch {running}; exec sleep 200; }}\nexec {program.find_program()} "$@"\n'
-        slow = {"INRC2PB": str(self.script("inrc2pb", encodes_slowly))}
+        slow = self.slow_to_encode(running)
         for start, status, says in ((("--from", ROSTER), 0, "penalty 20\n"), ((), 5, "")):
             with self.subTest(start):
                 ran = self.stopped(running, "--sol", self.folder / "best.txt", "--solver", "true", *start, environment=slow)

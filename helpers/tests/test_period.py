@@ -118,14 +118,15 @@ class PeriodFaults(PeriodTest):
             self.assertEqual((said.count("\n"), said.startswith("week 0\ninrc2pb-period: week 0: "), printed), (2, True, ""), said)
         self.assertEqual(list(self.folder.iterdir()), [])
 
-    def stopped(self, at_end):
-        """A period that gets TERM while its solver runs. The solver then does this."""
+    def stopped(self, at_end, environment=None):
+        """A period that gets TERM when the file `started` exists, while its solver runs. The solver then does this."""
         started = self.folder / "started"
         started.unlink(missing_ok=True)
         solver = f"sh -c 'trap \"{at_end}; exit 1\" TERM; touch {started}; sleep 60 & wait'"
         words = (*WARD_OPTIONS, "--out", self.folder, "--time", 60, "--once", "--solver", solver)
         command = [sys.executable, str(HELPERS / "inrc2pb-period"), *map(str, words)]
-        with subprocess.Popen(command, stdout=subprocess.PIPE, stderr=subprocess.PIPE) as period:
+        environment = {**os.environ, **(environment or {})}
+        with subprocess.Popen(command, stdout=subprocess.PIPE, stderr=subprocess.PIPE, env=environment) as period:
             while not started.exists() and period.poll() is None:
                 time.sleep(0.05)
             period.send_signal(signal.SIGTERM)
@@ -156,6 +157,10 @@ class PeriodFaults(PeriodTest):
         for at_end in (":", "echo s UNKNOWN"):
             ended = self.stopped(at_end)
             self.assertEqual(ended, (1, "", "week 0\ninrc2pb-period: week 0: stopped before the first roster\n"))
+
+    def test_a_stop_does_not_wait_for_a_model(self):
+        ended = self.stopped(":", self.slow_to_encode(self.folder / "started"))
+        self.assertEqual(ended, (1, "", "week 0\ninrc2pb-period: week 0: stopped before the first roster\n"))
 
     def test_without_a_solver_or_the_program_no_folder_is_made(self):
         out = self.folder / "planned" / "here"

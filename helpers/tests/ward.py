@@ -61,6 +61,18 @@ class HelperTest(unittest.TestCase):
         rows = files.read_solution(ROSTER).assignments
         return self.solution(*(row._replace(nurse=names.get(row.nurse, row.nurse)).row() for row in rows), name="start.txt")
 
+    def script(self, name, text):
+        """A shell script in the test's folder."""
+        path = self.folder / name
+        path.write_text(f"#!/bin/sh\n{text}")
+        path.chmod(0o755)
+        return path
+
+    def slow_to_encode(self, running):
+        """The environment of a program whose `encode` makes the file `running`, and does not end in the time of a test."""
+        encodes = f'[ "$1" != encode ] || {{ touch {running}; exec sleep 200; }}'
+        return {"INRC2PB": str(self.script("inrc2pb", f'{encodes}\nexec {program.find_program()} "$@"\n'))}
+
     def assert_fault(self, ran, line, status=1):
         """The run printed this line on standard error and nothing else."""
         self.assertEqual(ran, (status, "", line + "\n"))
