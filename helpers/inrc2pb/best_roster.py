@@ -12,7 +12,7 @@ from .misfits import explained, other_week, read_roster
 from .neighborhoods import Neighborhood
 from .program import BROKEN_RULE, ProgramFault, Report, WeekFiles, decode, extend, penalty_of
 
-# How often a result is compared anew because another worker was faster.
+# How many times a result is compared with the best roster, if other workers are faster.
 _TRIES = 5
 
 

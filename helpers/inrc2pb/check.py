@@ -26,7 +26,7 @@ class Check:
         self.mistakes = 0
 
     def reads(self, reader: Callable[[], Contents]) -> Optional[Contents]:
-        """What the reader finds in the file, or None after a mistake."""
+        """Returns the contents of a file, or None after a mistake."""
         try:
             return reader()
         except (FileFault, OSError) as fault:

@@ -78,7 +78,7 @@ def _without_line(lines: Sequence[str], names: Collection[str], heading: str) ->
 
 
 def _wrong_row(lines: Sequence[str], line: int) -> Iterator[str]:
-    """What is wrong with the row before the fault, else with the row of the fault: a wrong number of words, or their order."""
+    """The mistake in the row before the fault, else in the row of the fault: a wrong number of words, or a wrong order."""
     rows = [at for at in range(line) if lines[at].strip()]
     for at in rows[-2:]:
         section = next((heading for heading in map(_heading_of, reversed(lines[:at])) if heading), "")
@@ -120,7 +120,7 @@ def _blank_in(row: str, count: int) -> Optional[str]:
 
 
 def _announced(names: int, noun: str) -> Callable[[str], Optional[str]]:
-    """Rows that have some names, a number, and so many words."""
+    """Rows that have some names, a number, and this number of words."""
 
     def reason(row: str) -> Optional[str]:
         words = row.split()

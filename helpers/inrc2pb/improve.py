@@ -73,7 +73,7 @@ class Outcome:
         self.fault = fault
 
     def lines(self) -> List[str]:
-        """What a user reads after the report."""
+        """The lines that follow the report."""
         if self.bound is None:
             return ["no lower bound"]
         if self.proved:

@@ -39,7 +39,7 @@ class Neighborhood:
 
 @dataclass
 class _Pair:
-    """What a solver did on neighborhoods of a kind: their size now, what the last ones gained in how many seconds, and the usual
+    """A solver's results on neighborhoods of a kind: their size now, the gain and the seconds of the last ones, and the usual
     seconds of one."""
 
     size: float

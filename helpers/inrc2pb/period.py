@@ -172,7 +172,7 @@ class Period:
         return [*lines, _table_line("period", map(str, sums))]
 
     def stop_line(self) -> str:
-        """That the period was stopped, and which weeks have a roster."""
+        """The line that says that the period was stopped, and which weeks have a roster."""
         left = [number for number in self.numbers if number not in self.reports]
         return f"stopped: {_weeks(list(self.reports))} planned" + (f", {_weeks(left)} not" if left else "")
 

@@ -24,7 +24,7 @@ LETTERS = ((99, 99), (99, 2), (5, 2), (1, 2))
 
 
 class CellTexts:
-    """The texts of the cells: full names, or the longest abbreviations that fit a cell with so many characters."""
+    """The texts of the cells: full names, or the longest abbreviations that fit a cell of this many characters."""
 
     def __init__(self, view: RosterView, room: int) -> None:
         cells = [view.cells(week, nurse, day) for week in range(len(view.weeks)) for nurse in view.nurses for day in range(7)]

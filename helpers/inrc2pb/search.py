@@ -23,14 +23,14 @@ FIRST_SECONDS, FIRST_SHARE, FIRST_GROWTH = 3.0, 1 / 6, 1.5
 # A solver ends this much before the search does, so that its answer is still checked. A first proof ends this much before that,
 # so that its worker has time to look for a roster. In a short search both are this share of its time.
 ANSWER_SECONDS, AFTER_PROOF_SECONDS, SHORT_SHARE = 1.0, 3.0, 0.1
-# After so many seconds without a better roster a neighborhood has twice the time, so that larger ones are proved; then more.
+# After this many seconds without a better roster a neighborhood has twice the time, so that larger ones are proved; then more.
 STALL_SECONDS = 10.0
 MAX_PATIENCE = 4.0
 # The share of the time for a proof of the whole week, if its worker has to search too.
 PROOF_SHARE = 0.2
 # The same with three workers or more: cbc has no roster to show until it ends, and the others improve the one that it finds.
 LONG_PROOF_SHARE = 0.7
-# The first solver of several begins with a proof too, for so many times the first seconds at most.
+# The first of several solvers begins with a proof too. It has at most this many times the first seconds.
 SHORT_PROOF_FACTOR = 3
 # The seconds between two looks at the clock, at workers that are about to end, and for a first roster.
 CLOCK_PAUSE, END_PAUSE, ROSTER_PAUSE = 0.1, 0.02, 0.05

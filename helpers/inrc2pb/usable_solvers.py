@@ -1,4 +1,4 @@
-"""The solvers of a search, and what speaks against each: faults in a row, the claim that no roster exists, and silence."""
+"""The solvers of a search. Counts the faults of each, and notes which of them claim that no roster exists or print nothing."""
 
 import collections
 import threading
@@ -13,7 +13,7 @@ MAX_FAULTS = 3
 
 
 class UsableSolvers:
-    """The solvers that a search still uses: at least one. What they do after the event `ended` does not count."""
+    """The solvers that a search still uses: at least one. A fault after the event `ended` does not count."""
 
     def __init__(self, solvers: Sequence[Solver], ended: threading.Event, warn: Callable[[str], None]) -> None:
         self._usable = list(solvers)
