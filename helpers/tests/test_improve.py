@@ -157,6 +157,9 @@ class BadInput(HelperTest):
         says = f"{pipe} is a pipe, which can be read only once: give a file\n"
         self.assert_refused(1, says, *WEEK_OPTIONS[:4], "--week", pipe, "--sol", self.folder / "best.txt")
         self.assert_refused(1, says, *WEEK_OPTIONS, "--from", pipe, "--sol", self.folder / "best.txt")
+        # Nobody has read from the pipe, so the writer still waits.
+        self.assertEqual(pipe.read_bytes(), WEEK.read_bytes())
+        writer.join()
 
     @unittest.skipUnless(HAS_CLASP, "needs clasp")
     def test_held_rows_that_do_not_fit(self):
