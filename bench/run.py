@@ -115,7 +115,8 @@ def bench_answers(program, name, folder, model, room):
     measure(f"{name}: decode, the answer from a file", [answer], [*words, "--answer", answer])
     measure(f"{name}: decode, from standard input", [answer], words, stdin=answer)
     extended = f"{room}/{name}.extended"
-    subprocess.run([program, "extend", *inputs(folder), "--from", solution], stdout=open(extended, "wb"), check=True)
+    with open(extended, "wb") as answer_file:
+        subprocess.run([program, "extend", *inputs(folder), "--from", solution], stdout=answer_file, check=True)
     measure(f"{name}: extend to /dev/null", [extended], [program, "extend", *inputs(folder), "--from", solution])
     measure(f"{name}: decode of lines of ten literals", [extended], [*words, "--answer", extended])
 

@@ -18,6 +18,7 @@ import os
 import re
 import sys
 from collections import namedtuple
+from pathlib import Path
 
 FUNCTION = re.compile(r"( *)(pub(?:\(\w+\))? )?(?:const |unsafe |ghost )*fn (\w+)")
 CITES = re.compile(r"\s*(\w+\(\);\s*)*")
@@ -58,7 +59,7 @@ def body_of(lines, at, indent):
 
 def functions(path, module, exports, is_open):
     """The functions of a file, in its order."""
-    lines = open(path, encoding="utf-8").read().split("\n")
+    lines = Path(path).read_text(encoding="utf-8").split("\n")
     owner, shares, found = [], False, []
     for at, line in enumerate(lines):
         head = FUNCTION.match(line)
@@ -81,7 +82,7 @@ def functions(path, module, exports, is_open):
 
 def exported(path):
     """The names and the modules that a module's file makes public."""
-    text = open(path, encoding="utf-8").read() if os.path.exists(path) else ""
+    text = Path(path).read_text(encoding="utf-8") if os.path.exists(path) else ""
     uses = [re.findall(r"\w+", use) for use in re.findall(r"^pub use ([^;]*);", text, re.M)]
     names = {name for use in uses for name in use} | {f"{use[0]}::{name}" for use in uses for name in use[1:]}
     return names, re.findall(r"^pub mod (\w+);", text, re.M)
@@ -108,13 +109,13 @@ def surface(crate):
 def turned(edit, crate):
     """The places, as file and line, that an edit turns; and why it no longer applies, or None."""
     path, old, texts, places = None, None, {}, []
-    for line in open(edit, encoding="utf-8").read().split("\n"):
+    for line in Path(edit).read_text(encoding="utf-8").split("\n"):
         if line.startswith("file: "):
             path = f"{crate}/{line[6:].strip()}"
             if path not in texts and not os.path.exists(path):
                 return places, f"there is no {path}"
             texts.setdefault(path, None)
-            texts[path] = texts[path] or open(path, encoding="utf-8").read()
+            texts[path] = texts[path] or Path(path).read_text(encoding="utf-8")
         elif line.startswith("old: "):
             old = line[5:]
         elif line.startswith("new:"):

@@ -60,7 +60,7 @@ takes_contracts() {
 scripts_are_clean() {
     begins_case 'the scripts'
     command -v shellcheck > /dev/null || return
-    shellcheck .ci/run ./*.sh package/*.sh tests/*.sh > "$room/checked" || complain "$(head -n 20 "$room/checked")"
+    shellcheck .ci/run ./*.sh examples/*.sh package/*.sh tests/*.sh > "$room/checked" || complain "$(head -n 20 "$room/checked")"
 }
 
 version_is_in_preparation
