@@ -59,11 +59,19 @@ mod tests {
     use rota_read::{read_history, read_scenario};
     use std::test::Fail;
 
-    #[test]
-    fn rows_make_a_week(rt: HostRuntime) -> Result<(), Fail> {
-        let (alloc, files) = (rt.alloc(), one_nurse_one_shift());
+    // The instance of a week with this row, or `None` if the row is refused.
+    fn instance_of_row(alloc: Global, row: Row) -> Result<Option<Instance>, Fail> {
+        let files = one_nurse_one_shift();
         let scenario = read_scenario(alloc, files.scenario)?;
         let history = read_history(alloc, &scenario, files.history)?;
+        let Some(week) = week_of_rows(alloc, &scenario, &[row])? else {
+            return Ok(None);
+        };
+        Ok(Some(Instance::join(scenario, history, week, false)?))
+    }
+
+    #[test]
+    fn rows_make_a_week(rt: HostRuntime) -> Result<(), Fail> {
         let demand = Demand {
             minimum: 1,
             optimal: 2,
@@ -74,11 +82,10 @@ mod tests {
             skill: 0,
             demand,
         };
-        assert!(rt; week_of_rows(alloc, &scenario, &[Row { day: 7, ..row }])?.is_none());
-        let Some(week) = week_of_rows(alloc, &scenario, &[row])? else {
+        assert!(rt; instance_of_row(rt.alloc(), Row { day: 7, ..row })?.is_none());
+        let Some(instance) = instance_of_row(rt.alloc(), row)? else {
             panic!(rt; "the row is refused");
         };
-        let instance = Instance::join(scenario, history, week, false)?;
         for shift in 0..instance.shifts() {
             for skill in 0..instance.skills() {
                 assert_eq!(rt; instance.demand(6, shift, skill), demand);

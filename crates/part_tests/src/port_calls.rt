@@ -121,31 +121,33 @@ fn calls_where(is_called: bool, good_calls: u32) -> Calls {
     }
 }
 
-// One of the ports has this number of good calls, and the others have the two that they need. The ports
-// before it are called twice, and the ports after it only if it has both calls.
-fn check_port(rt: &impl Abort, alloc: Global, port: usize, good_calls: u32) {
-    let mut all = [2; 7];
-    if let Some(own) = all.get_mut(port) {
-        *own = good_calls;
-    }
-    let ended = decoded(alloc, b"s SATISFIABLE\nv x8\n", all);
-    let is_whole = good_calls == 2;
+// The end of a run with these numbers of good calls, if this port is the only one that may have fewer than the two that it
+// needs. The ports before it are called twice, and the ports after it only if it has both calls.
+fn end_at(port: usize, good_calls: [u32; 7]) -> Ended {
+    let is_whole = good_calls == [2; 7];
     let fault = if port < 5 { Fault::Read } else { Fault::Write };
-    let outcome = if is_whole { Ok(()) } else { Err(fault) };
-    assert_eq!(rt; ended.outcome, outcome, "port {port}");
-    for (reader, reads) in ended.reads.iter().enumerate() {
-        let is_called = is_whole || reader <= port;
-        let wanted = if is_called {
-            calls_of_two(all[reader])
-        } else {
-            0
-        };
-        assert_eq!(rt; *reads, wanted, "reader {reader}, port {port}");
+    let mut reads = [0; 5];
+    for (reader, calls) in reads.iter_mut().enumerate() {
+        if reader < 5 && (is_whole || reader <= port) {
+            *calls = calls_of_two(good_calls[reader]);
+        }
     }
-    let solution = calls_where(is_whole || port >= 5, all[5]);
-    assert_eq!(rt; ended.solution, solution, "port {port}");
-    let report = calls_where(is_whole || port >= 6, all[6]);
-    assert_eq!(rt; ended.report, report, "port {port}");
+    Ended {
+        outcome: if is_whole { Ok(()) } else { Err(fault) },
+        reads,
+        solution: calls_where(is_whole || port >= 5, good_calls[5]),
+        report: calls_where(is_whole || port >= 6, good_calls[6]),
+    }
+}
+
+// One of the ports has this number of good calls, and the others have the two that they need.
+fn check_port(rt: &impl Abort, alloc: Global, port: usize, own_calls: u32) {
+    let mut good_calls = [2; 7];
+    if let Some(own) = good_calls.get_mut(port) {
+        *own = own_calls;
+    }
+    let ended = decoded(alloc, b"s SATISFIABLE\nv x8\n", good_calls);
+    assert_eq!(rt; ended, end_at(port, good_calls), "port {port}");
 }
 
 // Each port in turn has zero, one or both of its calls.

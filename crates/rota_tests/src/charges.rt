@@ -91,15 +91,20 @@ fn check_answer(
     Ok(())
 }
 
+// The answer to which the roster extends. Its first line has the penalty.
+fn extended(rt: &impl Abort, alloc: Global, job: &Job, penalty: u64) -> Result<Vec<u8>, Fail> {
+    let end = end_of(alloc, job)?;
+    assert_eq!(rt; end.outcome, Ok(()));
+    let first_line = format!(in alloc; "o {penalty}\n")?;
+    assert!(rt; end.first.bytes().starts_with(first_line.as_bytes()));
+    Ok(Vec::from_slice(alloc, end.first.bytes())?)
+}
+
 fn check_charge(rt: &impl Abort, alloc: Global, base: &Base, charge: &Charge) -> Result<(), Fail> {
     let (changes, roster, penalty, costs) = *charge;
     let mut texts = texts_of(alloc, base, changes)?;
     texts.last.extend_from_slice(roster)?;
-    let end = end_of(alloc, &texts.job(base))?;
-    assert_eq!(rt; end.outcome, Ok(()));
-    let first_line = format!(in alloc; "o {penalty}\n")?;
-    assert!(rt; end.first.bytes().starts_with(first_line.as_bytes()));
-    texts.last = Vec::from_slice(alloc, end.first.bytes())?;
+    texts.last = extended(rt, alloc, &texts.job(base), penalty)?;
     let decoding = Base {
         kind: Kind::Decode,
         ..*base

@@ -1,16 +1,12 @@
-//! The counts of small weeks' models, by arithmetic and by counting the rows.
-use crate::changes::{Texts, texts_of};
+//! The models of small weeks, and their counts by arithmetic and by counting the rows.
+use crate::changes::{Base, Texts, texts_of};
 use crate::file_faults::read_tables;
-use crate::small_weeks::{EARLY, HELD, TOTALS_AND_REQUESTS};
-use crate::tables::Row;
-use crate::weeks::ENCODING;
-use crate::worked_weeks::{HARD_RULES, RUNS};
+use crate::tables::{Row, check};
 use rota_core::{FileFault, Instance};
 use rota_items::{Counter, counts, drive_constraints, drive_objective};
 use rota_read::read_fixed;
 use std::alloc::{AllocError, Global};
 use std::process::Abort;
-use std::test::Fail;
 
 // Arithmetic gives the same counts as counting.
 fn is_counted(instance: &Instance) -> bool {
@@ -30,26 +26,17 @@ fn are_counted(alloc: Global, texts: &Texts, early: bool) -> Result<bool, FileFa
     Ok(is_counted(&instance.hold(held)))
 }
 
-fn check_counts(
+/// Each row of the table has its model, and arithmetic gives the same counts as counting the model's rows.
+pub fn check_models(
     rt: &impl Abort,
     alloc: Global,
-    early: bool,
+    base: &Base,
     weeks: &[Row],
 ) -> Result<(), AllocError> {
     for Row(what, changes, _) in weeks {
-        let texts = texts_of(alloc, &ENCODING, changes)?;
-        let found = are_counted(alloc, &texts, early);
+        let texts = texts_of(alloc, base, changes)?;
+        let found = are_counted(alloc, &texts, base.early);
         assert_eq!(rt; found, Ok(true), "{what}");
     }
-    Ok(())
-}
-
-#[test]
-fn counts_of_weeks(rt: HostRuntime) -> Result<(), Fail> {
-    check_counts(&rt, rt.alloc(), false, HARD_RULES)?;
-    check_counts(&rt, rt.alloc(), false, RUNS)?;
-    check_counts(&rt, rt.alloc(), false, TOTALS_AND_REQUESTS)?;
-    check_counts(&rt, rt.alloc(), false, HELD)?;
-    check_counts(&rt, rt.alloc(), true, EARLY)?;
-    Ok(())
+    check(rt, alloc, base, weeks)
 }

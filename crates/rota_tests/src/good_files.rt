@@ -130,26 +130,49 @@ fn numbered(alloc: Global, count: u32, before: &str, after: &str) -> Result<Stri
     Ok(text)
 }
 
-// The scenario and the history of this number of nurses and shift types, 64 contracts, and these skills,
-// which each nurse has.
-fn large(alloc: Global, nurses: u32, shifts: u32, skills: &str) -> Result<Texts, Fail> {
-    let limits = numbered(alloc, shifts, "t", " (1,9)")?;
-    let forbidden = numbered(alloc, shifts, "t", " 0")?;
-    let contracts = numbered(alloc, 64, "c", " (1,9) (1,9) (1,9) 9 0")?;
-    let skilled = format!(in alloc; " c63 {skills}")?;
-    let nurse_rows = numbered(alloc, nurses, "n", skilled.as_str())?;
+// The start of a section, the number of its lines, and the text before and after the number of each.
+type Section<'a> = (&'a str, u32, &'a str, &'a str);
+
+// The sections of a file, one after the other.
+fn text_of(alloc: Global, sections: &[Section]) -> Result<Vec<u8>, Fail> {
+    let mut text = Vec::new(alloc);
+    for (start, count, before, after) in sections {
+        text.extend_from_slice(start.as_bytes())?;
+        let lines = numbered(alloc, *count, before, after)?;
+        text.extend_from_slice(lines.as_bytes())?;
+    }
+    Ok(text)
+}
+
+// The scenario of this number of nurses and shift types, 64 contracts, and these skills, which each nurse has.
+fn large_scenario(alloc: Global, nurses: u32, shifts: u32, skills: &str) -> Result<Vec<u8>, Fail> {
     let start = format!(in alloc;
-        "SCENARIO = s1 WEEKS = 2 SKILLS = {skills} SHIFT_TYPES = {shifts}"
+        "SCENARIO = s1 WEEKS = 2 SKILLS = {skills} SHIFT_TYPES = {shifts} "
     )?;
-    let rest = format!(in alloc; "CONTRACTS = 64 {contracts} NURSES = {nurses} {nurse_rows}")?;
-    let sce = format!(in alloc;
-        "{start} {limits} FORBIDDEN_SHIFT_TYPES_SUCCESSIONS {forbidden} {rest}"
-    )?;
-    let pasts = numbered(alloc, nurses, "n", " 0 0 None 0 0 0")?;
-    let his = format!(in alloc; "HISTORY 0 s1 NURSE_HISTORY {pasts}")?;
+    let nurse_start = format!(in alloc; "NURSES = {nurses} ")?;
+    let skilled = format!(in alloc; " c63 {skills}")?;
+    text_of(
+        alloc,
+        &[
+            (start.as_str(), shifts, "t", " (1,9)"),
+            ("FORBIDDEN_SHIFT_TYPES_SUCCESSIONS ", shifts, "t", " 0"),
+            ("CONTRACTS = 64 ", 64, "c", " (1,9) (1,9) (1,9) 9 0"),
+            (nurse_start.as_str(), nurses, "n", skilled.as_str()),
+        ],
+    )
+}
+
+// The files of a week with this scenario.
+fn large(alloc: Global, nurses: u32, shifts: u32, skills: &str) -> Result<Texts, Fail> {
     let mut texts = texts_of(alloc, &ENCODING, &[])?;
-    texts.sce = Vec::from_slice(alloc, sce.as_bytes())?;
-    texts.his = Vec::from_slice(alloc, his.as_bytes())?;
+    texts.sce = large_scenario(alloc, nurses, shifts, skills)?;
+    let pasts = (
+        "HISTORY 0 s1 NURSE_HISTORY ",
+        nurses,
+        "n",
+        " 0 0 None 0 0 0",
+    );
+    texts.his = text_of(alloc, &[pasts])?;
     Ok(texts)
 }
 
@@ -195,21 +218,11 @@ fn most_held_cells(rt: HostRuntime) -> Result<(), Fail> {
 // A name that gives the file the maximum number of bytes.
 #[test]
 fn longest_name(rt: HostRuntime) -> Result<(), Fail> {
-    let mut texts = texts_of(rt.alloc(), &ENCODING, &[])?;
-    let mut sce = Vec::from_slice(rt.alloc(), b"SCENARIO = ")?;
     let [scenario, ..] = ENCODING.inputs;
-    sce.resize(
-        4194304_usize
-            .saturating_sub(scenario.len())
-            .saturating_add(13),
-        b'n',
-    )?;
-    sce.push(b'\n')?;
-    for line in scenario.split_inclusive(|byte| *byte == b'\n').skip(1) {
-        sce.extend_from_slice(line)?;
-    }
-    assert_eq!(rt; sce.len(), 4194304);
-    texts.sce = sce;
+    let mut first_line = Vec::from_slice(rt.alloc(), b"SCENARIO = ")?;
+    first_line.resize(4194317_usize.saturating_sub(scenario.len()), b'n')?;
+    let texts = texts_of(rt.alloc(), &ENCODING, &[(Sce, Line(1, &first_line))])?;
+    assert_eq!(rt; texts.sce.len(), 4194304);
     check_head(&rt, rt.alloc(), &texts, b"* #variable= 8 #constraint= 8\n")?;
     Ok(())
 }

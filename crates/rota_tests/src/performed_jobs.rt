@@ -147,25 +147,34 @@ fn input_and_output_where_no_file_is_named(rt: HostRuntime) -> Result<(), Fail> 
     Ok(())
 }
 
-// Each file in turn is at another path: the read fails if the job names the file, and nothing is sent.
+// The files of a job, of which this one is at another path.
+fn files_without(texts: &jobs::Job<'static>, number: usize) -> [MemoryFile<'static>; 5] {
+    let mut files = files_of(texts);
+    if let Some(moved) = files.get_mut(number) {
+        moved.path = "elsewhere";
+    }
+    files
+}
+
+// The read failed if the job names the missing file, and then nothing was sent.
+fn check_missing(rt: &impl Abort, ended: &Ended, is_named: bool) {
+    if is_named {
+        assert_eq!(rt; ended.outcome, Err(Fault::Read));
+        assert!(rt; ended.file.bytes().is_empty() && ended.output.bytes().is_empty());
+    } else {
+        assert_eq!(rt; ended.outcome, Ok(()));
+    }
+}
+
+// Each file in turn is at another path.
 #[test]
 fn each_path_missing(rt: HostRuntime) -> Result<(), Fail> {
     let alloc = rt.alloc();
     for texts in &jobs() {
         let asked = job(alloc, texts, Some("out"), Some("last"))?;
         for (number, bytes) in texts.inputs.iter().enumerate() {
-            let mut files = files_of(texts);
-            if let Some(moved) = files.get_mut(number) {
-                moved.path = "elsewhere";
-            }
-            let ended = end_of(alloc, &asked, &files, b"")?;
-            if bytes.is_empty() {
-                assert_eq!(&rt; ended.outcome, Ok(()));
-            } else {
-                assert_eq!(&rt; ended.outcome, Err(Fault::Read));
-                assert!(&rt; ended.file.bytes().is_empty());
-                assert!(&rt; ended.output.bytes().is_empty());
-            }
+            let ended = end_of(alloc, &asked, &files_without(texts, number), b"")?;
+            check_missing(&rt, &ended, !bytes.is_empty());
         }
     }
     Ok(())

@@ -3,6 +3,7 @@
 use crate::changes::Base;
 use crate::changes::Edit::{Ends, Is, Line, Sized};
 use crate::changes::File::{Fix, His, Sce, Week};
+use crate::counted_weeks::check_models;
 use crate::jobs::WEDNESDAY;
 use crate::tables::Wanted::{Bad, Writes};
 use crate::tables::{Row, Wanted, check, of, rows};
@@ -42,7 +43,7 @@ const TWELVE_OBJECTIVE: &[u8] = b"min: +20 x9 +20 x10 +20 x11 +20 x12 ;\n";
 const TWELVE_ROW: &[u8] =
     b"-1 x1 -1 x2 -1 x3 -1 x4 -1 x5 -1 x6 -1 x7 +1 x9 +1 x10 +1 x11 +1 x12 >= -3 ;\n";
 
-pub const TOTALS_AND_REQUESTS: &[Row] = rows! {
+const TOTALS_AND_REQUESTS: &[Row] = rows! {
     "requests on one cell": REQUESTS => Writes(&[b"* #variable= 15 #constraint= 8
 min: +30 x1 +10 x2 ;\n", TWO_CELLS]);
     "totals above in the last week": ABOVE => Writes(&[b"* #variable= 17 #constraint= 11
@@ -63,7 +64,7 @@ min: +30 x9 +30 x10 ;\n", ONE_CELL, b"-1 x6 +1 x7 +1 x9 >= 0 ;
 };
 
 // The excess of a total is charged in each week.
-pub const EARLY: &[Row] = rows! {
+const EARLY: &[Row] = rows! {
     "above the totals": ABOVE => Writes(&[ABOVE_HEAD, ONE_CELL, ABOVE_ROWS]);
     "above the totals before the last week": ABOVE_BEFORE => Writes(&[ABOVE_HEAD, ONE_CELL, ABOVE_ROWS]);
     "below the least total": BELOW => Writes(&[BELOW_HEAD, ONE_CELL, BELOW_ROWS]);
@@ -79,7 +80,7 @@ pub const EARLY: &[Row] = rows! {
 };
 
 // Cells that are held.
-pub const HELD: &[Row] = rows! {
+const HELD: &[Row] = rows! {
     "no cell held": [Fix Is(b"SOLUTION 0 s1 ASSIGNMENTS = 0")] => PLAIN;
     "Wednesday held": [Fix Is(WEDNESDAY)] => HOLDING;
     "no empty line": [Fix Is(b"SOLUTION\n0 s1\nASSIGNMENTS = 1\nAnn Wed Day Nurse\n")] => HOLDING;
@@ -118,8 +119,8 @@ const REFUSED: &[Row] = rows! {
 
 #[test]
 fn totals_requests_and_held_cells(rt: HostRuntime) -> Result<(), Fail> {
-    check(&rt, rt.alloc(), &ENCODING, TOTALS_AND_REQUESTS)?;
-    check(&rt, rt.alloc(), &ENCODING, HELD)?;
+    check_models(&rt, rt.alloc(), &ENCODING, TOTALS_AND_REQUESTS)?;
+    check_models(&rt, rt.alloc(), &ENCODING, HELD)?;
     Ok(())
 }
 
@@ -129,7 +130,7 @@ fn excess_charged_early(rt: HostRuntime) -> Result<(), Fail> {
         early: true,
         ..ENCODING
     };
-    check(&rt, rt.alloc(), &base, EARLY)?;
+    check_models(&rt, rt.alloc(), &base, EARLY)?;
     Ok(())
 }
 

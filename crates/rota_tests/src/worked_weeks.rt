@@ -1,13 +1,14 @@
 //! Weeks whose models were written out by hand.
+use crate::counted_weeks::check_models;
 use crate::tables::Wanted::Writes;
-use crate::tables::{Row, check, of, rows};
+use crate::tables::{Row, of, rows};
 use crate::weeks::{
     AFTER_A_NIGHT, CLOSED, ENCODING, FEW_DAYS_OFF, LONG_MINIMUM, LONG_RUN, MANY_DAYS_OFF, NO_SKILL,
     ONE_CELL, RUN_FAR_ABOVE, SHORT_RUN, TWO_CELLS, TWO_SKILLS, UNMET_DEMAND,
 };
 use std::test::Fail;
 
-pub const HARD_RULES: &[Row] = rows! {
+const HARD_RULES: &[Row] = rows! {
     "one nurse one shift": [] => Writes(&[b"* #variable= 8 #constraint= 8\n", ONE_CELL]);
     "scenario without the skill": NO_SKILL =>
         Writes(&[b"* #variable= 8 #constraint= 9\n", ONE_CELL, b"-1 x1 -1 x2 -1 x3 -1 x4 -1 x5 -1 x6 -1 x7 >= 0 ;\n"]);
@@ -24,7 +25,7 @@ pub const HARD_RULES: &[Row] = rows! {
     "two cells on one day": TWO_SKILLS => Writes(&[b"* #variable= 15 #constraint= 8\n", TWO_CELLS]);
 };
 
-pub const RUNS: &[Row] = rows! {
+const RUNS: &[Row] = rows! {
     "long run in the history": LONG_RUN => Writes(&[b"* #variable= 15 #constraint= 15
 min: +30 x9 +30 x10 +30 x11 +30 x12 +30 x13 +30 x14 +30 x15 ;\n", ONE_CELL, b"-1 x1 +1 x9 >= 0 ;
 -1 x1 -1 x2 +1 x10 >= -1 ;
@@ -100,7 +101,7 @@ min: +30 x9 +30 x10 +30 x11 +30 x12 +30 x13 ;\n", ONE_CELL, b"+1 x1 +1 x2 +1 x3 
 
 #[test]
 fn weeks_have_their_models(rt: HostRuntime) -> Result<(), Fail> {
-    check(&rt, rt.alloc(), &ENCODING, HARD_RULES)?;
-    check(&rt, rt.alloc(), &ENCODING, RUNS)?;
+    check_models(&rt, rt.alloc(), &ENCODING, HARD_RULES)?;
+    check_models(&rt, rt.alloc(), &ENCODING, RUNS)?;
     Ok(())
 }
