@@ -1,7 +1,7 @@
 #!/usr/bin/env bash
 # Runs the tests of the helpers, helpers/tests, on the program. Checks the types of their library, and of the programs that use
-# it, by mypy. Compares the options in their manual page with their help, and the fault texts of docs/answers.md with those that
-# docs/your_ward.md explains.
+# it, by mypy. Compares the options in their manual page with their help, but for --help and --version, and the fault texts of
+# docs/answers.md with those that docs/your_ward.md explains.
 #
 #   tests/helpers.sh [llvm | rattle | PROGRAM]
 #
@@ -45,7 +45,7 @@ manual_has_each_option() {
     for helper in helpers/inrc2pb-*; do
         name=$(basename "$helper")
         begins_case "the options of $name in the manual page"
-        shown=$({ "$helper" --help; for_each_command "$helper"; } | grep -E '^ +-' | options | grep -vx -- --help)
+        shown=$({ "$helper" --help; for_each_command "$helper"; } | grep -E '^ +-' | options | grep -vxE -e '--(help|version)')
         [ "$(listed "$name")" = "$shown" ] || complain "$(diff <(listed "$name") <(echo "$shown"))"
     done
 }

@@ -11,7 +11,7 @@ from .constraint import block_of, blocks, named_row, row_of
 from .files import Assignment, FileFault, History, Scenario, Week, WeekData
 from .files import check_week_number, read_history, read_scenario, read_solution, read_week
 from .misfits import explained, other_week, read_held, read_roster
-from .odd_values import history_warnings, scenario_warnings, week_warnings
+from .odd_values import IMPOSSIBLE, history_warnings, scenario_warnings, week_warnings
 from .program import BROKEN_RULE, FAULT, NO_PROGRAM, ProgramFault, answer_with, encode
 from .rules import first_broken
 
@@ -19,11 +19,12 @@ Contents = TypeVar("Contents")
 
 
 class Check:
-    """A check of a week's files. It prints what it finds, and counts the mistakes."""
+    """A check of a week's files. It prints what it finds, counts the mistakes, and notes whether a roster is impossible."""
 
     def __init__(self, given: argparse.Namespace) -> None:
         self.given = given
         self.mistakes = 0
+        self.impossible = False
 
     def reads(self, reader: Callable[[], Contents]) -> Optional[Contents]:
         """Returns the contents of a file, or None after a mistake."""
@@ -42,6 +43,7 @@ class Check:
         """Prints the warnings about a file without a mistake."""
         for warning in warnings:
             print(f"{path}: warning: {warning}")
+            self.impossible = self.impossible or warning.endswith(IMPOSSIBLE)
 
     def name(self, path: Path, name: str, scenario: Scenario) -> Iterator[str]:
         """A warning if the file is of another ward."""
@@ -168,7 +170,7 @@ def main() -> Optional[int]:
     elif not check.mistakes and given.roster:
         print("warning: hard rules are not checked without the whole week: give --his and --week too")
     if not check.mistakes and given.constraint is None:
-        print("No mistake found.")
+        print("No mistake found, but see the warnings." if check.impossible else "No mistake found.")
     return FAULT if check.mistakes else 0
 
 

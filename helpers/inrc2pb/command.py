@@ -4,12 +4,18 @@ import argparse
 import errno
 import io
 import os
+import signal
 import sys
 from pathlib import Path
-from typing import Callable, NoReturn, Optional, TextIO
+from typing import Callable, Optional, TextIO
 
+from .arguments import parser
 from .program import FAULT, OUT_OF_MEMORY, READ_OR_WRITE, ProgramFault, WeekFiles
 from .slots import FileFault
+
+__all__ = [
+    "Misuse", "add_solver_options", "add_week_options", "fault_line", "number_of_seconds", "parser", "processors", "run", "week_files",
+]  # fmt: skip
 
 # The exit statuses with which a shell reports that the signals PIPE and INT ended a command.
 BROKEN_PIPE, INTERRUPTED = 141, 130
@@ -51,24 +57,6 @@ _PROGRAM_ADVICE = (
 
 class Misuse(Exception):
     """Something that the user has to change, in one line."""
-
-
-class Parser(argparse.ArgumentParser):
-    """A parser that says how to correct a word that it does not know, and options that are missing."""
-
-    def error(self, message: str) -> NoReturn:
-        """Prints the fault and its advice, and exits."""
-        _, unknown, words = message.partition("unrecognized arguments: ")
-        if unknown and not words.startswith("-"):
-            message += ": write a path with a blank in quotes, and its option before each file"
-        if "--sce, --his, --week" in message:
-            message += ": is WEEK set in this terminal?"
-        super().error(message)
-
-
-def parser(description: str, epilog: Optional[str] = None) -> argparse.ArgumentParser:
-    """A parser whose help keeps the lines of its description. An option has to be written out, as for `inrc2pb`."""
-    return Parser(description=description, epilog=epilog, formatter_class=argparse.RawDescriptionHelpFormatter, allow_abbrev=False)
 
 
 def number_of_seconds(text: str) -> float:
@@ -134,6 +122,7 @@ def _utf8_stream(stream: Optional[TextIO], errors: str) -> TextIO:
 def run(main: Callable[[], Optional[int]]) -> None:
     """Runs a helper and exits: faults are one line on standard error, with status 1 or the program's own."""
     name = os.path.basename(sys.argv[0])
+    _catch_ctrl_c()
     sys.stdout = _utf8_stream(sys.stdout, "surrogateescape")
     sys.stderr = _utf8_stream(sys.stderr, "backslashreplace")
     try:
@@ -155,6 +144,12 @@ def run(main: Callable[[], Optional[int]]) -> None:
         print(f"{name}: out of memory", file=sys.stderr)
         status = OUT_OF_MEMORY
     sys.exit(status)
+
+
+def _catch_ctrl_c() -> None:
+    """From now on Ctrl-C is a KeyboardInterrupt again. Before, while a command starts, it ends the process without a word."""
+    if signal.getsignal(signal.SIGINT) == signal.SIG_DFL:
+        signal.signal(signal.SIGINT, signal.default_int_handler)
 
 
 def _drop_output() -> None:

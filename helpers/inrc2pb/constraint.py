@@ -34,7 +34,7 @@ def _places(week: Week) -> List[Place]:
 
 
 def _hard_blocks(week: Week, held: Sequence[Assignment]) -> Iterator[Block]:
-    yield Block("the unit variable", "it has to be true", 1)
+    yield Block("the unit variable", "it has to be true; an answer that violates it is cut off, or is of another week", 1)
     for nurse in week.scenario.nurses:
         for day in DAYS:
             yield Block("H1", f"{nurse} has at most one place on {day}", 1)

@@ -50,9 +50,9 @@ def _heading_of(line: str) -> str:
 
 
 def _rows_below(lines: Sequence[str], at: int) -> Iterator[str]:
-    """The lines below a heading, but for empty ones."""
+    """The lines below a heading, but for empty ones. A line with = is a heading too, though perhaps a wrong one."""
     for line in lines[at + 1 :]:
-        if _heading_of(line):
+        if _heading_of(line) or "=" in line:
             return
         if line.strip():
             yield line
@@ -114,8 +114,8 @@ def _names_of(row: str) -> List[str]:
 
 
 def _blank_in(row: str, count: int) -> Optional[str]:
-    """A reason if a row begins with more words than it should have names."""
-    names = _names_of(row)
+    """A reason if a row begins with more words than it should have names. One with = is a heading, though a wrong one."""
+    names = [] if "=" in row else _names_of(row)
     return f"does a name in '{' '.join(names)}' have a blank? write _ for it" if len(names) > count else None
 
 
@@ -127,6 +127,8 @@ def _announced(names: int, noun: str) -> Callable[[str], Optional[str]]:
         number, count = words[names] if len(words) > names else "", len(words) - names - 1
         if re.fullmatch("[0-9]{1,9}", number) and int(number) != count:
             return f"{words[0]} announces {plural(int(number), noun)}, and the line has {count}"
+        if len(words) > names and "=" not in row and not re.search(r"\s[0-9]", row):
+            return f"the number of {noun}s is missing after '{' '.join(words[:names])}'"
         return _blank_in(row, names)
 
     return reason

@@ -5,6 +5,7 @@ from pathlib import Path
 from typing import Callable, Dict, Iterable, Iterator, List, NamedTuple, Optional, Tuple
 
 from .files import DAYS, Assignment, FileFault, History, Scenario, Solution, Week, read_solution
+from .hints import plural
 from .program import ProgramFault
 from .rules import numbers
 from .slots import text_of, tokens_of
@@ -112,7 +113,7 @@ def _misfits_of(rule: str, path: Path, solution: Solution, week: Week, held: Ite
         for place, required in week.data.requirements.items():
             if number[place] < required.minimum:
                 named = f"{DAYS[place.day]} {place.shift} {place.skill}"
-                yield Misfit(rule, 0, f"{named} has {number[place]} nurses and needs at least {required.minimum}")
+                yield Misfit(rule, 0, f"{named} has {plural(number[place], 'nurse')} and needs at least {required.minimum}")
     if rule == "H5":
         rows = set(solution.assignments)
         yield from (Misfit(rule, 0, f"the held row '{row.row()}' is missing") for row in held if row not in rows)

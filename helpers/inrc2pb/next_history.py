@@ -51,6 +51,7 @@ def main() -> Optional[int]:
     words = parser(
         "Writes the history with which the next week begins.",
         "docs/rules.md says what each number is. Files of different weeks or wards are a fault, with status 1.",
+        order="scenario, history, roster",
     )
     words.add_argument("scenario", type=Path, help="the scenario")
     words.add_argument("history", type=Path, help="the history with which the week began")

@@ -5,6 +5,9 @@ from typing import Dict, Iterator, List, Tuple
 from .files import DAYS, Contract, History, Limits, NurseHistory, Requirement, Scenario, WeekData
 from .hints import plural
 
+# The end of a warning of a week that has no roster.
+IMPOSSIBLE = "no roster can meet it"
+
 
 def scenario_warnings(scenario: Scenario) -> Iterator[str]:
     """Warnings of a scenario."""
@@ -86,7 +89,7 @@ def week_warnings(scenario: Scenario, data: WeekData) -> Iterator[str]:
 def _odd_number(required: Requirement, have: int) -> str:
     """A warning of a place for which this number of nurses has the skill."""
     if required.minimum > have:
-        return f"at least {required.minimum} are needed, and {plural(have, 'nurse')} {_has(have)} the skill: no roster can meet it"
+        return f"at least {required.minimum} are needed, and {plural(have, 'nurse')} {_has(have)} the skill: {IMPOSSIBLE}"
     if required.optimal > have:
         return f"{required.optimal} are best, and {plural(have, 'nurse')} {_has(have)} the skill"
     if 0 < required.optimal < required.minimum:

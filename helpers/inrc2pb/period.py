@@ -3,6 +3,7 @@
 import argparse
 import errno
 import os
+import shlex
 import sys
 import tempfile
 from dataclasses import dataclass, replace
@@ -120,8 +121,16 @@ class Period:
     def _history_file(self, number: int) -> Path:
         return self.folder / f"history-{number}.txt"
 
+    def _tell_replaced(self) -> None:
+        """Says which files of an earlier run get new contents."""
+        written = [*map(self._roster_file, self.numbers), *(self._history_file(number + 1) for number in self.numbers)]
+        old = [str(path) for path in written if path.exists() and path != self._history_file(self.scenario.weeks)]
+        if old:
+            print(f"files that are replaced: {', '.join(old)}", file=sys.stderr, flush=True)
+
     def run(self) -> None:
         """Plans all weeks. After a fault, or if the user stops it, the weeks that have a roster have their files and reports."""
+        self._tell_replaced()
         with interrupts() as signals:
             for number, path in zip(self.numbers, self.files.weeks):
                 self._plan_and_report(number, path, signals)
@@ -144,6 +153,10 @@ class Period:
             self.history = next_history(self.scenario, self.history, rows)
             self.history_file = self._history_file(number + 1)
             write_history(self.history_file, self.history)
+        else:
+            words = (self.files.scenario, self.history_file, roster, "--out", self.folder / "history-new.txt")
+            command = " ".join(shlex.quote(str(word)) for word in words)
+            print(f"for the first history of the next period type: inrc2pb-next --new-period {command}", file=sys.stderr, flush=True)
         if ended:
             raise _of_week(number, ended)
         if signals.caught:

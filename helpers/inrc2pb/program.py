@@ -8,7 +8,7 @@ import subprocess
 import sys
 from dataclasses import dataclass
 from pathlib import Path
-from typing import Dict, List, Optional, Tuple
+from typing import Dict, List, Optional, Sequence, Tuple
 
 from .processes import Processes
 
@@ -17,6 +17,7 @@ SOFT_RULES = ("S1", "S2", "S3", "S4", "S5", "S6", "S7")
 FAULT, READ_OR_WRITE, OUT_OF_MEMORY, NO_ROSTER, BROKEN_RULE, NO_PROGRAM = 1, 3, 4, 5, 6, 127
 # A run takes less, also of the largest week; one that waits for a pipe that nobody writes would not end.
 LONGEST_RUN = 600.0
+_READ_OPTIONS = ("--sce", "--his", "--week", "--fix", "--from")
 
 
 class ProgramFault(Exception):
@@ -112,7 +113,7 @@ def run_program(*words: str, given: str = "") -> str:
         raise ProgramFault(READ_OR_WRITE, f"inrc2pb {words[0]} did not end in {LONGEST_RUN:.0f} s: {advice}") from fault
     except OSError as fault:
         raise _does_not_run(program, fault) from fault
-    _check_status(ran.returncode, ran.stderr.decode("utf-8", errors="replace"))
+    _check_status(ran.returncode, ran.stderr.decode("utf-8", errors="replace"), words)
     return ran.stdout.decode("utf-8", errors="surrogateescape")
 
 
@@ -120,13 +121,30 @@ def _does_not_run(program: str, fault: OSError) -> ProgramFault:
     return ProgramFault(NO_PROGRAM, f"{program} does not run: {fault.strerror}")
 
 
-def _check_status(status: int, errors: str) -> None:
-    """A status other than 0 is a ProgramFault, with the first line of standard error."""
+def _check_status(status: int, errors: str, words: Sequence[str]) -> None:
+    """A status other than 0 is a ProgramFault, with the first line of standard error, and the file that cannot be read."""
     lines = errors.strip().splitlines()
+    if status == READ_OR_WRITE and lines and lines[0].endswith(": read failed"):
+        _check_readable(lines[0], words)
     if status < 0:
         raise ProgramFault(status, f"inrc2pb: ended by {_signal_name(-status)}")
     if status:
         raise ProgramFault(status, lines[0] if lines else f"inrc2pb: ended with status {status}")
+
+
+def _check_readable(line: str, words: Sequence[str]) -> None:
+    """The first file of these words that cannot be read is a ProgramFault with this line, caused by its OSError."""
+    for option, path in zip(words, words[1:]):
+        if option in _READ_OPTIONS:
+            try:
+                open(path, "rb", opener=_without_waiting).close()
+            except OSError as fault:
+                raise ProgramFault(READ_OR_WRITE, f"{line}: {path}: {fault.strerror}") from fault
+
+
+def _without_waiting(path: str, flags: int) -> int:
+    """Opens a file; a pipe that nobody writes does not keep it waiting."""
+    return os.open(path, flags | os.O_NONBLOCK)
 
 
 def _signal_name(number: int) -> str:
@@ -148,14 +166,14 @@ def encode(files: WeekFiles, model: Path) -> None:
 
 def encode_unless_stopped(files: WeekFiles, model: Path, processes: Processes) -> bool:
     """As `encode`, in one of the `processes`. Returns whether the model is whole: it is not if they are stopped before."""
-    program = str(find_program())
+    program, words = str(find_program()), _encode_words(files, model)
     try:
-        ended = processes.run([program, *_encode_words(files, model)], LONGEST_RUN, Path.cwd())
+        ended = processes.run([program, *words], LONGEST_RUN, Path.cwd())
     except OSError as fault:
         raise _does_not_run(program, fault) from fault
     if processes.stopped:
         return False
-    _check_status(ended.status, ended.errors)
+    _check_status(ended.status, ended.errors, words)
     return True
 
 

@@ -58,7 +58,7 @@ class Picture:
         self.step = max([LEGEND_WIDTH, *(30 + LETTER * len(shift) for shift in view.shifts)])
         self.in_line = max(1, min(8, self.right // self.step))
         self.under = self.bottom + 24 + 20 * -(-len(view.shifts) // self.in_line)
-        lines = abbreviations(self.texts.shifts, self.texts.skills) + view.legend() + view.missing()
+        lines = abbreviations(self.texts.shifts, self.texts.skills) + view.legend() + view.misfilled()
         self.below = [part for line in lines for part in textwrap.wrap(line, self.right // 7, subsequent_indent="    ")]
 
     def left(self, week: int, day: int) -> int:

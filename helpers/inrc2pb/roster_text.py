@@ -89,7 +89,7 @@ class TextTable:
             cost = f"  {sum(costs.values()):4}  {costs_text(costs)}" if view.has_costs else ""
             lines.append(f"{name:{self.first}}  {'  ||  '.join(weeks)}{cost}".rstrip())
         names = (self.shifts, self.skills) if self.single else (self.shifts,)
-        below = abbreviations(*names) + view.legend() + view.missing()
+        below = abbreviations(*names) + view.legend() + view.misfilled()
         return lines + [""] * bool(below) + below
 
 

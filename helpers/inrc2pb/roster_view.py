@@ -8,6 +8,7 @@ from . import rules
 from .command import Misuse
 from .files import DAYS, Assignment, History, Scenario, Solution, Week, WeekData, check_week_number
 from .files import read_history, read_scenario, read_solution, read_week
+from .hints import plural
 from .misfits import other_week
 from .next_history import next_history
 from .slots import text_of
@@ -46,7 +47,7 @@ class WeekView:
     refused: Set[Assignment]
     costs: Dict[str, Dict[str, int]]
     notes: List[str]
-    missing: List[str]
+    misfilled: List[str]
 
     def marks(self, row: Assignment) -> str:
         """The marks of an assignment."""
@@ -105,9 +106,9 @@ class RosterView:
         marks = {mark for week in self.weeks for row in week.rows for mark in week.marks(row)}
         return [f"{mark} = {MEANINGS[mark]}" for mark in sorted(marks, reverse=True)] + self._with_week(lambda week: week.notes)
 
-    def missing(self) -> List[str]:
-        """A line for each day with places that are short of nurses."""
-        return self._with_week(lambda week: week.missing)
+    def misfilled(self) -> List[str]:
+        """A line for each day with places that have too few nurses, and then for each with too many."""
+        return self._with_week(lambda week: week.misfilled)
 
     def _with_week(self, lines_of: Callable[[WeekView], List[str]]) -> List[str]:
         prefixed = len(self.weeks) > 1
@@ -157,9 +158,9 @@ def _check_numbers(files: RosterFiles) -> None:
     count = len(files.rosters)
     for option, given in (("--week", files.weeks), ("--fix", files.fixes)):
         if len(given) not in (0, count):
-            raise Misuse(f"{option} is given {len(given)} times for {count} rosters: give it once for each, in their order")
+            raise Misuse(f"{option} is given {plural(len(given), 'time')} for {plural(count, 'roster')}: give it once for each, in their order")
     if len(files.histories) not in (0, 1, count):
-        raise Misuse(f"--his is given {len(files.histories)} times for {count} rosters: give the first week's, or each week's in order")
+        raise Misuse(f"--his is given {plural(len(files.histories), 'time')} for {plural(count, 'roster')}: give the first week's, or each week's in order")
     if files.weeks and not files.scenario:
         raise Misuse("--week needs --sce: give the scenario too")
     if files.histories and not (files.scenario and files.weeks):
@@ -198,8 +199,8 @@ def _refused(data: WeekData, rows: Iterable[Assignment]) -> Iterator[Assignment]
 
 
 def _add_costs(view: WeekView, week: Week, held: Sequence[Assignment], early: bool) -> None:
-    """Adds each nurse's cost, and the places that are short of nurses."""
-    view.missing = list(missing_nurses(week, view.rows))
+    """Adds each nurse's cost, and the places that have too few or too many nurses."""
+    view.misfilled = [*missing_nurses(week, view.rows), *spare_nurses(week, view.rows)]
     broken = rules.first_broken(week, view.rows, held)
     if broken:
         view.notes.append(f"roster breaks {broken}: it has no penalty")
@@ -222,3 +223,14 @@ def missing_nurses(week: Week, rows: Iterable[Assignment]) -> Iterator[str]:
                 places.append(f"{place.shift} {place.skill} ({number[place]} of {wanted}{least})")
         if places:
             yield f"missing on {name}: {', '.join(places)}"
+
+
+def spare_nurses(week: Week, rows: Iterable[Assignment]) -> Iterator[str]:
+    """A line for each day on which a place that asks for nurses has more than are best. They cost nothing."""
+    number = rules.numbers(rows)
+    spare: Dict[int, List[str]] = {day: [] for day in range(len(DAYS))}
+    for place, required in week.data.requirements.items():
+        wanted = max(required.minimum, required.optimal)
+        if 0 < wanted < number[place]:
+            spare[place.day].append(f"{place.shift} {place.skill} ({number[place]} of {wanted})")
+    yield from (f"too many on {DAYS[day]}: {', '.join(places)}" for day, places in spare.items() if places)

@@ -9,7 +9,7 @@ from .command import add_solver_options, number_of_seconds, parser, run
 from .files import read_files, write_text
 from .improve import Progress, check_effort, search
 from .interrupts import interrupts
-from .program import WeekFiles
+from .program import NO_ROSTER, ProgramFault, WeekFiles
 from .solvers import installed_solvers
 from .targets import check_inputs_stay, check_target
 
@@ -61,7 +61,12 @@ def main() -> Optional[int]:
         check_inputs_stay((given.sce, given.his, given.week), given.cusOut, "the number of the next week")
     seconds = search_seconds(given.timeout, seconds_since_start())
     with interrupts():
-        outcome = search(files, None, given.sol, seconds, given.rand, given.jobs, solvers, Progress(None))
+        try:
+            outcome = search(files, None, given.sol, seconds, given.rand, given.jobs, solvers, Progress(None))
+        except ProgramFault as fault:
+            if fault.status != NO_ROSTER:
+                raise
+            raise ProgramFault(NO_ROSTER, f"--timeout {given.timeout:g}: {fault.message}") from fault
         if given.cusOut:
             write_text(given.cusOut, f"{week.history.week + 1}\n")
         print(outcome.report.text, end="", flush=True)

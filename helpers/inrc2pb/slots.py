@@ -65,6 +65,19 @@ def tokens_of(text: str) -> List[Token]:
     return found
 
 
+def is_utf8(word: str) -> bool:
+    """Whether no byte of the word was decoded to a surrogate by `text_of`."""
+    return not any("\udc80" <= letter <= "\udcff" for letter in word)
+
+
+def _other_encoding(word: str, names: Iterable[str]) -> str:
+    """What to do if either the file with the word or the one with the names is not UTF-8. The names are those of the scenario."""
+    special = [name for name in names if not name.isascii()]
+    if word.isascii() or not special or is_utf8(word) == all(map(is_utf8, special)):
+        return ""
+    return ("the scenario" if is_utf8(word) else "this file") + " is not UTF-8: save it as UTF-8"
+
+
 def closest(word: str, names: Iterable[str]) -> Optional[str]:
     """The name that the word most likely means, also if only its case differs."""
     words = list(names)
@@ -98,9 +111,19 @@ class Slots:
             message = f"'{token.text}' looks like a comment: the files have none, so remove it"
         if is_no_text(self.text):
             message = "this is no text file: save it as plain text"
+        elif self._is_in_a_name(token):
+            message += "; a name may have none of ( ) , ="
         else:
             message += reasons(self.text.split("\n"), token.line, token.text, self._names, self._heading)
         raise FileFault(self.path, token.line, message, fault)
+
+    def _is_in_a_name(self, token: Token) -> bool:
+        """Whether the token is the sign that was taken last, and follows a name without a blank."""
+        if self.at < 2 or token.text not in tuple(SIGNS) or self.tokens[self.at - 1] is not token:
+            return False
+        name = self.tokens[self.at - 2].text
+        is_name = name not in SIGNS and not name.isdigit() and name not in HEADINGS
+        return is_name and name + token.text in self.text.split("\n")[token.line - 1]
 
     def next(self, wanted: str) -> Token:
         """The next token, of any kind."""
@@ -172,6 +195,9 @@ class Slots:
         """Raises the fault of a name that is not in its list, with the closest one that is."""
         if token.text in HEADINGS:
             self.fault(token, "unknown name", f"'{token.text}' where a {kind} should be")
+        encoding = _other_encoding(token.text, names)
+        if encoding:
+            self.fault(token, "unknown name", f"'{token.text}' is no {kind} of {source}: {encoding}")
         meant = closest(token.text, names)
         message = f"'{token.text}' is no {kind} of {source}: " + (f"did you mean '{meant}'?" if meant else f"it has {quoted(names)}")
         self.fault(token, "unknown name", message)

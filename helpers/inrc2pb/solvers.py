@@ -249,6 +249,8 @@ def find_solver(text: str) -> Solver:
         raise Misuse(f"--solver {text}: {fault}: correct its quotes") from fault
     if not words:
         raise Misuse("a solver has no name: give clasp, cbc or a command")
+    if not shutil.which(words[0]) and words[0].lower() in _PACKAGES and words[0] != words[0].lower():
+        raise Misuse(f"there is no solver {words[0]}: did you mean {words[0].lower()}?")
     if not shutil.which(words[0]):
         raise Misuse(f"{_why_not_run(words[0])}, or choose another with --solver")
     if text == "clasp":

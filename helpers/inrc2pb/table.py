@@ -17,7 +17,7 @@ from .roster_view import HELD, REFUSED, RosterFiles, RosterView, read_view
 def _words() -> argparse.ArgumentParser:
     words = parser(
         "Shows rosters as a table of nurses by days.",
-        "With --sce, --his and --week the table has what each nurse costs, by rule, and the places that are short of nurses.\n"
+        "With --sce, --his and --week the table has what each nurse costs, by rule, and the places with too few or too many nurses.\n"
         "For several weeks give their rosters in order, with one --week for each; the first week's --his is enough.\n"
         "In a terminal each shift type has a color, unless NO_COLOR is set.",
     )

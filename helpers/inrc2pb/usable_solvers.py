@@ -78,7 +78,7 @@ class UsableSolvers:
         silent = " and ".join(name for name, is_silent in self._silent.items() if is_silent)
         if not self._deniers:
             advice = f"{silent} printed nothing; give it more time, or check its command" if silent else "give it more time"
-            return ProgramFault(NO_ROSTER, f"no roster was found in {seconds:.0f} s: {advice}")
+            return ProgramFault(NO_ROSTER, f"no roster was found in {round(seconds, 1):g} s: {advice}")
         held = f" and has the rows of {fix}" if fix else ""
         says = "says" if len(self._deniers) == 1 else "say"
         claim = f"no roster keeps the hard rules{held}, {says} {' and '.join(self._deniers)}"

@@ -26,7 +26,8 @@ def fake(how):
 
 class BadSolvers(HelperTest):
     def improve(self, *words):
-        return run("improve", *WEEK_OPTIONS, "--sol", self.folder / "best.txt", "--time", 60, "--jobs", 2, *words)
+        usual = [word for option, number in (("--time", 60), ("--jobs", 2)) if option not in words for word in (option, number)]
+        return run("improve", *WEEK_OPTIONS, "--sol", self.folder / "best.txt", *usual, *words)
 
     def test_a_solver_that_fails_is_reported_and_not_used_any_more(self):
         rows = {

@@ -2,12 +2,11 @@
 
 import os
 import resource
+import subprocess
 import unittest
 from unittest import mock
 
-from ward import HISTORY, ROSTER, SCENARIO, WARD, WEEK, WEEK_FILES, WEEK_OPTIONS, HelperTest, files, run
-
-from inrc2pb import constraint, program
+from ward import HELPERS, HISTORY, ROSTER, SCENARIO, WARD, WEEK, WEEK_OPTIONS, HelperTest, files, run
 
 
 class RoundTrips(HelperTest):
@@ -86,6 +85,11 @@ MISTAKES = [
     (SCENARIO, "Amara Full 2", "Amara Full 1", "--sce", 25, "Amara announces 1 skill, and the line has 2"),
     (SCENARIO, "Chen Full", "Chen Li Full", "--sce", 26, "does a name in 'Chen Li Full' have a blank? write _ for it"),
     (SCENARIO, "Full (17", "Full Time (17", "--sce", 20, "does a name in 'Full Time' have a blank? write _ for it"),
+    (SCENARIO, "Chen", "Chen(L)", "--sce", 26, "'(' where a contract should be; a name may have none of ( ) , ="),
+    (SCENARIO, "CONTRACTS", "CONTRACT", "--sce", 19, "'CONTRACT' where 'CONTRACTS' should be"),
+    (SCENARIO, "NURSES", "NURSE", "--sce", 23, "'NURSE' where 'NURSES' should be"),
+    (SCENARIO, "Night 2 Day", "Night Day", "--sce", 17, "; the number of shift types is missing after 'Night'"),
+    (SCENARIO, "Chen Full 1 Nurse", "Chen Full Nurse", "--sce", 26, "; the number of skills is missing after 'Chen Full'"),
     (SCENARIO, "SKILLS", "# the skills\nSKILLS", "--sce", 5, "looks like a comment: the files have none, so remove it"),
     (SCENARIO, "WEEKS = 4", "WEEKS = 53", "--sce", 3, "the number of weeks is 53: it has to be from 1 to 52"),
     (SCENARIO, "Chen", "Bruno", "--sce", 26, "the nurse 'Bruno' is there already: use another name"),
@@ -139,6 +143,22 @@ class Mistakes(HelperTest):
             path.write_text(text, encoding=encoding)
             status, printed, _ = run("check", "--sce", path)
             self.assertEqual((status, message in printed), (1, True), printed)
+
+    def test_a_heading_that_is_misspelled_has_no_other_hint(self):
+        for heading in ("SHIFT_TYPES", "CONTRACTS", "NURSES"):
+            status, printed, _ = run("check", "--sce", self.changed(SCENARIO, f"{heading} =", f"{heading[:-1]} ="))
+            self.assertTrue(printed.endswith(f": '{heading[:-1]}' where '{heading}' should be\n"), printed)
+
+    def test_a_file_that_is_not_utf8_beside_one_that_is(self):
+        ward, past = (self.changed(path, "Chen", "J\u00fcrgen", f"new-{path.name}") for path in (SCENARIO, HISTORY))
+        for path, where in ((ward, "the scenario is"), (past, "this file is")):
+            text = path.read_text()
+            path.write_text(text, encoding="latin-1")
+            ran = subprocess.run([str(HELPERS / "inrc2pb-check"), "--sce", str(ward), "--his", str(past)], stdout=subprocess.PIPE)
+            self.assertIn(f"{past} line 7: 'J".encode(), ran.stdout)
+            self.assertIn(f"rgen' is no nurse of NURSES: {where} not UTF-8: save it as UTF-8".encode(), ran.stdout)
+            path.write_text(text)
+        self.assertEqual(run("check", "--sce", ward, "--his", past)[1], "No mistake found.\n")
 
     def test_good_files(self):
         self.assertEqual(run("check", *WEEK_OPTIONS, "--roster", ROSTER), (0, "No mistake found.\n", ""))
@@ -237,45 +257,6 @@ class Misfits(HelperTest):
                 self.assertEqual(run("check", *WEEK_OPTIONS, "--roster", roster), (1, said, ""))
         said = f"{ROSTER}: roster breaks H5: the held row 'Grace Sat Day Nurse' is missing\n"
         self.assertEqual(run("check", *WEEK_OPTIONS, "--fix", fix, "--roster", ROSTER), (1, said, ""))
-
-
-class Constraints(HelperTest):
-    def test_the_blocks_are_the_model(self):
-        model = self.folder / "week.opb"
-        program.encode(WEEK_FILES, model)
-        week = files.read_files(SCENARIO, HISTORY, WEEK)
-        count = int(model.read_text().split("\n", 1)[0].split()[-1])
-        self.assertEqual(sum(block.size for block in constraint.blocks(week)), count)
-
-    def test_a_constraint_has_its_line_rule_and_names(self):
-        status, printed, said = run("check", *WEEK_OPTIONS, "--constraint", 60)
-        lines = printed.splitlines()
-        self.assertEqual((status, said, lines[0]), (0, "", "constraint 60, line 62 of the model: H2: Wed Day Nurse needs at least 1"))
-        self.assertIn("+1 [Amara Wed Day Nurse]", lines[2])
-        without = ["The model is the one without --fix and --early: give these options too if encode had them."]
-        self.assertEqual(lines[3:], without)
-        self.assertEqual(run("check", *WEEK_OPTIONS, "--early", "--constraint", 60)[1].splitlines()[3:], [])
-
-    def test_a_constraint_of_a_run_names_its_limit(self):
-        for number, limit in ((298, "at most 5"), (299, "at least 2")):
-            _, printed, _ = run("check", *WEEK_OPTIONS, "--constraint", number)
-            self.assertIn(f": S2: runs of Day of Chen should be {limit}\n", printed)
-
-    def test_a_number_that_the_model_has_not(self):
-        _, _, said = run("check", *WEEK_OPTIONS, "--constraint", 99999)
-        self.assertIn("there is no constraint 99999", said)
-
-
-class LastWeek(HelperTest):
-    def test_the_last_week_of_thirty_nurses(self):
-        thirty = WARD.parent / "thirty"
-        names = [thirty / name for name in ("Sc-thirty.txt", "H0-thirty-3.txt", "WD-thirty-3.txt")]
-        week, model = files.read_files(*names), self.folder / "week.opb"
-        for early in (False, True):
-            program.encode(program.WeekFiles(*names, early=early), model)
-            with open(model) as lines:
-                count = int(lines.readline().split()[-1])
-            self.assertEqual(sum(block.size for block in constraint.blocks(week, (), early)), count)
 
 
 if __name__ == "__main__":

@@ -128,7 +128,7 @@ class Searches(HelperTest):
 
 class BadInput(HelperTest):
     def assert_refused(self, status, says, *words):
-        ran = run("improve", "--time", 3, *words)
+        ran = run("improve", *words, *(() if "--time" in words else ("--time", 3)))
         self.assertEqual((ran[0], ran[1]), (status, ""), ran[2])
         self.assertIn(says, ran[2])
         self.assertEqual(ran[2].count("\n"), 1, ran[2])

@@ -37,7 +37,8 @@ class Warnings(HelperTest):
                 changed = self.changed(path, old, new)
                 words = {"--sce": SCENARIO, option: changed}
                 said = f"{changed}: warning: {warning}\n" if warning else ""
-                self.assertEqual(run("check", *(word for pair in words.items() for word in pair)), (0, f"{said}No mistake found.\n", ""))
+                end = "No mistake found, but see the warnings." if "no roster can meet it" in said else "No mistake found."
+                self.assertEqual(run("check", *(word for pair in words.items() for word in pair)), (0, f"{said}{end}\n", ""))
 
     def test_a_shift_type_that_is_closed(self):
         text, zeros = WEEK.read_text(), " ".join(["(0,0)"] * 7)

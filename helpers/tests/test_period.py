@@ -1,6 +1,7 @@
 """Tests of `inrc2pb-period` and `inrc2pb-simulate`."""
 
 import os
+import shlex
 import shutil
 import signal
 import subprocess
@@ -91,10 +92,12 @@ class Periods(PeriodTest):
     def test_held_shifts_of_a_week(self):
         held = self.folder / "held.txt"
         words = (*WARD_OPTIONS, "--fix", f"1={held}", "--out", self.folder, "--time", 5, "--once", "--solver", "clasp")
+        files_of = ", ".join(str(self.folder / name) for name in ("roster-0.txt", "roster-1.txt", "history-1.txt", "history-2.txt"))
         for week, hint in ((1, ""), (3, f"inrc2pb-period: {held}: line 1 has week 3, and the history has week 1: is the file of another week?\n")):
             held.write_text(f"SOLUTION {week} ward ASSIGNMENTS = 1 Grace Sat Day Nurse\n")
             status, _, said = run("period", *words)
-            self.assertEqual((status, said), (0, f"week 0\nweek 1\n{hint}"))
+            replaced = f"files that are replaced: {files_of}\n" if week == 3 else ""
+            self.assertEqual((status, said), (0, f"{replaced}week 0\nweek 1\n{hint}"))
             self.assertIn("Grace Sat Day Nurse\n", (self.folder / "roster-1.txt").read_text())
 
 
@@ -110,6 +113,18 @@ class PeriodFaults(PeriodTest):
         self.assertTrue((self.folder / "history-1.txt").exists())
         self.assertNotIn("stopped", printed)
         self.assertRegex(said.splitlines()[-1], "^inrc2pb-period: week 0: sh: .*choose another solver with --solver$")
+
+    def test_after_the_last_week_the_next_period_is_told(self):
+        ward, answer, out = self.changed(SCENARIO, "WEEKS = 4", "WEEKS = 1"), self.folder / "answer.txt", self.folder / "my out"
+        answer.write_text(program.answer_with(replace(WEEK_FILES, scenario=ward), ROSTER))
+        words = ("--sce", ward, "--his", HISTORY, "--week", WEEK, "--out", out, "--once", "--solver", f"sh -c 'cat {answer}'")
+        for replaced in ("", f"files that are replaced: {out}/roster-0.txt\n"):
+            status, printed, said = run("period", *words)
+            command = f"inrc2pb-next --new-period {ward} {HISTORY} '{out}/roster-0.txt' --out '{out}/history-new.txt'"
+            line = f"for the first history of the next period type: {command}\n"
+            self.assertEqual((status, said), (0, f"{replaced}week 0\n{line}"))
+        self.assertEqual(run(*shlex.split(command.replace("inrc2pb-", "", 1))), (0, "", ""))
+        self.assertEqual((out / "history-new.txt").read_text()[:14], "HISTORY\n0 ward")
 
     def test_a_solver_without_an_answer(self):
         for solver in BAD_SOLVERS:
@@ -225,6 +240,12 @@ class Simulation(PeriodTest):
         self.assertAlmostEqual(search_seconds(100, 1), 94)
         self.assertGreater(search_seconds(0.1, 1), 0)
         self.assertTrue(0 < seconds_since_start() < 3600)
+
+    def test_without_a_roster_the_fault_names_the_time_that_was_given(self):
+        words = ("--sol", self.folder / "solution.txt", "--timeout", 0.5, "--solver", "sh -c 'sleep 60'")
+        status, printed, said = run("simulate", *WEEK_OPTIONS, *words)
+        self.assertEqual((status, printed), (5, ""))
+        self.assertRegex(said, "^inrc2pb-simulate: --timeout 0.5: no roster was found in 0.2 s: ")
 
     def test_the_process_ends_in_its_time(self):
         # On a machine with other work a run may be late.

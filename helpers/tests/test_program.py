@@ -4,6 +4,7 @@ import errno
 import os
 import subprocess
 import unittest
+from pathlib import Path
 from unittest import mock
 
 from ward import HELPERS, HISTORY, ROSTER, SCENARIO, WEEK, WEEK_FILES, HelperTest, files, program, run
@@ -44,6 +45,17 @@ class Program(HelperTest):
         with self.assertRaises(program.ProgramFault) as caught:
             program.extend(WEEK_FILES, roster)
         self.assertEqual((caught.exception.status, str(caught.exception)), (6, "inrc2pb: roster breaks H4"))
+
+
+class Unreadable(HelperTest):
+    def test_the_file_that_cannot_be_read_is_named(self):
+        missing = self.folder / "week.txt"
+        for path, reason in ((missing, "No such file or directory: look at its name and folder"), (self.folder, "Is a directory: this is a folder")):
+            for run_it in (lambda week: program.encode(week, Path(os.devnull)), lambda week: program.decode(week, "")):
+                with self.assertRaises(program.ProgramFault) as caught:
+                    run_it(program.WeekFiles(SCENARIO, HISTORY, path))
+                self.assertEqual(caught.exception.status, 3)
+                self.assertIn(f"inrc2pb: read failed: {path}: {reason}", command.fault_line(caught.exception))
 
 
 class Finding(HelperTest):
@@ -99,27 +111,6 @@ class CommandLines(unittest.TestCase):
             with self.subTest(errno.errorcode[number]):
                 line = command.fault_line(OSError(number, os.strerror(number), "some\nfile"))
                 self.assertRegex(line, f"^some file: {os.strerror(number)}: [a-z].{{10,}}$")
-
-    def test_words_that_do_not_fit_have_their_advice(self):
-        improve, week = ("improve", "--sol", "best.txt"), ("--sce", SCENARIO, "--his", HISTORY, "--week")
-        for words, line in (
-            ((*improve, *week, "my", "week.txt"), "unrecognized arguments: week.txt: write a path with a blank in quotes, and its option before each file"),
-            ((*improve, *week, WEEK, "--tine", "5"), "unrecognized arguments: --tine 5"),
-            (improve, "the following arguments are required: --sce, --his, --week: is WEEK set in this terminal?"),
-            ((*improve, *week, WEEK, "--time", "2,5"), "argument --time: '2,5' is no number: give seconds, such as 60 or 2.5"),
-            (("simulate", *week, WEEK, "--timeout", "1m"), "argument --timeout: '1m' is no number: give seconds, such as 60 or 2.5"),
-            (("period", *week, WEEK, "--time", ""), "argument --time: '' is no number: give seconds, such as 60 or 2.5"),
-        ):
-            with self.subTest(words):
-                status, printed, said = run(*words)
-                self.assertEqual((status, printed, said.splitlines()[-1]), (2, "", f"inrc2pb-{words[0]}: error: {line}"))
-
-    def test_options_are_written_out(self):
-        for helper, words in (("simulate", ("--time", 3)), ("lp", ("model", "--l", "week.lp"))):
-            status, printed, said = run(helper, *words)
-            self.assertEqual((status, printed), (2, ""))
-            self.assertIn("error:", said)
-        self.assertNotIn("--lp", said.splitlines()[-1])
 
     def test_processors_that_the_process_may_use(self):
         with mock.patch("os.sched_getaffinity", return_value={1, 5}, create=True):

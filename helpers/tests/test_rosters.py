@@ -77,6 +77,15 @@ class Tables(HelperTest):
         self.assertIn("missing on Mon: Day Charge (0 of 1, at least 1)", printed)
         xml.dom.minidom.parseString(printed)
 
+    def test_places_with_too_many_nurses_are_named(self):
+        row = next(line for line in WEEK.read_text().splitlines() if line.startswith("Day Nurse"))
+        less = self.changed(WEEK, row, "Day Nurse (1,1) (0,0) (9,9)" + " (1,9)" * 4)
+        _, printed, _ = run("table", "--sce", SCENARIO, "--his", HISTORY, "--week", less, ROSTER)
+        lines = printed.splitlines()
+        self.assertTrue(lines[-2].startswith("missing on Sun: Day Nurse ("), printed)
+        self.assertEqual(lines[-1], "too many on Mon: Day Nurse (2 of 1)")
+        self.assertNotIn("too many", run("table", *WEEK_OPTIONS, ROSTER)[1])
+
     def test_the_texts_of_a_picture_fit_their_cells(self):
         ward, path = ROSTER.read_text(), self.folder / "roster.txt"
         for old, new, count, cell, legend in (
@@ -115,7 +124,9 @@ class Tables(HelperTest):
 
     def test_numbers_of_files(self):
         _, _, said = run("table", "--sce", SCENARIO, "--week", WEEK, ROSTER, ROSTER)
-        self.assertEqual(said, "inrc2pb-table: --week is given 1 times for 2 rosters: give it once for each, in their order\n")
+        self.assertEqual(said, "inrc2pb-table: --week is given 1 time for 2 rosters: give it once for each, in their order\n")
+        _, _, said = run("table", "--sce", SCENARIO, "--week", WEEK, "--week", WEEK, ROSTER)
+        self.assertIn("--week is given 2 times for 1 roster: ", said)
 
 
 if __name__ == "__main__":
