@@ -44,7 +44,7 @@ WEEKS = ["n005w4", "eight", "thirty", "thirty, second week", "ward of 120", "las
 LIMITS = [60, 300]
 # Last weeks of planned periods, and the solvers that are measured on them.
 LAST_WEEKS = ["last12", "last60", "last120"]
-LAST_WEEK_SOLVERS = ["clasp", "cbc", "inrc2pb-improve", "inrc2pb-improve, clasp"]
+LAST_WEEK_SOLVERS = ["clasp", "clasp, raising a bound", "cbc", "inrc2pb-improve", "inrc2pb-improve, clasp"]
 # toulbar2 searched to the end. If it is stopped it says nothing, or `No solution found in`.
 SAYS_NO_ROSTER = re.compile(r"^No solution (?:in|found by initial propagation)\b", re.MULTILINE)
 
