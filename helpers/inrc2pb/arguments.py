@@ -48,7 +48,7 @@ class Parser(argparse.ArgumentParser):
         self.add_argument("--version", action=_Version, nargs=0, help="print the version of inrc2pb and exit")
 
     def parse_args(self, args: Optional[Sequence[str]] = None, namespace: Any = None) -> Any:  # type: ignore[override]
-        """The values of the command line. A mistake is told, and ends the program."""
+        """Returns the values of the command line. A mistake is printed, and ends the program."""
         self._given = sys.argv[1:] if args is None else list(args)
         for word in self._given:
             if re.match(r"--(sce|his|week|fix)\s", word):
@@ -65,7 +65,7 @@ class Parser(argparse.ArgumentParser):
         super().error(message)
 
     def _about_options(self) -> str:
-        """What to say of the first option that this command has not."""
+        """The advice about the first option that this command does not have."""
         options = re.findall(r"--[a-zA-Z-]+", self.format_usage())
         named = [word.split("=")[0] for word in self._given if re.match("--[a-zA-Z]", word)]
         unknown = next((name for name in named if name not in options and name != "--help"), "")
@@ -78,7 +78,7 @@ class Parser(argparse.ArgumentParser):
 
 
 def _about_words(unknown: str, given: Sequence[str]) -> str:
-    """What to say of words that are no options."""
+    """The advice about words that are no options."""
     if not unknown or unknown.startswith("-"):
         return ""
     if any(word.endswith(",") for word in given):

@@ -121,7 +121,7 @@ class Period:
     def _history_file(self, number: int) -> Path:
         return self.folder / f"history-{number}.txt"
 
-    def _tell_replaced(self) -> None:
+    def _name_replaced(self) -> None:
         """Says which files of an earlier run get new contents."""
         written = [*map(self._roster_file, self.numbers), *(self._history_file(number + 1) for number in self.numbers)]
         old = [str(path) for path in written if path.exists() and path != self._history_file(self.scenario.weeks)]
@@ -130,7 +130,7 @@ class Period:
 
     def run(self) -> None:
         """Plans all weeks. After a fault, or if the user stops it, the weeks that have a roster have their files and reports."""
-        self._tell_replaced()
+        self._name_replaced()
         with interrupts() as signals:
             for number, path in zip(self.numbers, self.files.weeks):
                 self._plan_and_report(number, path, signals)
@@ -156,7 +156,7 @@ class Period:
         else:
             words = (self.files.scenario, self.history_file, roster, "--out", self.folder / "history-new.txt")
             command = " ".join(shlex.quote(str(word)) for word in words)
-            print(f"for the first history of the next period type: inrc2pb-next --new-period {command}", file=sys.stderr, flush=True)
+            print(f"to make the first history of the next period, type: inrc2pb-next --new-period {command}", file=sys.stderr, flush=True)
         if ended:
             raise _of_week(number, ended)
         if signals.caught:

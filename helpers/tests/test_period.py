@@ -121,7 +121,7 @@ class PeriodFaults(PeriodTest):
         for replaced in ("", f"files that are replaced: {out}/roster-0.txt\n"):
             status, printed, said = run("period", *words)
             command = f"inrc2pb-next --new-period {ward} {HISTORY} '{out}/roster-0.txt' --out '{out}/history-new.txt'"
-            line = f"for the first history of the next period type: {command}\n"
+            line = f"to make the first history of the next period, type: {command}\n"
             self.assertEqual((status, said), (0, f"{replaced}week 0\n{line}"))
         self.assertEqual(run(*shlex.split(command.replace("inrc2pb-", "", 1))), (0, "", ""))
         self.assertEqual((out / "history-new.txt").read_text()[:14], "HISTORY\n0 ward")
