@@ -114,7 +114,7 @@ class PeriodFaults(PeriodTest):
         self.assertNotIn("stopped", printed)
         self.assertRegex(said.splitlines()[-1], "^inrc2pb-period: week 0: sh: .*choose another solver with --solver$")
 
-    def test_after_the_last_week_the_next_period_is_told(self):
+    def test_after_the_last_week_the_command_for_the_next_period_is_printed(self):
         ward, answer, out = self.changed(SCENARIO, "WEEKS = 4", "WEEKS = 1"), self.folder / "answer.txt", self.folder / "my out"
         answer.write_text(program.answer_with(replace(WEEK_FILES, scenario=ward), ROSTER))
         words = ("--sce", ward, "--his", HISTORY, "--week", WEEK, "--out", out, "--once", "--solver", f"sh -c 'cat {answer}'")
