@@ -1,20 +1,21 @@
 #!/usr/bin/env python3
 """Makes the example weeks `thirty`, `month` and `eight`: always the same files.
 
-usage: make_weeks.py FOLDER [NURSES]
+usage: make_weeks.py FOLDER [NURSES [--demand PERCENT]]
 
 `thirty` is the last of four weeks of a ward with 30 nurses, four shift types and four skills. `month` has all four weeks
 of the same ward. `eight` is the second of four weeks of eight nurses, and no roster meets it: two nurses have the skill
 HeadNurse, and it is asked for on Wednesday night and, on Thursday, early and late. Nobody may work early or late on the
 day after a night. With NURSES, 12 or more, it writes only a ward of that size, such as `ward60` for 60 nurses: its last
-week, like `thirty`, and the three weeks before it, with the history of the first one. Needs Python 3.8 or later.
+week, like `thirty`, and the three weeks before it, with the history of the first one. With `--demand 75` it needs only
+three quarters of the nurses. Needs Python 3.8 or later.
 """
 
 import argparse
 import itertools
 import sys
 from pathlib import Path
-from typing import Dict, Iterator, List, Sequence, TypeVar
+from typing import Callable, Dict, Iterator, List, Sequence, TypeVar
 
 HERE = Path(__file__).resolve().parent
 # The library is in the folder `helpers` of a clone, or in `share/inrc2pb` of an installation.
@@ -107,21 +108,23 @@ def nurses_of_ward(count: int) -> List[Nurse]:
     return [Nurse(name, contracts[n % 4], mixes[n % 5]) for n, name in enumerate(itertools.islice(names, count))]
 
 
-def demands_of_ward(numbers: Numbers, nurses: int = WARD) -> Requirements:
+def demands_of_ward(numbers: Numbers, nurses: int = WARD, percent: int = 100) -> Requirements:
     """For 30 nurses one nurse and one caretaker on each shift, two nurses early on weekdays, and some places for which one more is
-    best. For other numbers of nurses in proportion: a part of a nurse is rounded up at some places and down at others."""
+    best. For other numbers of nurses, and this percentage of the demand, in proportion: a part of a nurse is rounded up at some
+    places and down at others."""
+    wanted, whole = nurses * percent, WARD * 100
     demands = {}
     for at, (shift, skill, day) in enumerate(itertools.product(SHIFTS, SKILLS, range(len(DAYS)))):
         least = int(skill in ("Nurse", "Caretaker")) + (day < 5 and skill == "Nurse" and shift == "Early")
         best = least + (numbers.below(3) > 0)
-        up = 7 * at % WARD
-        demands[Place(day, shift, skill)] = Requirement((least * nurses + up) // WARD, (best * nurses + up) // WARD)
+        up = 7 * at % WARD * 100
+        demands[Place(day, shift, skill)] = Requirement((least * wanted + up) // whole, (best * wanted + up) // whole)
     return demands
 
 
-def week_of_ward(ward: Scenario, numbers: Numbers) -> WeekData:
-    """A week with 25 requests for 30 nurses."""
-    return week(ward, demands_of_ward(numbers, len(ward.nurses)), 25 * len(ward.nurses) // WARD, numbers)
+def week_of_ward(ward: Scenario, numbers: Numbers, percent: int = 100) -> WeekData:
+    """A week with 25 requests for 30 nurses, and this percentage of the demand."""
+    return week(ward, demands_of_ward(numbers, len(ward.nurses), percent), 25 * len(ward.nurses) // WARD, numbers)
 
 
 def write(folder: Path, texts: Dict[str, str]) -> None:
@@ -137,17 +140,17 @@ def write_week(folder: Path, ward: Scenario, data: WeekData, past: History) -> N
     write(folder / ward.name, dict(zip(names, (scenario_text(ward), history_text(past), week_text(data)))))
 
 
-def last_week(folder: Path, ward: Scenario, numbers: Numbers) -> None:
+def last_week(folder: Path, ward: Scenario, numbers: Numbers, percent: int = 100) -> None:
     """The last week of the ward, after a history that is made up."""
-    data = week_of_ward(ward, numbers)
+    data = week_of_ward(ward, numbers, percent)
     write_week(folder, ward, data, history(ward, WEEKS - 1, numbers))
 
 
-def ward_of_size(folder: Path, count: int) -> None:
+def ward_of_size(folder: Path, count: int, percent: int) -> None:
     """A ward of `count` nurses: the last week, then the weeks before it."""
     numbers, ward = Numbers(count), scenario(f"ward{count}", nurses_of_ward(count))
-    last_week(folder, ward, numbers)
-    weeks = {f"WD-{ward.name}-{number}.txt": week_text(week_of_ward(ward, numbers)) for number in range(WEEKS - 1)}
+    last_week(folder, ward, numbers, percent)
+    weeks = {f"WD-{ward.name}-{number}.txt": week_text(week_of_ward(ward, numbers, percent)) for number in range(WEEKS - 1)}
     write(folder / ward.name, {f"H0-{ward.name}-0.txt": history_text(first_history(ward, numbers)), **weeks})
 
 
@@ -173,21 +176,28 @@ def short_of_heads(folder: Path) -> None:
     write_week(folder, ward, data, history(ward, 1, numbers))
 
 
-def size_of_ward(word: str) -> int:
-    """A number of nurses within the limits."""
-    if not word.isdecimal() or not FEWEST <= int(word) <= MOST:
-        raise argparse.ArgumentTypeError(f"no number from {FEWEST} to {MOST}")
-    return int(word)
+def number_within(low: int, high: int) -> Callable[[str], int]:
+    """The reader of a number within these limits."""
+
+    def number(word: str) -> int:
+        if not word.isdecimal() or not low <= int(word) <= high:
+            raise argparse.ArgumentTypeError(f"no number from {low} to {high}")
+        return int(word)
+
+    return number
 
 
 def main() -> None:
     """Writes the example weeks, or a ward."""
     parser = argparse.ArgumentParser(description=__doc__, formatter_class=argparse.RawDescriptionHelpFormatter, usage=argparse.SUPPRESS)
     parser.add_argument("folder", metavar="FOLDER", type=Path, help="the weeks get a folder each in this folder")
-    parser.add_argument("nurses", metavar="NURSES", nargs="?", type=size_of_ward, help=f"a number from {FEWEST} to {MOST}")
+    size = number_within(FEWEST, MOST)
+    parser.add_argument("nurses", metavar="NURSES", nargs="?", type=size, help=f"a number from {FEWEST} to {MOST}")
+    percent = number_within(1, 200)
+    parser.add_argument("--demand", metavar="PERCENT", type=percent, default=100, help="of the demand in proportion to the nurses")
     words = parser.parse_args()
     if words.nurses:
-        ward_of_size(words.folder, words.nurses)
+        ward_of_size(words.folder, words.nurses, words.demand)
     else:
         last_week(words.folder, scenario("thirty", nurses_of_ward(WARD)), Numbers(WARD))
         month(words.folder)

@@ -19,15 +19,16 @@ run_tests() {
     [ "${ran:-0}" -gt 0 ] || complain "no test ran: $(tail -n 3 "$err")"
 }
 
-# types_hold [WORD..]: mypy finds no mistake.
-types_hold() { MYPYPATH=helpers mypy --cache-dir "$room/types" "$@" > "$out" 2>&1; }
+# types_hold FILE..: every function has types, and mypy finds no mistake.
+types_hold() {
+    MYPYPATH=helpers mypy --cache-dir "$room/types" --disallow-untyped-defs --disallow-any-generics "$@" > "$out" 2>&1
+}
 
 checks_types() {
     command -v mypy > /dev/null || { echo 'helpers.sh: mypy is not installed, so the types were not checked'; return; }
     begins_case 'the types of the helpers'
     {
-        types_hold --disallow-untyped-defs --disallow-any-generics helpers/inrc2pb &&
-            types_hold bench/*.py examples/make_weeks.py
+        types_hold helpers/inrc2pb && types_hold bench/*.py examples/make_weeks.py
     } || complain "$(head -n 20 "$out")"
 }
 

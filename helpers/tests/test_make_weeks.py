@@ -18,9 +18,9 @@ MINIMUM = 61
 
 
 class MadeWards(HelperTest):
-    def made(self, nurses):
+    def made(self, nurses, *options):
         """Makes a ward; its folder, or the fault."""
-        words = [sys.executable, str(EXAMPLES / "make_weeks.py"), str(self.folder), str(nurses)]
+        words = [sys.executable, str(EXAMPLES / "make_weeks.py"), str(self.folder), str(nurses), *options]
         ran = subprocess.run(words, stdout=subprocess.PIPE, stderr=subprocess.PIPE)
         return ran.stderr.decode() if ran.returncode else self.folder / f"ward{nurses}"
 
@@ -34,9 +34,9 @@ class MadeWards(HelperTest):
         for nurses in ("11", "1001", "many"):
             self.assertIn("no number from 12 to 1000\n", self.made(nurses))
 
-    def weeks(self, nurses):
+    def weeks(self, nurses, *options):
         """The weeks of a ward. Those in the middle get the first one's history: planning makes their own."""
-        name, ward = f"ward{nurses}", self.made(nurses)
+        name, ward = f"ward{nurses}", self.made(nurses, *options)
         for number in range(4):
             past = 3 if number == 3 else 0
             week = files.read_files(ward / f"Sc-{name}.txt", ward / f"H0-{name}-{past}.txt", ward / f"WD-{name}-{number}.txt")
@@ -48,6 +48,16 @@ class MadeWards(HelperTest):
                 self.assertEqual((len(week.scenario.nurses), len(week.data.requests)), (nurses, 25 * nurses // 30))
                 minimum = sum(required.minimum for required in week.data.requirements.values())
                 self.assertLess(abs(minimum - MINIMUM * nurses / 30), 3)
+
+    def test_the_demand_is_a_part(self):
+        for percent in (50, 75, 120):
+            for week in self.weeks(60, "--demand", str(percent)):
+                minimum = sum(required.minimum for required in week.data.requirements.values())
+                self.assertLess(abs(minimum - MINIMUM * 2 * percent / 100), 3)
+
+    def test_demand_out_of_limits(self):
+        for percent in ("0", "201", "half"):
+            self.assertIn("no number from 1 to 200\n", self.made(60, "--demand", percent))
 
     @unittest.skipUnless(shutil.which("clasp"), "needs clasp")
     def test_each_week_has_a_roster(self):
