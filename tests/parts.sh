@@ -43,8 +43,8 @@ script() {
     printf '%-28s %8.1f %12.1f %8s %7s\n' "$1${2:+ $2}" "$wall" "$processor" $((cases - bad)) "$bad" > "$row"
 }
 
-# The scripts of this folder. The one that takes longest comes first, so that others run beside it.
-scripts() { printf '%s\n' tests/longest_model.sh tests/*.sh | awk '!seen[$0]++'; }
+# The scripts of this folder. Those that take longest come first, so that others run beside them.
+scripts() { printf '%s\n' tests/helpers.sh tests/improve.sh tests/longest_model.sh tests/*.sh | awk '!seen[$0]++'; }
 
 # all_scripts [llvm | rattle | PROGRAM]..: each script of this folder that may be started, except the one that starts them all,
 # with each of these words; for `rattle` without those of pages.
