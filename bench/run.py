@@ -54,7 +54,7 @@ class Run(NamedTuple):
         return took
 
     def minimum_seconds(self, runs: int = RUNS) -> float:
-        """The shortest time of so many runs."""
+        """The shortest time of this number of runs."""
         return min(self.seconds() for _ in range(runs))
 
     def maximum_memory(self) -> int:
@@ -167,7 +167,7 @@ class Growth(NamedTuple):
 
 
 def growth(program: Path, room: Path, nurses: int, start: float) -> Growth:
-    """Measures a week of so many nurses. `start` is the time that the program needs to start."""
+    """Measures a week of this number of nurses. `start` is the time that the program needs to start."""
     folder = room / f"growth{nurses}"
     weeks.write_files(weeks.GROWTH[nurses], str(folder))
     week, late = WeekFolder(folder), WeekFolder(folder, late=True)

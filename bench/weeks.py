@@ -58,7 +58,7 @@ GROWTH = {nurses: Size(nurses=nurses, shifts=4, skills=4, contracts=4, requests=
 
 
 def named(kind: str, count: int) -> List[str]:
-    """The names of so many shift types, skills, contracts or nurses."""
+    """The names of this number of shift types, skills, contracts or nurses."""
     return [f"{kind}{number}" for number in range(count)]
 
 

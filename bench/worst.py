@@ -59,7 +59,7 @@ def weeks() -> Iterator[Tuple[str, Texts]]:
 
 
 def repeated(start: str, piece: str, times: int) -> Writer:
-    """The writer of `start` and of so many pieces."""
+    """A function that writes `start`, then the piece this number of times."""
 
     def write(file: TextIO) -> None:
         file.write(start)

@@ -7,7 +7,7 @@ trap 'rm -rf "$parts"' EXIT
 passed=0
 failed=0
 
-# The number of scripts or proofs at a time: the number of processors, at most four, since a proof takes up to 3 GB.
+# The number of scripts at a time: the number of processors, at most four.
 lanes=$(nproc)
 lanes=$((lanes < 4 ? lanes : 4))
 
