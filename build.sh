@@ -4,8 +4,8 @@
 #   ./build.sh
 #
 # The plain way to the same program is `cd crates/inrc2pb && rt run`: `rt` proves the crates in the order of crates.txt and
-# chooses the number of jobs of each. From nothing, on four processors, in November 2026, that took 1,174 s, and this schedule
-# 924 s, when `inrc2pb_program` was still a part of `inrc2pb`:
+# chooses the number of jobs of each. From nothing, on four processors, this schedule took 905 s in November 2026. Before
+# `inrc2pb_program` was split from `inrc2pb` it took 924 s, and the plain way 1,174 s:
 #
 # - `rt` first reads the sources of all crates below the program. Here each crate loads those below it, already proved.
 # - The functions of a crate wait for one another, so more jobs cost more than they give. Each crate gets the jobs that pay.

@@ -1,13 +1,15 @@
 #!/usr/bin/env python3
-"""Writes the three files of a made-up week, always the same ones, and an answer to its model.
+"""Writes the three files of a made-up week, always the same ones, and an answer to its model; also a ward of any size.
 
 usage: weeks.py files ward|large|greatest FOLDER     writes scenario.txt, history.txt and week.txt
        weeks.py answer ward|large MODEL ANSWER       writes a solver's answer, on one line
+       weeks.py period NURSES FOLDER                 writes ward.txt, history-0.txt, week-0.txt and week-1.txt
 
 `ward` is a last week of 120 nurses, 4 shift types and 4 skills. `large` has as many nurses, shift types,
 skills, contracts and requests as the limits allow: 1000, 16, 16, 64 and 9999. `greatest` is the week with
 the longest model: as large, and all its numbers are those that charge most. The answer's roster meets
-each least demand with nurses of their own, and breaks no rule; all slacks of the model are true.
+each least demand with nurses of their own, and breaks no rule; all slacks of the model are true. `period`
+has a ward like `ward`, with 48 nurses or more, which asks for the same in each of its two weeks.
 """
 
 import sys
@@ -22,7 +24,7 @@ from inrc2pb.files import DAYS, Contract, History, Limits, Nurse, NurseHistory, 
 from inrc2pb.files import ShiftType, Week, WeekData, history_text, scenario_text, week_text, write_text  # noqa: E402
 
 NAME = "bench"
-WEEKS = 4
+WEEKS, SHORT_PERIOD = 4, 2
 
 
 class Size(NamedTuple):
@@ -53,6 +55,9 @@ SIZES = {
     "large": Size(nurses=1000, shifts=16, skills=16, contracts=64, requests=9999),
 }
 
+# The nurses of the three blocks of a ward.
+FEWEST_OF_PERIOD = 3 * SIZES["ward"].blocks()
+
 # Weeks that differ only in the number of nurses, as wards do: requests grow with it.
 GROWTH = {nurses: Size(nurses=nurses, shifts=4, skills=4, contracts=4, requests=9 * nurses) for nurses in (10, 30, 120, 300, 1000)}
 
@@ -62,8 +67,8 @@ def named(kind: str, count: int) -> List[str]:
     return [f"{kind}{number}" for number in range(count)]
 
 
-def scenario(size: Size) -> Scenario:
-    """A scenario of this size."""
+def scenario(size: Size, weeks: int = WEEKS) -> Scenario:
+    """A scenario of this size, with this number of weeks."""
     shifts, skills = named("shift", size.shifts), named("skill", size.skills)
     types = {
         name: ShiftType(name, Limits(2, 3 + number % 3), tuple(shifts[max(0, number - 2) : number])) for number, name in enumerate(shifts)
@@ -76,7 +81,12 @@ def scenario(size: Size) -> Scenario:
         name: Nurse(name, f"contract{number % size.contracts}", tuple(skills[skill] for skill in size.skills_of(number)))
         for number, name in enumerate(named("nurse", size.nurses))
     }
-    return Scenario(NAME, WEEKS, tuple(skills), types, contracts, nurses)
+    return Scenario(NAME, weeks, tuple(skills), types, contracts, nurses)
+
+
+def first_history(size: Size) -> History:
+    """The history of a first week: each nurse was off on the last days."""
+    return History(0, NAME, {name: NurseHistory(name, 0, 0, None, 0, 0, 1 + n % 4) for n, name in enumerate(named("nurse", size.nurses))})
 
 
 def history(size: Size) -> History:
@@ -131,6 +141,16 @@ def write_files(size: Size, folder: str) -> None:
     write_text(Path(folder, "late.txt"), history_text(replace(made.history, week=WEEKS)))
 
 
+def write_period(nurses: int, folder: Path) -> None:
+    """Writes a period of two weeks that ask for the same."""
+    size = SIZES["ward"]._replace(nurses=nurses, requests=nurses)
+    folder.mkdir(parents=True, exist_ok=True)
+    write_text(folder / "ward.txt", scenario_text(scenario(size, SHORT_PERIOD)))
+    write_text(folder / "history-0.txt", history_text(first_history(size)))
+    for number in range(SHORT_PERIOD):
+        write_text(folder / f"week-{number}.txt", week_text(week(size)))
+
+
 def write_greatest(folder: str) -> None:
     """Writes the week with the longest model."""
     write_week(Path(folder), greatest())
@@ -166,6 +186,8 @@ def main() -> None:
         write_greatest(sys.argv[3])
     elif len(sys.argv) == 4 and sys.argv[1] == "files" and sys.argv[2] in SIZES:
         write_files(SIZES[sys.argv[2]], sys.argv[3])
+    elif len(sys.argv) == 4 and sys.argv[1] == "period" and sys.argv[2].isdecimal() and int(sys.argv[2]) >= FEWEST_OF_PERIOD:
+        write_period(int(sys.argv[2]), Path(sys.argv[3]))
     elif len(sys.argv) == 5 and sys.argv[1] == "answer" and sys.argv[2] in SIZES:
         write_answer(SIZES[sys.argv[2]], *sys.argv[3:])
     else:

@@ -1,6 +1,6 @@
 #!/usr/bin/env bash
 # Checks facts that the repository states twice: the program's version is that of CHANGELOG.md, the example weeks are those of
-# their generator, the kit is the one that README.md names, and the libraries' examples are their tests. Checks that no crate
+# their generators, the kit is the one that README.md names, and the libraries' examples are their tests. Checks that no crate
 # takes more lemmas of another than before, and the shell scripts by shellcheck, if that is installed.
 #
 #   tests/repository.sh [llvm | rattle | PROGRAM]
@@ -16,16 +16,22 @@ version_is_in_preparation() {
 }
 
 weeks_are_made() {
-    local folder name
+    local folder name file
     begins_case 'the example weeks'
     examples/make_weeks.py "$room/weeks"
     for folder in "$room"/weeks/*/; do
         name=$(basename "$folder")
         diff -r "$folder" "examples/$name" > "$room/diff" || complain "examples/$name: $(head -n 5 "$room/diff")"
     done
+    for name in second60 second120; do
+        bench/weeks.py period "${name#second}" "$room/$name"
+        for file in ward.txt week-1.txt; do
+            diff "$room/$name/$file" "examples/$name/$file" > "$room/diff" || complain "examples/$name: $(head -n 5 "$room/diff")"
+        done
+    done
 }
 
-# The kit at hand is the one that README.md names or a later one, with the logic that docs/trusted.md names.
+# The kit at hand is the one that README.md names or a later one, with the logic that README.md and docs/trusted.md name.
 kit_is_named() {
     local kit named sum
     begins_case 'the kit in README.md'
@@ -35,6 +41,7 @@ kit_is_named() {
     sum=$(grep -oP -m 1 'sum=\K[0-9a-f]+' docs/trusted.md)
     printf '%s\n' "$named" "${kit%% *}" | sort -VC || complain "$kit is older than $named"
     [ "${kit#* }" = "logic $sum" ] || complain "$kit has another logic than $sum"
+    grep -qF "the logic \`$sum\`" README.md || complain "README.md does not name the logic $sum"
 }
 
 # The example with which a library opens is the text of a test, line for line.

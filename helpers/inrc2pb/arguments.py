@@ -83,7 +83,7 @@ def _about_words(unknown: str, given: Sequence[str]) -> str:
         return ""
     if any(word.endswith(",") for word in given):
         return ": write no blank between the days or names, as in Mon,Tue"
-    return ": write a path with a blank in quotes, and its option before each file"
+    return ": rename a file or folder whose path has a blank, and write an option before each file"
 
 
 def parser(description: str, epilog: Optional[str] = None, order: str = "") -> Parser:

@@ -7,7 +7,7 @@ import os
 import signal
 import sys
 from pathlib import Path
-from typing import Callable, Optional, TextIO
+from typing import Callable, Dict, Optional, Sequence, TextIO
 
 from .arguments import parser
 from .program import FAULT, OUT_OF_MEMORY, READ_OR_WRITE, ProgramFault, WeekFiles
@@ -41,12 +41,20 @@ _ADVICE = {
     "ENOMEM": "end other programs",
 }
 
+
+def page(name: str) -> str:
+    """The path of a page: in a clone, or in an installation."""
+    home = Path(__file__).resolve().parents[2]
+    places = [folder / name for folder in (home / "docs", home / "doc/inrc2pb/docs")]
+    return next((str(place) for place in places if place.is_file()), f"docs/{name}")
+
+
 # Advice after a fault of `inrc2pb`, by a part of its line.
 _PROGRAM_ADVICE = (
     ("write failed", "look at the folder's name and permissions and at the free space (TMPDIR has the temporary files)"),
     ("read failed", "look at the file's name, folder and permissions"),
     ("out of memory", "end other programs"),
-    ("UNSATISFIABLE", "the minimum numbers cannot all be met; docs/your_ward.md shows how to find out why"),
+    ("UNSATISFIABLE", f"the minimum numbers cannot all be met; {page('your_ward.md')} shows how to find out why"),
     ("UNKNOWN", "give the solver more time"),
     ("answer: ", "look at what the solver prints, or use another solver"),
     ("roster breaks", "correct its file, or leave it out"),
@@ -65,6 +73,17 @@ def number_of_seconds(text: str) -> float:
         return float(text)
     except ValueError:
         raise argparse.ArgumentTypeError(f"'{text}' is no number: give seconds, such as 60 or 2.5") from None
+
+
+def fixes_by_week(texts: Sequence[str]) -> Dict[int, Path]:
+    """The fix files of some weeks, each given as `N=FILE`."""
+    fixes: Dict[int, Path] = {}
+    for text in texts:
+        number, equals, path = text.partition("=")
+        if not equals or not number.isdigit() or not path:
+            raise Misuse(f"--fix {text}: give the week's number and its file, such as 0=promised.txt")
+        fixes[int(number)] = Path(path)
+    return fixes
 
 
 def add_week_options(words: argparse.ArgumentParser, required: bool = True) -> None:

@@ -12,7 +12,8 @@ from .command import Misuse
 
 # How a solver ended, and the status of its answer.
 STATUSES = {"optimal": "OPTIMUM FOUND", "stopped": "SATISFIABLE", "infeasible": "UNSATISFIABLE", "unknown": "UNKNOWN"}
-TOLERANCE = 1e-6
+# A value may be off by this much, and by what binary numbers add to it.
+TOLERANCE = 1e-6 * (1 + 1e-9)
 # A value that is off by no more is an integer by some solver's tolerance, such as Gurobi's own of 1e-5.
 SOLVER_TOLERANCE = 1e-3
 # An objective of more than 17 digits is not kept.

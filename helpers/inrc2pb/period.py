@@ -10,7 +10,7 @@ from dataclasses import dataclass, replace
 from pathlib import Path
 from typing import Callable, Dict, Iterable, List, Optional, Sequence
 
-from .command import Misuse, add_solver_options, fault_line, number_of_seconds, parser, run
+from .command import Misuse, add_solver_options, fault_line, fixes_by_week, number_of_seconds, parser, run
 from .files import FileFault, History, Scenario, Week, check_week_number, read_files, read_history, read_scenario, read_solution
 from .files import history_text, read_week, scenario_text, write_history, write_text
 from .improve import Progress, check_effort, held_rows, search
@@ -90,9 +90,10 @@ class Period:
         check_week_number(files.history, self.history, self.scenario)
         self.first = self.history.week
         if len(files.weeks) > self.scenario.weeks - self.first:
+            left = self.scenario.weeks - self.first
             raise Misuse(
-                f"{len(files.weeks)} weeks are given, and {self.scenario.weeks - self.first} are left from week {self.first} "
-                f"of {self.scenario.weeks}: give the files of these weeks only"
+                f"{len(files.weeks)} weeks are given, and {left} {'is' if left == 1 else 'are'} left from week {self.first} "
+                f"of {self.scenario.weeks}: give only the files of weeks that are not planned yet"
             )
         self.numbers = numbers = range(self.first, self.first + len(files.weeks))
         for number, path in files.fixes.items():
@@ -140,7 +141,7 @@ class Period:
         files = WeekFiles(self.files.scenario, self.history_file, path, self.files.fixes.get(number), self.files.early)
         roster = self._roster_file(number)
         shared = self.files.share and number + 1 < self.scenario.weeks
-        print(f"week {number}" + (", penalties with its share of the totals" if shared else ""), file=sys.stderr, flush=True)
+        print(f"week {number}, {path}" + (", penalties with its share of the totals" if shared else ""), file=sys.stderr, flush=True)
         try:
             ended = self.plan_week(files, roster)
             _, report = extend(files, roster)
@@ -208,16 +209,6 @@ def _of_week(number: int, fault: BaseException) -> BaseException:
     return fault
 
 
-def _fixes(texts: Sequence[str]) -> Dict[int, Path]:
-    fixes: Dict[int, Path] = {}
-    for text in texts:
-        number, equals, path = text.partition("=")
-        if not equals or not number.isdigit() or not path:
-            raise Misuse(f"--fix {text}: give the week's number and its file, such as 0=promised.txt")
-        fixes[int(number)] = Path(path)
-    return fixes
-
-
 def _words() -> argparse.ArgumentParser:
     words = parser(
         "Plans the weeks of a period one after another, and reports what they cost together.",
@@ -246,7 +237,7 @@ def main() -> Optional[int]:
     check_effort(given.time, "--time", given.jobs)
     solvers = given.solver or list(installed_solvers())
     plan = plan_once(solvers[0], given.time) if given.once else plan_by_improving(solvers, given.time, given.seed, given.jobs)
-    files = PeriodFiles(given.sce, given.his, given.week, _fixes(given.fix), given.early, given.share)
+    files = PeriodFiles(given.sce, given.his, given.week, fixes_by_week(given.fix), given.early, given.share)
     period = Period(files, plan, given.out)
     with interrupts() as signals:
         try:

@@ -2,7 +2,7 @@
 
 import textwrap
 from html import escape
-from typing import Iterator, List, Sequence
+from typing import Dict, Iterator, List, Sequence
 
 from .files import DAYS
 from .roster_text import COLORS, abbreviations, cuts, ink_on
@@ -17,8 +17,8 @@ STYLE = """<style>
 </style>"""
 LEFT, HIGH, COST_WIDTH, LEGEND_WIDTH = 130, 26, 230, 90
 WEEKEND_GAP, WEEK_GAP = 12, 18
-# The width of a character in a cell, in a picture of one week and of more weeks, and in a name outside of the cells.
-CELL_LETTERS, LETTER = (6.6, 6.4), 8
+# The width of a character in a cell, in a picture of one week and of more weeks, and in a name or a cost outside of the cells.
+CELL_LETTERS, LETTER, COST_LETTER = (6.6, 6.4), 8, 7.5
 # How many letters of a shift type and of a skill a cell has, if they fit; fewer come last. Two names never look alike.
 LETTERS = ((99, 99), (99, 2), (5, 2), (1, 2))
 
@@ -53,7 +53,9 @@ class Picture:
         week = 7 * self.wide + WEEKEND_GAP
         left = max([LEFT, *(20 + LETTER * len(nurse) for nurse in view.nurses)])
         self.starts = [left + at * (week + WEEK_GAP) for at in range(len(view.weeks))]
-        self.right = self.starts[-1] + week + (COST_WIDTH if view.has_costs else 10)
+        self.costs = {nurse: _cost_of(view.costs_of(nurse)) for nurse in view.nurses} if view.has_costs else {}
+        costs = max([COST_WIDTH, *(20 + round(COST_LETTER * len(text)) for text in self.costs.values())])
+        self.right = self.starts[-1] + week + (costs if self.costs else 10)
         self.bottom = self.top + len(view.nurses) * HIGH
         self.step = max([LEGEND_WIDTH, *(30 + LETTER * len(shift) for shift in view.shifts)])
         self.in_line = max(1, min(8, self.right // self.step))
@@ -102,10 +104,9 @@ class Picture:
         for week in range(len(self.view.weeks)):
             for day in range(7):
                 yield from self.cells(self.view.cells(week, nurse, day), self.left(week, day), y)
-        if self.view.has_costs:
-            costs = self.view.costs_of(nurse)
+        if nurse in self.costs:
             x = self.left(len(self.view.weeks) - 1, 6) + self.wide + 10
-            yield f'<text class="ink" x="{x}" y="{y + 15}">{sum(costs.values())}{f" ({costs_text(costs)})" if costs else ""}</text>'
+            yield f'<text class="ink" x="{x}" y="{y + 15}">{self.costs[nurse]}</text>'
 
     def cells(self, cells: Sequence[Cell], x: int, y: int) -> Iterator[str]:
         """The cells of one nurse and day."""
@@ -122,6 +123,11 @@ class Picture:
             )
 
 
+def _cost_of(costs: Dict[str, int]) -> str:
+    """What a nurse costs, and by which rules."""
+    return f"{sum(costs.values())}{f' ({costs_text(costs)})' if costs else ''}"
+
+
 def _place(x: float, y: int, width: float, height: int, number: int, framed: bool) -> str:
     """A place in the color of the shift type with this number."""
     frame = ' class="frame"' if framed else ' stroke="#000000" stroke-dasharray="3"' if number >= len(COLORS) else ""
@@ -130,5 +136,5 @@ def _place(x: float, y: int, width: float, height: int, number: int, framed: boo
 
 
 def picture(view: RosterView) -> List[str]:
-    """The lines of a roster's picture."""
-    return list(Picture(view).lines())
+    """The lines of a roster's picture. Bytes of a name that are not UTF-8 are replaced, so that the picture can be shown."""
+    return [line.encode("utf-8", "surrogateescape").decode("utf-8", "replace") for line in Picture(view).lines()]

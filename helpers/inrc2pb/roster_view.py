@@ -1,8 +1,8 @@
 """A roster of one or more weeks, ready to be shown: cells with marks, costs, and lines that go below."""
 
-from dataclasses import dataclass
+from dataclasses import dataclass, field
 from pathlib import Path
-from typing import Callable, Dict, Iterable, Iterator, List, NamedTuple, Optional, Sequence, Set
+from typing import Callable, Dict, Iterable, Iterator, List, Mapping, NamedTuple, Optional, Sequence, Set
 
 from . import rules
 from .command import Misuse
@@ -27,13 +27,16 @@ class Cell(NamedTuple):
 
 @dataclass(frozen=True)
 class RosterFiles:
-    """The files of a table: one roster for each week, and what else is known of these weeks."""
+    """The files of a table: one roster for each week, and what else is known of these weeks.
+
+    `fixes` has fix files by the number of their week, or by None if there is only one week.
+    """
 
     rosters: Sequence[Path]
     scenario: Optional[Path] = None
     histories: Sequence[Path] = ()
     weeks: Sequence[Path] = ()
-    fixes: Sequence[Path] = ()
+    fixes: Mapping[Optional[int], Path] = field(default_factory=dict)
     early: bool = False
 
 
@@ -46,6 +49,7 @@ class WeekView:
     held: Set[Assignment]
     refused: Set[Assignment]
     costs: Dict[str, Dict[str, int]]
+    penalty: Optional[int]
     notes: List[str]
     misfilled: List[str]
 
@@ -104,7 +108,14 @@ class RosterView:
     def legend(self) -> List[str]:
         """The meaning of the marks, and notes on the whole roster."""
         marks = {mark for week in self.weeks for row in week.rows for mark in week.marks(row)}
-        return [f"{mark} = {MEANINGS[mark]}" for mark in sorted(marks, reverse=True)] + self._with_week(lambda week: week.notes)
+        meanings = [f"{mark} = {MEANINGS[mark]}" for mark in sorted(marks, reverse=True)]
+        return [*meanings, *self._with_week(lambda week: week.notes), *self._sum()]
+
+    def _sum(self) -> Iterator[str]:
+        """The penalty of several weeks together, if each has one."""
+        penalties = [week.penalty for week in self.weeks if week.penalty is not None]
+        if len(penalties) == len(self.weeks) > 1:
+            yield f"all {len(penalties)} weeks: penalty {sum(penalties)}"
 
     def misfilled(self) -> List[str]:
         """A line for each day with places that have too few nurses, and then for each with too many."""
@@ -124,14 +135,15 @@ def read_view(files: RosterFiles) -> RosterView:
     """Reads the files of a table."""
     _check_numbers(files)
     scenario = read_scenario(files.scenario) if files.scenario else None
-    texts = {path: text_of(path) for path in (*files.rosters, *files.fixes)}
+    texts = {path: text_of(path) for path in (*files.rosters, *files.fixes.values())}
     solutions = [read_solution(path, scenario, texts[path]) for path in files.rosters]
     datas = [read_week(path, scenario) for path in files.weeks] if scenario else []
     histories = _histories(files, scenario, solutions) if scenario else []
+    fixes = _fix_of_each(files, [of_week.week for of_week in histories or solutions])
     views = []
-    for at, solution in enumerate(solutions):
-        held = read_solution(files.fixes[at], scenario, texts[files.fixes[at]]).assignments if files.fixes else ()
-        view = WeekView(solution.week, solution.assignments, set(held), set(), {}, [], [])
+    for at, (solution, fix) in enumerate(zip(solutions, fixes)):
+        held = read_solution(fix, scenario, texts[fix]).assignments if fix else ()
+        view = WeekView(solution.week, solution.assignments, set(held), set(), {}, None, [], [])
         if datas:
             view.refused = set(_refused(datas[at], solution.assignments))
         rows = set(solution.assignments)
@@ -141,7 +153,7 @@ def read_view(files: RosterFiles) -> RosterView:
             _add_costs(view, Week(scenario, histories[at], datas[at]), held, files.early)
         views.append(view)
     if scenario:
-        warnings = list(_other_weeks(files, texts, scenario, histories))
+        warnings = [*_other_weeks(files.rosters, texts, scenario, histories), *_other_weeks(fixes, texts, scenario, histories)]
         return RosterView(scenario.name, list(scenario.nurses), list(scenario.shift_types), list(scenario.skills), views, warnings)
     shown = [row for view in views for row in view.rows]
     nurses, shifts, skills = (row.nurse for row in shown), (row.shift for row in shown), (row.skill for row in shown)
@@ -156,9 +168,8 @@ def _each_once(names: Iterable[str]) -> List[str]:
 def _check_numbers(files: RosterFiles) -> None:
     """Each roster has its files, or none does."""
     count = len(files.rosters)
-    for option, given in (("--week", files.weeks), ("--fix", files.fixes)):
-        if len(given) not in (0, count):
-            raise Misuse(f"{option} is given {plural(len(given), 'time')} for {plural(count, 'roster')}: give it once for each, in their order")
+    if len(files.weeks) not in (0, count):
+        raise Misuse(f"--week is given {plural(len(files.weeks), 'time')} for {plural(count, 'roster')}: give it once for each, in their order")
     if len(files.histories) not in (0, 1, count):
         raise Misuse(f"--his is given {plural(len(files.histories), 'time')} for {plural(count, 'roster')}: give the first week's, or each week's in order")
     if files.weeks and not files.scenario:
@@ -181,13 +192,22 @@ def _histories(files: RosterFiles, scenario: Scenario, solutions: Sequence[Solut
     return histories
 
 
-def _other_weeks(files: RosterFiles, texts: Dict[Path, str], scenario: Scenario, histories: Sequence[History]) -> Iterator[str]:
-    """A warning for each roster and fix file of another ward or week than it is shown with."""
-    for paths in (files.rosters, files.fixes):
-        for at, path in enumerate(paths):
-            found = other_week(path, scenario, histories[at] if histories else None, texts[path])
-            if found:
-                yield f"{path}: {found}"
+def _fix_of_each(files: RosterFiles, numbers: Sequence[int]) -> List[Optional[Path]]:
+    """The fix file of each week, if it has one."""
+    for number, path in files.fixes.items():
+        if number is not None and number not in numbers:
+            raise Misuse(f"--fix {number}={path}: no roster is of week {number}, the weeks are {', '.join(map(str, numbers))}")
+    return [files.fixes.get(number, files.fixes.get(None)) for number in numbers]
+
+
+def _other_weeks(
+    paths: Sequence[Optional[Path]], texts: Dict[Path, str], scenario: Scenario, histories: Sequence[History]
+) -> Iterator[str]:
+    """A warning for each file, one of each week, that is of another ward or week than it is shown with."""
+    for at, path in enumerate(paths):
+        found = other_week(path, scenario, histories[at] if histories else None, texts[path]) if path else ""
+        if found:
+            yield f"{path}: {found}"
 
 
 def _refused(data: WeekData, rows: Iterable[Assignment]) -> Iterator[Assignment]:
@@ -208,6 +228,7 @@ def _add_costs(view: WeekView, week: Week, held: Sequence[Assignment], early: bo
     view.costs = rules.nurse_costs(week, view.rows, early)
     cost = rules.costs(week, view.rows, early)
     places, penalty = cost["S1"], sum(cost.values())
+    view.penalty = penalty
     view.notes.append(f"cost: of the nurses {penalty - places}, of places not filled (S1) {places}; penalty {penalty}")
 
 

@@ -30,8 +30,10 @@ MAX_PATIENCE = 4.0
 PROOF_SHARE = 0.2
 # The same with three workers or more: cbc has no roster to show until it ends, and the others improve the one that it finds.
 LONG_PROOF_SHARE = 0.7
-# The first of several solvers begins with a proof too. It has at most this many times the first seconds.
-SHORT_PROOF_FACTOR = 3
+# The first of several solvers begins with a proof too, in the worker of this number. It has at most this many times the first seconds.
+SHORT_PROVER, SHORT_PROOF_FACTOR = 2, 3
+# It has this share of the time once more as soon as its bound is near: at least this share of the best roster's penalty.
+SECOND_PROOF_SHARE, NEAR_SHARE = 0.5, 0.7
 # The seconds between two looks at the clock, at workers that are about to end, and for a first roster.
 CLOCK_PAUSE, END_PAUSE, ROSTER_PAUSE = 0.1, 0.02, 0.05
 # The distance between the seeds of two searches: their workers have the ones between.
@@ -46,6 +48,18 @@ class Found:
 
     snapshot: Snapshot
     proved: bool
+
+
+@dataclass(frozen=True)
+class Attempt:
+    """A proof of the whole week that ran out of time, with the lower bound that it reached."""
+
+    solver: Solver
+    bound: int
+
+    def is_near(self, seen: Snapshot) -> bool:
+        """Whether more time may suffice to prove this roster, or one that costs little less."""
+        return self.bound >= NEAR_SHARE * seen.penalty
 
 
 class Search:
@@ -106,9 +120,13 @@ class Search:
     def _work(self, number: int, jobs: int, chance: random.Random, folder: Path) -> None:
         """One worker. A fault ends the search; after `stop` faults mean nothing."""
         try:
-            self._first(number, jobs, folder)
+            attempt = self._first(number, jobs, folder)
             while self._goes_on() and (seen := self._best.now()):
-                self._step(seen, chance, folder)
+                if attempt and attempt.is_near(seen):
+                    self._try_proof(attempt.solver, self._seconds * SECOND_PROOF_SHARE, folder)
+                    attempt = None
+                else:
+                    self._step(seen, chance, folder)
         except BaseException as fault:  # noqa: B902
             with self._lock:
                 if not self._ended.is_set() and not self._failure:
@@ -123,17 +141,20 @@ class Search:
         """Whether there is time for another solver."""
         return not self._ended.is_set() and self._left() > 0
 
-    def _first(self, number: int, jobs: int, folder: Path) -> None:
-        """Solves the whole week: one worker until there is a roster, one or two more for a proof. The others wait for a roster."""
+    def _first(self, number: int, jobs: int, folder: Path) -> Optional[Attempt]:
+        """Solves the whole week: one worker until there is a roster, one or two more for a proof, which is returned if it was a short
+        one. The others wait for a roster."""
+        attempt = None
         proof = self._proof(number, jobs)
         if proof:
-            solver, seconds = proof
-            self._whole(solver, min(seconds, self._left() - min(AFTER_PROOF_SECONDS, self._seconds * SHORT_SHARE)), folder)
+            bound = self._try_proof(*proof, folder)
+            attempt = Attempt(proof[0], bound) if number == SHORT_PROVER else None
         elif number > 1:
             self._await_roster()
         self._find_roster(folder)
         if jobs == 1 and self._goes_on():
             self._whole(self._solvers.now()[-1].whole()[-1], self._seconds * PROOF_SHARE, folder)
+        return attempt
 
     def _await_roster(self) -> None:
         """Waits until another worker has found a roster."""
@@ -150,25 +171,36 @@ class Search:
             self._whole(commands[turn % len(commands)], min(seconds, self._left()), folder)
             seconds *= FIRST_GROWTH
 
+    def _try_proof(self, solver: Solver, seconds: float, folder: Path) -> int:
+        """Solves the whole week, for a bound or a proof, if there is time. Returns the bound, 0 if there is none."""
+        seconds = min(seconds, self._left() - min(AFTER_PROOF_SECONDS, self._seconds * SHORT_SHARE))
+        return self._whole(solver, seconds, folder) if seconds > 0 else 0
+
     def _proof(self, number: int, jobs: int) -> Optional[Tuple[Solver, float]]:
         """The solver with which this worker begins, to prove a bound or a small week, and its time."""
         solvers = self._solvers.now()
         last = solvers[-1].whole()[-1]
         if number == 0 and jobs > 1:
             return last, self._seconds * (LONG_PROOF_SHARE if jobs > 2 and isinstance(last, Cbc) else PROOF_SHARE)
-        if number == 2 and len(solvers) > 1:
+        if number == SHORT_PROVER and len(solvers) > 1:
             return solvers[0].whole()[-1], min(FIRST_SECONDS * SHORT_PROOF_FACTOR, self._seconds * PROOF_SHARE)
         return None
 
-    def _whole(self, solver: Solver, seconds: float, folder: Path) -> None:
-        """Solves the whole week with one solver."""
+    def _whole(self, solver: Solver, seconds: float, folder: Path) -> int:
+        """Solves the whole week with one solver. Returns the lower bound that it reached, 0 if it printed none."""
+        bounds = [0]
+
+        def hear(bound: int) -> None:
+            bounds.append(bound)
+            self._bound(bound, solver.name)
+
         seen = self._best.now()
-        known = seen.penalty if seen else None
-        found = self._solve(solver, self._files, seconds, known, folder, lambda bound: self._bound(bound, solver.name))
+        found = self._solve(solver, self._files, seconds, seen.penalty if seen else None, folder, hear)
         if found:
             self._best.offer(found.snapshot, seen, None, folder, f"{solver.title}, the whole week")
             if found.proved:
                 self._prove(found.snapshot.penalty, solver)
+        return max(bounds)
 
     def _bound(self, bound: int, solver: str) -> None:
         """A solver proved a lower bound. One that cuts off rosters above the best one may report a bound above it."""

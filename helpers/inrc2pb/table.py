@@ -6,9 +6,9 @@ import io
 import os
 import sys
 from pathlib import Path
-from typing import Optional
+from typing import Mapping, Optional, Sequence
 
-from .command import parser, run
+from .command import Misuse, fixes_by_week, parser, run
 from .roster_picture import picture
 from .roster_text import TextTable, spreadsheet
 from .roster_view import HELD, REFUSED, RosterFiles, RosterView, read_view
@@ -26,8 +26,8 @@ def _words() -> argparse.ArgumentParser:
     words.add_argument("--his", metavar="FILE", type=Path, action="append", default=[], help="the history; needs --sce and --week")
     words.add_argument("--week", metavar="FILE", type=Path, action="append", default=[],
                        help=f"the week's requirements and requests: a cell that should be free has a {REFUSED}")  # fmt: skip
-    words.add_argument("--fix", metavar="FILE", type=Path, action="append", default=[],
-                       help=f"assignments that are held: their cells have a {HELD}")  # fmt: skip
+    words.add_argument("--fix", metavar="FILE", action="append", default=[],
+                       help=f"assignments that are held: their cells have a {HELD}; for several weeks N=FILE for week N")  # fmt: skip
     words.add_argument("--early", action="store_true", help="count costs as inrc2pb does with --early")
     form = words.add_mutually_exclusive_group()
     form.add_argument("--svg", action="store_true", help="write a picture (SVG)")
@@ -37,6 +37,15 @@ def _words() -> argparse.ArgumentParser:
 
 def _wants_color() -> bool:
     return sys.stdout.isatty() and not os.environ.get("NO_COLOR") and os.environ.get("TERM") != "dumb"
+
+
+def _fixes(texts: Sequence[str], weeks: int) -> Mapping[Optional[int], Path]:
+    """The fix file of the only week, or those of some weeks by their numbers."""
+    if weeks > 1:
+        return {number: path for number, path in fixes_by_week(texts).items()}
+    if len(texts) > 1:
+        raise Misuse(f"--fix is given {len(texts)} times for 1 roster: give it once")
+    return {None: Path(text) for text in texts}
 
 
 def csv_text(view: RosterView) -> str:
@@ -49,7 +58,7 @@ def csv_text(view: RosterView) -> str:
 def main() -> Optional[int]:
     """The command `inrc2pb-table`."""
     given = _words().parse_args()
-    view = read_view(RosterFiles(given.roster, given.sce, given.his, given.week, given.fix, given.early))
+    view = read_view(RosterFiles(given.roster, given.sce, given.his, given.week, _fixes(given.fix, len(given.roster)), given.early))
     for warning in view.warnings:
         print(f"{os.path.basename(sys.argv[0])}: {warning}", file=sys.stderr)
     if given.csv:

@@ -5,7 +5,7 @@ import threading
 from pathlib import Path
 from typing import Callable, Counter, Dict, List, Optional, Sequence
 
-from .command import Misuse
+from .command import Misuse, page
 from .program import NO_ROSTER, ProgramFault
 from .solvers import Solver
 
@@ -82,4 +82,4 @@ class UsableSolvers:
         held = f" and has the rows of {fix}" if fix else ""
         says = "says" if len(self._deniers) == 1 else "say"
         claim = f"no roster keeps the hard rules{held}, {says} {' and '.join(self._deniers)}"
-        return ProgramFault(NO_ROSTER, f"{claim}: docs/your_ward.md shows how to find out why")
+        return ProgramFault(NO_ROSTER, f"{claim}: {page('your_ward.md')} shows how to find out why")

@@ -17,7 +17,7 @@ class Words(unittest.TestCase):
     def test_words_that_do_not_fit_have_their_advice(self):
         improve, week = ("improve", "--sol", "best.txt"), ("--sce", SCENARIO, "--his", HISTORY, "--week")
         for words, line in (
-            ((*improve, *week, "my", "week.txt"), "unrecognized arguments: week.txt: write a path with a blank in quotes, and its option before each file"),
+            ((*improve, *week, "my", "week.txt"), "unrecognized arguments: week.txt: rename a file or folder whose path has a blank, and write an option before each file"),
             ((*improve, *week, WEEK, "--tine", "5"), "unrecognized arguments: --tine 5: --tine: did you mean --time?"),
             (("keep", "--keep", "Mon,", "Tue,", "Wed", ROSTER), f"unrecognized arguments: Wed {ROSTER}: write no blank between the days or names, as in Mon,Tue"),
             (("next", *week, WEEK, ROSTER), f"unrecognized arguments: --sce --his --week {ROSTER}: "
@@ -72,7 +72,7 @@ class Twice(HelperTest):
     def test_some_options_may_be_repeated(self):
         self.assertEqual(run("check", *WEEK_OPTIONS, "--roster", ROSTER, "--roster", ROSTER)[0], 0)
         week = ("--sce", SCENARIO, "--his", HISTORY, "--week", WEEK, "--week", WEEK)
-        self.assertEqual(run("table", *week, "--fix", ROSTER, "--fix", ROSTER, ROSTER, ROSTER)[0], 0)
+        self.assertEqual(run("table", *week, "--fix", f"0={ROSTER}", "--fix", f"1={ROSTER}", ROSTER, ROSTER)[0], 0)
 
 
 class Starting(HelperTest):

@@ -155,7 +155,7 @@ class Solutions(unittest.TestCase):
         self.assertEqual(answer_of(text), "s SATISFIABLE\no 15\nv x1\n")
 
     def test_values_are_integers_but_for_a_millionth(self):
-        for value in ("1.0000009", "0.9999991", "1e0", "+1"):
+        for value in ("1.000001", "0.999999", "1e0", "+1"):
             self.assertEqual(answer_of(f"x1 1\nx2 {value}\n"), "s SATISFIABLE\nv x1 x2\n")
         for value in ("0.0000009", "-0.0000009", "-0", "1e-9"):
             self.assertEqual(answer_of(f"x1 1\nx2 {value}\n"), "s SATISFIABLE\nv x1\n")

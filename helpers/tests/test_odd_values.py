@@ -31,6 +31,13 @@ WARNINGS = [
 
 
 class Warnings(HelperTest):
+    def test_a_ward_that_is_not_utf_8(self):
+        ward = self.folder / "latin.txt"
+        for letter, warnings in ((b"\xe4", 1), ("\u00e4".encode(), 0)):
+            ward.write_bytes(SCENARIO.read_bytes().replace(b"Amara", b"Am" + letter + b"ra"))
+            status, printed, said = run("check", "--sce", ward)
+            self.assertEqual((status, said, printed.count("warning: it is not saved as UTF-8")), (0, "", warnings))
+
     def test_each_odd_value_has_one_warning(self):
         for path, old, new, option, warning in WARNINGS:
             with self.subTest(new=new):

@@ -19,6 +19,8 @@ from inrc2pb.simulate import search_seconds, seconds_since_start
 
 MONTH = ROOT / "examples" / "month"
 WARD_OPTIONS = ("--sce", SCENARIO, "--his", HISTORY, "--week", WEEK, "--week", WARD / "week-1.txt")
+# The line with which the first week begins.
+BEGIN = f"week 0, {WEEK}\n"
 MONTH_OPTIONS = ("--sce", MONTH / "ward.txt", "--his", MONTH / "history-0.txt")
 MONTH_WEEKS = [word for number in range(4) for word in ("--week", MONTH / f"week-{number}.txt")]
 # A solver that prints what is not an answer, one that crashes, and one whose answer `decode` rejects.
@@ -97,7 +99,7 @@ class Periods(PeriodTest):
             held.write_text(f"SOLUTION {week} ward ASSIGNMENTS = 1 Grace Sat Day Nurse\n")
             status, _, said = run("period", *words)
             replaced = f"files that are replaced: {files_of}\n" if week == 3 else ""
-            self.assertEqual((status, said), (0, f"{replaced}week 0\nweek 1\n{hint}"))
+            self.assertEqual((status, said), (0, f"{replaced}{BEGIN}week 1, {WARD / 'week-1.txt'}\n{hint}"))
             self.assertIn("Grace Sat Day Nurse\n", (self.folder / "roster-1.txt").read_text())
 
 
@@ -122,7 +124,7 @@ class PeriodFaults(PeriodTest):
             status, printed, said = run("period", *words)
             command = f"inrc2pb-next --new-period {ward} {HISTORY} '{out}/roster-0.txt' --out '{out}/history-new.txt'"
             line = f"to make the first history of the next period, type: {command}\n"
-            self.assertEqual((status, said), (0, f"{replaced}week 0\n{line}"))
+            self.assertEqual((status, said), (0, f"{replaced}{BEGIN}{line}"))
         self.assertEqual(run(*shlex.split(command.replace("inrc2pb-", "", 1))), (0, "", ""))
         self.assertEqual((out / "history-new.txt").read_text()[:14], "HISTORY\n0 ward")
 
@@ -130,7 +132,7 @@ class PeriodFaults(PeriodTest):
         for solver in BAD_SOLVERS:
             status, printed, said = self.period(*WARD_OPTIONS, "--once", "--solver", solver)
             self.assertNotEqual(status, 0)
-            self.assertEqual((said.count("\n"), said.startswith("week 0\ninrc2pb-period: week 0: "), printed), (2, True, ""), said)
+            self.assertEqual((said.count("\n"), said.startswith(f"{BEGIN}inrc2pb-period: week 0: "), printed), (2, True, ""), said)
         self.assertEqual(list(self.folder.iterdir()), [])
 
     def stopped(self, at_end, environment=None):
@@ -152,7 +154,7 @@ class PeriodFaults(PeriodTest):
         answer = self.folder / "answer.txt"
         answer.write_text(program.answer_with(WEEK_FILES, ROSTER))
         status, printed, said = self.stopped(f"cat {answer}")
-        self.assertEqual((status, said), (130, "week 0\n"))
+        self.assertEqual((status, said), (130, BEGIN))
         self.assert_period(printed, WARD_OPTIONS, 1)
         self.assertEqual(printed.splitlines()[-1], "stopped: week 0 is planned, week 1 is not")
         self.assertTrue((self.folder / "history-1.txt").exists())
@@ -171,11 +173,11 @@ class PeriodFaults(PeriodTest):
     def test_after_a_stop_before_the_first_roster_there_is_none(self):
         for at_end in (":", "echo s UNKNOWN"):
             ended = self.stopped(at_end)
-            self.assertEqual(ended, (1, "", "week 0\ninrc2pb-period: week 0: stopped before the first roster\n"))
+            self.assertEqual(ended, (1, "", f"{BEGIN}inrc2pb-period: week 0: stopped before the first roster\n"))
 
     def test_a_stop_does_not_wait_for_a_model(self):
         ended = self.stopped(":", self.slow_to_encode(self.folder / "started"))
-        self.assertEqual(ended, (1, "", "week 0\ninrc2pb-period: week 0: stopped before the first roster\n"))
+        self.assertEqual(ended, (1, "", f"{BEGIN}inrc2pb-period: week 0: stopped before the first roster\n"))
 
     def test_without_a_solver_or_the_program_no_folder_is_made(self):
         out = self.folder / "planned" / "here"

@@ -49,6 +49,10 @@ class Tables(HelperTest):
         self.assertIn("ward, weeks 0 to 1: 66 assignments\n", printed)
         self.assertIn("D = Day  L = Late  N = Night\n", printed)
         self.assertIn("week 1: cost: of the nurses 100", printed)
+        penalties = [int(number) for number in re.findall(r"; penalty ([0-9]+)$", printed, re.MULTILINE)]
+        self.assertEqual(len(penalties), 2)
+        self.assertIn(f"all 2 weeks: penalty {sum(penalties)}\n", printed)
+        self.assertNotIn("all 1", run("table", *WEEK_OPTIONS, ROSTER)[1])
 
     def test_a_file_of_another_week_or_ward(self):
         later = self.changed(HISTORY, "0 ward", "1 ward", "history-1.txt")
@@ -109,6 +113,32 @@ class Tables(HelperTest):
         for width, text in cells:
             self.assertLessEqual(6 * len(text), float(width), text)
 
+    def test_the_costs_of_a_nurse_fit_the_picture(self):
+        for words in ((*WEEK_OPTIONS, ROSTER), (*TWO_WEEKS, "--early"), (*self.week_with_many_costs(), ROSTER)):
+            status, picture, said = run("table", "--svg", *words)
+            self.assertEqual(status, 0, said)
+            width = int(re.search(r'<svg [^>]* width="([0-9]+)"', picture).group(1))
+            costs = re.findall(r'<text class="ink" x="([0-9]+)" y="[0-9]+">([0-9]+(?: \([^<]*\))?)</text>', picture)
+            self.assertEqual(len(costs), 7)
+            for x, text in costs:
+                self.assertLessEqual(int(x) + 7 * len(text), width, text)
+        self.assertGreater(max(len(text) for _, text in costs), 35)
+
+    def week_with_many_costs(self):
+        """The week with limits and requests that the roster breaks."""
+        ward = self.changed(SCENARIO, "(17,21) (3,5) (2,3) 2 1", "(0,0) (7,7) (7,7) 0 1", "ward.txt")
+        ward.write_text(ward.read_text().replace("WEEKS = 4", "WEEKS = 1"))
+        requests = "".join(f"Amara Any {day}\n" for day in files.DAYS)
+        week = self.changed(WEEK, "SHIFT_OFF_REQUESTS = 5\n", f"SHIFT_OFF_REQUESTS = 12\n{requests}", "week.txt")
+        return "--sce", ward, "--his", HISTORY, "--week", week
+
+    def test_a_name_that_is_not_utf_8(self):
+        roster = self.folder / "latin.txt"
+        roster.write_bytes(ROSTER.read_bytes().replace(b"Amara", b"Am\xe4ra"))
+        picture = subprocess.run([str(HELPERS / "inrc2pb-table"), "--svg", str(roster)], stdout=subprocess.PIPE, check=True).stdout
+        self.assertIn("Am\ufffdra", picture.decode("utf-8"))
+        xml.dom.minidom.parseString(picture)
+
     def test_colors_have_the_order_of_the_scenario(self):
         pictures = [run("table", "--svg", *words)[1] for words in (TWO_WEEKS, ("--sce", SCENARIO, ROSTER))]
         for picture in pictures:
@@ -127,6 +157,19 @@ class Tables(HelperTest):
         self.assertEqual(said, "inrc2pb-table: --week is given 1 time for 2 rosters: give it once for each, in their order\n")
         _, _, said = run("table", "--sce", SCENARIO, "--week", WEEK, "--week", WEEK, ROSTER)
         self.assertIn("--week is given 2 times for 1 roster: ", said)
+        _, _, said = run("table", "--fix", ROSTER, "--fix", ROSTER, ROSTER)
+        self.assertEqual(said, "inrc2pb-table: --fix is given 2 times for 1 roster: give it once\n")
+
+    def test_held_shifts_of_one_of_two_weeks(self):
+        later = self.changed(ROSTER, "0 ward", "1 ward", "roster-1.txt")
+        fix = self.solution("Amara Mon Day Charge", week=1, name="fix.txt")
+        two_weeks = (*TWO_WEEKS[:-1], later)
+        status, printed, said = run("table", "--csv", *two_weeks, "--fix", f"1={fix}")
+        amara = next(row for row in csv.reader(io.StringIO(printed)) if row[0] == "Amara")
+        self.assertEqual((status, said, amara[1], amara[8]), (0, "", "Day Charge", "Day Charge *"))
+        _, _, said = run("table", *two_weeks, "--fix", f"2={fix}")
+        self.assertEqual(said, f"inrc2pb-table: --fix 2={fix}: no roster is of week 2, the weeks are 0, 1\n")
+        self.assertIn("give the week's number and its file", run("table", *two_weeks, "--fix", fix)[2])
 
 
 if __name__ == "__main__":

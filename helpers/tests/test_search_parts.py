@@ -20,7 +20,8 @@ from inrc2pb.neighborhoods import KINDS, Neighborhood, Neighborhoods
 from inrc2pb.part import write_part
 from inrc2pb.processes import Processes
 from inrc2pb.rules import nurse_costs
-from inrc2pb.solvers import CLASP_BOUND, Clasp, Task, _rounded, find_solver, find_solvers
+from inrc2pb.search import Attempt, Search
+from inrc2pb.solvers import CLASP_BOUND, Clasp, Solver, Task, _rounded, find_solver, find_solvers
 
 
 class Parts(HelperTest):
@@ -98,6 +99,18 @@ class Parts(HelperTest):
         best.raise_bound(20, "a test")
         self.assertTrue(best.is_proved())
         self.assertTrue(best.report().optimal)
+
+    def test_a_proof_whose_bound_is_near_is_tried_once_more(self):
+        best = self.best_roster([])
+        best.offer(Snapshot(200, files.read_solution(ROSTER)), None, None, self.folder, "a test")
+        week = files.read_files(WEEK_FILES.scenario, WEEK_FILES.history, WEEK_FILES.week)
+        for bound, tries in ((0, 0), (139, 0), (140, 1), (200, 1)):
+            search = Search(WEEK_FILES, week, (), best, [Solver()], 60.0, self.fail)
+            first, whole = mock.Mock(return_value=Attempt(Solver(), bound)), mock.Mock(return_value=bound)
+            step = mock.Mock(side_effect=lambda *_: search.stop() if step.call_count == 2 else None)
+            with mock.patch.multiple(search, _first=first, _whole=whole, _step=step):
+                search._work(2, 4, random.Random(1), self.folder)
+            self.assertEqual((whole.call_count, step.call_count), (tries, 2), bound)
 
     def test_solvers_are_commands(self):
         solver = find_solver(f"{sys.executable} -c 'print(1)' {{}} x")
