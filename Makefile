@@ -34,10 +34,11 @@ example: build
 tour: build
 	examples/tour.sh
 
-# Installs solvers from Debian, as root, lets each of them solve some weeks, and writes docs/solvers.md anew: takes hours.
+# Installs solvers from Debian, as root, lets each of them solve some weeks, and writes the tables of docs/solvers.md: takes hours.
 solvers: build
 	$(if $(filter 0,$(shell id -u)),,sudo )apt-get install -y clasp coinor-cbc glpk-utils minisat+ sat4j toulbar2
 	python3 bench/solvers.py
+	python3 bench/improve.py
 
 test:
 	.ci/run

@@ -22,7 +22,7 @@ import tempfile
 import time
 from dataclasses import replace
 from pathlib import Path
-from typing import Callable, Dict, List, NamedTuple, Optional, Tuple
+from typing import Callable, Dict, List, NamedTuple, Optional, Sequence, Tuple
 
 ROOT = Path(__file__).resolve().parents[1]
 sys.path.insert(0, str(ROOT / "helpers"))
@@ -42,9 +42,9 @@ SAT4J = "/usr/share/java/org.sat4j.pb.jar"
 # The weeks and the seconds of the table.
 WEEKS = ["n005w4", "eight", "thirty", "thirty, second week", "ward of 120", "last12", "last60", "last120"]
 LIMITS = [60, 300]
-# Last weeks of planned periods, and the solvers that are measured on them.
-LAST_WEEKS = ["last12", "last60", "last120"]
-LAST_WEEK_SOLVERS = ["clasp", "clasp, raising a bound", "cbc", "inrc2pb-improve", "inrc2pb-improve, clasp"]
+# Last weeks of planned periods, with the numbers of their files, and the solvers that are measured on those of WEEKS.
+LAST_WEEKS = {"last12": 3, "last60": 3, "last120": 3, "second60": 1, "second120": 1}
+LAST_WEEK_SOLVERS = ["clasp", "clasp, raising a bound", "cbc", "inrc2pb-improve"]
 # toulbar2 searched to the end. If it is stopped it says nothing, or `No solution found in`.
 SAYS_NO_ROSTER = re.compile(r"^No solution (?:in|found by initial propagation)\b", re.MULTILINE)
 
@@ -107,19 +107,19 @@ def known_solvers() -> Dict[str, Solver]:
     return known
 
 
-IMPROVE = {"inrc2pb-improve": (), "inrc2pb-improve, clasp": ("clasp",)}
-SOLVERS = [*known_solvers(), *IMPROVE]
+IMPROVE = "inrc2pb-improve"
+SOLVERS = [*known_solvers(), IMPROVE]
 
 
 def is_installed(name: str) -> bool:
     """Whether this solver of the table can be run."""
     if name == "Sat4j":
         return bool(shutil.which("java")) and os.path.exists(SAT4J)
-    return name in IMPROVE or bool(shutil.which(name.split(",")[0]))
+    return name == IMPROVE or bool(shutil.which(name.split(",")[0]))
 
 
 def weeks(folder: Path) -> Dict[str, WeekFiles]:
-    """The files of WEEKS."""
+    """The files of WEEKS and LAST_WEEKS."""
     found = {}
     for name, number in (("n005w4", 0), ("eight", 1), ("thirty", 3)):
         home = EXAMPLES / name
@@ -131,9 +131,9 @@ def weeks(folder: Path) -> Dict[str, WeekFiles]:
     subprocess.run([sys.executable, str(ROOT / "bench/weeks.py"), "files", "ward", str(folder / "ward")], check=True)
     ward = folder / "ward"
     found["ward of 120"] = WeekFiles(ward / "scenario.txt", ward / "history.txt", ward / "week.txt")
-    for name in LAST_WEEKS:
+    for name, number in LAST_WEEKS.items():
         home = EXAMPLES / name
-        found[name] = WeekFiles(home / "ward.txt", home / "history-3.txt", home / "week-3.txt")
+        found[name] = WeekFiles(home / "ward.txt", home / f"history-{number}.txt", home / f"week-{number}.txt")
     return found
 
 
@@ -154,11 +154,11 @@ def run_solver(solver: Solver, files: WeekFiles, limit: float, folder: Path) -> 
     return Result(report.penalty, report.optimal, report.penalty if report.optimal else bound, seconds, "")
 
 
-def run_improve(names: List[str], files: WeekFiles, limit: float, folder: Path) -> Result:
-    """One run of `inrc2pb-improve` from nothing, with a job for each processor that it may use."""
+def run_improve(files: WeekFiles, limit: float, folder: Path, seed: int = 1, solvers: Sequence[str] = ()) -> Result:
+    """One run of `inrc2pb-improve` from nothing, with a job for each processor that it may use; without solvers, with all."""
     began = time.monotonic()
     try:
-        outcome = search(files, None, folder / "roster.txt", limit, 1, processors(), names, Progress(None))
+        outcome = search(files, None, folder / "roster.txt", limit, seed, processors(), solvers, Progress(None))
     except ProgramFault as fault:
         return Result(None, "no roster keeps" in fault.message, None, time.monotonic() - began, "")
     return Result(outcome.report.penalty, outcome.proved, outcome.bound, time.monotonic() - began, "")
@@ -215,17 +215,22 @@ def machine() -> str:
 def measured_on(shown: Results) -> str:
     """The machines of these results, and the processors that `inrc2pb-improve` had there."""
     machines = dict.fromkeys(run.machine or "a machine that was not noted" for run in shown.values())
-    used = sorted({run.processors for key, run in shown.items() if run.processors and parts(key)[1] in IMPROVE})
+    used = sorted({run.processors for key, run in shown.items() if run.processors and parts(key)[1] == IMPROVE})
     said = f" `inrc2pb-improve` could use {' or '.join(map(str, used))} of them." if used else ""
     return f"Measured on {'; '.join(machines)}.{said}"
 
 
+def put_between(begin: str, end: str, text: str) -> None:
+    """Puts the text into the page, between these markers."""
+    before, _, rest = PAGE.read_text().partition(begin)
+    _, _, after = rest.partition(end)
+    PAGE.write_text(f"{before}{begin}\n\n{text}\n\n{end}{after}")
+
+
 def write_page(results: Results) -> None:
-    """Puts the table into the page, between its markers."""
+    """Puts the table into the page."""
     shown = {key: results[key] for key in sorted(results, key=rank) if parts(key)[2] in LIMITS}
-    before, _, rest = PAGE.read_text().partition(BEGIN)
-    _, _, after = rest.partition(END)
-    PAGE.write_text(f"{before}{BEGIN}\n\n{measured_on(shown)}\n\n{table(shown)}\n\n{END}{after}")
+    put_between(BEGIN, END, f"{measured_on(shown)}\n\n{table(shown)}")
 
 
 def read_results(path: Path) -> Results:
@@ -287,7 +292,7 @@ def measure(given: argparse.Namespace, results: Results) -> None:
                 continue
             if given.missing is not None and key in results and results[key].ended >= given.missing:
                 continue
-            run = run_solver(known[name], files, limit, folder) if name in known else run_improve(list(IMPROVE[name]), files, limit, folder)
+            run = run_solver(known[name], files, limit, folder) if name in known else run_improve(files, limit, folder)
             ended = time.strftime("%Y-%m-%dT%H:%M:%SZ", time.gmtime())
             results[key] = run._replace(machine=machine(), processors=processors(), ended=ended)
             write_results(results)

@@ -1,13 +1,19 @@
-"""Keeps rows of a roster, by day or nurse, for `--fix`."""
+"""Keeps rows of a roster, by day or nurse, for `--fix`, and days off, by requests in a copy of the week's file."""
 
+import argparse
+from dataclasses import replace
 from pathlib import Path
-from typing import Iterable, List, Optional
+from typing import Iterable, Iterator, List, Optional, Sequence
 
 from .command import Misuse, parser, run
-from .files import DAYS, Assignment, Solution, read_scenario, read_solution, solution_text, write_text
+from .files import DAYS, Assignment, Request, Scenario, Solution, WeekData
+from .files import read_scenario, read_solution, read_week, solution_text, week_text, write_text
 from .hints import quoted
-from .slots import closest
+from .slots import MAX_NUMBER, closest
 from .targets import check_inputs_stay
+
+# Requests for one day off: together they cost more than a few nurses below the best number.
+REQUESTS = 10
 
 
 def kept(rows: Iterable[Assignment], days: Iterable[int] = (), nurses: Iterable[str] = (), others: bool = False) -> List[Assignment]:
@@ -16,14 +22,19 @@ def kept(rows: Iterable[Assignment], days: Iterable[int] = (), nurses: Iterable[
     return [row for row in rows if (row.day in on and (not who or row.nurse in who)) != others]
 
 
-def _days(text: str) -> List[int]:
-    days = []
+def with_days_off(data: WeekData, nurses: Iterable[str], days: Iterable[int], rows: Iterable[Assignment]) -> WeekData:
+    """The week with requests for each day on which one of these nurses is off in the roster."""
+    works = {(row.nurse, row.day) for row in rows}
+    off = [Request(nurse, None, day) for nurse in nurses for day in days if (nurse, day) not in works]
+    return replace(data, requests=(*data.requests, *(request for request in off for _ in range(REQUESTS))))
+
+
+def _days(text: str) -> Iterator[int]:
     for word in text.split(","):
         if word not in DAYS:
             meant = closest(word, DAYS)
             raise Misuse(f"--keep {text}: '{word}' is no day: " + (f"did you mean {meant}?" if meant else f"give some of {','.join(DAYS)}"))
-        days.append(DAYS.index(word))
-    return days
+        yield DAYS.index(word)
 
 
 def _nurses(text: str, known: Iterable[str], source: str) -> List[str]:
@@ -35,31 +46,50 @@ def _nurses(text: str, known: Iterable[str], source: str) -> List[str]:
     return nurses
 
 
-def main() -> Optional[int]:
-    """The command `inrc2pb-keep`."""
+def _words() -> argparse.ArgumentParser:
     words = parser(
         "Keeps rows of a roster for --fix, as a solution file with their number.",
         "With --keep and --nurses a row is kept if it is of one of the days and one of the nurses.\n"
-        "Example: inrc2pb-keep --keep Mon,Tue,Wed roster-0.txt > promised.txt",
+        "Example: inrc2pb-keep --keep Mon,Tue,Wed roster-0.txt > promised.txt\n"
+        f"With --off-in the output is this week's file with {REQUESTS} requests for each day off of these nurses on these days.",
     )
     words.add_argument("roster", type=Path, help="a solution file, as `inrc2pb decode` writes it")
     words.add_argument("--keep", metavar="DAYS", help="the rows of these days, such as Mon,Tue,Wed")
     words.add_argument("--nurses", metavar="NAMES", help="the rows of these nurses, such as Amara,Bruno")
     words.add_argument("--others", action="store_true", help="keep all rows but these")
     words.add_argument("--sce", metavar="FILE", type=Path, help="the scenario: names are checked against it")
+    words.add_argument("--off-in", metavar="WEEK", type=Path, help="keep days off, not rows, in a copy of this week's file; needs --sce")
     words.add_argument("--out", metavar="FILE", type=Path, help="write to this file, not to standard output")
-    given = words.parse_args()
+    return words
+
+
+def _week_text(week: Path, scenario: Scenario, nurses: Sequence[str], days: Sequence[int], rows: Sequence[Assignment]) -> str:
+    """The text of the week's file with requests for days off."""
+    data = with_days_off(read_week(week, scenario), nurses or list(scenario.nurses), days or range(len(DAYS)), rows)
+    if len(data.requests) > MAX_NUMBER:
+        raise Misuse(f"{week} would have {len(data.requests)} requests, more than {MAX_NUMBER}: give fewer days or nurses")
+    return week_text(data)
+
+
+def main() -> Optional[int]:
+    """The command `inrc2pb-keep`."""
+    given = _words().parse_args()
     if not given.keep and not given.nurses:
         raise Misuse("nothing says which rows to keep: give --keep Mon,Tue or --nurses NAME,NAME")
+    if given.off_in and (given.others or not given.sce):
+        raise Misuse("--off-in needs --sce, and has no --others: give the scenario, and the days and nurses themselves")
     if given.out:
-        check_inputs_stay((given.roster, given.sce), given.out, "the kept rows")
+        check_inputs_stay((given.roster, given.sce, given.off_in), given.out, "the kept rows")
     scenario = read_scenario(given.sce) if given.sce else None
     solution = read_solution(given.roster, scenario)
-    days = _days(given.keep) if given.keep else ()
+    days = list(_days(given.keep)) if given.keep else []
     known = list(scenario.nurses) if scenario else list(dict.fromkeys(row.nurse for row in solution.assignments))
-    nurses = _nurses(given.nurses, known, str(given.sce or given.roster)) if given.nurses else ()
-    rows = kept(solution.assignments, days, nurses, given.others)
-    text = solution_text(Solution(solution.week, solution.scenario, tuple(rows)))
+    nurses = _nurses(given.nurses, known, str(given.sce or given.roster)) if given.nurses else []
+    if given.off_in and scenario:
+        text = _week_text(given.off_in, scenario, nurses, days, solution.assignments)
+    else:
+        rows = kept(solution.assignments, days, nurses, given.others)
+        text = solution_text(Solution(solution.week, solution.scenario, tuple(rows)))
     if given.out:
         write_text(given.out, text)
     else:

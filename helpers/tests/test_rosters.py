@@ -6,9 +6,11 @@ import re
 import subprocess
 import unittest
 import xml.dom.minidom
+from collections import Counter
 
-from ward import HELPERS, HISTORY, ROSTER, SCENARIO, WARD, WEEK, WEEK_OPTIONS, HelperTest, files, run
+from ward import HELPERS, HISTORY, ROOT, ROSTER, SCENARIO, WARD, WEEK, WEEK_OPTIONS, HelperTest, files, run
 
+EXAMPLES = ROOT / "examples"
 TWO_WEEKS = ("--sce", SCENARIO, "--his", HISTORY, "--week", WEEK, "--week", WARD / "week-1.txt", ROSTER, ROSTER)
 
 
@@ -33,7 +35,39 @@ class Keep(HelperTest):
         self.assertEqual(run("keep", "--keep", "Mon", ROSTER, "--out", kept), (0, "", ""))
         self.assertEqual(run("check", *WEEK_OPTIONS, "--fix", kept, "--roster", ROSTER)[0], 0)
 
+    def test_days_off_are_kept_by_requests(self):
+        scenario = files.read_scenario(SCENARIO)
+        before = files.read_week(WEEK, scenario).requests
+        works = {(row.nurse, row.day) for row in files.read_solution(ROSTER).assignments}
+        for words, nurses, days in (
+            (("--keep", "Mon,Tue"), scenario.nurses, (0, 1)),
+            (("--nurses", "Chen,Ewa"), ("Chen", "Ewa"), range(7)),
+            (("--nurses", "Chen", "--keep", "Sat"), ("Chen",), (5,)),
+        ):
+            week = self.folder / "kept-week.txt"
+            self.assertEqual(run("keep", "--sce", SCENARIO, "--off-in", WEEK, *words, ROSTER, "--out", week), (0, "", ""))
+            added = files.read_week(week, scenario).requests[len(before) :]
+            off = {files.Request(nurse, None, day): 10 for nurse in nurses for day in days if (nurse, day) not in works}
+            self.assertEqual(Counter(added), off)
+            self.assertEqual(files.read_week(week, scenario).requests[: len(before)], before)
+
+    def test_days_off_of_too_many(self):
+        ward, roster = EXAMPLES / "last120/ward.txt", self.folder / "empty.txt"
+        roster.write_text("SOLUTION\n3 ward120\n\nASSIGNMENTS = 0\n")
+        words = ("--sce", ward, "--off-in", EXAMPLES / "last120/week-3.txt", roster)
+        self.assertEqual(run("keep", "--keep", "Mon,Tue,Wed,Thu,Fri,Sat,Sun", *words)[0], 0)
+        many = self.folder / "many.txt"
+        requests = "".join(["Ada Any Mon\n"] * 1700)
+        week = files.read_week(EXAMPLES / "last120/week-3.txt", files.read_scenario(ward))
+        many.write_text((EXAMPLES / "last120/week-3.txt").read_text().replace("REQUESTS = 100", "REQUESTS = 1800") + requests)
+        self.assertEqual(len(week.requests), 100)
+        _, _, said = run("keep", "--keep", "Mon,Tue,Wed,Thu,Fri,Sat,Sun", "--sce", ward, "--off-in", many, roster)
+        self.assertEqual(said, f"inrc2pb-keep: {many} would have 10200 requests, more than 9999: give fewer days or nurses\n")
+
     def test_faults(self):
+        line = "inrc2pb-keep: --off-in needs --sce, and has no --others: give the scenario, and the days and nurses themselves"
+        self.assert_fault(run("keep", "--keep", "Mon", "--off-in", WEEK, ROSTER), line)
+        self.assert_fault(run("keep", "--keep", "Mon", "--sce", SCENARIO, "--off-in", WEEK, "--others", ROSTER), line)
         self.assert_fault(run("keep", "--keep", "Mon,Tues", ROSTER), "inrc2pb-keep: --keep Mon,Tues: 'Tues' is no day: did you mean Tue?")
         line = f"inrc2pb-keep: --nurses Chan: 'Chan' is no nurse of {ROSTER}: did you mean Chen?"
         self.assert_fault(run("keep", "--nurses", "Chan", ROSTER), line)
