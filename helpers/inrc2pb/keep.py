@@ -12,7 +12,7 @@ from .hints import quoted
 from .slots import MAX_NUMBER, closest
 from .targets import check_inputs_stay
 
-# Requests for one day off: together they cost more than a few nurses below the best number.
+# The number of requests for one day off. Together they cost 100, more than most other rules.
 REQUESTS = 10
 
 

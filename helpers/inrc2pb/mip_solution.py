@@ -12,7 +12,7 @@ from .command import Misuse
 
 # How a solver ended, and the status of its answer.
 STATUSES = {"optimal": "OPTIMUM FOUND", "stopped": "SATISFIABLE", "infeasible": "UNSATISFIABLE", "unknown": "UNKNOWN"}
-# A value may be off by this much, and by what binary numbers add to it.
+# A value may be off by a millionth; the factor allows for the rounding of binary numbers.
 TOLERANCE = 1e-6 * (1 + 1e-9)
 # A value that is off by no more is an integer by some solver's tolerance, such as Gurobi's own of 1e-5.
 SOLVER_TOLERANCE = 1e-3
