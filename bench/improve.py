@@ -65,7 +65,7 @@ def found(runs: List[Result]) -> str:
     if all(run.proved for run in runs) and len({run.penalty for run in runs}) == 1:
         *first, last = (f"{run.seconds:.1f}" for run in runs)
         return f"{runs[0].penalty}, proved in {', '.join(first)} and {last} s"
-    return ", ".join(f"{run.penalty}{' (proved)' if run.proved else ''}" for run in runs)
+    return ", ".join(f"{'none' if run.penalty is None else run.penalty}{' (proved)' if run.proved else ''}" for run in runs)
 
 
 def table(rows: Dict[str, Row]) -> str:

@@ -12,6 +12,7 @@ the one that INRC2PB names.
 
 import argparse
 import json
+import math
 import os
 import platform
 import re
@@ -45,6 +46,8 @@ LIMITS = [60, 300]
 # Last weeks of planned periods, with the numbers of their files, and the solvers that are measured on those of WEEKS.
 LAST_WEEKS = {"last12": 3, "last60": 3, "last120": 3, "second60": 1, "second120": 1}
 LAST_WEEK_SOLVERS = ["clasp", "clasp, raising a bound", "cbc", "inrc2pb-improve"]
+# A bound in the output of a solver.
+NUMBER = r"(-?[0-9.]+(?:e[-+]?[0-9]+)?)"
 # toulbar2 searched to the end. If it is stopped it says nothing, or `No solution found in`.
 SAYS_NO_ROSTER = re.compile(r"^No solution (?:in|found by initial propagation)\b", re.MULTILINE)
 
@@ -94,14 +97,14 @@ class FileSolver(Solver):
     def bounds(self, ended: Ended, hear: Optional[Callable[[int], None]]) -> None:
         if hear:
             for text in re.findall(self.pattern, ended.output):
-                hear(int(float(text) + 0.999))
+                hear(max(0, math.ceil(float(text) - 0.001)))
 
 
 def known_solvers() -> Dict[str, Solver]:
     """The solvers by the names in the table."""
     known: Dict[str, Solver] = {"clasp": Clasp(), "clasp, raising a bound": Clasp(*CLASP_BOUND), "cbc": Cbc()}
-    known["glpsol"] = FileSolver("glpsol", "glpsol --lp {lp} --tmlim {seconds} -o {sol}", r"(?:mip =|>>>>>).*>=\s+([0-9.e+]+)")
-    known["toulbar2"] = FileSolver("toulbar2", "toulbar2 {opb} -s=3 -w={sol} -w=3 -timer={seconds}", r"Optimality gap: \[([0-9.e+]+),")
+    known["glpsol"] = FileSolver("glpsol", "glpsol --lp {lp} --tmlim {seconds} -o {sol}", rf"(?:mip =|>>>>>).*>=\s+{NUMBER}")
+    known["toulbar2"] = FileSolver("toulbar2", "toulbar2 {opb} -s=3 -w={sol} -w=3 -timer={seconds}", rf"Optimality gap: \[{NUMBER},")
     known["minisat+"] = CommandSolver("minisat+", ["minisat+"])
     known["Sat4j"] = CommandSolver("java", ["java", "-jar", SAT4J])
     return known
@@ -160,7 +163,8 @@ def run_improve(files: WeekFiles, limit: float, folder: Path, seed: int = 1, sol
     try:
         outcome = search(files, None, folder / "roster.txt", limit, seed, processors(), solvers, Progress(None))
     except ProgramFault as fault:
-        return Result(None, "no roster keeps" in fault.message, None, time.monotonic() - began, "")
+        said = "" if fault.status == NO_ROSTER else fault.message
+        return Result(None, "no roster keeps" in fault.message, None, time.monotonic() - began, said)
     return Result(outcome.report.penalty, outcome.proved, outcome.bound, time.monotonic() - began, "")
 
 
@@ -286,7 +290,7 @@ def measure(given: argparse.Namespace, results: Results) -> None:
         ]
         for limit, week, files, name in chosen:
             key = f"{week}/{name}/{limit}"
-            shorter = [results.get(f"{week}/{name}/{less}") for less in limits if less < limit]
+            shorter = [results.get(f"{week}/{name}/{less}") for less in {*LIMITS, *limits} if less < limit]
             if any(run and run.proved for run in shorter):
                 results.pop(key, None)
                 continue

@@ -9,7 +9,7 @@ usage: weeks.py files ward|large|greatest FOLDER     writes scenario.txt, histor
 skills, contracts and requests as the limits allow: 1000, 16, 16, 64 and 9999. `greatest` is the week with
 the longest model: as large, and all its numbers are those that charge most. The answer's roster meets
 each least demand with nurses of their own, and breaks no rule; all slacks of the model are true. `period`
-has a ward like `ward`, with 48 nurses or more, which asks for the same in each of its two weeks.
+has a ward like `ward`, with 48 to 1000 nurses, which asks for the same in each of its two weeks.
 """
 
 import sys
@@ -36,14 +36,14 @@ class Size(NamedTuple):
     contracts: int
     requests: int
 
-    def blocks(self) -> int:
+    def block_size(self) -> int:
         """The nurses of a block. Each day asks for one nurse of each shift type and skill: they are the nurses of one block, and
         three blocks take turns, so that no nurse works on two days that follow one another."""
         return self.shifts * self.skills
 
     def worker(self, day: int, shift: int, skill: int) -> int:
         """The nurse who works there."""
-        return day % 3 * self.blocks() + shift * self.skills + skill
+        return day % 3 * self.block_size() + shift * self.skills + skill
 
     def skills_of(self, nurse: int) -> List[int]:
         """Half of the skills, from the one on with which her block wants her."""
@@ -55,8 +55,8 @@ SIZES = {
     "large": Size(nurses=1000, shifts=16, skills=16, contracts=64, requests=9999),
 }
 
-# The nurses of the three blocks of a ward.
-FEWEST_OF_PERIOD = 3 * SIZES["ward"].blocks()
+# The nurses of the three blocks of a ward, and the most nurses of a scenario.
+FEWEST_OF_PERIOD, MOST_OF_PERIOD = 3 * SIZES["ward"].block_size(), 1000
 
 # Weeks that differ only in the number of nurses, as wards do: requests grow with it.
 GROWTH = {nurses: Size(nurses=nurses, shifts=4, skills=4, contracts=4, requests=9 * nurses) for nurses in (10, 30, 120, 300, 1000)}
@@ -93,7 +93,7 @@ def history(size: Size) -> History:
     """The history of the last week: each second nurse who is in no block has worked."""
     pasts = {}
     for n, name in enumerate(named("nurse", size.nurses)):
-        works = n >= 3 * size.blocks() and n % 2 == 0
+        works = n >= 3 * size.block_size() and n % 2 == 0
         run = (f"shift{n % size.shifts}", 1 + n % 3, 2 + n % 3, 0) if works else (None, 0, 0, 1 + n % 4)
         pasts[name] = NurseHistory(name, 6 + n % 12, n % 4, *run)
     return History(WEEKS - 1, NAME, pasts)
@@ -186,7 +186,7 @@ def main() -> None:
         write_greatest(sys.argv[3])
     elif len(sys.argv) == 4 and sys.argv[1] == "files" and sys.argv[2] in SIZES:
         write_files(SIZES[sys.argv[2]], sys.argv[3])
-    elif len(sys.argv) == 4 and sys.argv[1] == "period" and sys.argv[2].isdecimal() and int(sys.argv[2]) >= FEWEST_OF_PERIOD:
+    elif len(sys.argv) == 4 and sys.argv[1] == "period" and sys.argv[2].isdecimal() and FEWEST_OF_PERIOD <= int(sys.argv[2]) <= MOST_OF_PERIOD:
         write_period(int(sys.argv[2]), Path(sys.argv[3]))
     elif len(sys.argv) == 5 and sys.argv[1] == "answer" and sys.argv[2] in SIZES:
         write_answer(SIZES[sys.argv[2]], *sys.argv[3:])

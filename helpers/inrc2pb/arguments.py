@@ -2,6 +2,7 @@
 
 import argparse
 import functools
+import os
 import re
 import sys
 from typing import Any, NoReturn, Optional, Sequence
@@ -59,10 +60,16 @@ class Parser(argparse.ArgumentParser):
         """Prints the fault and its advice, and exits."""
         _, is_unknown, words = message.partition("unrecognized arguments: ")
         if is_unknown or "arguments are required: " in message:
-            message += self._about_options() or _about_words(words, self._given)
+            message += self._about_options() or self._about_files(words) or _about_words(words, self._given)
         if "--sce, --his, --week" in message and "did you mean" not in message:
             message += ": is WEEK set in this terminal?"
         super().error(message)
+
+    def _about_files(self, unknown: str) -> str:
+        """The advice if files without an option are not next to one another."""
+        takes_files = any(action.nargs == "+" and not action.option_strings for action in self._actions)
+        are_files = bool(unknown) and all(os.path.exists(word) for word in unknown.split())
+        return ": write the files that have no option next to one another" if takes_files and are_files else ""
 
     def _about_options(self) -> str:
         """The advice about the first option that this command does not have."""

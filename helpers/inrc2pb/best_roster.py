@@ -5,7 +5,7 @@ import threading
 import time
 from dataclasses import dataclass
 from pathlib import Path
-from typing import Callable, Optional, Sequence
+from typing import Callable, Optional, Sequence, Set
 
 from .files import Assignment, Solution, Week, write_solution
 from .misfits import explained, other_week, read_roster
@@ -37,6 +37,10 @@ class BestRoster:
         self._warn = warn
         self._lock = threading.Lock()
         self._best: Optional[Snapshot] = None
+        # The roster in the file: the search may be at another one of the same cost.
+        self._written: Optional[Snapshot] = None
+        # The solvers that claimed a bound above the cost of a roster.
+        self._wrong: Set[str] = set()
         self.improved_at = time.monotonic()
         self.bound: Optional[int] = None
         self.bound_by = ""
@@ -83,6 +87,7 @@ class BestRoster:
                 return False
             if less:
                 write_solution(self._solution, better.roster)
+                self._written = better
                 self.improved_at = time.monotonic()
                 self._check_bound(better.penalty)
             self._best = better
@@ -93,22 +98,35 @@ class BestRoster:
     def _check_bound(self, penalty: int) -> None:
         """A bound above the cost of a roster is wrong, and is forgotten."""
         if self.bound is not None and self.bound > penalty:
-            self._warn(f"{self.bound_by}: its lower bound {self.bound} is wrong, since a roster costs {penalty}")
+            self._doubt(self.bound, self.bound_by, penalty)
             self.bound, self.bound_by = None, ""
 
-    def raise_bound(self, bound: int, solver: str) -> None:
-        """A solver proved that no roster costs less than this."""
+    def _doubt(self, bound: int, solver: str, penalty: int) -> None:
+        """A claim of a solver was wrong, so no further one counts."""
+        self._wrong.add(solver)
+        claim = f"it claims that no roster costs less than {bound}, and one costs {penalty}"
+        self._warn(f"{solver}: {claim}: its bounds and proofs do not count any more")
+
+    def believes(self, solver: str) -> bool:
+        """Whether no claim of this solver was wrong."""
+        return solver not in self._wrong
+
+    def raise_bound(self, bound: int, solver: str) -> bool:
+        """A solver claims that no roster costs less than this. Returns whether the best roster is proved then."""
         with self._lock:
-            if self.bound is None or bound > self.bound:
+            if self.believes(solver) and self._best and bound > self._best.penalty:
+                self._doubt(bound, solver, self._best.penalty)
+            elif self.believes(solver) and (self.bound is None or bound > self.bound):
                 self.bound, self.bound_by = bound, solver
+            return self.is_proved()
 
     def is_proved(self) -> bool:
         """Whether the best roster costs no more than the lower bound."""
         return self.bound is not None and self._best is not None and self._best.penalty <= self.bound
 
     def report(self) -> Optional[Report]:
-        """The report of the best roster, if there is one; its status is OPTIMUM FOUND if a solver proved it."""
-        best = self._best
+        """The report of the roster in the file, if there is one; its status is OPTIMUM FOUND if a solver proved it."""
+        best = self._written
         if not best:
             return None
         with tempfile.TemporaryDirectory() as folder:

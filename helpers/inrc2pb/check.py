@@ -14,6 +14,7 @@ from .misfits import explained, other_week, read_held, read_roster
 from .odd_values import IMPOSSIBLE, history_warnings, scenario_warnings, week_warnings
 from .program import BROKEN_RULE, FAULT, NO_PROGRAM, ProgramFault, answer_with, encode
 from .rules import first_broken
+from .targets import check_no_pipes
 
 Contents = TypeVar("Contents")
 
@@ -45,7 +46,7 @@ class Check:
             print(f"{path}: warning: {warning}")
             self.impossible = self.impossible or warning.endswith(IMPOSSIBLE)
 
-    def name(self, path: Path, name: str, scenario: Scenario) -> Iterator[str]:
+    def name(self, name: str, scenario: Scenario) -> Iterator[str]:
         """A warning if the file is of another ward."""
         if name != scenario.name:
             yield f"it is of '{name}', and the scenario is '{scenario.name}'"
@@ -71,7 +72,7 @@ class Check:
 
         history = self.reads(read)
         if history:
-            self.warns(path, self.name(path, history.scenario, scenario))
+            self.warns(path, self.name(history.scenario, scenario))
             self.warns(path, history_warnings(history))
         return history
 
@@ -80,7 +81,7 @@ class Check:
         path = self.given.week
         data = self.reads(lambda: read_week(path, scenario))
         if data:
-            self.warns(path, self.name(path, data.name, scenario))
+            self.warns(path, self.name(data.name, scenario))
             self.warns(path, week_warnings(scenario, data))
         return data
 
@@ -109,7 +110,7 @@ class Check:
             encode(files, Path(os.devnull))
         except ProgramFault as fault:
             if fault.status != NO_PROGRAM:
-                self.mistake(str(fault))
+                self.mistake(_said(fault))
                 return
             has_program = False
             print(f"warning: {fault_line(fault)}; the files were checked without it")
@@ -120,7 +121,12 @@ class Check:
                 else:
                     _compare(roster, week, held)
             except ProgramFault as fault:
-                self.mistake(str(explained(fault, roster, week, held)))
+                self.mistake(_said(explained(fault, roster, week, held)))
+
+
+def _said(fault: ProgramFault) -> str:
+    """A fault of the program: of a file or a roster as the program says it, any other with advice."""
+    return str(fault) if fault.status in (FAULT, BROKEN_RULE) else fault_line(fault)
 
 
 def _compare(roster: Path, week: Week, held: List[Assignment]) -> None:
@@ -161,6 +167,7 @@ def main() -> Optional[int]:
         raise Misuse("no scenario is given: give --sce FILE, and the files to check; is WEEK set in this terminal?")
     if given.constraint is not None and not (given.his and given.week):
         raise Misuse("--constraint needs the whole week: give --sce, --his and --week")
+    check_no_pipes((given.sce, given.his, given.week, given.fix, *given.roster))
     check = Check(given)
     week, held = check.all_files()
     if not check.mistakes and week and given.constraint is not None:

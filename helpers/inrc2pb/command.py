@@ -4,6 +4,7 @@ import argparse
 import errno
 import io
 import os
+import re
 import signal
 import sys
 from pathlib import Path
@@ -14,11 +15,15 @@ from .program import FAULT, OUT_OF_MEMORY, READ_OR_WRITE, ProgramFault, WeekFile
 from .slots import FileFault
 
 __all__ = [
-    "Misuse", "add_solver_options", "add_week_options", "fault_line", "number_of_seconds", "parser", "processors", "run", "week_files",
+    "Misuse", "add_solver_options", "add_week_options", "check_effort", "fault_line", "number_of_seconds", "parser", "processors", "run",
+    "week_files",
 ]  # fmt: skip
 
-# The exit statuses with which a shell reports that the signals PIPE and INT ended a command.
-BROKEN_PIPE, INTERRUPTED = 141, 130
+# The exit statuses with which a shell reports that the signals PIPE and INT ended a command; that of another signal is its number more
+# than the base.
+BROKEN_PIPE, INTERRUPTED, SIGNAL_BASE = 141, 130, 128
+# The most seconds of a search, and the most solvers at once.
+MAX_SECONDS, MAX_JOBS = 10_000_000, 256
 
 # Advice after a fault of the operating system, by its number.
 _ADVICE = {
@@ -79,10 +84,13 @@ def fixes_by_week(texts: Sequence[str]) -> Dict[int, Path]:
     """The fix files of some weeks, each given as `N=FILE`."""
     fixes: Dict[int, Path] = {}
     for text in texts:
-        number, equals, path = text.partition("=")
-        if not equals or not number.isdigit() or not path:
+        found = re.fullmatch("([0-9]{1,4})=(.+)", text, re.DOTALL)
+        if not found:
             raise Misuse(f"--fix {text}: give the week's number and its file, such as 0=promised.txt")
-        fixes[int(number)] = Path(path)
+        number = int(found[1])
+        if number in fixes:
+            raise Misuse(f"--fix {text}: week {number} has the file {fixes[number]}: put all rows into one file")
+        fixes[number] = Path(found[2])
     return fixes
 
 
@@ -104,9 +112,21 @@ def processors() -> int:
 
 def add_solver_options(words: argparse.ArgumentParser) -> None:
     """The options that say which solvers are used, and how many at once."""
-    solvers = "clasp, cbc, or a command that reads an OPB file; may be repeated (default: clasp and cbc, if installed)"
+    solvers = (
+        "clasp, cbc, or a command that reads an OPB model and prints an answer, with {} for the model's path; "
+        "more than one are used in turn (default: those of clasp and cbc that are installed)"
+    )
     words.add_argument("--solver", metavar="SOLVER", action="append", default=[], help=solvers)
-    words.add_argument("--jobs", metavar="N", type=int, default=processors(), help="solvers at once (default: the processors)")
+    jobs = min(processors(), MAX_JOBS)
+    words.add_argument("--jobs", metavar="N", type=int, default=jobs, help="solvers at once (default: the processors)")
+
+
+def check_effort(seconds: float, option: str, jobs: int) -> None:
+    """The limits of a search are numbers with which it ends."""
+    if not 0 < seconds <= MAX_SECONDS:
+        raise Misuse(f"{option} has to be a number of seconds above 0, and at most {MAX_SECONDS}")
+    if not 1 <= jobs <= MAX_JOBS:
+        raise Misuse(f"--jobs has to be a number from 1 to {MAX_JOBS}")
 
 
 def week_files(given: argparse.Namespace) -> WeekFiles:
@@ -141,7 +161,7 @@ def _utf8_stream(stream: Optional[TextIO], errors: str) -> TextIO:
 def run(main: Callable[[], Optional[int]]) -> None:
     """Runs a helper and exits: faults are one line on standard error, with status 1 or the program's own."""
     name = os.path.basename(sys.argv[0])
-    _catch_ctrl_c()
+    _catch_signals()
     sys.stdout = _utf8_stream(sys.stdout, "surrogateescape")
     sys.stderr = _utf8_stream(sys.stderr, "backslashreplace")
     try:
@@ -165,10 +185,19 @@ def run(main: Callable[[], Optional[int]]) -> None:
     sys.exit(status)
 
 
-def _catch_ctrl_c() -> None:
-    """From now on Ctrl-C is a KeyboardInterrupt again. Before, while a command starts, it ends the process without a word."""
+def _catch_signals() -> None:
+    """From now on Ctrl-C is a KeyboardInterrupt again: before, while a command starts, it ends the process without a word. TERM and HUP
+    end the command too, and no temporary file is left. The statuses of children are kept, also if the caller ignores them."""
     if signal.getsignal(signal.SIGINT) == signal.SIG_DFL:
         signal.signal(signal.SIGINT, signal.default_int_handler)
+    for number in (signal.SIGTERM, signal.SIGHUP):
+        if signal.getsignal(number) == signal.SIG_DFL:
+            signal.signal(number, _end)
+    signal.signal(signal.SIGCHLD, signal.SIG_DFL)
+
+
+def _end(number: int, _frame: object) -> None:
+    raise SystemExit(SIGNAL_BASE + number)
 
 
 def _drop_output() -> None:

@@ -5,6 +5,7 @@ from itertools import product
 from pathlib import Path
 from typing import Iterator, List, NamedTuple, Optional, Sequence, Tuple
 
+from .command import Misuse
 from .files import DAYS, Assignment, Limits, Place, Week
 
 
@@ -123,14 +124,14 @@ def block_of(number: int, week: Week, held: Sequence[Assignment] = (), early: bo
 
 def row_of(number: int, model: Path) -> Tuple[int, str]:
     """The line of constraint `number` in the model's file, counted from 1, and its text."""
-    with open(model, encoding="ascii") as lines:
+    with open(model, encoding="ascii", errors="replace") as lines:
         for at, line in enumerate(lines, 1):
             if line.startswith(("*", "min:")):
                 continue
             number -= 1
             if number == 0:
                 return at, line.rstrip("\n")
-    raise IndexError(number)
+    raise Misuse("the model ends before this constraint: is inrc2pb of another version?")
 
 
 def named_row(row: str, week: Week) -> str:

@@ -119,7 +119,7 @@ def _nurse_history(slots: Slots, nurse: str, scenario: Scenario) -> NurseHistory
 def check_week_number(path: PathLike, history: History, scenario: Scenario) -> None:
     """The history's week has to be one of the scenario's weeks."""
     if history.week >= scenario.weeks:
-        message = f"week {history.week} is not below WEEKS = {scenario.weeks}: the period is over, begin a new one with --new-period"
+        message = f"week {history.week} is not below WEEKS = {scenario.weeks}: the period is over, begin a new one with inrc2pb-next --new-period"
         raise FileFault(path, 0, message, "week not below WEEKS")
 
 

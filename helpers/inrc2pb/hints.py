@@ -27,6 +27,11 @@ def quoted(names: Iterable[str], limit: int = 12) -> str:
     return ", ".join(words[:limit]) + more if words else "none"
 
 
+def words_of(row: str) -> List[str]:
+    """The words of a row. They are separated as in the files: other blanks of Unicode are letters."""
+    return re.findall(r"[^ \t\r\n]+", row)
+
+
 def is_no_text(text: str) -> bool:
     """Whether the file is one of a word processor, for example, and no plain text."""
     return "\0" in text or text.startswith(_BEGINS)
@@ -54,7 +59,7 @@ def _rows_below(lines: Sequence[str], at: int) -> Iterator[str]:
     for line in lines[at + 1 :]:
         if _heading_of(line) or "=" in line:
             return
-        if line.strip():
+        if words_of(line):
             yield line
 
 
@@ -71,7 +76,7 @@ def _wrong_count(lines: Sequence[str], line: int) -> Iterator[str]:
 
 def _without_line(lines: Sequence[str], names: Collection[str], heading: str) -> Iterator[str]:
     """The names with which no line below the heading begins."""
-    begins = {row.split()[0] for at, line in enumerate(lines) if heading and _heading_of(line) == heading for row in _rows_below(lines, at)}
+    begins = {words_of(row)[0] for at, line in enumerate(lines) if heading and _heading_of(line) == heading for row in _rows_below(lines, at)}
     missing = [name for name in names if name not in begins]
     if missing:
         yield f"no line begins with {quoted(missing)}"
@@ -79,7 +84,7 @@ def _without_line(lines: Sequence[str], names: Collection[str], heading: str) ->
 
 def _wrong_row(lines: Sequence[str], line: int) -> Iterator[str]:
     """The mistake in the row before the fault, else in the row of the fault: a wrong number of words, or a wrong order."""
-    rows = [at for at in range(line) if lines[at].strip()]
+    rows = [at for at in range(line) if words_of(lines[at])]
     for at in rows[-2:]:
         section = next((heading for heading in map(_heading_of, reversed(lines[:at])) if heading), "")
         reason = None if _heading_of(lines[at]) or section not in _ROWS else _ROWS[section](lines[at])
@@ -110,7 +115,7 @@ def _no_requests(lines: Sequence[str]) -> Iterator[str]:
 
 def _names_of(row: str) -> List[str]:
     """The words with which a row begins, before its first number or bracket."""
-    return re.split(r"(?:^|\s)[0-9]|\(", row, maxsplit=1)[0].split()
+    return words_of(re.split(r"(?:^|[ \t])[0-9]|\(", row, maxsplit=1)[0])
 
 
 def _blank_in(row: str, count: int) -> Optional[str]:
@@ -123,7 +128,7 @@ def _announced(names: int, noun: str) -> Callable[[str], Optional[str]]:
     """Rows that have some names, a number, and this number of words."""
 
     def reason(row: str) -> Optional[str]:
-        words = row.split()
+        words = words_of(row)
         number, count = words[names] if len(words) > names else "", len(words) - names - 1
         if re.fullmatch("[0-9]{1,9}", number) and int(number) != count:
             return f"{words[0]} announces {plural(int(number), noun)}, and the line has {count}"
@@ -135,24 +140,25 @@ def _announced(names: int, noun: str) -> Callable[[str], Optional[str]]:
 
 
 def _required(row: str) -> Optional[str]:
-    names, pairs = " ".join(_names_of(row)), row.count("(")
+    """A reason if a row has another number of pairs than days. One with = is a heading, though a wrong one."""
+    names, pairs = "" if "=" in row else " ".join(_names_of(row)), row.count("(")
     return f"{names} has {plural(pairs, 'pair')}, and {len(DAYS)} are needed" if names and pairs != len(DAYS) else None
 
 
 def _requested(row: str) -> Optional[str]:
-    words = row.split()
+    words = words_of(row)
     turned = len(words) == 3 and words[1] in DAYS and words[2] not in DAYS
     return "the shift type comes first, then the day" if turned else None
 
 
 def _assigned(row: str) -> Optional[str]:
-    words = row.split()
+    words = words_of(row)
     turned = len(words) == 4 and words[1] not in DAYS and words[2] in DAYS
     return "the day comes first, then the shift type" if turned else None
 
 
 def _past(row: str) -> Optional[str]:
-    words = row.split()
+    words = words_of(row)
     return _blank_in(row, 1) or (None if len(words) == 7 else f"{words[0]} has {len(words) - 1} entries, and 6 are needed")
 
 

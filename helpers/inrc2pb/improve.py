@@ -2,7 +2,6 @@
 
 import argparse
 import contextlib
-import math
 import os
 import shutil
 import sys
@@ -12,7 +11,7 @@ from pathlib import Path
 from typing import List, Optional, Sequence, TextIO
 
 from .best_roster import BestRoster, read_start
-from .command import Misuse, add_week_options, number_of_seconds, parser, processors, week_files
+from .command import add_solver_options, add_week_options, check_effort, number_of_seconds, parser, week_files
 from .files import Assignment, Week, read_files
 from .interrupts import interrupts
 from .misfits import read_held
@@ -59,9 +58,9 @@ class Progress:
 
 
 class Outcome:
-    """The result of a search: the report of the best roster, the lower bound if any, and how the search ended.
+    """The result of a search: the report of the best roster, and the lower bound or None, with the solver that proved it.
 
-    `stopped` says whether the user stopped it; `fault` is the fault that ended it, if one did.
+    `proved` says whether no roster costs less, `stopped` whether the user stopped the search; `fault` is the fault that ended it.
     """
 
     def __init__(self, report: Report, best: BestRoster, stopped: bool, fault: Optional[BaseException]) -> None:
@@ -83,8 +82,8 @@ class Outcome:
         return [f"lower bound {self.bound} ({self.bound_by}): the gap is {gap}{share}"]
 
 
-def improve(files: WeekFiles, start: Optional[Path], solution: Path, seconds: float, seed: int, jobs: int, solvers: Sequence[str]) -> Report:
-    """Searches for these seconds, writes the best roster to `solution` and returns its report.
+def improve(files: WeekFiles, start: Optional[Path], solution: Path, seconds: float, seed: int, jobs: int, solvers: Sequence[str]) -> Outcome:
+    """Searches for these seconds, writes the best roster to `solution`, and returns its report and lower bound.
 
     `start` is the roster to begin with, if any; `solvers` has names (clasp, cbc) or commands, and none means those that
     are installed. Ctrl-C, TERM or a fault end the search: the roster is written, then KeyboardInterrupt or the fault is raised.
@@ -94,13 +93,13 @@ def improve(files: WeekFiles, start: Optional[Path], solution: Path, seconds: fl
         raise outcome.fault
     if outcome.stopped:
         raise KeyboardInterrupt
-    return outcome.report
+    return outcome
 
 
 def search(
     files: WeekFiles, start: Optional[Path], solution: Path, seconds: float, seed: int, jobs: int, solvers: Sequence[str], progress: Progress
 ) -> Outcome:
-    """As `improve`, with its progress printed, and more in its result. A fault is raised only if there is no roster; a signal is no fault."""
+    """As `improve`, with its progress printed. A fault is raised only if there is no roster; a signal is no fault."""
     check_no_pipes((files.scenario, files.history, files.week, files.fix, start))
     solution = Path(solution).absolute()
     found = find_solvers(solvers or installed_solvers())
@@ -134,14 +133,6 @@ def held_rows(fix: Path, week: Week, progress: Progress) -> Sequence[Assignment]
     return read_held(fix, week.scenario, week.history, lambda warning: progress.warn(f"{fix}: {warning}")).assignments
 
 
-def check_effort(seconds: float, option: str, jobs: int) -> None:
-    """The limits of a search are numbers with which it ends."""
-    if not (math.isfinite(seconds) and seconds > 0):
-        raise Misuse(f"{option} has to be a number of seconds above 0")
-    if jobs < 1:
-        raise Misuse("--jobs has to be at least 1")
-
-
 def _arguments() -> argparse.ArgumentParser:
     words = parser(
         "Finds a good roster for a week, or improves one. Solvers search neighborhoods of the best roster, several at once, and\n"
@@ -153,15 +144,7 @@ def _arguments() -> argparse.ArgumentParser:
     words.add_argument("--from", dest="start", metavar="FILE", type=Path, help="the roster to begin with (default: none)")
     words.add_argument("--time", metavar="SECONDS", type=number_of_seconds, default=120.0, help="seconds to search (default: %(default).0f)")
     words.add_argument("--seed", metavar="N", type=int, default=1, help="seed of the random choices (default: %(default)s)")
-    words.add_argument("--jobs", metavar="N", type=int, default=processors(), help="solvers at once (default: the processors)")
-    words.add_argument(
-        "--solver",
-        metavar="SOLVER",
-        action="append",
-        default=[],
-        help="clasp, cbc, or a command that reads an OPB model and prints an answer, with {} for the model's path; "
-        "more than one are used in turn (default: those of clasp and cbc that are installed)",
-    )
+    add_solver_options(words)
     return words
 
 

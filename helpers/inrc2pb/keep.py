@@ -38,7 +38,7 @@ def _days(text: str) -> Iterator[int]:
 
 
 def _nurses(text: str, known: Iterable[str], source: str) -> List[str]:
-    names, nurses = list(known), text.split(",")
+    names, nurses = list(known), list(dict.fromkeys(text.split(",")))
     for nurse in nurses:
         if nurse not in names:
             meant = closest(nurse, names)
@@ -74,7 +74,7 @@ def _week_text(week: Path, scenario: Scenario, nurses: Sequence[str], days: Sequ
 def main() -> Optional[int]:
     """The command `inrc2pb-keep`."""
     given = _words().parse_args()
-    if not given.keep and not given.nurses:
+    if given.keep is None and given.nurses is None:
         raise Misuse("nothing says which rows to keep: give --keep Mon,Tue or --nurses NAME,NAME")
     if given.off_in and (given.others or not given.sce):
         raise Misuse("--off-in needs --sce, and has no --others: give the scenario, and the days and nurses themselves")
@@ -82,9 +82,9 @@ def main() -> Optional[int]:
         check_inputs_stay((given.roster, given.sce, given.off_in), given.out, "the kept rows")
     scenario = read_scenario(given.sce) if given.sce else None
     solution = read_solution(given.roster, scenario)
-    days = list(_days(given.keep)) if given.keep else []
+    days = list(dict.fromkeys(_days(given.keep))) if given.keep is not None else []
     known = list(scenario.nurses) if scenario else list(dict.fromkeys(row.nurse for row in solution.assignments))
-    nurses = _nurses(given.nurses, known, str(given.sce or given.roster)) if given.nurses else []
+    nurses = _nurses(given.nurses, known, str(given.sce or given.roster)) if given.nurses is not None else []
     if given.off_in and scenario:
         text = _week_text(given.off_in, scenario, nurses, days, solution.assignments)
     else:

@@ -23,6 +23,8 @@ from .targets import check_inputs_stay
 # `inrc2pb` have at most 10 and 8 digits.
 TERMS_PER_LINE = 16
 CHUNK = 1 << 18
+# The most characters of the first line, and of a constraint or a term: those of `inrc2pb` have far fewer.
+MAX_HEADER, MAX_STATEMENT = 100, 1 << 23
 _HEADER = re.compile(r"\* #variable= ([0-9]{1,10}) #constraint= ([0-9]{1,10})\s*")
 _TERMS = re.compile(r"(?:\s*[+-][0-9]{1,17}\s+x[1-9][0-9]{0,9}(?!\S))*\s*")
 _DEGREE = re.compile(r"\s*([+-]?[0-9]{1,17})\s*")
@@ -47,7 +49,7 @@ class ModelSize:
 
 def write_linear_program(opb: TextIO, lp: TextIO, check: Check = None) -> ModelSize:
     """Writes the model in the file `opb` to the file `lp`."""
-    header = opb.readline()
+    header = opb.readline(MAX_HEADER)
     match = _HEADER.fullmatch(header)
     if not match:
         raise ModelFault("the model does not begin with `* #variable= V #constraint= C`: give a file that `inrc2pb encode` wrote")
@@ -74,7 +76,7 @@ def _write_statements(pieces: Iterator[Tuple[str, bool]], lp: TextIO) -> Tuple[i
             lp.writelines(f" {line}\n" for line in _lines(words))
             if ends:
                 in_objective, number = False, 1
-                lp.write("Subject To\n")
+                lp.write("Subject To\n" if step else " +0 x1\nSubject To\n")
             continue
         if number == 0:
             number = 1
@@ -102,6 +104,8 @@ def _pieces(opb: TextIO, check: Check) -> Iterator[Tuple[str, bool]]:
         if cut > 0 and (long or rest.lstrip().startswith("min:")):
             yield rest[:cut], False
             rest, long = rest[cut:], True
+        if len(rest) > MAX_STATEMENT:
+            raise ModelFault("a statement is too long: give a file that `inrc2pb encode` wrote")
     if rest.strip():
         raise ModelFault("the model ends in the middle of a statement: it is cut, so encode the week again")
 

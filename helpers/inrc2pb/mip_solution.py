@@ -29,6 +29,10 @@ class SolutionFault(Misuse):
     """A file that is no solution of a model."""
 
 
+class NotInteger(SolutionFault):
+    """A variable with another value than 0 and 1."""
+
+
 @dataclass
 class Answer:
     """A solver's answer: its status, its objective if it is known, and the variables that are true."""
@@ -90,7 +94,7 @@ def _put_value(line: int, name: str, text: str, variables: "array[int]") -> None
     value = float(text)
     off = min(abs(value), abs(value - 1))
     if off > SOLVER_TOLERANCE:
-        raise SolutionFault(f"line {line}: {name} is {text}, neither 0 nor 1: let the solver solve the model with integers")
+        raise NotInteger(f"line {line}: {name} is {text}, neither 0 nor 1: let the solver solve the model with integers")
     if off > TOLERANCE:
         advice = "give the solver a smaller integrality tolerance (Gurobi: IntFeasTol=1e-9; HiGHS: mip_feasibility_tolerance = 1e-9)"
         raise SolutionFault(f"line {line}: {name} is {text}, off by more than a millionth: {advice}")
@@ -120,7 +124,13 @@ def _of_cbc(first: Line, lines: Iterator[Line], _ended: str) -> Answer:
     if says not in ("Optimal", "Optimal (within gap tolerance)") and not re.fullmatch(r"Stopped on [a-zA-Z -]+", says):
         return Answer("UNKNOWN")
     rows = ((number, [word for word in words if word != "**"]) for number, words in _words(lines))
-    return Answer(STATUSES["optimal" if says == "Optimal" else "stopped"], _objective(objective.strip()), _values(rows, 1, 2))
+    try:
+        return Answer(STATUSES["optimal" if says == "Optimal" else "stopped"], _objective(objective.strip()), _values(rows, 1, 2))
+    except NotInteger:
+        if says.startswith("Optimal"):
+            raise
+        # cbc was stopped before it had a roster, and wrote the values that it had.
+        return Answer("UNKNOWN")
 
 
 _GLPSOL = {

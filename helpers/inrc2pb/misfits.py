@@ -10,8 +10,9 @@ from .program import ProgramFault
 from .rules import numbers
 from .slots import text_of, tokens_of
 
-# The index of the week's number and of the first row among the tokens of a solution file, and the number of tokens of a row.
-_NUMBER, _ROWS, _ROW = 1, 6, 4
+# The indices of the week's number, of the scenario's name and of the first row among the tokens of a solution file, and the number of
+# tokens of a row.
+_NUMBER, _NAME, _ROWS, _ROW = 1, 2, 6, 4
 Shifts = Dict[Tuple[str, int], List[str]]
 
 
@@ -35,11 +36,11 @@ def other_week(path: Path, scenario: Scenario, history: Optional[History], text:
         solution = read_solution(path, None, text)
     except FileFault:
         return ""
-    line = f"line {_lines(text)[_NUMBER]} has"
+    lines = _lines(text)
     if solution.scenario != scenario.name:
-        return f"{line} '{solution.scenario}', and the scenario is '{scenario.name}': is the file of another ward?"
+        return f"line {lines[_NAME]} has '{solution.scenario}', and the scenario is '{scenario.name}': is the file of another ward?"
     if history and solution.week != history.week:
-        return f"{line} week {solution.week}, and the history has week {history.week}: is the file of another week?"
+        return f"line {lines[_NUMBER]} has week {solution.week}, and the history has week {history.week}: is the file of another week?"
     return ""
 
 

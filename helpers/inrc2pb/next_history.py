@@ -5,17 +5,21 @@ from typing import Callable, Dict, Iterable, Optional
 
 from .command import Misuse, parser, run
 from .files import Assignment, History, NurseHistory, Scenario, history_text, read_history, read_scenario, read_solution, write_text
+from .slots import MAX_NUMBER
 from .targets import check_inputs_stay
 
 SATURDAY, SUNDAY = 5, 6
 
 
 def _length_on_sunday(has: Callable[[int], bool], before: int) -> int:
-    """For how many days in a row the property holds on Sunday, if it held for `before` days before Monday."""
+    """For how many days in a row the property holds on Sunday, if it held for `before` days before Monday.
+
+    A file has no larger number than MAX_NUMBER. Since no limit is larger, a longer run costs the same.
+    """
     length = before
     for day in range(7):
         length = length + 1 if has(day) else 0
-    return length
+    return min(length, MAX_NUMBER)
 
 
 def next_nurse_history(past: NurseHistory, shifts: Dict[int, str], new_period: bool = False) -> NurseHistory:
@@ -43,6 +47,9 @@ def next_history(scenario: Scenario, history: History, assignments: Iterable[Ass
             raise Misuse(f"{assignment.row()}: {assignment.nurse} has two assignments on this day, remove one")
         shifts[assignment.nurse][assignment.day] = assignment.shift
     nurses = {nurse: next_nurse_history(past, shifts[nurse], new_period) for nurse, past in history.nurses.items()}
+    for nurse, next_one in nurses.items():
+        if max(next_one.assignments, next_one.weekends) > MAX_NUMBER:
+            raise Misuse(f"{nurse} would have more than {MAX_NUMBER} assignments or weekends: correct her history")
     return History(0 if new_period else history.week + 1, history.scenario, nurses)
 
 

@@ -4,6 +4,7 @@ from typing import Dict, Iterator, List, Tuple
 
 from .files import DAYS, Contract, History, Limits, NurseHistory, Requirement, Scenario, WeekData
 from .hints import plural
+from .slots import is_utf8
 
 # The end of a warning of a week that has no roster.
 IMPOSSIBLE = "no roster can meet it"
@@ -12,7 +13,7 @@ IMPOSSIBLE = "no roster can meet it"
 def scenario_warnings(scenario: Scenario) -> Iterator[str]:
     """Warnings of a scenario."""
     names = (*scenario.skills, *scenario.shift_types, *scenario.contracts, *scenario.nurses)
-    if any("\udc80" <= letter <= "\udcff" for name in names for letter in name):
+    if not all(map(is_utf8, names)):
         yield "it is not saved as UTF-8, so tables and pictures have wrong letters: save each file of the ward as UTF-8"
     for shift in scenario.shift_types.values():
         yield from _reversed_limits(f"shift type {shift.name}", shift.consecutive)

@@ -10,10 +10,10 @@ from dataclasses import dataclass, replace
 from pathlib import Path
 from typing import Callable, Dict, Iterable, List, Optional, Sequence
 
-from .command import Misuse, add_solver_options, fault_line, fixes_by_week, number_of_seconds, parser, run
+from .command import Misuse, add_solver_options, check_effort, fault_line, fixes_by_week, number_of_seconds, parser, run
 from .files import FileFault, History, Scenario, Week, check_week_number, read_files, read_history, read_scenario, read_solution
 from .files import history_text, read_week, scenario_text, write_history, write_text
-from .improve import Progress, check_effort, held_rows, search
+from .improve import Progress, held_rows, search
 from .interrupts import Interrupts, interrupts
 from .misfits import read_held
 from .next_history import next_history
@@ -21,7 +21,7 @@ from .processes import Processes
 from .program import NO_ROSTER, SOFT_RULES, ProgramFault, Report, WeekFiles, decode, encode_unless_stopped, extend, find_program
 from .shared_totals import shared_week
 from .solvers import NONE_IN_TIME, Task, find_solver, installed_solvers
-from .targets import check_inputs_stay
+from .targets import check_inputs_stay, check_no_pipes
 
 # Plans a week: writes its roster to the file. Returns what ended it early, if anything did: a fault, or KeyboardInterrupt.
 Plan = Callable[[WeekFiles, Path], Optional[BaseException]]
@@ -83,6 +83,7 @@ class Period:
 
     def __init__(self, files: PeriodFiles, plan: Plan, folder: Path) -> None:
         self.files, self.plan, self.folder = files, plan, folder
+        check_no_pipes((files.scenario, files.history, *files.weeks, *files.fixes.values()))
         self.scenario: Scenario = read_scenario(files.scenario)
         self.history: History = read_history(files.history, self.scenario)
         self.history_file = files.history

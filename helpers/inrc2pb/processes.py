@@ -1,14 +1,14 @@
 """Child processes that run for a limited time. Each is a group of its own, and is ended as a group."""
 
 import os
-import select
+import selectors
 import signal
 import subprocess
 import threading
 import time
 from dataclasses import dataclass
 from pathlib import Path
-from typing import Callable, Dict, List, Optional, Sequence, Tuple
+from typing import Callable, Dict, List, NamedTuple, Optional, Sequence
 
 # Seconds that a process has to print its answer after it was asked to end.
 GRACE = 2.0
@@ -19,17 +19,20 @@ LAST_BYTES = 200
 PIECE = 1 << 16
 # Seconds that a process has to end after its output did, and between two looks whether it has.
 EXIT_SECONDS, EXIT_PAUSE = 0.5, 0.005
+# The most seconds of one wait for output: the system limits them.
+MAX_WAIT = 3600.0
 
 
 @dataclass(frozen=True)
 class Ended:
-    """How a process ended: its exit status, its output, whether it was ended because its time was over, and the end of its
-    standard error."""
+    """How a process ended: its exit status, its output, whether it was ended before it ended itself, the end of its standard error,
+    and whether it was ended because it printed more than MAX_OUTPUT, of which nothing is kept."""
 
     status: int
     output: str
     timed_out: bool
     errors: str = ""
+    flooded: bool = False
 
     @property
     def last_error(self) -> str:
@@ -64,7 +67,7 @@ class Processes:
             )
             self._running[process] = ending
         try:
-            output, errors, timed_out = _output_of(process, seconds, ending, hear)
+            found = _output_of(process, seconds, ending, hear)
         finally:
             with self._lock:
                 self._running.pop(process)
@@ -74,7 +77,8 @@ class Processes:
             _wait_without_reaping(process, EXIT_SECONDS)
             _signal_group(process, signal.SIGKILL)
             status = process.wait()
-        return Ended(status, output.decode("utf-8", errors="replace"), timed_out, errors.decode("utf-8", errors="replace"))
+        output, errors = (data.decode("utf-8", errors="replace") for data in (found.output, found.errors))
+        return Ended(status, output, found.timed_out, errors, found.flooded)
 
     @property
     def stopped(self) -> bool:
@@ -113,35 +117,47 @@ def _signal_group(process: "subprocess.Popen[bytes]", number: int) -> None:
         pass
 
 
-def _output_of(
-    process: "subprocess.Popen[bytes]", seconds: float, ending: int, hear: Optional[Callable[[bytes], None]]
-) -> Tuple[bytes, bytes, bool]:
+class _Output(NamedTuple):
+    """The output of a process, and the other parts of `Ended` that come with it."""
+
+    output: bytes
+    errors: bytes
+    timed_out: bool
+    flooded: bool = False
+
+
+def _output_of(process: "subprocess.Popen[bytes]", seconds: float, ending: int, hear: Optional[Callable[[bytes], None]]) -> _Output:
     """The output until its end, with the last bytes of standard error; at the limit the process is asked to end, and after the
     grace it is killed."""
     assert process.stdout is not None and process.stderr is not None
-    streams = [process.stdout, process.stderr]
     parts: List[bytes] = []
     size, errors, timed_out = 0, b"", False
     limit = time.monotonic() + seconds
-    while True:
-        ready, _, _ = select.select(streams, [], [], max(0.0, limit - time.monotonic()))
-        if process.stderr in ready:
-            data = os.read(process.stderr.fileno(), PIECE)
-            errors = (errors + data)[-LAST_BYTES:]
-            if not data:
-                streams.remove(process.stderr)
-        if process.stdout in ready:
-            data = os.read(process.stdout.fileno(), PIECE)
-            if not data:
-                return b"".join(parts), errors, timed_out
-            size += len(data)
-            parts.append(data)
-            if hear:
-                hear(data)
-        if time.monotonic() >= limit or size > MAX_OUTPUT:
-            if timed_out or size > MAX_OUTPUT:
+    with selectors.DefaultSelector() as streams:
+        streams.register(process.stdout, selectors.EVENT_READ)
+        streams.register(process.stderr, selectors.EVENT_READ)
+        while True:
+            ready = [key.fileobj for key, _ in streams.select(min(MAX_WAIT, max(0.0, limit - time.monotonic())))]
+            if process.stderr in ready:
+                data = os.read(process.stderr.fileno(), PIECE)
+                errors = (errors + data)[-LAST_BYTES:]
+                if not data:
+                    streams.unregister(process.stderr)
+            if process.stdout in ready:
+                data = os.read(process.stdout.fileno(), PIECE)
+                if not data:
+                    return _Output(b"".join(parts), errors, timed_out)
+                size += len(data)
+                parts.append(data)
+                if hear:
+                    hear(data)
+            if size > MAX_OUTPUT:
                 _signal_group(process, signal.SIGKILL)
-                return b"".join(parts) if size <= MAX_OUTPUT else b"", errors, True
-            timed_out = True
-            limit = time.monotonic() + GRACE
-            _signal_group(process, ending)
+                return _Output(b"", errors, True, True)
+            if time.monotonic() >= limit:
+                if timed_out:
+                    _signal_group(process, signal.SIGKILL)
+                    return _Output(b"".join(parts), errors, True)
+                timed_out = True
+                limit = time.monotonic() + GRACE
+                _signal_group(process, ending)

@@ -32,6 +32,11 @@ class ProgramFault(Exception):
         return self.message
 
 
+def is_of_files(fault: BaseException) -> bool:
+    """Whether the fault is that a file could not be read or written."""
+    return isinstance(fault, OSError) or (isinstance(fault, ProgramFault) and fault.status == READ_OR_WRITE)
+
+
 @dataclass(frozen=True)
 class WeekFiles:
     """The files of a week, and the options that each command needs alike."""
@@ -109,12 +114,16 @@ def run_program(*words: str, given: str = "") -> str:
             timeout=LONGEST_RUN,
         )
     except subprocess.TimeoutExpired as fault:
-        advice = "a pipe can be read only once, so give files"
-        raise ProgramFault(READ_OR_WRITE, f"inrc2pb {words[0]} did not end in {LONGEST_RUN:.0f} s: {advice}") from fault
+        raise _does_not_end(words) from fault
     except OSError as fault:
         raise _does_not_run(program, fault) from fault
     _check_status(ran.returncode, ran.stderr.decode("utf-8", errors="replace"), words)
     return ran.stdout.decode("utf-8", errors="surrogateescape")
+
+
+def _does_not_end(words: Sequence[str]) -> ProgramFault:
+    advice = "a pipe can be read only once, so give files"
+    return ProgramFault(READ_OR_WRITE, f"inrc2pb {words[0]} did not end in {LONGEST_RUN:.0f} s: {advice}")
 
 
 def _does_not_run(program: str, fault: OSError) -> ProgramFault:
@@ -173,6 +182,8 @@ def encode_unless_stopped(files: WeekFiles, model: Path, processes: Processes) -
         raise _does_not_run(program, fault) from fault
     if processes.stopped:
         return False
+    if ended.timed_out:
+        raise _does_not_end(words)
     _check_status(ended.status, ended.errors, words)
     return True
 

@@ -1,11 +1,12 @@
 """A roster as a picture (SVG), for light and dark pages."""
 
+import re
 import textwrap
 from html import escape
 from typing import Dict, Iterator, List, Sequence
 
 from .files import DAYS
-from .roster_text import COLORS, abbreviations, cuts, ink_on
+from .roster_text import COLORS, abbreviations, columns, cuts, ink_on
 from .roster_view import HELD, Cell, RosterView, costs_text
 
 STYLE = """<style>
@@ -15,10 +16,12 @@ STYLE = """<style>
 .page { fill: #14171c } .ink { fill: #e8e8e8 } .weekend { fill: #272c35 } .off { stroke: #474e5a } .frame { stroke: #e8e8e8 }
 }
 </style>"""
-LEFT, HIGH, COST_WIDTH, LEGEND_WIDTH = 130, 26, 230, 90
+LEFT, HIGH, COST_WIDTH, LEGEND_WIDTH, EDGE = 130, 26, 230, 90, 10
 WEEKEND_GAP, WEEK_GAP = 12, 18
-# The width of a character in a cell, in a picture of one week and of more weeks, and in a name or a cost outside of the cells.
-CELL_LETTERS, LETTER, COST_LETTER = (6.6, 6.4), 8, 7.5
+# The width of a character in a cell, in a picture of one week and of more weeks, and in a name, a cost and the title.
+CELL_LETTERS, LETTER, COST_LETTER, TITLE_LETTER = (6.6, 6.4), 8, 7.5, 9.5
+# All but the characters that XML allows. A byte that is not UTF-8 is a surrogate.
+_NOT_IN_XML = re.compile("[^\t\n\r\x20-\ud7ff\ue000-\ufffd\U00010000-\U0010ffff]")
 # How many letters of a shift type and of a skill a cell has, if they fit; fewer come last. Two names never look alike.
 LETTERS = ((99, 99), (99, 2), (5, 2), (1, 2))
 
@@ -31,7 +34,7 @@ class CellTexts:
         for letters in LETTERS:
             self.shifts, self.skills = cuts(view.shifts, letters[0]), cuts(view.skills, letters[1])
             # Two shifts of a nurse on one day have halves of the cell.
-            self.longest = max([len(of_day) * len(self.text(cell)) for of_day in cells for cell in of_day], default=0)
+            self.longest = max([len(of_day) * columns(self.text(cell)) for of_day in cells for cell in of_day], default=0)
             if self.longest <= room:
                 break
 
@@ -51,13 +54,14 @@ class Picture:
         self.wide = max(86 if self.single else 34, 5 + round(letter * self.texts.longest))
         self.top = 60 if self.single else 80
         week = 7 * self.wide + WEEKEND_GAP
-        left = max([LEFT, *(20 + LETTER * len(nurse) for nurse in view.nurses)])
+        left = max([LEFT, *(20 + LETTER * columns(nurse) for nurse in view.nurses)])
         self.starts = [left + at * (week + WEEK_GAP) for at in range(len(view.weeks))]
         self.costs = {nurse: _cost_of(view.costs_of(nurse)) for nurse in view.nurses} if view.has_costs else {}
         costs = max([COST_WIDTH, *(20 + round(COST_LETTER * len(text)) for text in self.costs.values())])
-        self.right = self.starts[-1] + week + (costs if self.costs else 10)
+        self.step = max([LEGEND_WIDTH, *(30 + LETTER * columns(shift) for shift in view.shifts)])
+        title = round(TITLE_LETTER * columns(view.title))
+        self.right = max(self.starts[-1] + week + (costs if self.costs else EDGE), 2 * EDGE + title, 2 * EDGE + self.step)
         self.bottom = self.top + len(view.nurses) * HIGH
-        self.step = max([LEGEND_WIDTH, *(30 + LETTER * len(shift) for shift in view.shifts)])
         self.in_line = max(1, min(8, self.right // self.step))
         self.under = self.bottom + 24 + 20 * -(-len(view.shifts) // self.in_line)
         lines = abbreviations(self.texts.shifts, self.texts.skills) + view.legend() + view.misfilled()
@@ -136,5 +140,6 @@ def _place(x: float, y: int, width: float, height: int, number: int, framed: boo
 
 
 def picture(view: RosterView) -> List[str]:
-    """The lines of a roster's picture. Bytes of a name that are not UTF-8 are replaced, so that the picture can be shown."""
-    return [line.encode("utf-8", "surrogateescape").decode("utf-8", "replace") for line in Picture(view).lines()]
+    """The lines of a roster's picture. Letters of a name that XML does not allow, and bytes that are not UTF-8, are replaced, so that the
+    picture can be shown."""
+    return [_NOT_IN_XML.sub("\ufffd", line) for line in Picture(view).lines()]

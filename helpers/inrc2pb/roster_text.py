@@ -1,12 +1,13 @@
 """A roster as a table of text, and as rows of a spreadsheet."""
 
+import unicodedata
 from typing import Dict, Iterator, List, Sequence
 
 from .files import DAYS
 from .roster_view import Cell, RosterView, costs_text
 
 # Colors that color-blind eyes tell apart (Okabe and Ito), and their numbers in a terminal. Shift types from the ninth on
-# have them again, in a frame.
+# have them again, in a picture with a dashed frame.
 COLORS = ("#e69f00", "#56b4e9", "#0072b2", "#009e73", "#f0e442", "#cc79a7", "#d55e00", "#999999")
 TERMINAL_COLORS = (214, 74, 25, 36, 227, 175, 166, 246)
 
@@ -16,6 +17,16 @@ def ink_on(color: str) -> str:
     parts = [int(color[at : at + 2], 16) / 255 for at in (1, 3, 5)]
     red, green, blue = (part / 12.92 if part <= 0.04045 else ((part + 0.055) / 1.055) ** 2.4 for part in parts)
     return "#000000" if 0.2126 * red + 0.7152 * green + 0.0722 * blue > 0.179 else "#ffffff"
+
+
+def columns(text: str) -> int:
+    """The columns that a text takes: a full-width letter, as of Chinese, takes two."""
+    return sum(2 if unicodedata.east_asian_width(letter) in "WF" else 1 for letter in text)
+
+
+def _filled(text: str, width: int) -> str:
+    """The text with blanks up to this number of columns."""
+    return text + " " * (width - columns(text))
 
 
 def cuts(names: Sequence[str], least: int) -> Dict[str, str]:
@@ -54,8 +65,8 @@ class TextTable:
         self.skills = cuts(view.skills, 2)
         self.gap = "  " if self.single else " "
         cells = [self.text(view.cells(week, nurse, day)) for week in range(len(view.weeks)) for nurse in view.nurses for day in range(7)]
-        self.width = max([3 if self.single else 2, *map(len, cells)])
-        self.first = max([len(name) for name in self.nurses.values()], default=0)
+        self.width = max([3 if self.single else 2, *map(columns, cells)])
+        self.first = max([columns(name) for name in self.nurses.values()], default=0)
 
     def text(self, cells: Sequence[Cell]) -> str:
         """The text of the cells of one nurse and day."""
@@ -64,7 +75,7 @@ class TextTable:
 
     def shown(self, cells: Sequence[Cell]) -> str:
         """The same in its column."""
-        padded = f"{self.text(cells):{self.width}}"
+        padded = _filled(self.text(cells), self.width)
         return in_color(padded, self.view.shifts.index(cells[0].shift)) if self.colored and cells else padded
 
     def head(self) -> List[str]:
@@ -87,9 +98,9 @@ class TextTable:
             ]
             costs = view.costs_of(nurse)
             cost = f"  {sum(costs.values()):4}  {costs_text(costs)}" if view.has_costs else ""
-            lines.append(f"{name:{self.first}}  {'  ||  '.join(weeks)}{cost}".rstrip())
+            lines.append(f"{_filled(name, self.first)}  {'  ||  '.join(weeks)}{cost}".rstrip())
         names = (self.shifts, self.skills) if self.single else (self.shifts,)
-        below = abbreviations(*names) + view.legend() + view.misfilled()
+        below = abbreviations(self.nurses, *names) + view.legend() + view.misfilled()
         return lines + [""] * bool(below) + below
 
 

@@ -185,6 +185,8 @@ def _histories(files: RosterFiles, scenario: Scenario, solutions: Sequence[Solut
         check_week_number(path, history, scenario)
     while histories and len(histories) < len(solutions):
         at = len(histories) - 1
+        if histories[at].week + 1 >= scenario.weeks:
+            raise Misuse(f"{files.rosters[at]}: week {histories[at].week} is the last of {scenario.weeks}: give --his once for each roster")
         try:
             histories.append(next_history(scenario, histories[at], solutions[at].assignments))
         except Misuse as fault:

@@ -9,7 +9,7 @@ from pathlib import Path
 from typing import Counter, Dict, Iterable, Iterator, List, NamedTuple, Optional, Sequence, Set, Tuple
 
 from .command import add_week_options, parser, run
-from .files import Assignment, Contract, Limits, NurseHistory, Place, Week, read_files, read_solution
+from .files import Assignment, Contract, Limits, NurseHistory, Place, Request, Week, read_files, read_solution
 
 SATURDAY, SUNDAY = 5, 6
 SOFT_RULES = ("S1", "S2", "S3", "S4", "S5", "S6", "S7")
@@ -103,12 +103,21 @@ def counts(week: Week, roster: Sequence[Assignment], early: bool = False) -> Ite
     shifts, number = shifts_by_day(roster), numbers(roster)
     for place, required in week.data.requirements.items():
         yield Count("S1", "missing", max(0, required.optimal - number[place]), MISSING_NURSE)
+    requests = requests_by_nurse(week)
     for nurse in week.scenario.nurses:
-        yield from nurse_counts(week, shifts, nurse, early)
+        yield from nurse_counts(week, shifts, requests[nurse], nurse, early)
 
 
-def nurse_counts(week: Week, shifts: Shifts, nurse: str, early: bool = False) -> Iterator[Count]:
-    """The counts for a nurse, given the shift types that nurses have on days."""
+def requests_by_nurse(week: Week) -> Dict[str, List[Request]]:
+    """The requests of each nurse."""
+    found: Dict[str, List[Request]] = {nurse: [] for nurse in week.scenario.nurses}
+    for request in week.data.requests:
+        found[request.nurse].append(request)
+    return found
+
+
+def nurse_counts(week: Week, shifts: Shifts, requests: Sequence[Request], nurse: str, early: bool = False) -> Iterator[Count]:
+    """The counts for a nurse with these requests, given the shift types that nurses have on days."""
     contract, history = week.scenario.contract_of(nurse), week.history.nurses[nurse]
     shift_on = [shifts[nurse, day] for day in range(7)]
     for name, shift in week.scenario.shift_types.items():
@@ -122,10 +131,9 @@ def nurse_counts(week: Week, shifts: Shifts, nurse: str, early: bool = False) ->
     above, below = run_counts([not now for now in shift_on], history.days_off, contract.days_off)
     yield Count("S3", "off above", above, DAYS_OFF_RUN)
     yield Count("S3", "off below", below, DAYS_OFF_RUN)
-    for request in week.data.requests:
-        if request.nurse == nurse:
-            matching = [shift for shift in shift_on[request.day] if request.shift in (None, shift)]
-            yield Count("S4", "Any" if request.shift is None else "shift", len(matching), REQUEST)
+    for request in requests:
+        matching = [shift for shift in shift_on[request.day] if request.shift in (None, shift)]
+        yield Count("S4", "Any" if request.shift is None else "shift", len(matching), REQUEST)
     saturday, sunday = bool(shift_on[SATURDAY]), bool(shift_on[SUNDAY])
     yield Count("S5", "half", int(contract.complete_weekends and saturday != sunday), HALF_WEEKEND)
     yield from _total_counts(week, contract, history, sum(map(len, shift_on)), saturday or sunday, early)
@@ -159,8 +167,8 @@ def costs(week: Week, roster: Sequence[Assignment], early: bool = False) -> Dict
 
 def nurse_costs(week: Week, roster: Sequence[Assignment], early: bool = False) -> Dict[str, Dict[str, int]]:
     """The same of each nurse; no nurse pays for S1."""
-    shifts = shifts_by_day(roster)
-    return {nurse: _cost_by_rule(nurse_counts(week, shifts, nurse, early)) for nurse in week.scenario.nurses}
+    shifts, requests = shifts_by_day(roster), requests_by_nurse(week)
+    return {nurse: _cost_by_rule(nurse_counts(week, shifts, requests[nurse], nurse, early)) for nurse in week.scenario.nurses}
 
 
 def main() -> None:

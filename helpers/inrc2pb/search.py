@@ -9,11 +9,12 @@ from pathlib import Path
 from typing import Callable, Optional, Sequence, Tuple
 
 from .best_roster import BestRoster, Snapshot
+from .command import Misuse
 from .files import Assignment, Week, read_solution, write_solution
 from .neighborhoods import Neighborhood, Neighborhoods
 from .part import write_part
 from .processes import Processes
-from .program import BROKEN_RULE, FAULT, NO_ROSTER, ProgramFault, WeekFiles, decode, encode_unless_stopped, penalty_of
+from .program import BROKEN_RULE, FAULT, NO_ROSTER, ProgramFault, WeekFiles, decode, encode_unless_stopped, is_of_files, penalty_of
 from .rules import nurse_costs
 from .solvers import Cbc, HearBound, Solver, Task
 from .usable_solvers import UsableSolvers
@@ -97,8 +98,12 @@ class Search:
     def run(self, folder: Path, seed: int, jobs: int) -> Optional[BaseException]:
         """Searches with this many workers at once; their files are in the folder. Returns the fault that ended it, if one did."""
         workers = [self._worker(number, jobs, seed, folder / str(number)) for number in range(jobs)]
-        for worker in workers:
-            worker.start()
+        try:
+            for worker in workers:
+                worker.start()
+        except RuntimeError as fault:
+            self._failure = Misuse(f"{fault}: give a smaller --jobs")
+            self.stop()
         self._await_end(workers)
         return self._failure
 
@@ -118,18 +123,18 @@ class Search:
                 time.sleep(END_PAUSE)
 
     def _work(self, number: int, jobs: int, chance: random.Random, folder: Path) -> None:
-        """One worker. A fault ends the search; after `stop` faults mean nothing."""
+        """One worker. A fault ends the search. After `stop` faults mean nothing, unless they say why there is no roster."""
         try:
             attempt = self._first(number, jobs, folder)
             while self._goes_on() and (seen := self._best.now()):
-                if attempt and attempt.is_near(seen):
+                if attempt and attempt.is_near(seen) and self._solvers.uses(attempt.solver):
                     self._try_proof(attempt.solver, self._seconds * SECOND_PROOF_SHARE, folder)
                     attempt = None
                 else:
                     self._step(seen, chance, folder)
         except BaseException as fault:  # noqa: B902
             with self._lock:
-                if not self._ended.is_set() and not self._failure:
+                if not self._failure and (not self._ended.is_set() or (not self._best.now() and is_of_files(fault))):
                     self._failure = fault
             self.stop()
 
@@ -189,34 +194,26 @@ class Search:
     def _whole(self, solver: Solver, seconds: float, folder: Path) -> int:
         """Solves the whole week with one solver. Returns the lower bound that it reached, 0 if it printed none."""
         bounds = [0]
+        seen = self._best.now()
+        known = seen.penalty if seen else None
 
         def hear(bound: int) -> None:
-            bounds.append(bound)
-            self._bound(bound, solver.name)
+            # A solver that cuts off all that costs more than the known roster may print a bound above it.
+            bounds.append(bound if known is None or not solver.cuts_off else min(bound, known))
+            if self._best.raise_bound(bounds[-1], solver.name):
+                self.stop()
 
-        seen = self._best.now()
-        found = self._solve(solver, self._files, seconds, seen.penalty if seen else None, folder, hear)
+        found = self._solve(solver, self._files, seconds, known, folder, hear)
         if found:
             self._best.offer(found.snapshot, seen, None, folder, f"{solver.title}, the whole week")
             if found.proved:
                 self._prove(found.snapshot.penalty, solver)
         return max(bounds)
 
-    def _bound(self, bound: int, solver: str) -> None:
-        """A solver proved a lower bound. One that cuts off rosters above the best one may report a bound above it."""
-        best = self._best.now()
-        self._best.raise_bound(min(bound, best.penalty) if best else bound, solver)
-        if self._best.is_proved():
-            self.stop()
-
     def _prove(self, penalty: int, solver: Solver) -> None:
-        """A solver claims that no roster costs less than its own. It is wrong if there is one."""
-        best = self._best.now()
-        if best and best.penalty < penalty:
-            self._solvers.blame(solver, f"it calls a roster of penalty {penalty} the best, and one of {best.penalty} is known")
-            return
-        self._best.raise_bound(penalty, solver.name)
-        self.stop()
+        """A solver claims that no roster costs less than its own. If that proves the best roster, the search ends."""
+        if self._best.raise_bound(penalty, solver.name):
+            self.stop()
 
     def _step(self, seen: Snapshot, chance: random.Random, folder: Path) -> None:
         """Solves one neighborhood of the best roster."""
@@ -236,7 +233,7 @@ class Search:
             self._best.offer(found, seen, freed, folder, f"{solver.title}, {freed}")
         if self._ended.is_set():
             return
-        proved = part is not None and part.proved
+        proved = part is not None and part.proved and self._best.believes(solver.name)
         gain = seen.penalty - found.penalty if found else 0
         self._neighborhoods.learn(solver.title, freed, proved, gain, seconds, patience)
         if found and proved and self._neighborhoods.is_whole(freed):
@@ -258,6 +255,10 @@ class Search:
         """A roster that the solver found in these seconds and `decode` accepts, if there is one."""
         model = folder / "model.opb"
         if not encode_unless_stopped(files, model, self._processes):
+            return None
+        # Also the model took time.
+        seconds = min(seconds, self._left())
+        if seconds <= 0:
             return None
         began = time.monotonic()
         outcome = solver.solve(Task(model, seconds, folder, known), self._processes, hear)

@@ -5,9 +5,9 @@ import time
 from pathlib import Path
 from typing import List, Optional
 
-from .command import add_solver_options, number_of_seconds, parser, run
+from .command import Misuse, add_solver_options, check_effort, number_of_seconds, parser, run
 from .files import read_files, write_text
-from .improve import Progress, check_effort, search
+from .improve import Progress, search
 from .interrupts import interrupts
 from .program import NO_ROSTER, ProgramFault, WeekFiles
 from .solvers import installed_solvers
@@ -59,6 +59,8 @@ def main() -> Optional[int]:
     if given.cusOut:
         check_target(given.cusOut.absolute())
         check_inputs_stay((given.sce, given.his, given.week), given.cusOut, "the number of the next week")
+        if os.path.realpath(given.sol) == os.path.realpath(given.cusOut) != os.devnull:
+            raise Misuse(f"{given.sol} gets the roster, so the number of the next week cannot be written to it: choose another file")
     seconds = search_seconds(given.timeout, seconds_since_start())
     with interrupts():
         try:

@@ -45,10 +45,10 @@ class Token(NamedTuple):
 
 def text_of(path: PathLike) -> str:
     """The text of a file; bytes that are not UTF-8 survive as surrogates, and `bytes_of` turns them back."""
-    data = Path(path).read_bytes()
+    with open(path, "rb") as file:
+        data = file.read(MAX_FILE_LEN + 1)
     if len(data) > MAX_FILE_LEN:
-        message = f"the file has {len(data)} bytes, more than {MAX_FILE_LEN}"
-        raise FileFault(path, 0, message, "out of limits")
+        raise FileFault(path, 0, f"the file has more than {MAX_FILE_LEN} bytes", "out of limits")
     if data[:2] in (b"\xff\xfe", b"\xfe\xff") or (b"\0" in data[:2] and data[:1] != b"\n"):
         raise FileFault(path, 1, "this is UTF-16 text: save the file as UTF-8", "another word expected")
     if data[:3] == b"\xef\xbb\xbf":
@@ -108,7 +108,7 @@ class Slots:
     def fault(self, token: Token, fault: str, message: str) -> NoReturn:
         """Raises a fault at this token, with its probable reasons."""
         if token.text.startswith(_COMMENT_STARTS):
-            message = f"'{token.text}' looks like a comment: the files have none, so remove it"
+            message += f"; '{token.text}' looks like a comment: the files have none, so remove it"
         if is_no_text(self.text):
             message = "this is no text file: save it as plain text"
         elif self._is_in_a_name(token):

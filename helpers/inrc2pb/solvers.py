@@ -15,7 +15,7 @@ from typing import Callable, List, Optional, Sequence, Tuple
 from .command import Misuse
 from .linear_program import convert
 from .mip_solution import SolutionFault, read_answer
-from .processes import Ended, Processes
+from .processes import MAX_OUTPUT, Ended, Processes
 
 # Good on a neighborhood: the solver raises a lower bound until it is met.
 CLASP_BOUND = ("--configuration=crafty", "--opt-strategy=usc,k,0,7")
@@ -60,6 +60,8 @@ class Solver:
     name = ""
     variant = ""
     patience = 8.0
+    # Whether it finds no roster that costs more than the known one.
+    cuts_off = False
 
     @property
     def title(self) -> str:
@@ -100,6 +102,8 @@ class CommandSolver(Solver):
         ended = processes.run(self.command(task.model, task.seconds), task.seconds, self._home, hear=self.listener(hear))
         if re.search(r"^s(?:[ \t\r]|$)", ended.output, re.MULTILINE):
             return Outcome(ended.output)
+        if ended.flooded:
+            return Outcome("", f"it printed more than {MAX_OUTPUT >> 20} MiB and no answer")
         if ended.timed_out:
             return replace(NONE_IN_TIME, silent=not ended.output)
         return Outcome("", f"it printed no answer and {_ending(ended)}")
@@ -145,6 +149,7 @@ class Cbc(Solver):
     """cbc, which reads an LP file."""
 
     name = "cbc"
+    cuts_off = True
 
     def solve(self, task: Task, processes: Processes, hear: Optional[HearBound] = None) -> Outcome:
         limit = time.monotonic() + task.seconds

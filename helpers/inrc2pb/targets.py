@@ -8,6 +8,7 @@ from typing import Iterable, Optional
 
 from .command import Misuse
 from .files import file_at
+from .writing import is_open_file
 
 
 def check_inputs_stay(inputs: Iterable[Optional[Path]], target: Path, what: str, choose: str = "file") -> None:
@@ -29,6 +30,8 @@ def check_target(solution: Path) -> None:
     target = file_at(solution)
     if target.is_dir():
         raise IsADirectoryError(errno.EISDIR, os.strerror(errno.EISDIR), str(solution))
+    if target.is_fifo() and not is_open_file(target):
+        raise Misuse(f"{solution} is a pipe, which can be written only once: name a file")
     if target.exists() and not target.is_file():
         return
     if target.exists() and _is_standard_output(target):

@@ -30,6 +30,10 @@ class UsableSolvers:
         with self._lock:
             return list(self._usable)
 
+    def uses(self, solver: Solver) -> bool:
+        """Whether the solver is still used."""
+        return solver.name in [one.name for one in self.now()]
+
     def note_silence(self, solver: Solver, silent: bool) -> None:
         """Notes whether the solver printed nothing this time."""
         with self._lock:

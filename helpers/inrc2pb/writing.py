@@ -9,11 +9,16 @@ from .slots import PathLike
 
 
 def file_at(path: PathLike) -> Path:
-    """The file that a path names: the one that a link leads to, but for the links to open files in /dev and /proc."""
+    """The file that a path names: the one that a link leads to, but for the links to open files."""
     target = Path(path)
-    if target.is_symlink() and target.is_file() and target.absolute().parts[1] not in ("dev", "proc"):
+    if target.is_symlink() and target.is_file() and not is_open_file(target):
         return Path(os.path.realpath(target))
     return target
+
+
+def is_open_file(path: Path) -> bool:
+    """Whether the path names a device or an open file, such as /dev/stdout."""
+    return path.absolute().parts[1] in ("dev", "proc")
 
 
 def write_text(path: PathLike, text: str) -> None:

@@ -13,7 +13,7 @@ from ward import HAS_CLASP, ROSTER, WEEK_FILES, WEEK_OPTIONS, HelperTest, progra
 
 from inrc2pb.command import Misuse
 from inrc2pb.processes import Processes
-from inrc2pb.solvers import Task, find_solver
+from inrc2pb.solvers import Outcome, Task, find_solver
 from inrc2pb.usable_solvers import MAX_FAULTS, UsableSolvers
 
 FAKE = Path(__file__).resolve().parent / "fake_solver.py"
@@ -57,7 +57,8 @@ class BadSolvers(HelperTest):
         status, report, faults = self.improve("--solver", f"sh -c 'cat {proud}'", "--from", ROSTER, "--jobs", 1)
         self.assertEqual(status, 1)
         self.assertIn("penalty 20\n", report)
-        self.assertIn("sh: it calls a roster of penalty 110 the best, and one of 20 is known: skipped", faults)
+        says = "sh: it claims that no roster costs less than 110, and one costs 20: its bounds and proofs do not count any more\n"
+        self.assertEqual(faults.count(says), 1, faults)
 
     @unittest.skipUnless(HAS_CLASP, "needs clasp")
     def test_another_solver_goes_on_after_a_wrong_claim(self):
@@ -103,15 +104,20 @@ class BadSolvers(HelperTest):
         self.assertIn("rejected", faults)
 
     def test_a_solver_that_does_not_end_is_ended(self):
-        for how in ("deaf", "flood"):
+        # A flood that reaches the greatest length of an answer is a fault, and three faults end the search.
+        for how, says in (("deaf", "no roster was found in 1 s: "), ("flood", "no roster was found in 1 s: |it printed more than 256 MiB")):
             with self.subTest(how=how):
                 began = time.monotonic()
-                # A flood that reaches the greatest length of an answer early is a fault, and three faults end the search otherwise.
                 status, _, faults = run("improve", *WEEK_OPTIONS, "--sol", self.folder / "new.txt", "--time", 1, "--jobs", 1, "--solver", fake(how))
-                self.assertEqual(status, 5)
-                self.assertIn("no roster was found in 1 s: ", faults)
+                self.assertIn(status, (1, 5))
+                self.assertRegex(faults.splitlines()[-1], says)
                 self.assertLess(time.monotonic() - began, 60)
                 self.assertFalse((self.folder / "new.txt").exists())
+
+    def test_a_flood_is_a_fault(self):
+        with mock.patch("inrc2pb.processes.MAX_OUTPUT", 100_000):
+            outcome = find_solver(fake("flood")).solve(Task(Path("week.opb"), 60, self.folder), Processes())
+        self.assertEqual(outcome, Outcome("", "it printed more than 256 MiB and no answer"))
 
     def test_a_solver_that_cannot_be_run(self):
         rows = {"no_such_solver": "there is no solver no_such_solver", "clasp 'x": "No closing quotation: correct its quotes"}

@@ -106,6 +106,22 @@ class Starting(HelperTest):
             check.send_signal(signal.SIGINT)
             self.assertEqual((*check.communicate(timeout=30), check.returncode), (b"", b"", 130))
 
+    def test_a_conversion_that_is_ended_leaves_no_file(self):
+        for number in (signal.SIGTERM, signal.SIGHUP):
+            command = [sys.executable, str(HELPERS / "inrc2pb-lp"), "model", "--lp", str(self.folder / "week.lp")]
+            with subprocess.Popen(command, stdin=subprocess.PIPE, stdout=subprocess.PIPE, stderr=subprocess.PIPE) as conversion:
+                while not list(self.folder.iterdir()) and conversion.poll() is None:
+                    time.sleep(0.05)
+                conversion.send_signal(number)
+                self.assertEqual((conversion.wait(timeout=30), conversion.stderr.read()), (128 + number, b""))
+            self.assertEqual(list(self.folder.iterdir()), [])
+
+    def test_a_fault_counts_also_if_the_caller_ignores_children(self):
+        roster = self.changed(ROSTER, "Amara Mon Day Charge", "Amara Tue Late Charge")
+        command = [sys.executable, str(HELPERS / "inrc2pb-check"), *map(str, WEEK_OPTIONS), "--roster", str(roster)]
+        ran = subprocess.run(command, stdout=subprocess.PIPE, preexec_fn=lambda: signal.signal(signal.SIGCHLD, signal.SIG_IGN))
+        self.assertEqual(ran.returncode, 1, ran)
+
 
 if __name__ == "__main__":
     unittest.main()

@@ -5,6 +5,7 @@ import unittest
 from ward import HISTORY, SCENARIO, WARD, WEEK, WEEK_FILES, WEEK_OPTIONS, HelperTest, files, program, run
 
 from inrc2pb import constraint
+from inrc2pb.command import Misuse
 
 
 class Constraints(HelperTest):
@@ -32,6 +33,13 @@ class Constraints(HelperTest):
     def test_the_unit_variable_says_what_is_wrong_with_an_answer(self):
         _, printed, _ = run("check", *WEEK_OPTIONS, "--constraint", 1)
         self.assertIn(": it has to be true; an answer that violates it is cut off, or is of another week\n", printed)
+
+    def test_a_model_that_ends_before_it(self):
+        model = self.folder / "week.opb"
+        model.write_text("* #variable= 1 #constraint= 1\n+1 x1 >= 1 ;\n")
+        self.assertEqual(constraint.row_of(1, model), (2, "+1 x1 >= 1 ;"))
+        with self.assertRaisesRegex(Misuse, "the model ends before this constraint"):
+            constraint.row_of(2, model)
 
     def test_a_number_that_the_model_has_not(self):
         _, _, said = run("check", *WEEK_OPTIONS, "--constraint", 99999)

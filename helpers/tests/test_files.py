@@ -144,10 +144,36 @@ class Mistakes(HelperTest):
             status, printed, _ = run("check", "--sce", path)
             self.assertEqual((status, message in printed), (1, True), printed)
 
+    @unittest.skipUnless(os.path.exists("/dev/zero"), "there is no /dev/zero")
+    def test_a_file_without_end(self):
+        self.assertEqual(run("check", "--sce", "/dev/zero"), (1, "/dev/zero: the file has more than 4194304 bytes\n", ""))
+
     def test_a_heading_that_is_misspelled_has_no_other_hint(self):
         for heading in ("SHIFT_TYPES", "CONTRACTS", "NURSES"):
             status, printed, _ = run("check", "--sce", self.changed(SCENARIO, f"{heading} =", f"{heading[:-1]} ="))
             self.assertTrue(printed.endswith(f": '{heading[:-1]}' where '{heading}' should be\n"), printed)
+        _, printed, _ = run("check", "--sce", SCENARIO, "--week", self.changed(WEEK, "SHIFT_OFF_REQUESTS =", "SHIFT_OFF_REQUEST ="))
+        self.assertNotIn("pairs", printed)
+
+    def test_other_blanks_of_unicode_are_letters(self):
+        for name in ("Chen\u3000Li", "Chen\u00a0Li"):
+            ward, past = (self.changed(path, "Chen", name, f"new-{path.name}") for path in (SCENARIO, HISTORY))
+            self.assertEqual(run("check", "--sce", ward, "--his", past)[1], "No mistake found.\n")
+            past.write_text(past.read_text().replace("Dilek 0", "Dilak 0"))
+            _, printed, _ = run("check", "--sce", ward, "--his", past)
+            self.assertEqual(printed, f"{past} line 8: 'Dilak' is no nurse of NURSES: did you mean 'Dilek'?; no line begins with Dilek\n")
+
+    def test_a_name_that_begins_like_a_comment(self):
+        ward, past = (self.changed(path, "Chen", "#1", f"new-{path.name}") for path in (SCENARIO, HISTORY))
+        past.write_text(past.read_text().replace("#1 0", "#12 0"))
+        _, printed, _ = run("check", "--sce", ward, "--his", past)
+        self.assertIn(f"{past} line 7: '#12' is no nurse of NURSES: did you mean '#1'?; '#12' looks like a comment", printed)
+
+    def test_a_pipe_is_no_file(self):
+        pipe = self.folder / "pipe"
+        os.mkfifo(pipe)
+        line = f"inrc2pb-check: {pipe} is a pipe, which can be read only once: give a file"
+        self.assert_fault(run("check", *WEEK_OPTIONS, "--roster", pipe), line)
 
     def test_a_file_that_is_not_utf8_beside_one_that_is(self):
         ward, past = (self.changed(path, "Chen", "J\u00fcrgen", f"new-{path.name}") for path in (SCENARIO, HISTORY))

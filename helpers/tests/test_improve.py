@@ -48,7 +48,7 @@ class Searches(HelperTest):
         start, target = self.swapped("Amara", "Bruno"), self.folder / "best.txt"
         self.assertEqual(program.penalty_of(WEEK_FILES, start), 110)
         found = improve(WEEK_FILES, start, target, 100, 3, 2, ["clasp"])
-        self.assertEqual((found.penalty, found.optimal), (20, True))
+        self.assertEqual((found.report.penalty, found.report.optimal, found.bound, found.proved), (20, True, 20, True))
         self.assertEqual(program.penalty_of(WEEK_FILES, target), 20)
 
     @unittest.skipUnless(HAS_CLASP, "needs clasp")
@@ -143,7 +143,11 @@ class BadInput(HelperTest):
         self.assert_refused(3, "no_folder", *WEEK_OPTIONS, "--sol", self.folder / "no_folder" / "best.txt")
         kept = shutil.copy(ROSTER, self.folder / "kept.txt")
         self.assert_refused(1, f"{kept} is read, so the roster cannot be written to it", *WEEK_OPTIONS, "--sol", kept, "--fix", kept)
-        self.assert_refused(1, "--time has to be a number of seconds above 0", *WEEK_OPTIONS, *target, "--time", "nan")
+        for seconds in ("nan", "inf", 0, "1e12"):
+            line = "inrc2pb-improve: --time has to be a number of seconds above 0, and at most 10000000\n"
+            self.assert_refused(1, line, *WEEK_OPTIONS, *target, "--time", seconds)
+        for jobs in (0, 257):
+            self.assert_refused(1, "inrc2pb-improve: --jobs has to be a number from 1 to 256\n", *WEEK_OPTIONS, *target, "--jobs", jobs)
         broken = self.changed(SCENARIO, "Chen Full", "Chen Ful", "broken.txt")
         self.assert_refused(1, "line 26", "--sce", broken, *WEEK_OPTIONS[2:], *target)
         self.assertFalse((self.folder / "best.txt").exists())
@@ -157,6 +161,7 @@ class BadInput(HelperTest):
         says = f"{pipe} is a pipe, which can be read only once: give a file\n"
         self.assert_refused(1, says, *WEEK_OPTIONS[:4], "--week", pipe, "--sol", self.folder / "best.txt")
         self.assert_refused(1, says, *WEEK_OPTIONS, "--from", pipe, "--sol", self.folder / "best.txt")
+        self.assert_refused(1, f"{pipe} is a pipe, which can be written only once: name a file\n", *WEEK_OPTIONS, "--sol", pipe)
         # Nobody has read from the pipe, so the writer still waits.
         self.assertEqual(pipe.read_bytes(), WEEK.read_bytes())
         writer.join()

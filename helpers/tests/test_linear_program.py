@@ -74,6 +74,9 @@ class LinearPrograms(unittest.TestCase):
         text, size = lp_of("* #variable= 1 #constraint= 1\n+1 x1 >= 1 ;\n")
         self.assertEqual(size, ModelSize(1, 1, 0))
         self.assertIn(" obj: 0 x1\nSubject To\n c1: +1 x1 >= 1\n", text)
+        text, size = lp_of("* #variable= 1 #constraint= 1\nmin: ;\n+1 x1 >= 1 ;\n")
+        self.assertEqual(size, ModelSize(1, 1, 0))
+        self.assertIn(" obj: +0 x1\nSubject To\n c1: +1 x1 >= 1\n", text)
 
     def test_long_statements_come_in_pieces(self):
         count = 60_000
@@ -111,6 +114,13 @@ class LinearPrograms(unittest.TestCase):
         for model, says in rows.items():
             with self.subTest(model=model), self.assertRaisesRegex(ModelFault, says):
                 lp_of(model)
+
+    def test_files_that_are_no_models_need_little_memory(self):
+        for text, says in (("* #variable=" * 100, "does not begin with"), ("* #variable= 1 #constraint= 1\n" + "+1 x1 " * 2_000_000, "too long")):
+            source = io.StringIO(text)
+            with self.assertRaisesRegex(ModelFault, says):
+                write_linear_program(source, io.StringIO())
+            self.assertLess(source.tell(), len(text))
 
     def test_an_lp_file_is_whole_or_as_it_was(self):
         with tempfile.TemporaryDirectory() as folder:
@@ -185,6 +195,12 @@ class Solutions(unittest.TestCase):
         for text, says in rows.items():
             with self.subTest(text=text), self.assertRaisesRegex(SolutionFault, says):
                 answer_of(text)
+
+    def test_cbc_that_was_stopped_before_it_had_a_roster(self):
+        values = " - objective value 5.5\n      0 x1  1 0\n      1 x2  0.5 0\n"
+        self.assertEqual(answer_of(f"Stopped on time{values}"), "s UNKNOWN\n")
+        with self.assertRaisesRegex(SolutionFault, "neither 0 nor 1"):
+            answer_of(f"Optimal{values}")
 
 
 class InstalledSolvers(unittest.TestCase):

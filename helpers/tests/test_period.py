@@ -219,6 +219,14 @@ class PeriodFaults(PeriodTest):
         self.assertIn("week 3 is not planned", said)
         _, _, said = self.period("--sce", SCENARIO, "--his", HISTORY, "--week", WEEK, "--fix", "held.txt")
         self.assertIn("give the week's number and its file, such as 0=promised.txt", said)
+        _, _, said = self.period("--sce", SCENARIO, "--his", HISTORY, "--week", WEEK, "--fix", "²=held.txt")
+        self.assertIn("give the week's number and its file, such as 0=promised.txt", said)
+        _, _, said = self.period("--sce", SCENARIO, "--his", HISTORY, "--week", WEEK, "--fix", "0=a.txt", "--fix", "00=b.txt")
+        self.assertEqual(said, "inrc2pb-period: --fix 00=b.txt: week 0 has the file a.txt: put all rows into one file\n")
+        pipe = self.folder / "pipe"
+        os.mkfifo(pipe)
+        _, _, said = self.period("--sce", SCENARIO, "--his", HISTORY, "--week", pipe, "--once")
+        self.assertEqual(said, f"inrc2pb-period: {pipe} is a pipe, which can be read only once: give a file\n")
         fix = self.solution("Chen Mon Day Charge", week=3, name="held.txt")
         _, _, said = self.period("--sce", SCENARIO, "--his", HISTORY, "--week", WEEK, "--week", WEEK, "--fix", f"1={fix}")
         hint = "line 2 has week 3, and the history has week 1: is the file of another week?"
@@ -236,6 +244,11 @@ class Simulation(PeriodTest):
         self.assertEqual((status, custom.read_text()), (1, "1\n"))
         self.assertIn("penalty 20\n", printed)
         self.assertRegex(said, "^inrc2pb-simulate: sh: .*choose another solver with --solver\n$")
+
+    def test_one_file_for_two_results(self):
+        target = self.folder / "solution.txt"
+        line = f"inrc2pb-simulate: {target} gets the roster, so the number of the next week cannot be written to it: choose another file"
+        self.assert_fault(run("simulate", *WEEK_OPTIONS, "--sol", target, "--cusOut", target, "--solver", "false"), line)
 
     def test_seconds_to_search(self):
         self.assertAlmostEqual(search_seconds(3, 0.25), 2.25)

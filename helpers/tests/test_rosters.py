@@ -43,6 +43,7 @@ class Keep(HelperTest):
             (("--keep", "Mon,Tue"), scenario.nurses, (0, 1)),
             (("--nurses", "Chen,Ewa"), ("Chen", "Ewa"), range(7)),
             (("--nurses", "Chen", "--keep", "Sat"), ("Chen",), (5,)),
+            (("--nurses", "Chen,Chen", "--keep", "Sat,Sat"), ("Chen",), (5,)),
         ):
             week = self.folder / "kept-week.txt"
             self.assertEqual(run("keep", "--sce", SCENARIO, "--off-in", WEEK, *words, ROSTER, "--out", week), (0, "", ""))
@@ -71,6 +72,8 @@ class Keep(HelperTest):
         self.assert_fault(run("keep", "--keep", "Mon,Tues", ROSTER), "inrc2pb-keep: --keep Mon,Tues: 'Tues' is no day: did you mean Tue?")
         line = f"inrc2pb-keep: --nurses Chan: 'Chan' is no nurse of {ROSTER}: did you mean Chen?"
         self.assert_fault(run("keep", "--nurses", "Chan", ROSTER), line)
+        days = "Mon,Tue,Wed,Thu,Fri,Sat,Sun"
+        self.assert_fault(run("keep", "--keep", "", "--nurses", "Chen", ROSTER), f"inrc2pb-keep: --keep : '' is no day: give some of {days}")
         self.assert_fault(run("keep", ROSTER), "inrc2pb-keep: nothing says which rows to keep: give --keep Mon,Tue or --nurses NAME,NAME")
 
 
@@ -87,6 +90,18 @@ class Tables(HelperTest):
         self.assertEqual(len(penalties), 2)
         self.assertIn(f"all 2 weeks: penalty {sum(penalties)}\n", printed)
         self.assertNotIn("all 1", run("table", *WEEK_OPTIONS, ROSTER)[1])
+
+    def test_rosters_are_next_to_one_another(self):
+        words = ("table", "--sce", SCENARIO, "--his", HISTORY, "--week", WEEK, ROSTER, "--week", WEEK, ROSTER)
+        status, _, said = run(*words)
+        line = f"unrecognized arguments: {ROSTER}: write the files that have no option next to one another"
+        self.assertEqual((status, said.splitlines()[-1]), (2, f"inrc2pb-table: error: {line}"))
+
+    def test_a_week_after_the_last_one_needs_its_history(self):
+        ward = self.changed(SCENARIO, "WEEKS = 4", "WEEKS = 1", "short.txt")
+        line = f"inrc2pb-table: {ROSTER}: week 0 is the last of 1: give --his once for each roster"
+        words = ("--sce", ward, "--his", HISTORY, "--week", WEEK, "--week", WEEK)
+        self.assert_fault(run("table", *words, ROSTER, ROSTER), line)
 
     def test_a_file_of_another_week_or_ward(self):
         later = self.changed(HISTORY, "0 ward", "1 ward", "history-1.txt")
@@ -172,6 +187,29 @@ class Tables(HelperTest):
         picture = subprocess.run([str(HELPERS / "inrc2pb-table"), "--svg", str(roster)], stdout=subprocess.PIPE, check=True).stdout
         self.assertIn("Am\ufffdra", picture.decode("utf-8"))
         xml.dom.minidom.parseString(picture)
+
+    def test_a_letter_that_a_picture_may_not_have(self):
+        roster = self.changed(ROSTER, "Amara", "Am\x0b\x1bra")
+        picture = run("table", "--svg", roster)[1]
+        self.assertIn("Am\ufffd\ufffdra", picture)
+        xml.dom.minidom.parseString(picture.encode())
+
+    def test_full_width_letters_take_two_columns(self):
+        name = "\u5c71\u7530\u592a\u90ce"
+        roster = self.changed(ROSTER, "Amara", name)
+        roster.write_text(roster.read_text().replace("Amara", name))
+        lines = run("table", roster)[1].splitlines()
+        row, other = (next(line for line in lines if line.startswith(begin)) for begin in (name, "Bruno"))
+        self.assertEqual(row.index("|") + len(name), other.index("|"))
+
+    def test_a_long_title_fits_the_picture(self):
+        roster = self.solution("Amara Mon Day Charge", ward="w" * 150)
+        picture = run("table", "--svg", roster)[1]
+        self.assertGreater(int(re.search(r'width="([0-9]+)"', picture).group(1)), 9 * 150)
+
+    def test_a_name_that_was_cut_is_spelled_out(self):
+        roster = self.changed(ROSTER, "Amara Mon", "Annemarie_Schmidt Mon")
+        self.assertIn("\nAnnemarie_Sc = Annemarie_Schmidt  ", run("table", roster)[1])
 
     def test_colors_have_the_order_of_the_scenario(self):
         pictures = [run("table", "--svg", *words)[1] for words in (TWO_WEEKS, ("--sce", SCENARIO, ROSTER))]

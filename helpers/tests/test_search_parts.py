@@ -1,5 +1,6 @@
 """Tests of the parts of a search: neighborhoods, the best roster, solvers and their bounds, signals and processes."""
 
+import errno
 import os
 import random
 import shutil
@@ -22,6 +23,9 @@ from inrc2pb.processes import Processes
 from inrc2pb.rules import nurse_costs
 from inrc2pb.search import Attempt, Search
 from inrc2pb.solvers import CLASP_BOUND, Clasp, Solver, Task, _rounded, find_solver, find_solvers
+
+# The warning after a wrong claim: the solver, its bound, and the cost of a roster.
+DOUBT = "{}: it claims that no roster costs less than {}, and one costs {}: its bounds and proofs do not count any more"
 
 
 class Parts(HelperTest):
@@ -84,7 +88,61 @@ class Parts(HelperTest):
         self.assertFalse(best.is_proved())
         best.offer(Snapshot(20, roster), None, None, self.folder, "a test")
         self.assertEqual((best.bound, best.is_proved()), (None, False))
-        self.assertEqual(warnings, ["a solver: its lower bound 25 is wrong, since a roster costs 20"])
+        self.assertEqual(warnings, [DOUBT.format("a solver", 25, 20)])
+
+    def test_a_solver_whose_claim_was_wrong_is_not_believed_again(self):
+        warnings, roster = [], files.read_solution(ROSTER)
+        best = self.best_roster([], warnings)
+        best.offer(Snapshot(20, roster), None, None, self.folder, "a test")
+        for bound in (21, 25, 20, 15):
+            self.assertFalse(best.raise_bound(bound, "a liar"))
+        self.assertEqual((warnings, best.bound), ([DOUBT.format("a liar", 21, 20)], None))
+        self.assertFalse(best.raise_bound(15, "a solver"))
+        self.assertTrue(best.raise_bound(20, "a solver"))
+        self.assertEqual([best.believes(name) for name in ("a liar", "a solver")], [False, True])
+
+    def test_the_report_is_that_of_the_roster_in_the_file(self):
+        best, roster = self.best_roster([]), files.read_solution(ROSTER)
+        best.offer(Snapshot(20, roster), None, None, self.folder, "a test")
+        other = Snapshot(20, files.read_solution(self.swapped("Amara", "Bruno")))
+        best.offer(other, best.now(), None, self.folder, "a test")
+        self.assertIs(best.now(), other)
+        self.assertEqual(files.read_solution(self.folder / "best.txt"), roster)
+        self.assertEqual(best.report(), program.extend(WEEK_FILES, ROSTER)[1])
+
+    def search(self, best, solver):
+        """A search for a minute with this solver."""
+        week = files.read_files(WEEK_FILES.scenario, WEEK_FILES.history, WEEK_FILES.week)
+        return Search(WEEK_FILES, week, (), best, [solver], 60.0, self.fail)
+
+    def test_a_bound_of_a_solver_that_cuts_off_is_at_most_the_known_penalty(self):
+        for cuts_off, bound, said in ((True, 200, []), (False, None, [DOUBT.format("", 205, 200)])):
+            warnings, solver = [], Solver()
+            solver.cuts_off = cuts_off
+            best = self.best_roster([], warnings)
+            best.offer(Snapshot(200, files.read_solution(ROSTER)), None, None, self.folder, "a test")
+            search = self.search(best, solver)
+            with mock.patch.object(search, "_solve", side_effect=lambda *words: words[-1](205)):
+                search._whole(solver, 1.0, self.folder)
+            self.assertEqual((best.bound, best.is_proved(), warnings), (bound, cuts_off, said))
+
+    def test_a_file_that_cannot_be_written_says_why_there_is_no_roster(self):
+        full = OSError(errno.ENOSPC, os.strerror(errno.ENOSPC))
+        for fault, has_roster, counts in ((full, False, True), (full, True, False), (ValueError(), False, False)):
+            best = self.best_roster([])
+            if has_roster:
+                best.offer(Snapshot(200, files.read_solution(ROSTER)), None, None, self.folder, "a test")
+            search = self.search(best, Solver())
+            search.stop()
+            with mock.patch.object(search, "_first", side_effect=fault):
+                search._work(0, 1, random.Random(1), self.folder)
+            self.assertIs(search._failure, fault if counts else None)
+
+    def test_too_many_jobs_for_the_system(self):
+        search = self.search(self.best_roster([]), Solver())
+        with mock.patch("threading.Thread.start", side_effect=RuntimeError("can't start new thread")):
+            self.assertEqual(str(search.run(self.folder, 1, 2)), "can't start new thread: give a smaller --jobs")
+        self.assertTrue(search._processes.stopped)
 
     def test_two_improvements_are_merged_if_the_roster_costs_less(self):
         kept = []
@@ -103,9 +161,8 @@ class Parts(HelperTest):
     def test_a_proof_whose_bound_is_near_is_tried_once_more(self):
         best = self.best_roster([])
         best.offer(Snapshot(200, files.read_solution(ROSTER)), None, None, self.folder, "a test")
-        week = files.read_files(WEEK_FILES.scenario, WEEK_FILES.history, WEEK_FILES.week)
         for bound, tries in ((0, 0), (139, 0), (140, 1), (200, 1)):
-            search = Search(WEEK_FILES, week, (), best, [Solver()], 60.0, self.fail)
+            search = self.search(best, Solver())
             first, whole = mock.Mock(return_value=Attempt(Solver(), bound)), mock.Mock(return_value=bound)
             step = mock.Mock(side_effect=lambda *_: search.stop() if step.call_count == 2 else None)
             with mock.patch.multiple(search, _first=first, _whole=whole, _step=step):

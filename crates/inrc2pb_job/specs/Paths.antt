@@ -11,13 +11,13 @@ pub data FileAt : Type 0 where
   nothing : FileAt
   file_of : List ℕ → FileAt
 
--- a file opens there
+-- a file may open there: nothing is known, or there is one
 abbrev pub MayOpen : FileAt → Type 0
 MayOpen unknown = ⊤
 MayOpen nothing = ⊥
 MayOpen (file_of bytes) = ⊤
 
--- no file opens there
+-- it may be that no file opens there: nothing is known, or there is none
 abbrev pub MayRefuse : FileAt → Type 0
 MayRefuse unknown = ⊤
 MayRefuse nothing = ⊤

@@ -13,8 +13,8 @@ use rota_core::{Source, Target};
 use rota_pb::{Fault, run_decode, run_encode, run_extend};
 use std::alloc::Global;
 
-/// Performs the job. It opens its files among `files` and writes to `file`; `input` and `output` are the
-/// program's own.
+/// Performs the job. It opens the files that it reads among `files`. It writes the job's output file to
+/// `file`, and everything else to `output`. `input` and `output` are the program's own.
 ///
 /// Here the program `inrc2pb` performs a job with its own types for files, input and output:
 ///

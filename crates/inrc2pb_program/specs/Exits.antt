@@ -20,7 +20,7 @@ abbrev pub printer_state : {T : Type 0} → Ghosts T → T → T → PrinterStat
 printer_state port old new =
     record { before = port.messages old; messages = port.messages new; failed = port.has_failed new; untouched = new ≡ old }
 
--- this message was printed, and nothing else; if it could not be printed, nothing was
+-- this message was printed, and no other; if it could not be printed, no message was added
 pub record IsPrinted (printer : PrinterState) (stop : Stop) : Type 0 where
   pub out : printer.failed ≡ false → printer.messages ≡ with_message printer.before stop
   pub failed : printer.failed ≡ true → printer.messages ≡ printer.before

@@ -6,8 +6,8 @@ use Rattle.rota_core.specs.StdPorts.{inner_writer}
 use Rattle.rota_core.specs.declared.ports.PortFault.{PortFault}
 use Rattle.rota_core.specs.declared.std_ports.ToWrite.{ToWrite}
 
--- a piece was written to the file, which was created first if it did not exist: exactly the bytes that the answer counts; if the file
--- could not be created the write failed
+-- a piece was written to the file, which was opened first if it was not open yet: exactly the bytes that the answer counts; if the file
+-- could not be opened, the write of a piece that is not empty failed
 abbrev pub IsWritten : {W : Type 0} → (W → KnownBytes) → Option (ToWrite W) → Option (ToWrite W) → Result ℕ PortFault → List ℕ → Type 0
 IsWritten contents (Some before) (Some after) result piece =
     WriteAppends (contents (inner_writer before)) (contents (inner_writer after)) result piece

@@ -29,8 +29,8 @@ IsStopOf (Words error) stop = (IsAskedFor (kind_of error) → stop ≡ stopped.S
 IsStopOf Missing stop = IsUsage stop
 IsStopOf Memory stop = stop ≡ stopped.Job failed.Memory
 
--- why the program ends without a job, by the kinds of faults in the words: it shows a requested text only if one is requested, reports a
--- mistake only if there is one, or memory ran out; if there is no fault, a path is missing
+-- why the program ends without a job, by the kinds of faults in the words: it shows a requested text, or reports clap's reason, only if
+-- this is among the kinds; it reports a reason of its own only if there is no fault; otherwise memory ran out
 abbrev pub IsStopFor : Kinds → Stop → Type 0
 IsStopFor kinds (stopped.Shown text) = IsAmong (kind_of text) kinds × IsAskedFor (kind_of text)
 IsStopFor kinds (stopped.Words text) = IsAmong (kind_of text) kinds × ¬ IsAskedFor (kind_of text)

@@ -72,8 +72,8 @@ impl<R: Input> Read for StandardInput<'_, R> {
     }
 }
 
-/// A file that is created at the first write to it. A file that exists at the path loses its text then, and
-/// keeps it if nothing is written. Without a path each write fails.
+/// A file that is created at the first write of a piece that is not empty. A file that exists at the path
+/// loses its text then, and keeps it if nothing is written. Without a path each such write fails.
 pub struct FileOnFirstWrite<'a, R: Files> {
     rt: &'a R,
     path: Option<String>,

@@ -24,7 +24,7 @@ pub enum Stop {
     Words(clap::Error),
     /// A mistake in the words that clap does not see.
     Usage(&'static str),
-    /// The job failed.
+    /// The job failed, or memory ran out before it began.
     Job(Fault),
 }
 

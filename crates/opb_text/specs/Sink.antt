@@ -27,8 +27,8 @@ module _ {W : Type 0} {target : Ghosts W} where
   abbrev pub bytes_put : Sink W target → KnownBytes
   bytes_put sink = append_known (sent_by sink) sink.buffer
 
-  -- new is old with the text written into it. If it fails, the target failed, and the bytes that were sent are a prefix of the text. A
-  -- sink that had failed leaves its target unchanged.
+  -- new is old with the text written into it. If it fails, the target failed, and the bytes that were sent are a prefix of the bytes put
+  -- before with the text after them. A sink that had failed leaves its target unchanged.
   pub record PutsText (old : Sink W target) (result : Result (Unit {0}) PortFault) (text : List ℕ) (new : Sink W target) : Type 0 where
     pub same_target : new.target.ghost_name ≡ old.target.ghost_name
     pub failure : sink_failed new ≡ (sink_failed old || is_err result)

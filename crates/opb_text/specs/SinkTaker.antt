@@ -29,7 +29,7 @@ pub record SinkState (W Kept : Type 0) : Type 0 where
   -- the target that a failed sink left
   pub left_target : Option W
 
--- the writing after the event's text
+-- the state after the text of the event is written
 abbrev pub with_event : {W E Kept : Type 0} → EventTexts E Kept → SinkState W Kept → E → SinkState W Kept
 with_event texts state event = record state {
   bytes = append_known state.bytes (texts.text state.kept event);

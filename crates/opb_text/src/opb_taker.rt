@@ -6,8 +6,9 @@ use crate::sink::Sink;
 use rota_core::{PortFault, Target};
 use rota_items::{Counts, Part, Taker};
 
-/// Writes the text of each event of a row into a sink. If the first line, the objective and the constraints
-/// are written in this order, the text is the text of a model.
+/// Writes the text of each event of a row into a sink. If the first line with the number of the constraints,
+/// the objective's row if it has a term, and the constraints are written in this order, the text is the text
+/// of a model.
 ///
 /// It fails only if the target does. The bytes that were sent are then a prefix of the written text followed
 /// by the text of the event at which it failed.

@@ -155,7 +155,7 @@ impl<'a, W: Target> Sink<'a, W> {
     }
 
     /// Sends the rest of the buffer, and flushes all sent bytes. `Ok` means that everything that was written
-    /// is sent. It fails only if the target does.
+    /// is sent and flushed. It fails if and only if the target has failed, before or in this call.
     pub fn finish(&mut self) -> Result<(), PortFault>
         ensures finishes { FinishesSink self.old result [] self.new }
     {

@@ -11,7 +11,7 @@ use Rattle.rota_core.specs.RosterCells.{cells_of}
 use Rattle.rota_core.specs.RosterTables.{IsRoster, RosterTables, cell_index, cell_count, set_of}
 use Rattle.rota_core.specs.Problem.{Problem}
 
--- the list contains exactly the roster's cells, by rising index; if each nurse has at most one cell a day, the list is short
+-- the list contains exactly the roster's cells, by rising index; if the roster keeps H1, it has at most 7 * N cells for N nurses
 pub record ListsCells (problem : Problem) (roster : Roster) : Type 0 where
   pub rise : RisesWithin (cell_index problem.shifts problem.skills) 0 (cell_count problem.nurses problem.shifts problem.skills)
       (cells_of problem roster)

@@ -45,7 +45,8 @@ reserved = codes "None" ∷ codes "Any" ∷ []
 abbrev pub IsShiftName : List ℕ → Type 0
 IsShiftName name = IsWord name × (is_among reserved name ≡ false)
 
--- The numbers are within their limits, no name occurs twice, each list has its length, and each index is in its list.
+-- The numbers are within their limits, names are words, no list has a name twice, no shift type has a reserved name, each list has its
+-- length, and each index is in its list.
 pub record IsScenario (t : ScenarioTables) : Type 0 where
   pub name : IsWord t.name
   pub weeks : Within max_weeks t.weeks

@@ -17,7 +17,7 @@ pub struct HistoryParts {
 }
 
 /// A history within the limits. It has one row for each nurse, its numbers are at most `MAX_NUMBER`, and each
-/// last shift is a shift type.
+/// last shift, if there is one, is a shift type.
 pub struct History {
     parts: HistoryParts,
 }

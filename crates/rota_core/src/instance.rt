@@ -212,7 +212,7 @@ impl Instance {
         self.scenario.contract(nurse)
     }
 
-    /// The nurse's history from earlier weeks. Her last shift type is one of the week's.
+    /// The nurse's history from earlier weeks. Her last shift type, if there is one, is one of the week's.
     pub fn past(&self, nurse: u16) -> Past
         requires { nurse < (problem_of self.now).nurses }
         ensures past { result ≡ (problem_of self.now).past nurse }

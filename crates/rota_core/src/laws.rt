@@ -13,8 +13,9 @@ pub fn numerals_read_back()
     ensures { (n : ℕ) → ReadsBack n }
 {}
 
-/// The list of a roster's cells in a week contains all of them and no others, each once and in order. The
-/// tables of a roster of the week's shape have the same list, and give its length.
+/// The list of a roster's cells in a week contains all of them and no others, each once and in order. If the
+/// roster keeps H1, the list has at most 7 * N cells for N nurses. The tables of a roster of the week's shape
+/// have the same list, and give its length.
 pub fn rosters_list_their_cells()
     ensures cells { (problem : Problem) (roster : Roster) → ListsCells problem roster }
     ensures tables { (problem : Problem) (t : RosterTables) → HasShapeOf problem t → TablesListCells problem t }

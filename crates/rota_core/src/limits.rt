@@ -18,7 +18,8 @@ pub const MAX_CONTRACTS: u16 = 64;
 /// The maximum number of weeks that a scenario spans.
 pub const MAX_WEEKS: u16 = 52;
 
-/// The maximum of every other number in a file.
+/// The maximum of every other number in a file, except for counts of names in a row, which are at most the
+/// number of these names, and the 0 or 1 for complete weekends.
 pub const MAX_NUMBER: u16 = 9999;
 
 /// The maximum number of bytes in a scenario, history, week, solution or fix file. A solver's answer may have any

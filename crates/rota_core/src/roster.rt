@@ -62,9 +62,9 @@ impl Roster {
         })
     }
 
-    /// The roster of the instance's shape that contains the cells whose variable is true. The cell of nurse
-    /// n, day d, shift type s and skill k has index ((n * DAYS + d) * S + s) * K + k for S shift types and K
-    /// skills.
+    /// The roster of the instance's shape that contains the cells whose truth value in `bits` is true. The
+    /// cell of nurse n, day d, shift type s and skill k has index ((n * DAYS + d) * S + s) * K + k for S shift
+    /// types and K skills. `bits` has a value for each cell; further values are ignored.
     pub fn of_bits(bits: Bits, instance: &Instance) -> Roster
         requires enough { let problem = problem_of instance.now in
             cell_count problem.nurses problem.shifts problem.skills ≤ length bits }

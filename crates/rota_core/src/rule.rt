@@ -8,8 +8,8 @@ use std::fmt;
 /// The number of soft rules.
 pub const SOFT_RULES: usize = 7;
 
-/// A rule of the week. `Unit` is no rule of the competition: it represents the variable that is always true
-/// in a model. Nor is `H5`: it holds the cells of the fix file.
+/// A rule of the week. `Unit` is no rule of the competition: it represents the variable that is true in every
+/// satisfying assignment of a model. Nor is `H5`: it holds the cells of the fix file.
 #[derive(Clone, Copy, Debug, PartialEq, Eq)]
 pub enum Rule {
     Unit,

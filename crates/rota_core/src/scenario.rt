@@ -29,7 +29,9 @@ pub struct ScenarioParts {
 }
 
 /// A scenario within the limits: 1 to `MAX_SKILLS` skills, `MAX_SHIFTS` shift types, `MAX_CONTRACTS` contracts,
-/// `MAX_NURSES` nurses and `MAX_WEEKS` weeks, and other numbers up to `MAX_NUMBER`.
+/// `MAX_NURSES` nurses and `MAX_WEEKS` weeks, and other numbers up to `MAX_NUMBER`. Names are words: one byte
+/// or more, without blanks and signs. No shift type is called `None` or `Any`. Each table has its length, and
+/// each nurse has one of the contracts.
 pub struct Scenario {
     parts: ScenarioParts,
 }

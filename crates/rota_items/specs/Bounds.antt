@@ -30,7 +30,7 @@ count_limit = 2 ^ 25
 
 -- ---- items
 
--- the maximum number of windows and patterns of a property's runs: each day has one window, and patterns that end there
+-- a bound for the windows and patterns of a property's runs: a window for each day, and at most seven patterns whose run ends before it
 abbrev pub max_run_items : ℕ
 max_run_items = DAYS * (1 + DAYS)
 
@@ -38,7 +38,7 @@ abbrev pub max_items_of_nurse : Rule → ℕ
 max_items_of_nurse S2 = (max_shifts + 1) * max_run_items
 max_items_of_nurse _ = max_run_items
 
--- the maximum number of items of each soft rule
+-- a bound for the number of items of each soft rule
 abbrev pub max_items : Rule → ℕ
 max_items S1 = max_cells_of_nurse
 max_items rule = max_nurses * max_items_of_nurse rule
@@ -58,7 +58,7 @@ max_unit_weight =
 abbrev pub max_weight : ℕ
 max_weight = max_unit_weight * max_number
 
--- the maximum cost of a nurse that no roster can avoid
+-- a bound for a nurse's part of the constant
 abbrev pub max_constant_of_nurse : Rule → ℕ
 max_constant_of_nurse S6 = assignment_weight * ((max_number - DAYS) + max_number)
 max_constant_of_nurse S7 = worked_weekend_weight * max_number
@@ -79,11 +79,11 @@ max_cost_of_nurse = max_unit_weight * (max_cells_of_nurse * max_number)
 abbrev pub penalty_limit : ℕ
 penalty_limit = 2 ^ 55
 
--- the objective's maximum coefficient: an item's weight, or the constant
+-- a bound for the objective's coefficients: for an item's weight, and for the constant
 abbrev pub max_coefficient : ℕ
 max_coefficient = max max_weight max_constant
 
--- the maximum of the requests of all cells, the constant, and all slacks
+-- a bound for the sum of the requests of all cells, the constant, and all slacks
 abbrev pub max_objective : ℕ
 max_objective =
     request_weight * (max_cells * max_number) + max_constant + sum_by (λ rule. max_items rule * max_weight) soft_rules

@@ -44,7 +44,7 @@ h3_monday_rows_at problem n t = singleton_if (is_forbidden_after problem (proble
 abbrev pub h3_monday_rows : Problem → ℕ → List (LinearRow Cell)
 h3_monday_rows problem n = concat_below problem.shifts (h3_monday_rows_at problem n)
 
--- H3: the nurse is not both on s on day d and on t on the next day; it is a row of the model if t may not follow s
+-- H3: if the roster keeps H1, the nurse is not both on s on day d and on t on the next day; it is a row of the model if t may not follow s
 abbrev pub h3_row : Problem → (nurse day shift next : ℕ) → LinearRow Cell
 h3_row problem n d s t = record {
   part = Hard H3;

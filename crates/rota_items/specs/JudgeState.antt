@@ -104,7 +104,7 @@ added_at (Some index) more costs = slice_set costs index (capped (slice_index_or
 abbrev pub with_cost : Rule → ℕ → List ℕ → List ℕ
 with_cost rule more costs = added_at (soft_index rule) more costs
 
--- the costs, with the cost that no roster can avoid added for each of these rules
+-- the costs, with the part of the constant added for each of these rules
 abbrev pub with_constants : Problem → List Rule → List ℕ → List ℕ
 with_constants problem rules costs = fold (λ charged rule. with_cost rule (constant_of_rule problem rule) charged) costs rules
 

@@ -1,4 +1,4 @@
--- The charges of the model for the soft rules: items, costs that no roster can avoid, and terms on cells.
+-- The charges of the model for the soft rules: items, the constant, and terms on cells.
 use Rattle.rota_items.specs.Imports.{ℕ, List, [], flat_map, sum_by, Rule, Cell, Problem, sum_below, soft_rules}
 use Rattle.std.specs.Prelude.{◌++◌, Option, Some, None}
 use Rattle.rota_core.specs.declared.rule.Rule.TheVariants.{S1, S2, S3, S4, S5, S6, S7}
@@ -16,7 +16,7 @@ pub record Charge : Type 0 where
   -- items of the days' demands, and items of each nurse: their shortages are charged
   pub day_items : Problem → List (Item Cell)
   pub nurse_items : Problem → ℕ → List (Item Cell)
-  -- the cost of each nurse that no roster of the week can avoid, because of the history
+  -- each nurse's part of the constant, which no roster that keeps H1 can avoid, because of the history
   pub nurse_constant : Problem → ℕ → ℕ
   -- the objective's terms on cells
   pub cell_terms : Problem → List (Term Cell)

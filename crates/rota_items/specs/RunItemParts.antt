@@ -7,7 +7,7 @@ use Rattle.rota_items.specs.RunItems.{Pattern, windows_on, patterns_on}
 use Rattle.rota_items.specs.RunItems.{Property, variables_on, Runs, pattern_items, Present, Absent}
 use Rattle.rota_items.specs.Runs.{is_over, missing_on}
 
--- the items of one day's window, and of the patterns that end before the day
+-- the items of one day's window, and of the patterns of the runs that end on the day before it
 abbrev pub window_items_on : {X : Type 0} → Runs X → ℕ → List (Item X)
 window_items_on runs d = pattern_items runs (windows_on runs.history runs.limits d)
 

@@ -84,7 +84,8 @@ is_plain (Absent variables) day = not day.has
 abbrev pub day_terms : {X : Type 0} → Property X → PatternDay → List (Term X)
 day_terms property day = times (if is_plain property day then negsuc 0 else pos 1) (variables_on property day.day)
 
--- the item that is charged if all days match the pattern, with this weight for each of the pattern's units
+-- if at most one variable of each day is true, the item that is charged exactly if all days match the pattern, with this weight for each
+-- of the pattern's units
 abbrev pub pattern_item : {X : Type 0} → Rule → ℕ → Property X → Pattern → Item X
 pattern_item rule weight property pattern = record {
   rule = rule;

@@ -1,5 +1,5 @@
-//! The objective: the request rows that cells match, the cost that no roster can avoid, and the slacks with
-//! their weights.
+//! The objective: the request rows that cells match, the constant, which no roster that keeps H1 can avoid,
+//! and the slacks with their weights.
 ghost use Rattle.std.specs.Prelude.{◌≡◌, nat_lt, length};
 ghost use Rattle.rota_core.specs.InstanceTables.{problem_of};
 ghost use Rattle.rota_items.specs.Events.{events, term_events};
@@ -39,7 +39,7 @@ fn emit_terms<T: Taker>(instance: &Instance, taker: &mut T) -> Result<(), T::Fau
     emit_slack_weights(instance, taker)
 }
 
-// Whether the objective has a term: on a cell, the cost that no roster can avoid, or a slack.
+// Whether the objective has a term: on a cell, the constant, or a slack.
 fn has_term(instance: &Instance) -> bool
     ensures { result ≡ nat_lt 0 (length (objective_terms (problem_of instance.now))) }
 {
@@ -51,9 +51,9 @@ fn has_term(instance: &Instance) -> bool
 /// Sends the taker the objective as one row, or nothing if it has no term.
 ///
 /// Its terms are in ascending order of the variables: 10 on a cell for each request row that the cell
-/// matches; the cost that no roster can avoid, at the unit variable; and each slack with the weight of its
-/// item. The weights are the weights of INRC-II. If the taker fails, the fault is returned at once, and
-/// nothing more is sent to it.
+/// matches; the constant, which no roster that keeps H1 can avoid, at the unit variable; and each slack with
+/// the weight of its item. The weights are the weights of INRC-II. If the taker fails, the fault is returned
+/// at once, and nothing more is sent to it.
 pub fn drive_objective<T: Taker>(instance: &Instance, taker: &mut T) -> Result<(), T::Fault>
     ensures { Takes T.Taker (events (objective_rows (objective_terms (problem_of instance.now))))
         taker.old taker.new result }

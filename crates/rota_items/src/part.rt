@@ -7,7 +7,7 @@ use rota_core::Rule;
 pub enum Part {
     /// The objective, whose value must be as low as possible.
     Objective,
-    /// A constraint of a hard rule.
+    /// A constraint of a hard rule, or the one of `Rule::Unit`, which makes the unit variable true.
     Hard(Rule),
     /// A constraint of a soft rule, and the weight of each of its slacks.
     Soft(Rule, u64),

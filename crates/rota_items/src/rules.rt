@@ -126,8 +126,8 @@ pub fn has_cell_terms(instance: &Instance) -> bool
     shift_off_requests::has_terms(instance)
 }
 
-// The cost of a rule at a nurse that no roster of the week can avoid, because of the history. It is 0 except
-// for the rules of totals, in the weeks in which they count.
+// A nurse's part of a rule's constant, which no roster that keeps H1 can avoid, because of the history. It is
+// 0 except for the rules of totals, in the weeks in which they count.
 fn nurse_constant(instance: &Instance, rule: Rule, nurse: u16) -> u64
     requires { nurse < (problem_of instance.now).nurses }
     ensures { result ≡ nurse_constant (problem_of instance.now) rule nurse }
@@ -139,7 +139,7 @@ fn nurse_constant(instance: &Instance, rule: Rule, nurse: u16) -> u64
     }
 }
 
-/// The cost of a rule that no roster of the week can avoid: the sum of the nurses' parts.
+/// The rule's part of the constant, which no roster that keeps H1 can avoid: the sum of the nurses' parts.
 #[tactic(auto, using(crate::proofs::Lists::counting, crate::proofs::RuleSizes::few_constants))]
 pub fn constant_of_rule(instance: &Instance, rule: Rule) -> u64
     ensures sum { result ≡ constant_of_rule (problem_of instance.now) rule }
@@ -152,7 +152,7 @@ pub fn constant_of_rule(instance: &Instance, rule: Rule) -> u64
     sum
 }
 
-/// The cost that no roster of the week can avoid: the sum of the rules' parts.
+/// The constant, which no roster of the week that keeps H1 can avoid: the sum of the rules' parts.
 #[tactic(auto, using(crate::proofs::Lists::listing, crate::proofs::RuleSizes::few_constants))]
 pub fn constant(instance: &Instance) -> u64
     ensures { result ≡ constant (problem_of instance.now) }
@@ -164,12 +164,11 @@ pub fn constant(instance: &Instance) -> u64
     sum
 }
 
-/// The costs that no roster of the week can avoid, first of S6, then of S7: the history is outside the
-/// contracts' limits, or too far below a minimum for seven days to reach it. With early charging, the excess
-/// before the week is not included.
+/// The two parts of the constant, first of S6, then of S7, which no roster of the week that keeps H1 can
+/// avoid: the history is above a maximum of the contract, or too far below the minimum for seven assignments
+/// to reach it. With early charging, the excess before the week is not included.
 ///
-/// Each assignment costs 20 and each weekend 30. Both parts are 0 in the weeks in which these totals do not
-/// count. The rules and weights are those given by INRC-II.
+/// Each assignment costs 20 and each weekend 30, as in INRC-II. Both parts are 0 except in the last week.
 pub fn constant_parts(instance: &Instance) -> [u64; 2]
     ensures { let problem = problem_of instance.now in
         result ≡ constant_of_assignments problem ∷ constant_of_weekends problem ∷ [] }

@@ -23,7 +23,7 @@ extension_answer objective problem roster = answer_text objective (extension_tru
 abbrev pub extension_text : Problem → Roster → List ℕ
 extension_text problem roster = extension_answer (penalty problem roster) problem roster
 
--- why a roster has no extension: the first hard rule that it breaks
+-- why no answer is written for a roster: the first hard rule that it breaks
 abbrev pub BreaksRule : Problem → Roster → Fault → Type 0
 BreaksRule problem roster (Breaks rule) = FirstBroken problem roster rule
 BreaksRule problem roster _ = ⊥

@@ -17,7 +17,7 @@ pub struct Decoded {
     pub roster: Roster,
     /// The value of the model's objective under the answer, at least the penalty.
     pub objective: u64,
-    /// The charge of each soft rule of INRC-II for the roster, with its weight, in the order of the rules.
+    /// The cost of each soft rule for the roster, with its weight, in the order of the rules.
     pub costs: [u64; SOFT_RULES],
     /// The sum of the costs.
     pub penalty: u64,

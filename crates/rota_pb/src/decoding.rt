@@ -33,8 +33,8 @@ fn decode_answer<A: Source, W: Target, R: Target>(
 /// the solution file of the answer's roster to `sol` and then a report to `report`.
 ///
 /// The files are the scenario, the history, the week's data and, if `choice.fixed` is true, the solution file
-/// of the held cells. Otherwise `fix_file` is not touched. The answer is read in pieces of 4096 bytes, which
-/// are not kept. It may have any length that fits into fewer than 2^64 pieces.
+/// of the held cells. Otherwise `fix_file` is not touched. The answer is read in pieces of at most 4096 bytes,
+/// which are not kept. It may have any length that fits into fewer than 2^64 - 1 pieces.
 ///
 /// Errors, in this order: `File` with the first fault of the first file that has one, or `LateWeek` after the
 /// three files of the week, before the held cells; `Answer` with the answer's first fault; `NoRoster` if its

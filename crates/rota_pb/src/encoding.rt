@@ -16,7 +16,8 @@ use std::alloc::Global;
 /// Writes the whole model of the week, hard and soft rules, in the linear format of the Pseudo-Boolean
 /// Competition: the first line, the objective if it has a term, and the constraints.
 ///
-/// Allocates nothing. The only error is `Write`, if the writer failed: it got a prefix of the text.
+/// Allocates nothing. `Ok` means that the whole text is sent and flushed. The only error is `Write`, if the
+/// writer failed: it got a prefix of the text.
 ///
 /// Here the tables of the week are read, and `opb` is a target:
 ///
@@ -41,9 +42,9 @@ pub fn encode<W: Target>(instance: &Instance, out: &mut W) -> Result<(), Fault>
 /// of the held cells. Otherwise `fix_file` is not touched.
 ///
 /// Errors: `File` with the first fault of the first file that has one, or `LateWeek` after the three files of
-/// the week, before the held cells; `Read` if a reader failed before it reported its end; `Memory`. Readers
-/// after that file are then not touched, and the writer is not called. `Write` if the writer failed: it got a
-/// prefix of the text.
+/// the week, before the held cells; `Read` if a reader failed before it reported its end; `Memory`. Later
+/// readers are then not touched, and the writer is not called. `Write` if the writer failed: it got a prefix
+/// of the text.
 ///
 /// See the example at the top of the crate.
 pub fn run_encode<S: Source, H: Source, K: Source, F: Source, W: Target>(

@@ -20,8 +20,9 @@ use std::alloc::Global;
 /// the unit variable, and the first slacks of each constraint of a soft rule. The number of true slacks of a
 /// constraint is its shortage on the roster.
 ///
-/// Allocates nothing. Errors: `Breaks` with the first hard rule, in the order H1 to H5, that the roster
-/// breaks, and nothing is written; `Write` if the writer failed: it got a prefix of the text.
+/// Allocates nothing. `Ok` means that the whole text is sent and flushed. Errors: `Breaks` with the first hard
+/// rule, in the order H1 to H5, that the roster breaks, and nothing is written; `Write` if the writer failed:
+/// it got a prefix of the text.
 pub fn extend<W: Target>(instance: &Instance, roster: &Roster, out: &mut W) -> Result<(), Fault>
     requires shape { HasShapeOf (problem_of instance.now) roster.now }
     ensures { (extend_roster (problem_of instance.now) (set_of roster.now) (writer_of W.Target out.old out.new)).ends result }
@@ -42,8 +43,8 @@ pub fn extend<W: Target>(instance: &Instance, roster: &Roster, out: &mut W) -> R
 ///
 /// Errors: `File` with the first fault of the first file that has one, or `LateWeek` after the three files of
 /// the week, before the held cells; `Breaks` with the first hard rule that the roster breaks; `Read` if a
-/// reader failed before it reported its end; `Memory`. Readers after that file are then not touched, and the
-/// writer is not called. `Write` if the writer failed: it got a prefix of the text.
+/// reader failed before it reported its end; `Memory`. Later readers are then not touched, and the writer is
+/// not called. `Write` if the writer failed: it got a prefix of the text.
 ///
 /// Here the solution is in memory, the ports of the week's files are made as at the top of the crate, and
 /// `out` is a target:

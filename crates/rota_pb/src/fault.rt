@@ -79,9 +79,9 @@ impl fmt::Display for Fault {
 
 impl Error for Fault {}
 
-/// The exit status of a program whose run failed: 1 for a fault of a file or an answer, 3 if a reader or a
-/// writer failed, 4 if memory ran out, 5 if a solver found no roster, 6 if an answer does not satisfy the
-/// model or a roster breaks a hard rule.
+/// The exit status of a program whose run failed: 1 for a fault of a file or an answer, 3 for `Read` or
+/// `Write`, 4 if memory ran out, 5 if a solver found no roster, 6 if an answer does not satisfy the model or a
+/// roster breaks a hard rule.
 pub fn status_of(fault: &Fault) -> u8
     ensures { result ≡ exit_status fault.now }
 {

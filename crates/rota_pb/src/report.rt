@@ -79,7 +79,8 @@ fn put_report<W: Target>(sink: &mut Sink<W>, decoded: &Decoded) -> Result<(), Po
 /// costs of the soft rules, and the last `o` value if the answer had one. The status must be `Satisfiable` or
 /// `Optimum`.
 ///
-/// Allocates nothing. The only error is `Write`, if the writer failed: it got a prefix of the text.
+/// Allocates nothing. `Ok` means that the whole text is sent and flushed. The only error is `Write`, if the
+/// writer failed: it got a prefix of the text.
 pub fn write_report<W: Target>(decoded: &Decoded, out: &mut W) -> Result<(), Fault>
     requires finds { FindsRoster decoded.now.status }
     ensures { (send (writer_of W.Target out.old out.new) (report_text decoded.now)).ends result }

@@ -97,7 +97,8 @@ fn put_solution<W: Target>(
 /// roster must have at most one cell for each nurse and day.
 /// `read_solution` of `rota_read` returns the same roster, if the text has at most `MAX_FILE_LEN` bytes.
 ///
-/// Allocates nothing. The only error is `Write`, if the writer failed: it got a prefix of the text.
+/// Allocates nothing. `Ok` means that the whole text is sent and flushed. The only error is `Write`, if the
+/// writer failed: it got a prefix of the text.
 pub fn write_solution<W: Target>(
     instance: &Instance,
     roster: &Roster,

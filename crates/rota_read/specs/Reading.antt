@@ -48,7 +48,7 @@ check_end (t ∷ tokens) = Err (record { kind = kinds.Trailing; line = t.line })
 abbrev pub begin : List ℕ → Reading
 begin text = record { last = 1; rest = tokens text }
 
--- A text that is too long has that fault, whatever its contents.
+-- A text that is too long has the fault `Limit` on line 0, whatever its contents.
 unfoldable pub opened : List ℕ → Result Reading Fault
 opened text = if nat_lt max_file_len (length text) then Err (record { kind = kinds.Limit; line = 0 }) else Ok (begin text)
 

@@ -92,8 +92,9 @@ fn solution_roster(alloc: Global, instance: &Instance, text: &[u8]) -> Result<Ro
 /// # Errors
 ///
 /// `Bad` is the text's one fault: the fault of the first token that does not fit its position, with the
-/// token's line, or the fault of the end, with the last line. A text of more than `MAX_FILE_LEN` bytes has `Limit`
-/// on line 0. `Memory` is returned only if memory runs out before a fault was found.
+/// token's line, or `Ended`, with the line of the last token (1 if there is none). A text of more than
+/// `MAX_FILE_LEN` bytes has `Limit` on line 0. `Memory` is returned only if memory runs out before a fault
+/// was found.
 #[tactic(auto, using(crate::proofs::SolutionLaws::roster_steps))]
 pub fn read_solution(alloc: Global, instance: &Instance, text: &[u8]) -> Result<Roster, FileFault>
     ensures spelled { IfOk result (SpellsRoster instance.now text.now) }

@@ -8,7 +8,7 @@ use Rattle.solver_text.specs.Answers.{Judgement, of_status, of_objective, of_lit
 use Rattle.solver_text.specs.AnswerText.{answer_text}
 use Rattle.solver_text.specs.declared.outcome.Status.TheVariants as statuses
 
--- A fault of a prefix is the fault of each longer prefix and of the whole.
+-- For fewer than 2^32 variables, a fault of a prefix is the fault of each longer prefix and of the whole.
 pub record FaultStays : Type 0 where
   pub within : (variables : ℕ) (text more : List ℕ) (fault : AnswerFault) → variables < 2 ^ 32 →
       fault_within variables text ≡ Err fault → fault_within variables (text ++ more) ≡ Err fault
@@ -27,7 +27,7 @@ pub record TrueByLiteral : Type 0 where
       → slice_index_or solved.bits (v - 1) false ≡ list_any (makes_true v) (judgements text)
 
 -- Reading the text of an answer, for its number of variables, gives the objective's value and the values of the variables, if the
--- objective's value has at most 18 digits.
+-- objective's value has at most 18 digits and there are fewer than 2^32 variables.
 abbrev pub WrittenAnswerIsRead : Type 0
 WrittenAnswerIsRead =
     (objective : ℕ) (truths : List Bool) → objective < 10 ^ 18 → length truths < 2 ^ 32 →

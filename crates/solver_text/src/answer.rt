@@ -69,7 +69,7 @@ impl Answer {
     }
 
     /// Judges the rest of the text, and returns the meaning of the whole text, or its fault. A text without
-    /// an `s` line has the fault `Statuses`.
+    /// an `s` line has the fault `Statuses`, if it has no other fault.
     ///
     /// See the example at the top of the crate.
     pub fn finish(self) -> Result<Solved, AnswerFault>

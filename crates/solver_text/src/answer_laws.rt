@@ -5,7 +5,8 @@ ghost use Rattle.solver_text.specs.AnswerWriter.{WritesAnswerText};
 
 use rota_core::laws::numerals_read_back;
 
-/// A fault found in a prefix of a text is the fault of each longer prefix and of the whole text.
+/// A fault found in a prefix of a text, for fewer than 2^32 variables, is the fault of each longer prefix and
+/// of the whole text.
 pub fn fault_of_a_beginning_stays()
     ensures { FaultStays }
 {}
@@ -20,8 +21,8 @@ pub fn calls_write_the_answer()
     ensures { WritesAnswerText }
 {}
 
-/// The text of an answer, read for the same number of variables, means `SATISFIABLE`, with the objective's
-/// value and the values of the variables, if the objective's value has at most 18 digits.
+/// The text of an answer, read for the same number of variables below 2^32, means `SATISFIABLE`, with the
+/// objective's value and the values of the variables, if the objective's value has at most 18 digits.
 pub fn written_answer_is_read()
     ensures { WrittenAnswerIsRead }
 {

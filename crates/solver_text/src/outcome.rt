@@ -51,7 +51,7 @@ pub enum AnswerFault {
     Range,
     /// A literal whose variable had the other value before.
     BothValues,
-    /// An `o` line without one number of at most 18 digits.
+    /// An `o` line whose words are not exactly one number of 1 to 18 digits.
     Objective,
 }
 

@@ -17,8 +17,9 @@ pub fn windows_of(history: u16, limits: Span) -> u32
         .min(u32::from(DAYS))
 }
 
-/// The number of patterns. A pattern is a run below the minimum length that may end in the week. It begins in
-/// the week (closed patterns) or before it (edge patterns).
+/// The number of patterns. A pattern is a run below the minimum length that may end on the Sunday before the
+/// week, or on Monday to Saturday. It begins after Monday (closed patterns), or on Monday or in the history
+/// (edge patterns).
 #[tactic(auto, using(crate::proofs::EachPattern::run_counting))]
 pub fn patterns_of(history: u16, limits: Span) -> u32
     ensures { result ≡ length (patterns history limits) }

@@ -23,8 +23,8 @@ use std::marker::Model;
 
 /// A taker that evaluates the rows of an instance's model.
 ///
-/// It never fails: a sum that would overflow stays at the maximum, which no instance reaches. A variable that
-/// the model does not have is false.
+/// It never fails: a sum that would overflow stays at the maximum or the minimum, which no instance reaches.
+/// A variable that the model does not have is false.
 #[derive(Drop)]
 pub struct Judge<'a> {
     instance: &'a Instance,
@@ -68,7 +68,7 @@ impl<'a> Judge<'a> {
 
     /// The judge of the roster's extension. The true variables are: the variables of the roster's cells, the
     /// unit variable, and the first slacks of each constraint of a soft rule. The number of true slacks of a
-    /// constraint is its shortage on the roster.
+    /// constraint is its shortage on the roster, or the number of all its slacks if that is smaller.
     ///
     /// See the example at the top of the crate.
     pub fn of_roster(instance: &'a Instance, roster: &'a Roster) -> Judge<'a>
@@ -96,6 +96,10 @@ impl<'a> Judge<'a> {
     /// unit variable is true and the roster breaks one of H1 to H5, the constraint belongs to the first rule
     /// that the roster breaks. If the roster keeps H1 to H4, the costs are the costs of the rules, and their
     /// sum is the penalty. If it keeps H1, this holds for the cost of each rule but S1.
+    ///
+    /// If no constraint is named for an assignment, its roster keeps H1 to H5 at a penalty of at most the
+    /// objective. If none is named for a roster's extension, the roster keeps H1 to H5, and the objective is
+    /// its penalty.
     pub fn verdict(&self) -> Verdict
         requires driven { WasDriven self.now }
         ensures judges { let problem = problem_of self.now.instance in let subject = self.now.subject in
@@ -175,7 +179,7 @@ impl<'a> Taker for Judge<'a> {
     }
 }
 
-// Charges each soft rule the cost that no roster can avoid.
+// Charges each soft rule its part of the constant.
 #[tactic(auto, using(std::proofs::lemmas::List::Sums::fold_more))]
 fn charge_constants(costs: &mut [u64; SOFT_RULES], instance: &Instance)
     ensures { costs.new ≡ with_constants (problem_of instance.now) soft_rules costs.old }

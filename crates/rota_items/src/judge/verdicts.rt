@@ -10,8 +10,8 @@ pub struct Verdict {
     pub unmet: Option<(u32, Rule)>,
     /// The value of the objective.
     pub objective: u64,
-    /// The costs of the soft rules, in their order: the weighted shortages of the rule's constraints, the
-    /// weights of the requests that are not granted, and the part of the totals that only the history has
-    /// caused.
+    /// The charges of the model for the soft rules, in their order: the weighted shortages of the rule's
+    /// constraints, the weights of the requests that are not granted, and the rule's part of the constant.
+    /// They are the costs of the rules under the conditions of `Judge::verdict`.
     pub costs: [u64; SOFT_RULES],
 }

@@ -19,8 +19,8 @@ ghost use Rattle.rota_items.specs.RunItemParts.{AtMostOneADay};
 ghost use Rattle.rota_items.specs.WithinLimits.{IsWithinLimits};
 ghost use Rattle.rota_items.specs.Bounds.{penalty_limit};
 
-/// On a roster with one cell a day, at most one cell of a nurse's day is on a shift type, and at most one is
-/// on any shift type. Each day in the runs on shift types, of working days and of days off then has at most
+/// On a roster that keeps H1, at most one cell of a nurse's day is on a shift type, and at most one is on
+/// any shift type. Each day in the runs on shift types, of working days and of days off then has at most
 /// one true variable.
 pub fn one_cell_a_day_is_at_most_one()
     ensures on_shift { (problem : Problem) (roster : Roster) (n s : ℕ) →
@@ -59,7 +59,7 @@ pub fn constant_is_sum_of_its_parts()
     ensures { (problem : Problem) → constant problem ≡ constant_of_assignments problem + constant_of_weekends problem }
 {}
 
-/// The items, the terms on cells and the constant charge the penalty.
+/// On a roster that keeps H1 to H4, the items, the terms on cells and the constant charge the penalty.
 pub fn items_requests_and_constant_charge_penalty()
     ensures { (problem : Problem) (roster : Roster) →
         KeepsCompetitionRules problem roster →
@@ -67,7 +67,7 @@ pub fn items_requests_and_constant_charge_penalty()
         penalty problem roster }
 {}
 
-/// No shortage of an item is above the number of its slacks.
+/// On a roster that keeps H1 to H4, no shortage of an item is above the number of its slacks.
 pub fn no_item_lacks_more_than_its_slacks()
     ensures { (problem : Problem) (roster : Roster) →
         KeepsCompetitionRules problem roster →

@@ -16,7 +16,8 @@ ghost use Rattle.rota_items.specs.rules.ConsecutiveDaysOff.Items.{off_runs};
 
 use rota_core::DAYS;
 
-/// The items of a property's runs charge the cost of the runs.
+/// The items of a property's runs charge the cost of the runs, if on each day of the week at most one of the
+/// property's variables is true.
 pub fn run_items_charge_run_cost()
     ensures { (runs : Runs Cell) (roster : Cell → Bool) →
         AtMostOneADay runs.property roster →
@@ -25,8 +26,8 @@ pub fn run_items_charge_run_cost()
         run_cost (has_property runs.property roster) runs.history runs.limits }
 {}
 
-/// On a roster with one cell a day, the items of a nurse's runs charge the cost of the runs: of her days on a
-/// shift type, at work and off, with any weight, any history and any limits.
+/// On a roster that keeps H1, the items of a nurse's runs charge the cost of the runs: of her days on a shift
+/// type, at work and off, with any weight, any history and any limits.
 pub fn run_items_charge_a_nurses_runs()
     ensures on_shift { (problem : Problem) (roster : Roster) (n s weight history : ℕ) (limits : Span) →
         KeepsOneCell problem roster →
@@ -49,7 +50,8 @@ pub fn run_items_charge_a_nurses_runs()
         weight * run_cost (is_off problem roster n) history limits }
 {}
 
-/// The items of a day charge what the runs cost on that day.
+/// The items of a day of the week charge what the runs cost on that day, if on each day of the week at most
+/// one of the property's variables is true.
 pub fn day_items_charge_day_cost()
     ensures { (runs : Runs Cell) (roster : Cell → Bool) (d : ℕ) →
         AtMostOneADay runs.property roster →

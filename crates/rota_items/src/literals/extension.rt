@@ -32,7 +32,7 @@ fn emit_assigned<T: LiteralTaker>(
 /// Sends the taker the literals of all variables of the instance's model, in ascending order, in the roster's
 /// extension. The true variables are: the variables of the roster's cells, the unit variable, and the first
 /// slacks of each constraint of a soft rule. The number of true slacks of a constraint is its shortage on the
-/// roster.
+/// roster, or the number of all its slacks if that is smaller.
 ///
 /// If the taker fails, the fault is returned at once, and nothing more is sent to it. No list of literals is
 /// kept.

@@ -80,7 +80,8 @@ impl<'r, 'j, 't, T: LiteralTaker> RunTaker for SlackValues<'r, 'j, 't, T> {
 }
 
 /// Sends the taker the literals of the slacks of all items, in ascending order of the variables. The first
-/// slacks of each item are true; their number is the item's shortage on the roster.
+/// slacks of each item are true; their number is the item's shortage on the roster, or the number of all its
+/// slacks if that is smaller.
 pub fn emit_slack_values<T: LiteralTaker>(
     instance: &Instance,
     roster: &Roster,

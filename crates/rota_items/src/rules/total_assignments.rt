@@ -28,7 +28,7 @@ fn still_wanted(instance: &Instance, nurse: u16) -> u16
     minimum.saturating_sub(instance.past(nurse).assignments)
 }
 
-// The number of assignments that the nurse may still have below her maximum total.
+// The number of assignments that the nurse may still have without exceeding her maximum total.
 fn still_allowed(instance: &Instance, nurse: u16) -> u16
     requires { nurse < (problem_of instance.now).nurses }
     ensures { result ≡ still_allowed (problem_of instance.now) nurse }
@@ -129,8 +129,8 @@ fn assignments_above(instance: &Instance, nurse: u16) -> u16
     instance.past(nurse).assignments.saturating_sub(maximum)
 }
 
-/// The cost of a nurse that no roster of the week can avoid: needed assignments beyond seven days, and,
-/// unless excess is charged early, assignments in the history above the maximum total.
+/// A nurse's part of the constant, which no roster that keeps H1 can avoid: needed assignments beyond seven,
+/// and, unless excess is charged early, assignments in the history above the maximum total.
 pub fn constant(instance: &Instance, nurse: u16) -> u64
     requires { nurse < (problem_of instance.now).nurses }
     ensures { result ≡ assignment_constant_of (problem_of instance.now) nurse }

@@ -56,8 +56,8 @@ fn weekends_above(instance: &Instance, nurse: u16) -> u16
     instance.past(nurse).weekends.saturating_sub(maximum)
 }
 
-/// The cost of a nurse that no roster of the week can avoid: the weekends in the history above her maximum,
-/// unless excess is charged early.
+/// A nurse's part of the constant, which no roster of the week can avoid: the weekends in the history above
+/// her maximum, unless excess is charged early.
 pub fn constant(instance: &Instance, nurse: u16) -> u64
     requires { nurse < (problem_of instance.now).nurses }
     ensures { result ≡ weekend_constant_of (problem_of instance.now) nurse }

@@ -1,4 +1,4 @@
--- How the model charges S6: the items of a nurse's total, and the cost that no roster can avoid.
+-- How the model charges S6: the items of a nurse's total, and her part of the constant.
 use Rattle.std.specs.Prelude.{◌+◌, ◌-◌, ◌*◌, ◌-ℤ◌, ◌&&◌, if◌then◌else◌, ◌++◌}
 use Rattle.rota_core.specs.Limits.{DAYS}
 use Rattle.rota_core.specs.declared.rule.Rule.TheVariants.{S6}
@@ -7,7 +7,7 @@ use Rattle.rota_items.specs.Rows.{singleton_if, nurse_cells, Item, times}
 use Rattle.rota_items.specs.CountedItems.{excess_before_counts, max_totals_count}
 use Rattle.rota_items.specs.rules.TotalAssignments.Cost.{assignment_weight}
 
--- the assignments that the nurse still needs for her minimum total, and the assignments that she may still have below her maximum
+-- the assignments that the nurse still needs for her minimum total, and those that she may still have without exceeding her maximum
 abbrev pub still_wanted : Problem → ℕ → ℕ
 still_wanted problem n = (problem.contract n).total.min - (problem.past n).assignments
 
@@ -52,6 +52,6 @@ abbrev pub assignments_above : Problem → ℕ → ℕ
 assignments_above problem n =
     (if excess_before_counts problem then (problem.past n).assignments - (problem.contract n).total.max else 0)
 
--- the cost of a nurse that no roster can avoid
+-- a nurse's part of the constant, which no roster that keeps H1 can avoid
 abbrev pub assignment_constant_of : Problem → ℕ → ℕ
 assignment_constant_of problem n = assignment_weight * (wanted_beyond_days problem n + assignments_above problem n)

@@ -1,4 +1,4 @@
--- How the model charges S7: the items of a nurse's weekend, and the cost that no roster can avoid.
+-- How the model charges S7: the items of a nurse's weekend, and her part of the constant.
 use Rattle.std.specs.Prelude.{◌-◌, ◌*◌, ◌&&◌, if◌then◌else◌}
 use Rattle.rota_core.specs.declared.rule.Rule.TheVariants.{S7}
 use Rattle.rota_items.specs.Imports.{ℕ, nat_le, false, List, [], Cell, Problem}
@@ -18,6 +18,6 @@ worked_weekends_of problem n =
 abbrev pub weekends_above : Problem → ℕ → ℕ
 weekends_above problem n = (if excess_before_counts problem then (problem.past n).weekends - (problem.contract n).weekends else 0)
 
--- the cost of a nurse that no roster can avoid
+-- a nurse's part of the constant, which no roster can avoid
 abbrev pub weekend_constant_of : Problem → ℕ → ℕ
 weekend_constant_of problem n = worked_weekend_weight * weekends_above problem n
