@@ -32,7 +32,7 @@ class ProgramFault(Exception):
         return self.message
 
 
-def is_of_files(fault: BaseException) -> bool:
+def is_file_fault(fault: BaseException) -> bool:
     """Whether the fault is that a file could not be read or written."""
     return isinstance(fault, OSError) or (isinstance(fault, ProgramFault) and fault.status == READ_OR_WRITE)
 

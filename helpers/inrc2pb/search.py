@@ -14,7 +14,7 @@ from .files import Assignment, Week, read_solution, write_solution
 from .neighborhoods import Neighborhood, Neighborhoods
 from .part import write_part
 from .processes import Processes
-from .program import BROKEN_RULE, FAULT, NO_ROSTER, ProgramFault, WeekFiles, decode, encode_unless_stopped, is_of_files, penalty_of
+from .program import BROKEN_RULE, FAULT, NO_ROSTER, ProgramFault, WeekFiles, decode, encode_unless_stopped, is_file_fault, penalty_of
 from .rules import nurse_costs
 from .solvers import Cbc, HearBound, Solver, Task
 from .usable_solvers import UsableSolvers
@@ -134,7 +134,7 @@ class Search:
                     self._step(seen, chance, folder)
         except BaseException as fault:  # noqa: B902
             with self._lock:
-                if not self._failure and (not self._ended.is_set() or (not self._best.now() and is_of_files(fault))):
+                if not self._failure and (not self._ended.is_set() or (not self._best.now() and is_file_fault(fault))):
                     self._failure = fault
             self.stop()
 

@@ -138,6 +138,22 @@ class Parts(HelperTest):
                 search._work(0, 1, random.Random(1), self.folder)
             self.assertIs(search._failure, fault if counts else None)
 
+    def test_a_solver_has_the_time_that_its_model_left(self):
+        search = self.search(self.best_roster([]), Solver())
+        with mock.patch("inrc2pb.search.encode_unless_stopped", return_value=True), mock.patch.object(search, "_left", return_value=0.0):
+            # The solver has no `solve`, so it was not called.
+            self.assertIsNone(search._solve(Solver(), WEEK_FILES, 60.0, None, self.folder))
+
+    def test_a_solver_that_is_not_used_any_more_has_no_second_proof(self):
+        best = self.best_roster([])
+        best.offer(Snapshot(200, files.read_solution(ROSTER)), None, None, self.folder, "a test")
+        search = self.search(best, Solver())
+        step = mock.Mock(side_effect=lambda *_: search.stop())
+        first, whole = mock.Mock(return_value=Attempt(find_solver("sh"), 200)), mock.Mock()
+        with mock.patch.multiple(search, _first=first, _whole=whole, _step=step):
+            search._work(2, 4, random.Random(1), self.folder)
+        self.assertEqual((whole.call_count, step.call_count), (0, 1))
+
     def test_too_many_jobs_for_the_system(self):
         search = self.search(self.best_roster([]), Solver())
         with mock.patch("threading.Thread.start", side_effect=RuntimeError("can't start new thread")):
