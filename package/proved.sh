@@ -4,7 +4,7 @@
 #
 #   package/proved.sh
 #
-# The gate leaves its commit, its last line, its kit and the checksum of the programs that it tested in out/gate; GATE names another
+# The gate leaves in out/gate its commit, its last line, its kit and the checksum of the programs that it tested; GATE names another
 # file. PROGRAM and WHO_FITS name other programs than out/inrc2pb and out/who_fits.
 set -u
 cd "$(dirname "$0")/.." || exit 2

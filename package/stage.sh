@@ -13,7 +13,7 @@ for program in "$PROGRAM" "$WHO_FITS"; do
     [ -x "$program" ] || { echo "There is no $program yet: 'make' builds it."; exit 2; }
 done
 
-# The version is written in crates/inrc2pb_command/src/command.rt alone.
+# The program has the version of crates/inrc2pb_command/src/command.rt; CHANGELOG.md repeats it.
 version=$("$PROGRAM" --version) && version=${version#inrc2pb } || exit 2
 
 # The latest version of the C library whose symbols the programs use.

@@ -1,9 +1,9 @@
 #!/usr/bin/env bash
-# Has each call told by which the program opens, reads and writes. Each file is opened once, for one use, in the order of
+# Records each call with which the program opens, reads or writes. Each file is opened once, for one use, in the order of
 # the checks, and read to its end and no further; an output is opened at its first write, and gets a write for each full
-# buffer and one for the rest; after a call that failed none goes to the same file. Then lets each of these calls fail in turn,
-# as one that a signal interrupts (EINTR) and as a broken device (EIO): the program tries none again, and the run ends as a
-# failed read or write. Rattle's library itself repeats an open and the text of help or a fault that a signal interrupts.
+# buffer and one for the rest; after a failed call there is no other call to the same file. Then each of these calls fails in
+# turn, once as if a signal had interrupted it (EINTR), once as on a broken device (EIO): the program repeats none, and the run
+# ends as a failed read or write. After a signal Rattle's library itself repeats an open, and the texts of help and faults.
 #
 #   tests/calls.sh [llvm | rattle | PROGRAM]
 #

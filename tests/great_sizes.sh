@@ -4,7 +4,7 @@
 #
 #   tests/great_sizes.sh [llvm | rattle | PROGRAM]
 #
-# Takes `week_report` beside the program. Needs bash and the usual tools of a shell.
+# Also runs `week_report`. Needs bash and the usual tools of a shell.
 . "$(dirname "$0")/kit.sh"
 needs_reporter
 

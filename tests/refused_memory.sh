@@ -4,13 +4,13 @@
 #
 #   tests/refused_memory.sh [llvm | rattle | PROGRAM]
 #
-# A refused run of the program ends as `out of memory` with nothing written. The one exception are growths ahead of need,
+# A refused run of the program ends as `out of memory` with nothing written. The only exceptions are growths ahead of need,
 # by std's `collect` and in clap's suggestions: such a run goes on without the room, and ends just as a run with ample
-# memory does. A test passes each time, and says in its first line that memory ran out, whatever fault stands later in the
-# files; without a refusal, what it finds: a run, a reader, a roster, truth values or an answer.
+# memory does. A test of a run, a reader, a roster, truth values or an answer always passes. Its first line says that memory
+# ran out, whatever fault comes later in the files, or, without a refusal, what the test found.
 #
-# Takes the tests of `rota_tests` and `part_tests` beside the program, as LLVM builds them. Needs bash, the usual tools of a
-# shell, and a C compiler: $CC, else cc, else the clang of Rattle's kit.
+# Also runs the tests of `rota_tests` and `part_tests`, as LLVM builds them. Needs bash, the usual tools of a shell,
+# and a C compiler: $CC, else cc, else the clang of Rattle's kit.
 . "$(dirname "$0")/kit.sh"
 whole_runs=crates/rota_tests/out/rota_tests_tests
 tables=crates/part_tests/out/part_tests_tests

@@ -12,8 +12,8 @@ page=docs/trusted.md
 # The block of the page that shows the line, on one line.
 shown() { awk '/^```/ { inside = !inside; next } inside && /^logic=/ { found = 1 } inside && found' $page | tr -d '\n'; }
 
-# The last line of the check of `inrc2pb` in the output of `rt ci`, or of a check here. The gate keeps no work, so that its
-# line has no word for that.
+# The last line of the check of `inrc2pb` in the output of `rt ci`, or of a check here. The gate uses no work of `rt check`, so
+# its line has no word for that.
 real() {
     if [ -s "${GATE_LOG:-}" ]; then
         sed -n '/^== inrc2pb$/,/^rt: inrc2pb /p' "$GATE_LOG" | grep '^logic=' | sed 's/$/ incremental=trusted/'

@@ -10,6 +10,7 @@ from unittest import mock
 from ward import HELPERS, HISTORY, ROSTER, SCENARIO, WEEK, WEEK_FILES, HelperTest, files, program, run
 
 from inrc2pb import command, rules
+from inrc2pb.processes import Processes
 
 
 class Program(HelperTest):
@@ -76,6 +77,11 @@ class Finding(HelperTest):
         with mock.patch.object(program, "LONGEST_RUN", 0.2):
             fault = self.fault_of("#!/bin/sh\nexec sleep 60\n")
         self.assertEqual((fault.status, str(fault)[:40]), (3, "inrc2pb --version did not end in 0 s: a "))
+
+    def test_an_encode_of_a_search_that_does_not_end(self):
+        with mock.patch.object(program, "LONGEST_RUN", 0.2), mock.patch.dict(os.environ, self.slow_to_encode(self.folder / "running")):
+            with self.assertRaisesRegex(program.ProgramFault, "^inrc2pb encode did not end in 0 s: a pipe can be read only once"):
+                program.encode_unless_stopped(WEEK_FILES, self.folder / "week.opb", Processes())
 
     def fault_of(self, text):
         """The fault of a program with this text."""

@@ -6,6 +6,7 @@ import random
 import shutil
 import signal
 import sys
+import threading
 import time
 import unittest
 from collections import Counter
@@ -155,10 +156,23 @@ class Parts(HelperTest):
         self.assertEqual((whole.call_count, step.call_count), (0, 1))
 
     def test_too_many_jobs_for_the_system(self):
-        search = self.search(self.best_roster([]), Solver())
-        with mock.patch("threading.Thread.start", side_effect=RuntimeError("can't start new thread")):
-            self.assertEqual(str(search.run(self.folder, 1, 2)), "can't start new thread: give a smaller --jobs")
-        self.assertTrue(search._processes.stopped)
+        start = threading.Thread.start
+        for allowed in (0, 1):
+            search, started = self.search(self.best_roster([]), Solver()), []
+
+            def begin(thread):
+                if len(started) == allowed:
+                    raise RuntimeError("can't start new thread")
+                started.append(thread)
+                start(thread)
+
+            folder = self.folder / str(allowed)
+            folder.mkdir()
+            waits = mock.Mock(side_effect=lambda *_: search._ended.wait() and None)
+            with mock.patch("threading.Thread.start", begin), mock.patch.object(search, "_first", waits):
+                self.assertEqual(str(search.run(folder, 1, 3)), "can't start new thread: give a smaller --jobs")
+            self.assertEqual((len(started), search._processes.stopped), (allowed, True))
+            self.assertFalse(any(thread.is_alive() for thread in started))
 
     def test_two_improvements_are_merged_if_the_roster_costs_less(self):
         kept = []

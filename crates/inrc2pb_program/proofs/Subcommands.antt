@@ -137,22 +137,21 @@ words_refused a words e (Err fault) is passes kinds same =
 -- ---- the reason why the program then ends
 
 pub stop_for : (words : List Text) (fault : JobFault) (stop : Stop) → IsJobFaultOf words fault → IsStopOf fault stop
-    → IsStopFor (fault_of inrc2pb_app words) stop
+    → IsStopFor words stop
 stop_for words (Words error) stop h is =
-    let kinds = fault_of inrc2pb_app words in
     elim h.0 [
-      | inl memory ↦ subst (IsStopFor kinds) (sym (is.1 memory)) refl
+      | inl memory ↦ subst (IsStopFor words) (sym (is.1 memory)) refl
       | inr among ↦ elim is.2 [
-        | inl refused ↦ subst (IsStopFor kinds) (sym refused)
+        | inl refused ↦ subst (IsStopFor words) (sym refused)
             (among, λ log. let both : stopped.Shown error ≡ stopped.Words error = sym (is.0 log) ∙ refused in cc)
         | inr rest ↦ elim rest [
-          | inl log ↦ subst (IsStopFor kinds) (sym (is.0 log)) (among, log)
-          | inr memory ↦ subst (IsStopFor kinds) (sym (is.1 memory)) refl
+          | inl log ↦ subst (IsStopFor words) (sym (is.0 log)) (among, log)
+          | inr memory ↦ subst (IsStopFor words) (sym (is.1 memory)) refl
         ]
       ]
     ]
 stop_for words Missing (stopped.Shown text) h is = absurd is
 stop_for words Missing (stopped.Words text) h is = absurd is
-stop_for words Missing (stopped.Usage text) h is = h.0
+stop_for words Missing (stopped.Usage text) h is = h
 stop_for words Missing (stopped.Job fault) h is = absurd is
-stop_for words Memory stop h is = subst (IsStopFor (fault_of inrc2pb_app words)) (sym is) refl
+stop_for words Memory stop h is = subst (IsStopFor words) (sym is) refl

@@ -47,7 +47,7 @@ IsStopForError error (stops.Job fault) = (fault ≡ Memory) × (error_kind error
 
 -- why the words give no job
 abbrev pub IsStopGiven : {X Z : Type 0} → Given X Z → Stop → Type 0
-IsStopGiven (Ok words) stop = IsStopFor (fault_of inrc2pb_app (texts_in words)) stop
+IsStopGiven (Ok words) stop = IsStopFor (texts_in words) stop
 IsStopGiven (Err error) stop = IsStopForError error stop
 
 -- the files that a job may write: the port and the path of each

@@ -1,8 +1,10 @@
 -- Why the program ends if the words give no job.
-use Rattle.std.specs.Prelude.{◌≡◌, ◌⊎◌, [], ⊤}
-use Rattle.clap.specs.Words.{IsAmong, Kinds, kind_of}
+use Rattle.std.specs.Prelude.{◌≡◌, ◌⊎◌, List, [], ⊤, IsSomeAnd}
+use Rattle.clap.specs.Words.{IsAmong, Text, fault_of, kind_of, subcommand_of}
 use Rattle.clap.specs.declared.error.kind.ErrorKind.{ErrorKind}
 use Rattle.clap.specs.declared.error.kind.ErrorKind.TheVariants.{DisplayHelp, DisplayVersion, OutOfMemory}
+use Rattle.inrc2pb_command.specs.CommandLine.{inrc2pb_app}
+use Rattle.inrc2pb_program.specs.Jobs.{LacksPath}
 use Rattle.inrc2pb_program.specs.declared.job_fault.JobFault.{JobFault}
 use Rattle.inrc2pb_program.specs.declared.job_fault.JobFault.TheVariants.{Words, Missing, Memory}
 use Rattle.inrc2pb_program.specs.declared.stop.Stop.{Stop}
@@ -29,10 +31,11 @@ IsStopOf (Words error) stop = (IsAskedFor (kind_of error) → stop ≡ stopped.S
 IsStopOf Missing stop = IsUsage stop
 IsStopOf Memory stop = stop ≡ stopped.Job failed.Memory
 
--- why the program ends without a job, by the kinds of faults in the words: it shows a requested text, or reports clap's reason, only if
--- this is among the kinds; it reports a reason of its own only if there is no fault; otherwise memory ran out
-abbrev pub IsStopFor : Kinds → Stop → Type 0
-IsStopFor kinds (stopped.Shown text) = IsAmong (kind_of text) kinds × IsAskedFor (kind_of text)
-IsStopFor kinds (stopped.Words text) = IsAmong (kind_of text) kinds × ¬ IsAskedFor (kind_of text)
-IsStopFor kinds (stopped.Usage text) = kinds ≡ []
-IsStopFor kinds (stopped.Job fault) = fault ≡ failed.Memory
+-- why the program ends without the job of these words: it shows a requested text, or reports clap's reason, only if this is the kind of a
+-- fault in the words; it reports a reason of its own only if the words have no fault and a required path is missing; otherwise memory ran
+-- out
+abbrev pub IsStopFor : List Text → Stop → Type 0
+IsStopFor words (stopped.Shown text) = IsAmong (kind_of text) (fault_of inrc2pb_app words) × IsAskedFor (kind_of text)
+IsStopFor words (stopped.Words text) = IsAmong (kind_of text) (fault_of inrc2pb_app words) × ¬ IsAskedFor (kind_of text)
+IsStopFor words (stopped.Usage text) = (fault_of inrc2pb_app words ≡ []) × IsSomeAnd (subcommand_of inrc2pb_app words) LacksPath
+IsStopFor words (stopped.Job fault) = fault ≡ failed.Memory

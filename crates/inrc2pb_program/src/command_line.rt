@@ -17,7 +17,7 @@ pub fn job_of_words(alloc: Global, words: &[&str]) -> Result<Job, Stop>
     ensures ok { IfOk result (λ j. IsSomeAnd (subcommand_of inrc2pb_app (texts words.now))
         (λ matched. IsJobOf matched j)) }
     ensures taken { OnOk result (fault_of inrc2pb_app (texts words.now) ≡ []) }
-    ensures err { IfErr result (IsStopFor (fault_of inrc2pb_app (texts words.now))) }
+    ensures err { IfErr result (IsStopFor (texts words.now)) }
 {
     Ok(job(alloc, words)?)
 }

@@ -1,8 +1,6 @@
 //! The job that the words of the process ask for.
 ghost use Rattle.std.specs.Prelude.{◌≡◌, IfErr, IfOk, map, string_bytes};
 ghost use Rattle.inrc2pb_program.specs.Jobs.{texts};
-ghost use Rattle.clap.specs.Words.{fault_of};
-ghost use Rattle.inrc2pb_command.specs.CommandLine.{inrc2pb_app};
 ghost use Rattle.inrc2pb_program.specs.Programs.{IsJobFor, IsJobGiven, IsStopForError, IsStopGiven, texts_in};
 ghost use Rattle.inrc2pb_program.specs.Stops.{IsStopFor};
 
@@ -27,7 +25,7 @@ pub fn job_of_args(alloc: Global, words: io::Result<Args>) -> Result<Job, Stop>
 
 fn job_of_texts(alloc: Global, words: Args) -> Result<Job, Stop>
     ensures ok { IfOk result (λ job. IsJobFor (texts_in words) job) }
-    ensures err { IfErr result (IsStopFor (fault_of inrc2pb_app (texts_in words))) }
+    ensures err { IfErr result (IsStopFor (texts_in words)) }
 {
     let words = kept(alloc, words)?;
     let words = borrowed(alloc, words.as_slice())?;
