@@ -65,7 +65,12 @@ def found(runs: List[Result]) -> str:
     if all(run.proved for run in runs) and len({run.penalty for run in runs}) == 1:
         *first, last = (f"{run.seconds:.1f}" for run in runs)
         return f"{runs[0].penalty}, proved in {', '.join(first)} and {last} s"
-    return ", ".join(f"{'none' if run.penalty is None else run.penalty}{' (proved)' if run.proved else ''}" for run in runs)
+    return ", ".join(f"{penalty(run)}{' (proved)' if run.proved else ''}" for run in runs)
+
+
+def penalty(run: Result) -> str:
+    """The penalty of a run, or that it found no roster."""
+    return "none" if run.penalty is None else str(run.penalty)
 
 
 def table(rows: Dict[str, Row]) -> str:
@@ -75,7 +80,7 @@ def table(rows: Dict[str, Row]) -> str:
         if name in rows:
             row = rows[name]
             bound = max((run.bound for run in row.runs if run.bound is not None), default="")
-            lines.append(f"| `{name}` | {plan.seconds} | {row.clasp.penalty} | {found(row.runs)} | {bound} |")
+            lines.append(f"| `{name}` | {plan.seconds} | {penalty(row.clasp)} | {found(row.runs)} | {bound} |")
     places = dict.fromkeys(f"{row.machine}, of which `inrc2pb-improve` used {row.processors}" for row in rows.values())
     return "\n".join([f"Measured on {'; '.join(places)}.", "", *lines])
 
@@ -100,7 +105,7 @@ def main() -> None:
     for name in names:
         row = rows[name] = measured(PLANS[name])
         RESULTS.write_text(json.dumps(rows, indent=1) + "\n")
-        print(f"{name}: {found(row.runs)}; clasp {row.clasp.penalty}", flush=True)
+        print(f"{name}: {found(row.runs)}; clasp {penalty(row.clasp)}", flush=True)
     put_between(BEGIN, END, table(rows))
 
 

@@ -5,7 +5,7 @@ import threading
 import time
 from dataclasses import dataclass
 from pathlib import Path
-from typing import Callable, Optional, Sequence, Set
+from typing import Callable, Dict, Optional, Sequence, Set, Tuple
 
 from .files import Assignment, Solution, Week, write_solution
 from .misfits import explained, other_week, read_roster
@@ -39,11 +39,11 @@ class BestRoster:
         self._best: Optional[Snapshot] = None
         # The roster in the file: the search may be at another one of the same cost.
         self._written: Optional[Snapshot] = None
+        # The greatest bound of each solver, in a new table each time, so that no lock is needed to read it.
+        self._bounds: Dict[str, int] = {}
         # The solvers that claimed a bound above the cost of a roster.
         self._wrong: Set[str] = set()
         self.improved_at = time.monotonic()
-        self.bound: Optional[int] = None
-        self.bound_by = ""
 
     def now(self) -> Optional[Snapshot]:
         """The best roster until now, if there is one."""
@@ -89,21 +89,22 @@ class BestRoster:
                 write_solution(self._solution, better.roster)
                 self._written = better
                 self.improved_at = time.monotonic()
-                self._check_bound(better.penalty)
+                self._check_bounds(better.penalty)
             self._best = better
             if less:
                 self._announce(better.penalty, finder)
         return True
 
-    def _check_bound(self, penalty: int) -> None:
-        """A bound above the cost of a roster is wrong, and is forgotten."""
-        if self.bound is not None and self.bound > penalty:
-            self._doubt(self.bound, self.bound_by, penalty)
-            self.bound, self.bound_by = None, ""
+    def _check_bounds(self, penalty: int) -> None:
+        """A bound above the cost of a roster is wrong."""
+        for solver, bound in self._bounds.items():
+            if bound > penalty:
+                self._doubt(bound, solver, penalty)
 
     def _doubt(self, bound: int, solver: str, penalty: int) -> None:
-        """A claim of a solver was wrong, so no further one counts."""
+        """A claim of a solver was wrong, so none of its claims counts."""
         self._wrong.add(solver)
+        self._bounds = {name: claim for name, claim in self._bounds.items() if name != solver}
         claim = f"it claims that no roster costs less than {bound}, and one costs {penalty}"
         self._warn(f"{solver}: {claim}: its bounds and proofs do not count any more")
 
@@ -116,13 +117,19 @@ class BestRoster:
         with self._lock:
             if self.believes(solver) and self._best and bound > self._best.penalty:
                 self._doubt(bound, solver, self._best.penalty)
-            elif self.believes(solver) and (self.bound is None or bound > self.bound):
-                self.bound, self.bound_by = bound, solver
+            elif self.believes(solver):
+                self._bounds = {**self._bounds, solver: max(bound, self._bounds.get(solver, bound))}
             return self.is_proved()
+
+    def bound(self) -> Tuple[Optional[int], str]:
+        """The greatest lower bound of the solvers that are believed, or None, and its solver."""
+        bound, solver = max(((bound, solver) for solver, bound in self._bounds.items()), default=(None, ""))
+        return bound, solver
 
     def is_proved(self) -> bool:
         """Whether the best roster costs no more than the lower bound."""
-        return self.bound is not None and self._best is not None and self._best.penalty <= self.bound
+        (bound, _), best = self.bound(), self._best
+        return bound is not None and best is not None and best.penalty <= bound
 
     def report(self) -> Optional[Report]:
         """The report of the roster in the file, if there is one; its status is OPTIMUM FOUND if a solver proved it."""

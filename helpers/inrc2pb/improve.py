@@ -18,7 +18,7 @@ from .misfits import read_held
 from .program import NO_ROSTER, ProgramFault, Report, WeekFiles
 from .search import Search
 from .solvers import find_solvers, installed_solvers
-from .targets import check_inputs_stay, check_no_pipes, check_target
+from .targets import check_inputs_stay, check_no_pipe_is_written, check_no_pipes, check_target
 
 
 class Progress:
@@ -65,8 +65,7 @@ class Outcome:
 
     def __init__(self, report: Report, best: BestRoster, stopped: bool, fault: Optional[BaseException]) -> None:
         self.report = report
-        self.bound = best.bound
-        self.bound_by = best.bound_by
+        self.bound, self.bound_by = best.bound()
         self.proved = best.is_proved()
         self.stopped = stopped
         self.fault = fault
@@ -105,6 +104,7 @@ def search(
     found = find_solvers(solvers or installed_solvers())
     week = read_files(files.scenario, files.history, files.week)
     fixed = held_rows(files.fix, week, progress) if files.fix else ()
+    check_no_pipe_is_written(solution)
     check_target(solution)
     check_inputs_stay((files.scenario, files.history, files.week, files.fix), solution, "the roster")
     best = BestRoster(files, solution, progress.improved, progress.warn)

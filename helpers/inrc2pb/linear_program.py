@@ -65,7 +65,7 @@ def write_linear_program(opb: TextIO, lp: TextIO, check: Check = None) -> ModelS
 def _write_statements(pieces: Iterator[Tuple[str, bool]], lp: TextIO) -> Tuple[int, int]:
     """Writes the objective and the constraints; returns the objective's step, and the number of constraints."""
     step = number = 0
-    in_objective = False
+    in_objective = has_terms = False
     for text, ends in pieces:
         start = text.lstrip()
         if number == 0 and not in_objective and start.startswith("min:"):
@@ -73,10 +73,11 @@ def _write_statements(pieces: Iterator[Tuple[str, bool]], lp: TextIO) -> Tuple[i
         if in_objective:
             words = _terms(text)
             step = functools.reduce(math.gcd, map(int, set(words[::2])), step)
+            has_terms = has_terms or bool(words)
             lp.writelines(f" {line}\n" for line in _lines(words))
             if ends:
                 in_objective, number = False, 1
-                lp.write("Subject To\n" if step else " +0 x1\nSubject To\n")
+                lp.write("Subject To\n" if has_terms else " +0 x1\nSubject To\n")
             continue
         if number == 0:
             number = 1

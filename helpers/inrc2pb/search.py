@@ -127,7 +127,7 @@ class Search:
         try:
             attempt = self._first(number, jobs, folder)
             while self._goes_on() and (seen := self._best.now()):
-                if attempt and attempt.is_near(seen) and self._solvers.uses(attempt.solver):
+                if attempt and attempt.is_near(seen) and self._solvers.uses(attempt.solver) and self._best.believes(attempt.solver.name):
                     self._try_proof(attempt.solver, self._seconds * SECOND_PROOF_SHARE, folder)
                     attempt = None
                 else:
@@ -233,7 +233,7 @@ class Search:
             self._best.offer(found, seen, freed, folder, f"{solver.title}, {freed}")
         if self._ended.is_set():
             return
-        proved = part is not None and part.proved and self._best.believes(solver.name)
+        proved = part is not None and part.proved
         gain = seen.penalty - found.penalty if found else 0
         self._neighborhoods.learn(solver.title, freed, proved, gain, seconds, patience)
         if found and proved and self._neighborhoods.is_whole(freed):

@@ -11,7 +11,7 @@ from .improve import Progress, search
 from .interrupts import interrupts
 from .program import NO_ROSTER, ProgramFault, WeekFiles
 from .solvers import installed_solvers
-from .targets import check_inputs_stay, check_target
+from .targets import check_inputs_stay, check_no_pipes, check_target
 
 # The least seconds, and the least share of the time, that the last check, the file and the end of Python may take.
 END_SECONDS, END_SHARE = 0.5, 0.05
@@ -53,6 +53,7 @@ def main() -> Optional[int]:
     words.add_argument("--no-early", action="store_true", help="charge excess assignments and weekends in the last week only")
     given = words.parse_args()
     check_effort(given.timeout, "--timeout", given.jobs)
+    check_no_pipes((given.sce, given.his, given.week))
     week = read_files(given.sce, given.his, given.week)
     solvers: List[str] = given.solver or list(installed_solvers())
     files = WeekFiles(given.sce, given.his, given.week, early=not given.no_early)

@@ -2,6 +2,7 @@
 
 import errno
 import os
+import stat
 import tempfile
 from pathlib import Path
 from typing import Iterable, Optional
@@ -21,8 +22,22 @@ def check_inputs_stay(inputs: Iterable[Optional[Path]], target: Path, what: str,
 def check_no_pipes(inputs: Iterable[Optional[Path]]) -> None:
     """Files that are read again and again may not be pipes."""
     for path in inputs:
-        if path and Path(path).is_fifo():
+        if path and _is_pipe(path):
             raise Misuse(f"{path} is a pipe, which can be read only once: give a file")
+
+
+def check_no_pipe_is_written(target: Path) -> None:
+    """A file that is written again and again may not be a pipe."""
+    if _is_pipe(target) and not is_open_file(target):
+        raise Misuse(f"{target} is a pipe, which can be written only once: name a file")
+
+
+def _is_pipe(path: Path) -> bool:
+    """Whether the path leads to a pipe. If it leads nowhere, whoever opens it reports that."""
+    try:
+        return stat.S_ISFIFO(os.stat(path).st_mode)
+    except OSError:
+        return False
 
 
 def check_target(solution: Path) -> None:
@@ -30,8 +45,6 @@ def check_target(solution: Path) -> None:
     target = file_at(solution)
     if target.is_dir():
         raise IsADirectoryError(errno.EISDIR, os.strerror(errno.EISDIR), str(solution))
-    if target.is_fifo() and not is_open_file(target):
-        raise Misuse(f"{solution} is a pipe, which can be written only once: name a file")
     if target.exists() and not target.is_file():
         return
     if target.exists() and _is_standard_output(target):

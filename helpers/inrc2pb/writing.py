@@ -49,19 +49,21 @@ def replacing(path: PathLike) -> Iterator[TextIO]:
     mode = target.stat().st_mode & 0o777 if target.exists() else None
     name = target.with_name(f".{target.name[:50]}.{os.urandom(4).hex()}")
     try:
-        # The system applies the umask: to ask for it, one has to change it for all threads.
-        handle = os.open(name, os.O_WRONLY | os.O_CREAT | os.O_EXCL, 0o666 if mode is None else 0o600)
-    except OSError as fault:
-        fault.filename = str(path)
-        raise
-    try:
+        try:
+            # The system applies the umask: to ask for it, one has to change it for all threads.
+            handle = os.open(name, os.O_WRONLY | os.O_CREAT | os.O_EXCL, 0o666 if mode is None else 0o600)
+        except OSError as fault:
+            fault.filename = str(path)
+            raise
         with open(handle, "w", encoding="utf-8", errors="surrogateescape") as file:
             yield file
         if mode is not None:
             os.chmod(name, mode)
         os.replace(name, target)
     except BaseException:
-        name.unlink(missing_ok=True)
+        # Also a signal just after the file was created: its random name is no other file's.
+        with contextlib.suppress(OSError):
+            name.unlink()
         raise
 
 

@@ -1,5 +1,6 @@
 """Tests of the command lines: hints after a wrong word, options that are given twice, and Ctrl-C at the start."""
 
+import functools
 import os
 import shutil
 import signal
@@ -109,7 +110,11 @@ class Starting(HelperTest):
     def test_a_conversion_that_is_ended_leaves_no_file(self):
         for number in (signal.SIGTERM, signal.SIGHUP):
             command = [sys.executable, str(HELPERS / "inrc2pb-lp"), "model", "--lp", str(self.folder / "week.lp")]
-            with subprocess.Popen(command, stdin=subprocess.PIPE, stdout=subprocess.PIPE, stderr=subprocess.PIPE) as conversion:
+            # A gate that runs on after its terminal is closed ignores HUP, and so would the conversion.
+            heeds = functools.partial(signal.signal, number, signal.SIG_DFL)
+            with subprocess.Popen(
+                command, stdin=subprocess.PIPE, stdout=subprocess.PIPE, stderr=subprocess.PIPE, preexec_fn=heeds
+            ) as conversion:
                 while not list(self.folder.iterdir()) and conversion.poll() is None:
                     time.sleep(0.05)
                 conversion.send_signal(number)

@@ -6,7 +6,7 @@ import subprocess
 import unittest
 from unittest import mock
 
-from ward import HELPERS, HISTORY, ROSTER, SCENARIO, WARD, WEEK, WEEK_OPTIONS, HelperTest, files, run
+from ward import HELPERS, HISTORY, ROSTER, SCENARIO, WEEK, WEEK_OPTIONS, HelperTest, files, run
 
 
 class RoundTrips(HelperTest):
@@ -174,6 +174,13 @@ class Mistakes(HelperTest):
         os.mkfifo(pipe)
         line = f"inrc2pb-check: {pipe} is a pipe, which can be read only once: give a file"
         self.assert_fault(run("check", *WEEK_OPTIONS, "--roster", pipe), line)
+
+    def test_a_path_that_leads_nowhere_is_one_mistake(self):
+        wrong, broken = self.folder / ("r" * 300), self.changed(ROSTER, "Amara Mon Day Charge", "Amara Mon Dai Charge")
+        status, printed, said = run("check", *WEEK_OPTIONS, "--roster", wrong, "--roster", broken)
+        self.assertEqual((status, said), (1, ""))
+        self.assertIn(f"{wrong}: File name too long", printed)
+        self.assertIn(f"{broken} line 5: 'Dai'", printed)
 
     def test_a_file_that_is_not_utf8_beside_one_that_is(self):
         ward, past = (self.changed(path, "Chen", "J\u00fcrgen", f"new-{path.name}") for path in (SCENARIO, HISTORY))

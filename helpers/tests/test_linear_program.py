@@ -70,6 +70,11 @@ class LinearPrograms(unittest.TestCase):
             " c3: -1 x1 -1 x2 -1 x3 >= -2\nBinary\n x1 x2 x3\nEnd\n",
         )
 
+    def test_an_objective_whose_coefficients_are_zero(self):
+        text, size = lp_of("* #variable= 2 #constraint= 1\nmin: +0 x1 +0 x2 ;\n+1 x1 +1 x2 >= 1 ;\n")
+        self.assertEqual(size, ModelSize(2, 1, 0))
+        self.assertEqual(text, "Minimize\n obj: +0 x1 +0 x2\nSubject To\n c1: +1 x1 +1 x2 >= 1\nBinary\n x1 x2\nEnd\n")
+
     def test_without_an_objective(self):
         text, size = lp_of("* #variable= 1 #constraint= 1\n+1 x1 >= 1 ;\n")
         self.assertEqual(size, ModelSize(1, 1, 0))

@@ -1,4 +1,4 @@
-"""Tests of `inrc2pb-period` and `inrc2pb-simulate`."""
+"""Tests of `inrc2pb-period`."""
 
 import os
 import shlex
@@ -11,11 +11,10 @@ import unittest
 from dataclasses import replace
 from pathlib import Path
 
-from ward import HELPERS, HISTORY, ROOT, ROSTER, SCENARIO, WARD, WEEK, WEEK_FILES, WEEK_OPTIONS, HelperTest, files, program, run
+from ward import HELPERS, HISTORY, ROOT, ROSTER, SCENARIO, WARD, WEEK, WEEK_FILES, HelperTest, files, program, run
 
 from inrc2pb.period import Period, PeriodFiles, plan_once
 from inrc2pb.shared_totals import shared_week
-from inrc2pb.simulate import search_seconds, seconds_since_start
 
 MONTH = ROOT / "examples" / "month"
 WARD_OPTIONS = ("--sce", SCENARIO, "--his", HISTORY, "--week", WEEK, "--week", WARD / "week-1.txt")
@@ -51,12 +50,6 @@ class Shares(unittest.TestCase):
 
 
 class PeriodTest(HelperTest):
-    def answers_once(self, early=False):
-        """A solver that has an answer of penalty 20 to the ward's week when it is called first, and none later."""
-        answer = self.folder / "answer.txt"
-        answer.write_text(program.answer_with(replace(WEEK_FILES, early=early), ROSTER))
-        return f"sh -c 'mkdir {self.folder}/called 2> /dev/null && cat {answer}'"
-
     def assert_period(self, printed, options, count, early=False):
         """The report has what `extend` reports for each week, and the sums."""
         table = [line.split() for line in printed.split("\n\n")[-1].splitlines()]
@@ -234,58 +227,6 @@ class PeriodFaults(PeriodTest):
         wrong = self.changed(WEEK, "Chen Any", "Chan Any")
         _, _, said = self.period("--sce", SCENARIO, "--his", HISTORY, "--week", wrong)
         self.assertIn("'Chan' is no nurse of NURSES: did you mean 'Chen'?", said)
-
-
-class Simulation(PeriodTest):
-    def test_after_a_fault_the_roster_is_reported(self):
-        solution, custom = self.folder / "solution.txt", self.folder / "custom.txt"
-        words = ("--sol", solution, "--cusOut", custom, "--timeout", 60, "--jobs", 1, "--solver", self.answers_once(early=True))
-        status, printed, said = run("simulate", *WEEK_OPTIONS, *words)
-        self.assertEqual((status, custom.read_text()), (1, "1\n"))
-        self.assertIn("penalty 20\n", printed)
-        self.assertRegex(said, "^inrc2pb-simulate: sh: .*choose another solver with --solver\n$")
-
-    def test_one_file_for_two_results(self):
-        target = self.folder / "solution.txt"
-        line = f"inrc2pb-simulate: {target} gets the roster, so the number of the next week cannot be written to it: choose another file"
-        self.assert_fault(run("simulate", *WEEK_OPTIONS, "--sol", target, "--cusOut", target, "--solver", "false"), line)
-
-    def test_seconds_to_search(self):
-        self.assertAlmostEqual(search_seconds(3, 0.25), 2.25)
-        self.assertAlmostEqual(search_seconds(100, 1), 94)
-        self.assertGreater(search_seconds(0.1, 1), 0)
-        self.assertTrue(0 < seconds_since_start() < 3600)
-
-    def test_without_a_roster_the_fault_names_the_time_that_was_given(self):
-        words = ("--sol", self.folder / "solution.txt", "--timeout", 0.5, "--solver", "sh -c 'sleep 60'")
-        status, printed, said = run("simulate", *WEEK_OPTIONS, *words)
-        self.assertEqual((status, printed), (5, ""))
-        self.assertRegex(said, "^inrc2pb-simulate: --timeout 0.5: no roster was found in 0.2 s: ")
-
-    def test_the_process_ends_in_its_time(self):
-        # On a machine with other work a run may be late.
-        for _ in range(3):
-            shutil.rmtree(self.folder / "called", ignore_errors=True)
-            solver = f"{self.answers_once(early=True)[:-1]} || exec sleep 60'"
-            began = time.monotonic()
-            status, printed, said = run("simulate", *WEEK_OPTIONS, "--sol", self.folder / "solution.txt", "--timeout", 3, "--solver", solver)
-            seconds = time.monotonic() - began
-            self.assertEqual(status, 0, said)
-            self.assertIn("penalty 20\n", printed)
-            if seconds < 3:
-                return
-        self.fail(f"it took {seconds:.2f} s")
-
-    @unittest.skipUnless(shutil.which("clasp"), "clasp is not installed")
-    def test_the_command_line_of_the_competition(self):
-        solution, custom = self.folder / "solution.txt", self.folder / "custom.txt"
-        words = ("--sol", solution, "--cusOut", custom, "--rand", 7, "--timeout", 20)
-        status, printed, said = run("simulate", *WEEK_OPTIONS, *words, "--solver", "clasp")
-        self.assertEqual(status, 0, said)
-        self.assertIn("penalty 20\n", printed)
-        self.assertEqual(custom.read_text(), "1\n")
-        files_of_week = program.WeekFiles(SCENARIO, HISTORY, WEEK, early=True)
-        self.assertEqual(program.penalty_of(files_of_week, solution), 20)
 
 
 if __name__ == "__main__":

@@ -7,7 +7,7 @@ import unittest
 from pathlib import Path
 from unittest import mock
 
-from ward import HELPERS, HISTORY, ROSTER, SCENARIO, WEEK, WEEK_FILES, HelperTest, files, program, run
+from ward import HELPERS, HISTORY, ROSTER, SCENARIO, WEEK, WEEK_FILES, HelperTest, files, program
 
 from inrc2pb import command, rules
 from inrc2pb.processes import Processes

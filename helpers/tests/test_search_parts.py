@@ -88,19 +88,28 @@ class Parts(HelperTest):
         best.raise_bound(25, "a solver")
         self.assertFalse(best.is_proved())
         best.offer(Snapshot(20, roster), None, None, self.folder, "a test")
-        self.assertEqual((best.bound, best.is_proved()), (None, False))
+        self.assertEqual((best.bound(), best.is_proved()), ((None, ""), False))
         self.assertEqual(warnings, [DOUBT.format("a solver", 25, 20)])
 
     def test_a_solver_whose_claim_was_wrong_is_not_believed_again(self):
         warnings, roster = [], files.read_solution(ROSTER)
         best = self.best_roster([], warnings)
         best.offer(Snapshot(20, roster), None, None, self.folder, "a test")
-        for bound in (21, 25, 20, 15):
+        for bound in (15, 21, 25, 20, 15):
             self.assertFalse(best.raise_bound(bound, "a liar"))
-        self.assertEqual((warnings, best.bound), ([DOUBT.format("a liar", 21, 20)], None))
+        self.assertEqual((warnings, best.bound()), ([DOUBT.format("a liar", 21, 20)], (None, "")))
         self.assertFalse(best.raise_bound(15, "a solver"))
         self.assertTrue(best.raise_bound(20, "a solver"))
         self.assertEqual([best.believes(name) for name in ("a liar", "a solver")], [False, True])
+
+    def test_a_wrong_bound_hides_no_other(self):
+        warnings, roster = [], files.read_solution(ROSTER)
+        best = self.best_roster([], warnings)
+        for bound, solver in ((15, "a solver"), (40, "a liar"), (10, "a solver"), (30, "another liar")):
+            best.raise_bound(bound, solver)
+        self.assertEqual(best.bound(), (40, "a liar"))
+        best.offer(Snapshot(20, roster), None, None, self.folder, "a test")
+        self.assertEqual((warnings, best.bound()), ([DOUBT.format("a liar", 40, 20), DOUBT.format("another liar", 30, 20)], (15, "a solver")))
 
     def test_the_report_is_that_of_the_roster_in_the_file(self):
         best, roster = self.best_roster([]), files.read_solution(ROSTER)
@@ -125,7 +134,7 @@ class Parts(HelperTest):
             search = self.search(best, solver)
             with mock.patch.object(search, "_solve", side_effect=lambda *words: words[-1](205)):
                 search._whole(solver, 1.0, self.folder)
-            self.assertEqual((best.bound, best.is_proved(), warnings), (bound, cuts_off, said))
+            self.assertEqual((best.bound()[0], best.is_proved(), warnings), (bound, cuts_off, said))
 
     def test_a_file_that_cannot_be_written_says_why_there_is_no_roster(self):
         full = OSError(errno.ENOSPC, os.strerror(errno.ENOSPC))
@@ -145,15 +154,19 @@ class Parts(HelperTest):
             # The solver has no `solve`, so it was not called.
             self.assertIsNone(search._solve(Solver(), WEEK_FILES, 60.0, None, self.folder))
 
-    def test_a_solver_that_is_not_used_any_more_has_no_second_proof(self):
-        best = self.best_roster([])
-        best.offer(Snapshot(200, files.read_solution(ROSTER)), None, None, self.folder, "a test")
-        search = self.search(best, Solver())
-        step = mock.Mock(side_effect=lambda *_: search.stop())
-        first, whole = mock.Mock(return_value=Attempt(find_solver("sh"), 200)), mock.Mock()
-        with mock.patch.multiple(search, _first=first, _whole=whole, _step=step):
-            search._work(2, 4, random.Random(1), self.folder)
-        self.assertEqual((whole.call_count, step.call_count), (0, 1))
+    def test_a_solver_that_is_not_used_or_not_believed_any_more_has_no_second_proof(self):
+        shell = find_solver("sh")
+        for used, wrong in ((Solver(), False), (shell, True)):
+            best = self.best_roster([], [])
+            best.offer(Snapshot(200, files.read_solution(ROSTER)), None, None, self.folder, "a test")
+            if wrong:
+                best.raise_bound(205, shell.name)
+            search = self.search(best, used)
+            step = mock.Mock(side_effect=lambda *_: search.stop())
+            first, proof = mock.Mock(return_value=Attempt(shell, 200)), mock.Mock()
+            with mock.patch.multiple(search, _first=first, _try_proof=proof, _step=step):
+                search._work(2, 4, random.Random(1), self.folder)
+            self.assertEqual((proof.call_count, step.call_count), (0, 1))
 
     def test_too_many_jobs_for_the_system(self):
         start = threading.Thread.start

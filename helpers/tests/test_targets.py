@@ -71,7 +71,8 @@ class Targets(HelperTest):
             with self.subTest(target.name), contextlib.redirect_stderr(io.TextIOWrapper(io.BytesIO())) as said:
                 shutil.copy(start, roster)
                 words = [*WEEK_OPTIONS, "--from", start, "--sol", target, "--time", 60, "--jobs", 1, "--solver", "clasp"]
-                with mock.patch("sys.argv", ["inrc2pb-improve"]), mock.patch("os.open", self.full_after(2)):
+                unchanged = mock.patch("inrc2pb.command._catch_signals")
+                with mock.patch("sys.argv", ["inrc2pb-improve"]), mock.patch("os.open", self.full_after(2)), unchanged:
                     with self.assertRaises(SystemExit) as ended, contextlib.redirect_stdout(io.TextIOWrapper(io.BytesIO())):
                         command.run(lambda: main([str(word) for word in words]))
                 said.seek(0)

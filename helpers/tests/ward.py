@@ -6,6 +6,7 @@ import subprocess
 import sys
 import tempfile
 import unittest
+from dataclasses import replace
 from pathlib import Path
 
 ROOT = Path(__file__).resolve().parents[2]
@@ -67,6 +68,12 @@ class HelperTest(unittest.TestCase):
         path.write_text(f"#!/bin/sh\n{text}")
         path.chmod(0o755)
         return path
+
+    def answers_once(self, early=False):
+        """A solver that has an answer of penalty 20 to the ward's week when it is called first, and none later."""
+        answer = self.folder / "answer.txt"
+        answer.write_text(program.answer_with(replace(WEEK_FILES, early=early), ROSTER))
+        return f"sh -c 'mkdir {self.folder}/called 2> /dev/null && cat {answer}'"
 
     def slow_to_encode(self, running):
         """The environment of a program whose `encode` makes the file `running`, and does not end in the time of a test."""
