@@ -70,7 +70,7 @@ dist: all
 deb: all
 	package/deb.sh out
 
-# Where the parts go. Completions for bash, zsh and fish are written by docs/completions/write.py.
+# The folders of the installed parts. docs/completions/write.py writes the completions for bash, zsh and fish.
 BIN = $(DESTDIR)$(PREFIX)/bin
 PAGES = $(SHARE)/doc/inrc2pb
 ZSH = $(SHARE)/zsh/site-functions

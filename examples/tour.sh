@@ -29,7 +29,7 @@ try() {
     timeout "$limit" bash -o pipefail -c "$1"
 }
 
-# The same, where a command that fails ends the tour.
+# The same, but a command that fails ends the tour.
 run() {
     try "$1" || { echo "The tour ends here: status $?"; exit 1; }
 }

@@ -3,7 +3,7 @@
 #
 #   examples/try.sh
 #
-# Needs Rattle's command `rt`. Takes about a minute; leaves no program behind.
+# Needs Rattle's command `rt`. Takes about a minute, and keeps no program.
 set -u
 cd "$(dirname "$0")/../crates/inrc2pb" || exit 2
 
@@ -16,7 +16,7 @@ words="--sce Sc-n005w4.txt --his H0-n005w4-0.txt --week WD-n005w4-0.txt"
 room=$(mktemp -d) || exit 2
 trap 'rm -rf "$room"' EXIT
 
-# start NAME WORDS..: runs the program on these words, behind.
+# start NAME WORDS..: runs the program on these words, in the background.
 start() {
     local name=$1
     shift
@@ -24,7 +24,7 @@ start() {
     rt try "${files[@]}" -- "$@" > "$room/$name.all" 2>&1 &
 }
 
-# show NAME LINES: what it printed first. The last two lines are those of `rt try`.
+# show NAME LINES: the first lines of its output. `rt try` prints the last two.
 show() {
     tail -n 1 "$room/$1.all" | grep -q 'run=ended status=0' || { cat "$room/$1.all"; exit 1; }
     printf '\n$ inrc2pb %s\n' "$(cat "$room/$1.words")"

@@ -14,7 +14,7 @@ fi
 # sum_of PROGRAM..: the checksum of these programs.
 sum_of() { cat "$@" | sha256sum | cut -d ' ' -f 1; }
 
-# is_committed: the files are those of the commit.
+# is_committed: whether the files have not changed since the commit.
 is_committed() { [[ $commit != unknown && $commit != *-dirty ]]; }
 
 # Archives and packages built from one commit are the same bytes: their files have the commit's time.

@@ -42,12 +42,12 @@ reads() {
     echo "read ${2:-$1} 0"
 }
 
-# opens_week and reads_week WORD..: the files of the week, and others that are opened and read behind them.
+# opens_week and reads_week WORD..: the files of the week, and others that are opened and read after them.
 opens_week() { opens Sc-n005w4.txt H0-n005w4-0.txt WD-n005w4-0.txt "$@"; }
 reads_week() { for file in Sc-n005w4.txt H0-n005w4-0.txt WD-n005w4-0.txt "$@"; do reads "$file"; done; }
 
-# The calls are those of the file `wanted`; of writes that follow one another to one file only the first is there, without
-# its number of bytes.
+# The calls equal the file `wanted`, which has only the first of several writes in a row to one file, without its number of
+# bytes.
 are() {
     sed -E 's/^(write .*) [0-9]+$/\1/' "$room/calls" | awk '!/^write/ || $0 != last { print } { last = $0 }' > "$room/told"
     cmp -s "$room/told" "$room/wanted" || complain "other calls: $(diff "$room/told" "$room/wanted" | head -n 5)"
@@ -112,8 +112,8 @@ fails() {
     are
 }
 
-# ends_at CALL STATUS: this call of a run failed. The run made the calls of the file `wanted`, of which it is the last, and
-# reported the failure; where the report failed, it ends with the status that it has anyway.
+# ends_at CALL STATUS: this call of a run failed. The run made the calls of the file `wanted`, and this one last, and reported
+# the failure; if the report failed, the run ends with its usual status.
 ends_at() {
     local status=3 fault='read failed'
     case $1 in

@@ -1,5 +1,5 @@
 #!/usr/bin/env bash
-# Runs the program's `decode`, and checks its exit status and what it writes where.
+# Runs the program's `decode`, and checks its exit status, its output and its files.
 #
 #   tests/decode.sh [llvm | rattle | PROGRAM]
 #

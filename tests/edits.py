@@ -1,16 +1,16 @@
 #!/usr/bin/env python3
-"""Says which edit of crates/*/must-fail/ turns which function, and whether each of them still applies.
+"""Says which edit of crates/*/must-fail/ changes which function, and whether each of them still applies.
 
 usage: edits.py [map | many | none | stale] [CRATE..]
 
-  map     each function that an edit turns, its promises, and its edits
-  many    the same, where a function has two edits or more
-  none    the public functions that no edit turns, beside the laws, whose bodies call laws or nothing, and the drops, which
-          promise nothing
+  map     each function that an edit changes, its promises, and its edits
+  many    the same, for functions with two edits or more
+  none    the public functions that no edit changes, without the laws, whose bodies call laws or nothing, and the drops,
+          which promise nothing
   stale   the edits whose old text is not in its file exactly once; the word may be left out
 
-A promise is told by its label, or by its text where it has none; `=` stands before one that fixes the whole result.
-Ends with status 1 where an edit is stale. Nothing is proved: it takes a second.
+A promise is shown by its label, or by its text if it has none; `=` precedes one that fixes the whole result.
+Ends with status 1 if an edit is stale. Nothing is proved: it takes a second.
 """
 
 import glob

@@ -1,15 +1,15 @@
 #!/usr/bin/env python3
-"""Weeks so small that every roster can be tried: the models of `encode`, and answers to them, beside helpers/inrc2pb/rules.py.
+"""Compares the models of `encode` for small weeks, and answers to them, with helpers/inrc2pb/rules.py, for every roster.
 
 usage: every_roster.py PROGRAM [--weeks N] [--seed N]
 
-For each set of cells: the constraints can be satisfied where the roster keeps the hard rules and nowhere else, and the
-least objective is then its penalty. So the least penalty of all is the optimum, or there is none; where clasp is
-installed it has to prove the same. Each slack has to be of one constraint alone, with the coefficient 1 and no price
-below 0, so that the least objective for some cells is a sum over the constraints of their cheapest slacks.
+For each set of cells, the constraints can be satisfied exactly if the roster keeps the hard rules, and the minimum
+objective is then its penalty. So the minimum of all penalties is the optimum, or there is none; if clasp is installed,
+it has to prove the same. Each slack must be in one constraint only, with the coefficient 1 and a price of at least 0, so
+that the minimum objective for some cells is a sum over the constraints of their cheapest slacks.
 
-Of answers with any slacks `decode` has to name the first constraint that is not satisfied, or to report the objective
-that was paid beside the roster's costs.
+For answers with any slacks `decode` has to name the first constraint that is not satisfied, or to report the answer's
+objective and the roster's costs.
 """
 
 import argparse

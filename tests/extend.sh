@@ -1,5 +1,5 @@
 #!/usr/bin/env bash
-# Runs the program's `extend`, and checks its exit status and what it writes where.
+# Runs the program's `extend`, and checks its exit status, its output and its files.
 #
 #   tests/extend.sh [llvm | rattle | PROGRAM]
 #

@@ -1,6 +1,6 @@
 #!/usr/bin/env bash
 # Files with a fault: the program reports the file, the line and the fault, for each file once in its first lines and once far
-# down. What each fault is, `rota_tests` looks at, over memory.
+# down. `rota_tests` checks all faults, over memory.
 #
 #   tests/file_tables.sh [llvm | rattle | PROGRAM]
 #

@@ -1,6 +1,6 @@
 #!/usr/bin/env bash
-# Runs the program at great sizes: a week of as many nurses as there may be, rosters and requests of as many rows as a file may
-# have, names of more than a mebibyte, long command lines. None of them is out of memory.
+# Runs the program at great sizes: a week with the maximum of nurses, rosters and requests with the maximum of rows, names of
+# more than a mebibyte, long command lines. None of them is out of memory.
 #
 #   tests/great_sizes.sh [llvm | rattle | PROGRAM]
 #
@@ -34,7 +34,7 @@ rows() {
     }'
 }
 
-# of_rows NAME NUMBER: a solution file of so many rows.
+# of_rows NAME NUMBER: a solution file with this number of rows.
 of_rows() {
     mapfile -t many < <(rows "$2")
     solution "$1" "${many[@]}"

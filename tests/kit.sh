@@ -1,21 +1,21 @@
 # shellcheck shell=bash
-# The kit of this folder's scripts: runs of the built program, with the files that they take and what they end with and
-# write. To be sourced with the script's words:
+# The kit of this folder's scripts: it runs the built program on files, and checks its exit status and output. A script
+# sources it with the script's own words:
 #
 #   . "$(dirname "$0")/kit.sh"           SCRIPT [llvm | rattle | PROGRAM]
 #
 # `llvm`, or no word, is the program as LLVM builds it, and `rattle` as Rattle's own compiler does, as the gate and
-# `make programs` leave them. A script ends with `finish`. What is expected is in docs/formats.md, docs/answers.md,
+# `make programs` leave them. A script ends with `finish`. Expected texts come from docs/formats.md, docs/answers.md,
 # docs/rules.md and docs/model.md.
 # shellcheck disable=SC2034  # The scripts use what the kit sets.
 set -u
 script=$(basename "$0")
 given=${1:-llvm}
-# Where that names a file, it is one of the folder that the script was started in.
+# A path is relative to the folder in which the script was started.
 [ ! -f "$given" ] || given=$(realpath "$given")
 cd "$(dirname "${BASH_SOURCE[0]}")/.." || exit 2
 
-# needs FILE: ends the script where what it needs was not built.
+# needs FILE: ends the script if the file was not built.
 needs() {
     [ -x "$1" ] || { echo "$script: there is no $1: 'make programs' builds it"; exit 2; }
 }
@@ -31,7 +31,7 @@ program=$(realpath "$program")
 room=$(mktemp -d) || exit 2
 trap 'rm -rf "$room"' EXIT
 
-# Cases that were checked, and what failed of them. What is checked now is in $what.
+# The numbers of cases that were checked and that failed. $what names the present case.
 checked=0
 failed=0
 what='the files'
@@ -44,7 +44,7 @@ complain() {
     failed=$((failed + 1))
 }
 
-# begins_case WHAT: what is checked from here on.
+# begins_case WHAT: begins the case of this name.
 begins_case() {
     what=$1
     checked=$((checked + 1))
@@ -165,7 +165,7 @@ refuses() {
     is_missing unmade
 }
 
-# misused WHAT MISTAKE WORD..: the program refuses the words, and tells this mistake first.
+# misused WHAT MISTAKE WORD..: the program refuses the words, and names this mistake first.
 misused() {
     local told
     run "$1" 2 nothing text "${@:3}"
@@ -186,7 +186,7 @@ is_missing() {
 # has_line LINE: the last run printed it.
 has_line() { grep -qxF -- "$1" "$room/out" || complain "no line '$1'"; }
 
-# ---- What the public calls find: runs of `week_report`, as the same compiler built it where that was done.
+# ---- The values of public calls: runs of `week_report`, built by the same compiler if there is such a build.
 
 needs_reporter() {
     reporter=${WEEK_REPORT:-crates/week_report/out/week_report}

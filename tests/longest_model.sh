@@ -1,8 +1,8 @@
 #!/usr/bin/env bash
 # Runs the program on the week with the longest model that we know of (`greatest` of bench/weeks.py), and on a week of the
 # same size that has a roster. Each run has 32 MB of memory, the model has 2.1 GB. The numbers of variables and constraints
-# are counted by hand from docs/model.md, and the roster's costs by helpers/inrc2pb/rules.py. That the model is counted by arithmetic, and
-# not by going through it, shows in the time until the first write.
+# are computed by hand from docs/model.md, and the roster's costs by helpers/inrc2pb/rules.py. The time until the first write
+# shows that the program computes the numbers, and does not walk over the model.
 #
 #   tests/longest_model.sh [llvm | rattle | PROGRAM]
 #
@@ -31,7 +31,7 @@ has_model() {
     [ ! -s "$err" ] || complain "$(cat "$err")"
 }
 
-# milliseconds WORDS..: the processor time of a run of the program in the room, the least of three.
+# milliseconds WORDS..: the minimum processor time of three runs of the program in the room.
 milliseconds() {
     local TIMEFORMAT=%U
     rm -f "$room/times"

@@ -45,7 +45,7 @@ texts_of_manual() {
     ' docs/inrc2pb.1 | sort
 }
 
-# complete WORD..: what the completion offers for the last of these words.
+# complete_words WORD..: the words that the completion offers for the last of these.
 complete_words() {
     COMP_WORDS=("$@")
     COMP_CWORD=$(($# - 1))
@@ -88,7 +88,7 @@ completes() {
         "$(cd "$room" && echo week.* | tr ' ' '\n' | sort | tr '\n' ' ')"
 }
 
-# The completions are those of their one description, and are read by their shells.
+# The completions are as docs/completions/write.py writes them, and their shells read them.
 completions_are_written() {
     local file offered
     begins_case 'the completions'

@@ -1,5 +1,5 @@
 #!/usr/bin/env bash
-# Runs the program with `--early` and `--fix`, and checks its exit status and what it writes where.
+# Runs the program with `--early` and `--fix`, and checks its exit status, its output and its files.
 #
 #   tests/options.sh [llvm | rattle | PROGRAM]
 #
@@ -12,8 +12,8 @@ printf 's SATISFIABLE\nv x8 x3\n' > "$room/wednesday_answer"
 model held_model one_cell '+1 x3 >= 1 ;'
 model both_model one_cell '+1 x1 >= 1 ;' '+1 x3 >= 1 ;'
 
-# She worked twelve days before the week, and is to work at most fifteen in two weeks. The row of a held cell is beside
-# the hard rules, before those of the soft ones.
+# She worked twelve days before the week, and is to work at most fifteen in two weeks. The row of a held cell is
+# among the hard rules, before the soft ones.
 objective='min: +20 x9 +20 x10 +20 x11 +20 x12 ;'
 above='-1 x1 -1 x2 -1 x3 -1 x4 -1 x5 -1 x6 -1 x7 +1 x9 +1 x10 +1 x11 +1 x12 >= -3 ;'
 model early_model one_cell "$objective" "$above"

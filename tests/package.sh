@@ -5,7 +5,7 @@
 #
 #   tests/package.sh [llvm | rattle | PROGRAM]
 #
-# Nothing is proved. Without dpkg, strip or lintian the package is not tried; without clasp its stored answer stands in. Needs
+# Nothing is proved. Without dpkg, strip or lintian the package is not tried; without clasp its stored answer is used. Needs
 # bash, the usual tools of a shell, make and Python 3.8.
 . "$(dirname "$0")/kit.sh"
 needs crates/who_fits/out/who_fits

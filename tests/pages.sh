@@ -1,7 +1,7 @@
 #!/usr/bin/env bash
 # Checks the pages: runs each shell block, in the order of its page, in a copy of the repository, and compares its output with
 # the block of text that follows it. Checks the links between the pages, the length of README.md, the roster that it shows,
-# that the code on a page is a crate's, and that the pages which sources and scripts name exist.
+# that the code on a page is in a crate, and that the pages exist which sources and scripts name.
 #
 #   tests/pages.sh [llvm | rattle | PROGRAM]
 #
@@ -68,7 +68,7 @@ runs_blocks() {
     done
 }
 
-# The pages that a page names are there.
+# The pages that a page names exist.
 links_hold() {
     local folder link
     begins_case "the links of $1"

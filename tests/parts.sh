@@ -43,7 +43,7 @@ script() {
     printf '%-28s %8.1f %12.1f %8s %7s\n' "$1${2:+ $2}" "$wall" "$processor" $((cases - bad)) "$bad" > "$row"
 }
 
-# The scripts of this folder. Those that take longest come first, so that others run beside them.
+# The scripts of this folder. The slowest come first, so that others run at the same time.
 scripts() { printf '%s\n' tests/helpers.sh tests/improve.sh tests/longest_model.sh tests/*.sh | awk '!seen[$0]++'; }
 
 # all_scripts [llvm | rattle | PROGRAM]..: each script of this folder that may be started, except the one that starts them all,

@@ -1,10 +1,10 @@
 #!/usr/bin/env bash
-# The program beside helpers/inrc2pb/rules.py, which was written from docs/rules.md alone: on weeks, rosters and held cells made at
-# random, and on every roster of weeks so small that all can be tried. Then the first cases of `make fuzz`.
+# Compares the program with helpers/inrc2pb/rules.py, which was written from docs/rules.md alone: on random weeks, rosters and held
+# cells, and on every roster of small weeks. Then runs the first cases of `make fuzz`.
 #
 #   tests/random_weeks.sh [llvm | rattle | PROGRAM]
 #
-# Needs Python 3.8; where clasp is installed, it has to prove the optima of the small weeks.
+# Needs Python 3.8; if clasp is installed, it has to prove the optima of the small weeks.
 . "$(dirname "$0")/kit.sh"
 
 begins_case 'rosters made at random'

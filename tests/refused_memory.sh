@@ -67,8 +67,8 @@ ends_right() {
     is_like_ample
 }
 
-# sweep_program WHAT GO_ON STATUS STDOUT MADE WORD..: sweeps the program, of which so many refusals go on, `some` for any number.
-# With ample memory it ends so, and what it writes to the file `made` is what MADE holds.
+# sweep_program WHAT GO_ON STATUS STDOUT MADE WORD..: sweeps the program. After GO_ON of the refusals it goes on, `some` for any
+# number. With ample memory it has this status and output, and its file `made` equals MADE.
 sweep_program() {
     local go_on=$2 before=$went_on wants_err=nothing
     ample=$3
@@ -82,7 +82,7 @@ sweep_program() {
     [ "$go_on" = some ] || [ $((went_on - before)) = "$go_on" ] || complain "$((went_on - before)) refusals went on, not $go_on"
 }
 
-# Of a test, whose first line tells what it met.
+# The first line of a test says that memory ran out, or what the test found.
 tells() {
     local wanted=$found
     [ "$1" = whole ] || wanted='out of memory'
@@ -109,7 +109,7 @@ sweeps_test() {
 }
 table() { sweeps_test "$PWD/$tables" "refused_tables::$1" "$2"; }
 
-# sweeps_runs LINE..: sweeps the test of many runs, of which each finds this.
+# sweeps_runs LINE..: sweeps the test of many runs, each of which finds this.
 sweeps_runs() {
     printf '%s\n' "$@" > "$room/found"
     begins_case 'refused_memory::runs'
@@ -144,7 +144,7 @@ sweep_program 'an answer' 2 0 text text decode "${five[@]}" --answer sat4j.txt -
 cp "$room/ample_made" "$room/roster"
 sweep_program 'a roster' 2 0 text nothing extend "${five[@]}" --from roster
 
-# Runs with a fault, at each point where the program holds other tables.
+# Runs with a fault, one for each set of tables that the program may hold.
 line held_unknown 'SOLUTION 0 s1 ASSIGNMENTS = 1 Bob Mon Day Nurse'
 printf '%s\n' 's SATISFIABLE' 'v x8 x1 -x1' > "$room/both_values"
 printf '%s\n' 's UNSATISFIABLE' > "$room/no_roster"

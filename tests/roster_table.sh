@@ -1,10 +1,10 @@
 #!/usr/bin/env bash
-# helpers/inrc2pb-table on the roster of examples/n005w4: held cells, requests that were not granted, what each nurse
-# costs beside the report of `decode`, the picture, the spreadsheet, and colours in a terminal only.
+# Runs helpers/inrc2pb-table on the roster of examples/n005w4: held cells, requests that were not granted, the costs of the
+# nurses and the report of `decode`, the picture, the spreadsheet, and colors in a terminal only.
 #
 #   tests/roster_table.sh [llvm | rattle | PROGRAM]
 #
-# Needs Python 3.8; for colours `script`, of the usual tools of Linux.
+# Needs Python 3.8; for colors `script`, of the usual tools of Linux.
 . "$(dirname "$0")/kit.sh"
 table=$(realpath helpers/inrc2pb-table)
 cp examples/n005w4/*.txt "$room"

@@ -1,7 +1,7 @@
 #!/usr/bin/env bash
 # Decodes the answers that real solvers gave for the week of examples/n005w4. Each is a roster whose objective and penalty
-# are 320, the least ones, as two solvers proved. What `decode` writes as a solution goes back through `extend` and
-# `decode`, with the same costs and the same solution. The same with cells held, and with `--early` for the last week of
+# are 320, the minimum, as two solvers proved. The solution that `decode` writes goes back through `extend` and `decode`,
+# with the same costs and the same solution. The same with held cells, and with `--early` for the last week of
 # examples/thirty.
 #
 #   tests/solver_answers.sh [llvm | rattle | PROGRAM]
@@ -13,22 +13,22 @@ cp examples/n005w4/*.txt examples/n005w4/answers/*.txt examples/thirty/*.txt "$r
 cp tests/thirty_clasp_early.txt "$room/clasp-early.txt"
 files=(--sce Sc-n005w4.txt --his H0-n005w4-0.txt --week WD-n005w4-0.txt)
 
-# wanted_report PENALTY: the answer's status, the least objective twice, and the last `o` value, if there is one.
+# wanted_report PENALTY: the answer's status, this minimum as objective and penalty, and the last `o` value, if there is one.
 wanted_report() {
     sed -n 's/^s /status /p' "$in"
     printf 'objective %s\npenalty %s\n' "$1" "$1"
     sed -n 's/^o /last o /p' "$in" | tail -n 1
 }
 
-# check_report PENALTY: the report has a cost of each soft rule beside this, and they sum to the penalty.
+# check_report PENALTY: the report has these lines and a cost of each soft rule, and the costs sum to the penalty.
 check_report() {
     [ "$(grep -v '^S[0-9] ' "$room/out")" = "$(wanted_report "$1")" ] || complain "another report: $(cat "$room/out")"
     [ "$(awk '/^S[0-9] / { lines += 1; sum += $2 } END { print lines, sum }' "$room/out")" = "${#soft_rules[@]} $1" ] ||
         complain "the costs do not sum to $1"
 }
 
-# With a shift promised the least penalty is 350, as clasp proved. With one nurse's week of the best roster held it stays
-# 320, and the best answer is an answer to that model too.
+# With a promised shift the minimum penalty is 350, as clasp proved. If one nurse's week of the best roster is held, it stays
+# 320, and the best answer is also an answer to that model.
 holds_cells() {
     in=$room/clasp-held.txt
     run 'a shift promised' 0 text nothing decode "${files[@]}" --fix promised.txt --sol solution
@@ -48,7 +48,7 @@ holds_cells() {
 }
 
 # clasp's answer to the model of the last week of thirty nurses with `--early`. Its objective there is the last one that
-# clasp told. Without the flag the week pays for what was exceeded before it too: for the same roster it pays more.
+# clasp printed. Without the flag the week also pays for the excess of earlier weeks: the same roster costs more.
 charges_early() {
     local thirty=(--sce Sc-thirty.txt --his H0-thirty-3.txt --week WD-thirty-3.txt) early
     in=$room/clasp-early.txt

@@ -1,5 +1,5 @@
 # shellcheck shell=bash disable=SC2154  # The kit makes the room.
-# Commands that stand in for others while a script runs, in the folder $room/bin. To be sourced after the kit.
+# Commands that replace others while a script runs, in the folder $room/bin. A script sources it after the kit.
 mkdir -p "$room/bin" "$room/answers"
 
 # stand_in NAME: the command of this name, from standard input.

@@ -3,7 +3,7 @@
 #
 #   tests/tour.sh [llvm | rattle | PROGRAM]
 #
-# Where no solver is installed it says so and passes: the answers that tests/solver_answers.sh reads are stored.
+# If no solver is installed it says so and passes: tests/solver_answers.sh reads stored answers.
 . "$(dirname "$0")/kit.sh"
 . examples/solver_commands.sh
 

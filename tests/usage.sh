@@ -1,5 +1,5 @@
 #!/usr/bin/env bash
-# Runs the program on words and on the files of `encode`, and checks its exit status and what it writes where.
+# Runs the program on words and on the files of `encode`, and checks its exit status, its output and its files.
 #
 #   tests/usage.sh [llvm | rattle | PROGRAM]
 #
@@ -8,7 +8,7 @@
 
 line version "inrc2pb $(sed -n 's/^## //p' CHANGELOG.md | head -n 1)"
 
-# Where each thing is that a help text promises: a line of a page of docs/, and a line of the manual page.
+# The place of each thing that a help text promises: a line of a page of docs/, and a line of the manual page.
 declare -A line_of_page=(
     [files]='^## The files, slot by slot$' ['files of the week']='^## The files, slot by slot$' [roster]='^## The files, slot by slot$'
     [model]='^## The OPB text$' [answer]='^## Answers of solvers$'
@@ -192,7 +192,7 @@ fails_to_write() {
     out=/dev/full refuses 'a full standard output' 3 'write failed' encode "${week[@]}"
 }
 
-# The scenario cut in line 10, and filled up with blanks to so many bytes.
+# The scenario, cut in line 10 and filled up with blanks to a number of bytes.
 sed '10s/\(Full (1,\).*/\1/;10q' "$room/scenario.txt" > "$room/cut.txt"
 fill() {
     cat "$room/scenario.txt"

@@ -5,7 +5,7 @@
 #   tests/verdict.sh [llvm | rattle | PROGRAM]
 #
 # The line comes from $GATE_LOG, the output of `rt ci`, or else of `rt check` over what the last check of crates/inrc2pb kept, which
-# proves only what changed since; where neither is there, the page alone is checked. Needs bash and the usual tools of a shell.
+# proves only what changed since; if neither exists, the page alone is checked. Needs bash and the usual tools of a shell.
 . "$(dirname "$0")/kit.sh"
 page=docs/trusted.md
 

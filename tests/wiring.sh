@@ -1,7 +1,7 @@
 #!/usr/bin/env bash
-# Runs the program where no contract reaches: which file goes to which reader, in which order they are opened, outputs of
-# many buffers, devices that fill up or go away in the middle, limits on files, outputs that are inputs or one file, streams
-# that are closed or do not block.
+# Tests what no contract says: which file goes to which reader, in which order files are opened, outputs of many buffers,
+# devices that fill up or go away in the middle, limits on files, outputs that are inputs or the same file, streams that are
+# closed or do not block.
 #
 #   tests/wiring.sh [llvm | rattle | PROGRAM]
 #
@@ -24,8 +24,7 @@ five=(--sce five_scenario.txt --his five_history.txt --week five_week.txt)
 # misreads WHAT FILE WORD..: a fault of this file, in its first line, whatever is in the others.
 misreads() { refuses "$1" 1 "$2 line 1: another word expected" "${@:3}"; }
 
-# Each pair of files swapped: the first that is read tells its own name, and each file's own name is told
-# where the files before it are right.
+# Swaps each pair of files: the fault has the name of the first of the two that is read.
 swaps_files_of() {
     misreads "$1: scenario and history swapped" scenario "$@" --sce history.txt --his scenario.txt --week week.txt
     misreads "$1: scenario and week swapped" scenario "$@" --sce week.txt --his history.txt --week scenario.txt
@@ -56,7 +55,7 @@ writes_many_buffers() {
     rm -f "$room/many.opb"
 }
 
-# begins FILE: what the last run left there is a beginning of the model, and not all of it.
+# begins FILE: the last run left a beginning of the model there, and not all of it.
 begins() {
     local size
     size=$(stat -c %s "$room/$1")
@@ -127,8 +126,8 @@ ends_by_signal() {
     rm -f "$room/cut.opb"
 }
 
-# opens_first ONE OTHER WORD..: the program opens the file ONE before OTHER. They are two pipes, of which the second is
-# filled only once the first was opened; opened the other way round neither would ever be.
+# opens_first ONE OTHER WORD..: the program opens the file ONE before OTHER. They are two pipes, and the second is filled
+# only after the first was opened; a program that opened OTHER first would wait forever.
 opens_first() {
     local ended
     begins_case "$3: $1 is opened before $2"
@@ -171,10 +170,10 @@ writes_over_inputs() {
     holds both.txt model
 }
 
-# over FIRST SECOND NAME: the file NAME has FIRST, and then what of SECOND is longer.
+# over FIRST SECOND NAME: the file NAME has FIRST, and then the part of SECOND after its length.
 over() { { cat "$room/$1"; tail -c +$(($(stat -c %s "$room/$1") + 1)) "$room/$2"; } > "$room/$3"; }
 
-# Paths are not compared: words that clap accepts are never refused for what they name. docs/answers.md says what then happens.
+# Paths are not compared: the program refuses no words because they name the same file. docs/answers.md says what happens then.
 names_one_file_twice() {
     local all=("${days[@]/#/Ann }") rows
     rows=("${all[@]/%/ Day Nurse}")

@@ -148,13 +148,21 @@ def _required(row: str) -> Optional[str]:
 def _requested(row: str) -> Optional[str]:
     words = words_of(row)
     turned = len(words) == 3 and words[1] in DAYS and words[2] not in DAYS
-    return "the shift type comes first, then the day" if turned else None
+    return "the shift type comes first, then the day" if turned else _wrong_length(row, 3, "a request has a nurse, a shift type and a day")
 
 
 def _assigned(row: str) -> Optional[str]:
     words = words_of(row)
     turned = len(words) == 4 and words[1] not in DAYS and words[2] in DAYS
-    return "the day comes first, then the shift type" if turned else None
+    return "the day comes first, then the shift type" if turned else _wrong_length(row, 4, "a row has a nurse, a day, a shift type and a skill")
+
+
+def _wrong_length(row: str, count: int, says: str) -> Optional[str]:
+    """A reason if a row has another number of words. One with = is a heading, though a wrong one."""
+    words = words_of(row)
+    if "=" in row or len(words) == count:
+        return None
+    return f"{says}, and the line has {plural(len(words), 'word')}" + "; does a name have a blank? write _ for it" * (len(words) > count)
 
 
 def _past(row: str) -> Optional[str]:

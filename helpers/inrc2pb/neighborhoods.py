@@ -15,7 +15,7 @@ _GROWTH, _FAST_GROWTH, _SHRINKAGE = 1.07, 1.15, 0.92
 _FAST = 0.1
 # The weight of the earlier results of all pairs against a new one, and the weight of a pair that never gains.
 _MEMORY, _FLOOR = 0.95, 0.2
-# The usual seconds of a pair: at first, the weight of the earlier ones, and what is added to them.
+# The usual seconds of a pair: their first value, the weight of earlier ones, and the seconds that are added to them.
 _FIRST_SECONDS, _SECONDS_MEMORY, _MORE_SECONDS = 1.0, 0.7, 0.3
 
 

@@ -22,7 +22,7 @@ WEEKEND_GAP, WEEK_GAP = 12, 18
 CELL_LETTERS, LETTER, COST_LETTER, TITLE_LETTER = (6.6, 6.4), 8, 7.5, 9.5
 # All but the characters that XML allows. A byte that is not UTF-8 is a surrogate.
 _NOT_IN_XML = re.compile("[^\t\n\r\x20-\ud7ff\ue000-\ufffd\U00010000-\U0010ffff]")
-# How many letters of a shift type and of a skill a cell has, if they fit; fewer come last. Two names never look alike.
+# How many letters of a shift type and of a skill a cell has, if they fit; fewer come last. No two names look the same.
 LETTERS = ((99, 99), (99, 2), (5, 2), (1, 2))
 
 

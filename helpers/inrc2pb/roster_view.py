@@ -1,5 +1,6 @@
 """A roster of one or more weeks, ready to be shown: cells with marks, costs, and lines that go below."""
 
+import itertools
 from dataclasses import dataclass, field
 from pathlib import Path
 from typing import Callable, Dict, Iterable, Iterator, List, Mapping, NamedTuple, Optional, Sequence, Set
@@ -11,6 +12,7 @@ from .files import read_history, read_scenario, read_solution, read_week
 from .hints import plural
 from .misfits import other_week
 from .next_history import next_history
+from .records import Place, Requirement
 from .slots import text_of
 
 HELD, REFUSED = "*", "!"
@@ -249,11 +251,15 @@ def missing_nurses(week: Week, rows: Iterable[Assignment]) -> Iterator[str]:
 
 
 def spare_nurses(week: Week, rows: Iterable[Assignment]) -> Iterator[str]:
-    """A line for each day on which a place that asks for nurses has more than are best. They cost nothing."""
+    """A line for each day on which a place has more nurses than are best, also one that asks for none. They cost nothing."""
     number = rules.numbers(rows)
-    spare: Dict[int, List[str]] = {day: [] for day in range(len(DAYS))}
-    for place, required in week.data.requirements.items():
-        wanted = max(required.minimum, required.optimal)
-        if 0 < wanted < number[place]:
-            spare[place.day].append(f"{place.shift} {place.skill} ({number[place]} of {wanted})")
-    yield from (f"too many on {DAYS[day]}: {', '.join(places)}" for day, places in spare.items() if places)
+    for day, name in enumerate(DAYS):
+        places = []
+        for shift, skill in itertools.product(week.scenario.shift_types, week.scenario.skills):
+            place = Place(day, shift, skill)
+            required = week.data.requirements.get(place, Requirement(0, 0))
+            wanted = max(required.minimum, required.optimal)
+            if number[place] > wanted:
+                places.append(f"{shift} {skill} ({number[place]} of {wanted})")
+        if places:
+            yield f"too many on {name}: {', '.join(places)}"

@@ -13,7 +13,7 @@ from .program import NO_ROSTER, ProgramFault, WeekFiles
 from .solvers import installed_solvers
 from .targets import check_inputs_stay, check_no_pipes, check_target
 
-# The least seconds, and the least share of the time, that the last check, the file and the end of Python may take.
+# The minimum of seconds, and of the share of the time, for the last check, the file and the end of Python.
 END_SECONDS, END_SHARE = 0.5, 0.05
 # A search takes at least this, even if the time is over.
 LEAST_SECONDS = 0.2

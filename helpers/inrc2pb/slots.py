@@ -70,6 +70,11 @@ def is_utf8(word: str) -> bool:
     return not any("\udc80" <= letter <= "\udcff" for letter in word)
 
 
+def _comment_hint(word: str) -> str:
+    """The end of a sentence, if the word begins as a comment."""
+    return f"; '{word}' looks like a comment: the files have none, so remove it" if word.startswith(_COMMENT_STARTS) else ""
+
+
 def _other_encoding(word: str, names: Iterable[str]) -> str:
     """What to do if either the file with the word or the one with the names is not UTF-8. The names are those of the scenario."""
     special = [name for name in names if not name.isascii()]
@@ -107,8 +112,7 @@ class Slots:
 
     def fault(self, token: Token, fault: str, message: str) -> NoReturn:
         """Raises a fault at this token, with its probable reasons."""
-        if token.text.startswith(_COMMENT_STARTS):
-            message += f"; '{token.text}' looks like a comment: the files have none, so remove it"
+        message += next(filter(None, (_comment_hint(word.text) for word in (token, *self._before(token)))), "")
         if is_no_text(self.text):
             message = "this is no text file: save it as plain text"
         elif self._is_in_a_name(token):
@@ -116,6 +120,13 @@ class Slots:
         else:
             message += reasons(self.text.split("\n"), token.line, token.text, self._names, self._heading)
         raise FileFault(self.path, token.line, message, fault)
+
+    def _before(self, token: Token) -> Iterator[Token]:
+        """The token before this one if it was taken for a name, but is only the sign of a comment, or is on an earlier line."""
+        if self.at > 1 and self.tokens[self.at - 1] is token:
+            before = self.tokens[self.at - 2]
+            if before.text in _COMMENT_STARTS or before.line < token.line:
+                yield before
 
     def _is_in_a_name(self, token: Token) -> bool:
         """Whether the token is the sign that was taken last, and follows a name without a blank."""
@@ -200,4 +211,5 @@ class Slots:
             self.fault(token, "unknown name", f"'{token.text}' is no {kind} of {source}: {encoding}")
         meant = closest(token.text, names)
         message = f"'{token.text}' is no {kind} of {source}: " + (f"did you mean '{meant}'?" if meant else f"it has {quoted(names)}")
-        self.fault(token, "unknown name", message)
+        hint = "" if _comment_hint(token.text) else _comment_hint(meant or "")
+        self.fault(token, "unknown name", message + hint)

@@ -104,7 +104,7 @@ class BadSolvers(HelperTest):
         self.assertIn("rejected", faults)
 
     def test_a_solver_that_does_not_end_is_ended(self):
-        # A flood that reaches the greatest length of an answer is a fault, and three faults end the search.
+        # A flood that reaches the maximum length of an answer is a fault, and three faults end the search.
         for how, says in (("deaf", "no roster was found in 1 s: "), ("flood", "no roster was found in 1 s: |it printed more than 256 MiB")):
             with self.subTest(how=how):
                 began = time.monotonic()

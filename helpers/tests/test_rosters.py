@@ -135,8 +135,11 @@ class Tables(HelperTest):
         less = self.changed(WEEK, row, "Day Nurse (1,1) (0,0) (9,9)" + " (1,9)" * 4)
         _, printed, _ = run("table", "--sce", SCENARIO, "--his", HISTORY, "--week", less, ROSTER)
         lines = printed.splitlines()
-        self.assertTrue(lines[-2].startswith("missing on Sun: Day Nurse ("), printed)
-        self.assertEqual(lines[-1], "too many on Mon: Day Nurse (2 of 1)")
+        self.assertTrue(lines[-3].startswith("missing on Sun: Day Nurse ("), printed)
+        self.assertEqual(lines[-2:], ["too many on Mon: Day Nurse (2 of 1)", "too many on Tue: Day Nurse (2 of 0)"])
+        less.write_text(WEEK.read_text().replace(row + "\n", ""))
+        _, printed, _ = run("table", "--sce", SCENARIO, "--his", HISTORY, "--week", less, ROSTER)
+        self.assertIn("too many on Sun: Day Nurse (1 of 0)", printed)
         self.assertNotIn("too many", run("table", *WEEK_OPTIONS, ROSTER)[1])
 
     def test_the_texts_of_a_picture_fit_their_cells(self):
