@@ -10,6 +10,7 @@ bench/improve.json. The program is out/inrc2pb, or the one that INRC2PB names.
 
 import argparse
 import json
+import sys
 import tempfile
 from pathlib import Path
 from typing import Dict, List, NamedTuple, Tuple
@@ -102,10 +103,13 @@ def main() -> None:
     if unknown:
         words.error(f"'{unknown[0]}' is no row: give some of {'; '.join(PLANS)}")
     rows = read_rows()
-    for name in names:
-        row = rows[name] = measured(PLANS[name])
-        RESULTS.write_text(json.dumps(rows, indent=1) + "\n")
-        print(f"{name}: {found(row.runs)}; clasp {penalty(row.clasp)}", flush=True)
+    try:
+        for name in names:
+            row = rows[name] = measured(PLANS[name])
+            RESULTS.write_text(json.dumps(rows, indent=1) + "\n")
+            print(f"{name}: {found(row.runs)}; clasp {penalty(row.clasp)}", flush=True)
+    except KeyboardInterrupt:
+        sys.exit(f"stopped: the rows until now are in {RESULTS.relative_to(ROOT)}; give the names of the others")
     put_between(BEGIN, END, table(rows))
 
 

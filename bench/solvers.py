@@ -163,8 +163,12 @@ def run_improve(files: WeekFiles, limit: float, folder: Path, seed: int = 1, sol
     try:
         outcome = search(files, None, folder / "roster.txt", limit, seed, processors(), solvers, Progress(None))
     except ProgramFault as fault:
+        if fault.message.startswith("stopped"):
+            raise KeyboardInterrupt from fault
         said = "" if fault.status == NO_ROSTER else fault.message
         return Result(None, "no roster keeps" in fault.message, None, time.monotonic() - began, said)
+    if outcome.stopped:
+        raise KeyboardInterrupt
     return Result(outcome.report.penalty, outcome.proved, outcome.bound, time.monotonic() - began, "")
 
 
@@ -309,7 +313,10 @@ def main() -> None:
     for path in given.merge:
         merge(results, read_results(path))
     if not given.merge and not given.only_table:
-        measure(given, results)
+        try:
+            measure(given, results)
+        except KeyboardInterrupt:
+            sys.exit(f"stopped: the results are in {RESULTS.relative_to(ROOT)}; --missing makes the other runs, and writes the table")
     if not results:
         sys.exit(f"there is no result: the table of {PAGE.relative_to(ROOT)} stays")
     write_results(results)

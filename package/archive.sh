@@ -1,6 +1,6 @@
 #!/usr/bin/env bash
 # Writes FOLDER/inrc2pb-VERSION-x86_64-linux.tar.gz: the programs, their manual pages, completions, pages and example weeks,
-# with an installer. `make dist` builds first. The same commit gives the same bytes.
+# with an installer. `make dist` builds first. The same commit, kit and result of the gate give the same bytes.
 #
 #   package/archive.sh FOLDER
 #

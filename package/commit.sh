@@ -17,5 +17,5 @@ sum_of() { cat "$@" | sha256sum | cut -d ' ' -f 1; }
 # is_committed: whether the files have not changed since the commit.
 is_committed() { [[ $commit != unknown && $commit != *-dirty ]]; }
 
-# Archives and packages built from one commit are the same bytes: their files have the commit's time.
+# Archives and packages of one commit, kit and result of the gate are the same bytes: their files have the commit's time.
 export SOURCE_DATE_EPOCH=${SOURCE_DATE_EPOCH:-$commit_time}

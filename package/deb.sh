@@ -1,6 +1,6 @@
 #!/usr/bin/env bash
 # Writes FOLDER/inrc2pb_VERSION_amd64.deb: the programs, their manual pages, completions, pages and example weeks, where
-# Debian puts them. `make deb` builds first. The same commit gives the same bytes.
+# Debian puts them. `make deb` builds first. The same commit, kit and result of the gate give the same bytes.
 #
 #   package/deb.sh FOLDER
 #

@@ -70,10 +70,24 @@ scripts_are_clean() {
     shellcheck .ci/run ./*.sh examples/*.sh package/*.sh tests/*.sh > "$room/checked" || complain "$(head -n 20 "$room/checked")"
 }
 
+# A file with an interpreter in its first line can be run, and no other.
+scripts_are_executable() {
+    local file
+    begins_case 'the files that can be run'
+    for file in .ci/run ./*.sh bench/*.* examples/*.* helpers/inrc2pb-* package/*.* tests/*.*; do
+        if [ "$(head -c 2 "$file")" = '#!' ]; then
+            [ -x "$file" ] || complain "$file cannot be run"
+        else
+            [ ! -x "$file" ] || complain "$file can be run, and names no interpreter"
+        fi
+    done
+}
+
 version_is_in_preparation
 weeks_are_made
 kit_is_named
 examples_are_tests
 takes_contracts
 scripts_are_clean
+scripts_are_executable
 finish

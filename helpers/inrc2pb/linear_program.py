@@ -8,6 +8,7 @@ import argparse
 import contextlib
 import functools
 import math
+import os
 import re
 import sys
 from dataclasses import dataclass
@@ -174,7 +175,9 @@ def main(words: Optional[List[str]] = None) -> None:
     """The command `inrc2pb-lp`."""
     given = _arguments().parse_args(words)
     if given.command == "answer":
-        with open(given.solution, encoding="utf-8", errors="replace") as solution:
+        # toulbar2 writes no file if its propagation finds that there is no solution.
+        missing = given.status == "infeasible" and not given.solution.exists()
+        with open(os.devnull if missing else given.solution, encoding="utf-8", errors="replace") as solution:
             read_answer(solution, given.status).write(sys.stdout)
         return
     if given.lp:

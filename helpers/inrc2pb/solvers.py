@@ -103,7 +103,7 @@ class CommandSolver(Solver):
         if re.search(r"^s(?:[ \t\r]|$)", ended.output, re.MULTILINE):
             return Outcome(ended.output)
         if ended.flooded:
-            return Outcome("", f"it printed more than {MAX_OUTPUT >> 20} MiB and no answer")
+            return Outcome("", f"it printed more than {MAX_OUTPUT >> 20} MiB, too much for an answer")
         if ended.timed_out:
             return replace(NONE_IN_TIME, silent=not ended.output)
         return Outcome("", f"it printed no answer and {_ending(ended)}")

@@ -117,7 +117,7 @@ class BadSolvers(HelperTest):
     def test_a_flood_is_a_fault(self):
         with mock.patch("inrc2pb.processes.MAX_OUTPUT", 100_000):
             outcome = find_solver(fake("flood")).solve(Task(Path("week.opb"), 60, self.folder), Processes())
-        self.assertEqual(outcome, Outcome("", "it printed more than 256 MiB and no answer"))
+        self.assertEqual(outcome, Outcome("", "it printed more than 256 MiB, too much for an answer"))
 
     def test_a_solver_that_cannot_be_run(self):
         rows = {"no_such_solver": "there is no solver no_such_solver", "clasp 'x": "No closing quotation: correct its quotes"}

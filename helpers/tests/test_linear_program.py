@@ -8,14 +8,14 @@ import tempfile
 import unittest
 from pathlib import Path
 
+from ward import HELPERS, HelperTest, run
+
+from inrc2pb.linear_program import ModelFault, ModelSize, convert, write_linear_program
+from inrc2pb.mip_solution import SolutionFault, read_answer
+
 HERE = Path(__file__).resolve().parent
-sys.path.insert(0, str(HERE.parent))
-
-from inrc2pb.linear_program import ModelFault, ModelSize, convert, write_linear_program  # noqa: E402
-from inrc2pb.mip_solution import SolutionFault, read_answer  # noqa: E402
-
 SOLUTIONS = HERE / "data" / "solutions"
-COMMAND = HERE.parent / "inrc2pb-lp"
+COMMAND = HELPERS / "inrc2pb-lp"
 MAX_LINE = 560
 
 STATUS_OF = {"optimal": "OPTIMUM FOUND", "stopped": "SATISFIABLE", "none": "UNKNOWN", "infeasible": "UNSATISFIABLE"}
@@ -58,6 +58,14 @@ def lp_of(text):
     target = io.StringIO()
     size = write_linear_program(io.StringIO(text), target)
     return target.getvalue(), size
+
+
+class NoResult(HelperTest):
+    def test_a_result_file_that_is_missing(self):
+        missing = self.folder / "week.sol"
+        self.assertEqual(run("lp", "answer", missing, "--status", "infeasible"), (0, "s UNSATISFIABLE\n", ""))
+        self.assertEqual(run("lp", "answer", missing, "--status", "optimal")[0], 3)
+        self.assertEqual(run("lp", "answer", missing)[0], 3)
 
 
 class LinearPrograms(unittest.TestCase):

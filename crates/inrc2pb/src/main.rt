@@ -18,7 +18,7 @@ fn main(rt: HostRuntime) -> ExitCode {
         env::args(&rt),
         &mut HostFiles::new(&rt),
         &mut FromRead::new(StandardInput::new(&rt)),
-        &HostOutputFiles::new(&rt),
+        &mut HostOutputFiles::new(&rt),
         &mut StandardOutput::new(&rt),
         &mut StdoutPrinter::new(&rt),
         &mut StderrPrinter::new(&rt),

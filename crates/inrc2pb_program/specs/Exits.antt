@@ -38,7 +38,7 @@ pub record IsStopped (stop : Stop) (wanted : ℕ) (output errors : PrinterState)
   pub ends : status ≡ wanted
   pub silent : output.untouched
 
--- the message and the status if the program did not do its work: 2 for a mistake in the words, and for a job's fault its own status
+-- the message and the status if the program did not do its work: 2 if the words give no job, and for a job's fault its own status
 abbrev pub IsReported : Stop → PrinterState → PrinterState → ℕ → Type 0
 IsReported (stops.Shown text) output errors status = IsShown (stops.Shown text) output errors status
 IsReported (stops.Words text) output errors status = IsStopped (stops.Words text) 2 output errors status

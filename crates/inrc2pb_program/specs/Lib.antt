@@ -2,6 +2,7 @@ pub mod Exits
 pub mod FaultLines
 pub mod Files
 pub mod Jobs
+pub mod MadeFiles
 pub mod Programs
 pub mod Messages
 pub mod Stops

@@ -18,6 +18,7 @@ use Rattle.rota_pb.specs.declared.fault.Fault.{Fault}
 use Rattle.rota_pb.specs.declared.fault.Fault.TheVariants.{Memory}
 use Rattle.inrc2pb_program.specs.Exits.{IsExitOf, PrinterState}
 use Rattle.inrc2pb_program.specs.Jobs.{IsJobOf}
+use Rattle.inrc2pb_program.specs.MadeFiles.{FileLog, IsUnwritten, with_file}
 use Rattle.inrc2pb_program.specs.Stops.{IsStopFor}
 use Rattle.inrc2pb_program.specs.declared.stop.Stop.{Stop}
 use Rattle.inrc2pb_program.specs.declared.stop.Stop.TheVariants as stops
@@ -50,27 +51,35 @@ abbrev pub IsStopGiven : {X Z : Type 0} → Given X Z → Stop → Type 0
 IsStopGiven (Ok words) stop = IsStopFor (texts_in words) stop
 IsStopGiven (Err error) stop = IsStopForError error stop
 
--- the files that a job may write: the port and the path of each
+-- the files that a job may write: the port and the path of each, and the files made before and after
 pub record OutputFiles (G : Type 0) : Type 1 where
   pub port : Ghosts G
   pub path : G → Option Path
+  pub log_before : FileLog
+  pub log : FileLog
 
-abbrev pub output_files : {G : Type 0} → Ghosts G → (G → Option Path) → OutputFiles G
-output_files port path = record { port = port; path = path }
+abbrev pub output_files : {G : Type 0} → Ghosts G → (G → Option Path) → FileLog → FileLog → OutputFiles G
+output_files port path before after = record { port = port; path = path; log_before = before; log = after }
+
+-- the file for a job: at the job's own path, not failed, and nothing was written to it
+pub record IsFileFor {G : Type 0} (files : OutputFiles G) (job : Job) (file : G) : Type 0 where
+  pub placed : files.path file ≡ output_path_of job
+  pub sound : files.port.has_failed file ≡ false
+  pub unwritten : IsUnwritten (files.port.sent file)
 
 -- a job ended with the outcome of its result
 abbrev pub IsEndOf : Result (Unit {0}) Fault → Result (Unit {0}) Stop → Type 0
 IsEndOf (Ok done) ended = ended ≡ Ok tt
 IsEndOf (Err fault) ended = ended ≡ Err (stops.Job fault)
 
--- The words gave no job, or memory ran out before the job began: no file was asked for, and neither the input nor the output was touched.
--- Or the words gave a job, and it was performed, with a file at its own path.
+-- The words gave no job, or memory ran out before the job began: no file was opened or made, and neither the input nor the output was
+-- touched. Or the words gave a job, and it was performed, with one new file at its own path, and no other was made.
 pub data RunOutcome {F G X Z : Type 0} (opener : Opener F) (files : OutputFiles G) (words : Given X Z) (input : Reader) (output : Writer)
     (ended : Result (Unit {0}) Stop) : Type 0 where
   stopped : (stop : Stop) → ended ≡ Err stop → IsStopGiven words stop → opener.log ≡ opener.log_before →
-      IsUntouched input → IsUntouched output → RunOutcome opener files words input output ended
-  performed : (job : Job) → IsJobGiven words job → (before after : G) → files.path before ≡ output_path_of job →
-      files.port.has_failed before ≡ false →
+      files.log ≡ files.log_before → IsUntouched input → IsUntouched output → RunOutcome opener files words input output ended
+  performed : (job : Job) → IsJobGiven words job → files.log ≡ with_file files.log_before (output_path_of job) →
+      (before after : G) → IsFileFor files job before →
       (result : Result (Unit {0}) Fault) → JobOutcome opener job input (writer_of files.port before after) output result →
       IsEndOf result ended → RunOutcome opener files words input output ended
 

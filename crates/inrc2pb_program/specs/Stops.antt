@@ -15,7 +15,7 @@ use Rattle.rota_pb.specs.declared.fault.Fault.TheVariants as failed
 abbrev pub IsAskedFor : ErrorKind → Type 0
 IsAskedFor kind = (kind ≡ DisplayHelp) ⊎ (kind ≡ DisplayVersion)
 
--- a mistake in the words that clap does not see
+-- a reason of the program's own why the words give no job
 abbrev pub IsUsage : Stop → Type 0
 IsUsage (stopped.Shown text) = ⊥
 IsUsage (stopped.Words text) = ⊥

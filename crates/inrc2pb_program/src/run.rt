@@ -25,7 +25,7 @@ pub fn program<O: Opens, A: Source, M: FileMaker, W: Target + HasPath, H: Printe
     words: io::Result<Args>,
     files: &mut O,
     input: &mut A,
-    maker: &M,
+    maker: &mut M,
     output: &mut W,
     help: &mut H,
     errors: &mut E,
@@ -34,8 +34,8 @@ pub fn program<O: Opens, A: Source, M: FileMaker, W: Target + HasPath, H: Printe
     requires help { H.has_failed help.old ≡ false }
     requires errors { E.has_failed errors.old ≡ false }
     ensures { ProgramOutcome (opener_of O.File.Source (O.at files.old) (O.log files.old) (O.log files.new))
-        (output_files M.File.Target M.File.path) words (reader_of A.Source input.old input.new)
-        (writer_of W.Target output.old output.new)
+        (output_files M.File.Target M.File.path (M.log maker.old) (M.log maker.new)) words
+        (reader_of A.Source input.old input.new) (writer_of W.Target output.old output.new)
         (printer_state H.Printer help.old help.new) (printer_state E.Printer errors.old errors.new) (code_of result) }
 {
     exit_code(
@@ -51,13 +51,13 @@ pub fn run<O: Opens, A: Source, M: FileMaker, W: Target + HasPath>(
     words: io::Result<Args>,
     files: &mut O,
     input: &mut A,
-    maker: &M,
+    maker: &mut M,
     output: &mut W,
 ) -> Result<(), Stop>
     requires { W.path output.old ≡ None }
     ensures { RunOutcome (opener_of O.File.Source (O.at files.old) (O.log files.old) (O.log files.new))
-        (output_files M.File.Target M.File.path) words (reader_of A.Source input.old input.new)
-        (writer_of W.Target output.old output.new) result }
+        (output_files M.File.Target M.File.path (M.log maker.old) (M.log maker.new)) words
+        (reader_of A.Source input.old input.new) (writer_of W.Target output.old output.new) result }
 {
     let job = job_of_args(alloc, words)?;
     let mut file = maker.file(job.output_path())?;

@@ -22,7 +22,7 @@ pub enum Stop {
     Shown(clap::Error),
     /// The words are refused, for the reason that this text gives.
     Words(clap::Error),
-    /// A mistake in the words that clap does not see.
+    /// The words give no job, for this reason of the program's own: they are not text, or a path that is required is missing.
     Usage(&'static str),
     /// The job failed, or memory ran out before it began.
     Job(Fault),
