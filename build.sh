@@ -29,9 +29,11 @@ copy_readers() {
     cp -Rl crates/rota_core crates/rota_read $readers/crates
 }
 
+# The check notes where the proofs are now: a check in another clone begins with them.
 take_readers_back() {
     rm -rf crates/rota_read/out
     mv $readers/crates/rota_read/out crates/rota_read
+    (cd crates/rota_read && rt check --jobs 1)
 }
 
 # The script waits for both of its commands and removes the copy, also after a failure.

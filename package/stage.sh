@@ -23,11 +23,12 @@ libc=${libc#GLIBC_}
 stage=$(mktemp -d) || exit 2
 trap 'rm -rf "$stage"' EXIT
 
-# install_to FOLDER PREFIX [VARIABLE=VALUE..]: the files of `make install`, and PROVED with the pages.
+# install_to FOLDER PREFIX [VARIABLE=VALUE..]: the files of `make install`, and PROVED with the pages. Prints whether the gate passed.
 install_to() {
     make -s --no-print-directory install PROGRAM="$PROGRAM" WHO_FITS="$WHO_FITS" DESTDIR="$1" PREFIX="$2" "${@:3}" || exit
     package/proved.sh > "$1$2/share/doc/inrc2pb/PROVED"
     printf 'libc: %s or later\n' "$libc" >> "$1$2/share/doc/inrc2pb/PROVED"
+    grep '^proofs and tests' "$1$2/share/doc/inrc2pb/PROVED" >&2
 }
 
 # set_times FOLDER: every file has the time of the commit.

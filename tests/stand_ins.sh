@@ -16,14 +16,14 @@ stand_in_for_clasp() {
 #!/usr/bin/env bash
 line=\$([ \$# -gt 0 ] && head -n 1 "\${!#}" 2> /dev/null) || line=\$(head -n 1; cat > /dev/null)
 case \$line in
-    '* #variable= 549 #constraint= 480') cat "$room/answers/clasp-optimum.txt" ;;
-    '* #variable= 549 #constraint= 481') cat "$room/answers/clasp-held.txt" ;;
-    '* #variable= 1382 #constraint= 853') cat "$room/answers/clasp-lowered.txt" ;;
-    '* #variable= 656 #constraint= 570') cat "$room/answers/clasp-ward-0.txt" ;;
-    '* #variable= 656 #constraint= 585') cat "$room/answers/clasp-ward-0.txt" ;;
-    '* #variable= 666 #constraint= 580') cat "$room/answers/clasp-ward-1-early.txt" ;;
-    '* #variable= 656 #constraint= 571') cat "$room/answers/clasp-ward-held.txt" ;;
-    '* #variable= 665 #constraint= 579') cat "$room/answers/clasp-ward-1.txt" ;;
+    '* #variable= 549 #constraint= 480') cat "$room/answers/clasp-optimum.txt" ;; # n005w4
+    '* #variable= 549 #constraint= 481') cat "$room/answers/clasp-held.txt" ;; # the same with --fix promised.txt
+    '* #variable= 1382 #constraint= 853') cat "$room/answers/clasp-lowered.txt" ;; # eight, its minimum numbers as wishes
+    '* #variable= 656 #constraint= 570') cat "$room/answers/clasp-ward-0.txt" ;; # ward, week 0
+    '* #variable= 656 #constraint= 585') cat "$room/answers/clasp-ward-0.txt" ;; # the same with Monday to Wednesday held
+    '* #variable= 666 #constraint= 580') cat "$room/answers/clasp-ward-1-early.txt" ;; # ward, week 1, with --early
+    '* #variable= 656 #constraint= 571') cat "$room/answers/clasp-ward-held.txt" ;; # ward, week 0, with a promised shift
+    '* #variable= 665 #constraint= 579') cat "$room/answers/clasp-ward-1.txt" ;; # ward, week 1
     *) echo 's UNSATISFIABLE' ;;
 esac
 END_OF_CLASP
