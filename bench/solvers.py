@@ -316,7 +316,7 @@ def main() -> None:
         try:
             measure(given, results)
         except KeyboardInterrupt:
-            sys.exit(f"stopped: the results are in {RESULTS.relative_to(ROOT)}; --missing makes the other runs, and writes the table")
+            sys.exit(f"stopped: the results are in {RESULTS.relative_to(ROOT)}; --missing DAY, with the day on which you began, makes the other runs and writes the table")
     if not results:
         sys.exit(f"there is no result: the table of {PAGE.relative_to(ROOT)} stays")
     write_results(results)

@@ -7,7 +7,7 @@ usage: weeks.py files ward|large|greatest FOLDER     writes scenario.txt, histor
 
 `ward` is a last week of 120 nurses, 4 shift types and 4 skills. `large` has as many nurses, shift types,
 skills, contracts and requests as the limits allow: 1000, 16, 16, 64 and 9999. `greatest` is the week with
-the longest model that we know: as large, with the numbers that charge most. In the answer's roster each
+the longest model that we know of: as large, with the numbers that charge most. In the answer's roster each
 place of a minimum has a nurse of its own, and no hard rule is broken; all slacks of the model are true. `period`
 has a ward like `ward`, with 48 to 1000 nurses, which asks for the same in each of its two weeks.
 """

@@ -68,9 +68,9 @@ Description: nurse rostering as a pseudo-Boolean model
  (INRC-II) into a pseudo-Boolean model (OPB) for a solver such as clasp, and
  the solver's answer into a roster with a report of its costs.
  .
- The encoding, the decoder and every byte read and written have proofs:
- /usr/share/doc/inrc2pb/PROVED says whether they passed. The programs need an
- x86-64-v2 processor (Intel since 2009, AMD since 2011).
+ The encoding, the decoder and every byte read and written, except messages,
+ have proofs: /usr/share/doc/inrc2pb/PROVED says whether they passed. The
+ programs need an x86-64-v2 processor (Intel since 2009, AMD since 2011).
 TEXT
 set_times "$top"
 dpkg-deb --root-owner-group -Zxz --build "$top" "$folder/inrc2pb_${version}_amd64.deb" > /dev/null || exit

@@ -1,6 +1,6 @@
 #!/usr/bin/env bash
-# Runs the program at great sizes: a week with the maximum of nurses, rosters and requests with the maximum of rows, names of
-# more than a mebibyte, long command lines. None of them is out of memory.
+# Runs the program at great sizes: a week with the maximum number of nurses, rosters and requests with the maximum number of
+# rows, names of more than a mebibyte, long command lines. None of them is out of memory.
 #
 #   tests/great_sizes.sh [llvm | rattle | PROGRAM]
 #

@@ -26,6 +26,7 @@ built_twice() {
     [ -w $elsewhere ] || elsewhere=$room
     begins_case "$1, built twice"
     "package/$2" "$room/first" > "$out" 2>&1 || complain "$2: $(tail -n 3 "$out")"
+    grep -q '^proofs and tests: .' "$out" || complain "$2 does not print whether the gate passed"
     (umask 077 && TZ=Asia/Tokyo LANG=C.UTF-8 TMPDIR=$elsewhere "package/$2" "$room/second" > "$out" 2>&1) ||
         complain "$2: $(tail -n 3 "$out")"
     cmp -s "$room/first/$3" "$room/second/$3" || complain "$3 differs"

@@ -1,7 +1,7 @@
 #!/usr/bin/env bash
 # Checks facts that the repository states twice: the program and CHANGELOG.md have the same version, the generators write the
 # example weeks, README.md names this kit, and the examples of the libraries are their tests. Checks that no crate uses more
-# lemmas of another than before, and the shell scripts by shellcheck, if it is installed.
+# lemmas of another than before, the shell scripts by shellcheck, if it is installed, and which files can be run.
 #
 #   tests/repository.sh [llvm | rattle | PROGRAM]
 #

@@ -166,7 +166,7 @@ def _arguments() -> argparse.ArgumentParser:
     answer.add_argument(
         "--status",
         choices=sorted(STATUSES),
-        help="how the solver ended, if its file does not say (Gurobi, toulbar2; default: stopped)",
+        help="how the solver ended, if its file does not say (Gurobi, toulbar2; default: stopped); with infeasible the file may be missing",
     )
     return words
 

@@ -71,7 +71,7 @@ def is_utf8(word: str) -> bool:
 
 
 def _comment_hint(word: str) -> str:
-    """The end of a sentence, if the word begins as a comment."""
+    """The end of a sentence, if the word begins like a comment."""
     return f"; '{word}' looks like a comment: the files have none, so remove it" if word.startswith(_COMMENT_STARTS) else ""
 
 
@@ -112,17 +112,19 @@ class Slots:
 
     def fault(self, token: Token, fault: str, message: str) -> NoReturn:
         """Raises a fault at this token, with its probable reasons."""
-        message += next(filter(None, (_comment_hint(word.text) for word in (token, *self._before(token)))), "")
+        comment = next(filter(None, (_comment_hint(word.text) for word in (token, *self._before(token)))), "")
         if is_no_text(self.text):
             message = "this is no text file: save it as plain text"
         elif self._is_in_a_name(token):
             message += "; a name may have none of ( ) , ="
+        elif comment:
+            message += comment
         else:
             message += reasons(self.text.split("\n"), token.line, token.text, self._names, self._heading)
         raise FileFault(self.path, token.line, message, fault)
 
     def _before(self, token: Token) -> Iterator[Token]:
-        """The token before this one if it was taken for a name, but is only the sign of a comment, or is on an earlier line."""
+        """The token before this one, if it may be a comment that was taken for a name: it is only a sign, or on an earlier line."""
         if self.at > 1 and self.tokens[self.at - 1] is token:
             before = self.tokens[self.at - 2]
             if before.text in _COMMENT_STARTS or before.line < token.line:

@@ -61,7 +61,7 @@ def replacing(path: PathLike) -> Iterator[TextIO]:
             os.chmod(name, mode)
         os.replace(name, target)
     except BaseException:
-        # Also a signal just after the file was created: its random name is no other file's.
+        # A signal may also come just after the file was created. No other file has its random name.
         with contextlib.suppress(OSError):
             name.unlink()
         raise

@@ -48,6 +48,7 @@ MISTAKES = [
     (ROSTER, "Amara Mon Day Charge\n", "Amara Day Mon Charge\n", "--roster", 5, "; the day comes first, then the shift type"),
     (ROSTER, "Amara Mon Day Charge", "Amara Mon Day Charg", "--roster", 5, "did you mean 'Charge'?"),
     (WEEK, "Chen Any Sat", "Chen K Any Sat", "--week", 11, "has a nurse, a shift type and a day, and the line has 4 words; does a name"),
+    (WEEK, "Chen Any Sat", "Chen Any Sat # ill", "--week", 11, "'#' looks like a comment: the files have none, so remove it"),
     (WEEK, "Chen Any Sat", "Chen Any", "--week", 12, "; a request has a nurse, a shift type and a day, and the line has 2 words"),
     (ROSTER, "Amara Mon Day Charge", "Amara Mon Day", "--roster", 6, "; a row has a nurse, a day, a shift type and a skill, and the line has 3 words"),
     (ROSTER, "SOLUTION", "PK\x03\x04\0\1", "--roster", 1, ": this is no text file: save it as plain text"),
