@@ -5,7 +5,7 @@
 #![tactic(auto)]
 
 use inrc2pb_program::{
-    HostFiles, HostOutputFiles, StandardInput, StandardOutput, StderrPrinter, StdoutPrinter,
+    FileOnFirstWrite, HostFiles, StandardInput, StandardOutput, StderrPrinter, StdoutPrinter,
     program,
 };
 use rota_core::FromRead;
@@ -18,7 +18,7 @@ fn main(rt: HostRuntime) -> ExitCode {
         env::args(&rt),
         &mut HostFiles::new(&rt),
         &mut FromRead::new(StandardInput::new(&rt)),
-        &mut HostOutputFiles::new(&rt),
+        &mut FileOnFirstWrite::new(&rt),
         &mut StandardOutput::new(&rt),
         &mut StdoutPrinter::new(&rt),
         &mut StderrPrinter::new(&rt),

@@ -21,7 +21,8 @@ use std::alloc::Global;
 /// ```
 /// let mut files = HostFiles::new(rt);
 /// let mut input = FromRead::new(StandardInput::new(rt));
-/// let mut file = HostOutputFiles::new(rt).file(job.output_path())?;
+/// let mut file = FileOnFirstWrite::new(rt);
+/// file.place(job.output_path())?;
 /// let mut output = StandardOutput::new(rt);
 /// perform(rt.alloc(), &job, &mut files, &mut input, &mut file, &mut output)
 /// ```

@@ -2,7 +2,6 @@ pub mod Exits
 pub mod FaultLines
 pub mod Files
 pub mod Jobs
-pub mod MadeFiles
 pub mod Programs
 pub mod Messages
 pub mod Stops

@@ -1,5 +1,5 @@
 -- The effects of a run of the program, from its words to its exit status.
-use Rattle.std.specs.Prelude.{◌≡◌, ◌≢◌, ℕ, false, List, [], Option, Result, Ok, Err, IsSomeAnd, map, string_bytes}
+use Rattle.std.specs.Prelude.{◌≡◌, ◌≢◌, ℕ, List, [], Option, Result, Ok, Err, IsSomeAnd, map, string_bytes}
 use Rattle.std.specs.Vec.Iter.{into_iter_items}
 use Rattle.std.specs.declared.string.String.{String}
 use Rattle.std.specs.IoError.{error_kind}
@@ -18,7 +18,6 @@ use Rattle.rota_pb.specs.declared.fault.Fault.{Fault}
 use Rattle.rota_pb.specs.declared.fault.Fault.TheVariants.{Memory}
 use Rattle.inrc2pb_program.specs.Exits.{IsExitOf, PrinterState}
 use Rattle.inrc2pb_program.specs.Jobs.{IsJobOf}
-use Rattle.inrc2pb_program.specs.MadeFiles.{FileLog, IsUnwritten, with_file}
 use Rattle.inrc2pb_program.specs.Stops.{IsStopFor}
 use Rattle.inrc2pb_program.specs.declared.stop.Stop.{Stop}
 use Rattle.inrc2pb_program.specs.declared.stop.Stop.TheVariants as stops
@@ -51,41 +50,40 @@ abbrev pub IsStopGiven : {X Z : Type 0} → Given X Z → Stop → Type 0
 IsStopGiven (Ok words) stop = IsStopFor (texts_in words) stop
 IsStopGiven (Err error) stop = IsStopForError error stop
 
--- the files that a job may write: the port and the path of each, and the files made before and after
-pub record OutputFiles (G : Type 0) : Type 1 where
-  pub port : Ghosts G
-  pub path : G → Option Path
-  pub log_before : FileLog
-  pub log : FileLog
+-- the file that a job may write: its port and its path, before the program and after it
+pub record JobFile (F : Type 0) : Type 1 where
+  pub port : Ghosts F
+  pub path : F → Option Path
+  pub old : F
+  pub new : F
 
-abbrev pub output_files : {G : Type 0} → Ghosts G → (G → Option Path) → FileLog → FileLog → OutputFiles G
-output_files port path before after = record { port = port; path = path; log_before = before; log = after }
+abbrev pub file_of : {F : Type 0} → Ghosts F → (F → Option Path) → F → F → JobFile F
+file_of port path old new = record { port = port; path = path; old = old; new = new }
 
--- the file for a job: at the job's own path, not failed, and nothing was written to it
-pub record IsFileFor {G : Type 0} (files : OutputFiles G) (job : Job) (file : G) : Type 0 where
-  pub placed : files.path file ≡ output_path_of job
-  pub sound : files.port.has_failed file ≡ false
-  pub unwritten : IsUnwritten (files.port.sent file)
+-- the file before the job's run: it has the job's own path, and nothing was written to it
+pub record IsPlaced {F : Type 0} (file : JobFile F) (job : Job) (placed : F) : Type 0 where
+  pub path : file.path placed ≡ output_path_of job
+  pub sound : file.port.has_failed placed ≡ file.port.has_failed file.old
+  pub unwritten : file.port.sent placed ≡ file.port.sent file.old
 
 -- a job ended with the outcome of its result
 abbrev pub IsEndOf : Result (Unit {0}) Fault → Result (Unit {0}) Stop → Type 0
 IsEndOf (Ok done) ended = ended ≡ Ok tt
 IsEndOf (Err fault) ended = ended ≡ Err (stops.Job fault)
 
--- The words gave no job, or memory ran out before the job began: no file was opened or made, and neither the input nor the output was
--- touched. Or the words gave a job, and it was performed, with one new file at its own path, and no other was made.
-pub data RunOutcome {F G X Z : Type 0} (opener : Opener F) (files : OutputFiles G) (words : Given X Z) (input : Reader) (output : Writer)
+-- The words gave no job, or memory ran out before the job began: no file was opened, and input, file and output were not touched. Or the
+-- words gave a job, and it was performed, with the file at its own path.
+pub data RunOutcome {F G X Z : Type 0} (opener : Opener F) (file : JobFile G) (words : Given X Z) (input : Reader) (output : Writer)
     (ended : Result (Unit {0}) Stop) : Type 0 where
   stopped : (stop : Stop) → ended ≡ Err stop → IsStopGiven words stop → opener.log ≡ opener.log_before →
-      files.log ≡ files.log_before → IsUntouched input → IsUntouched output → RunOutcome opener files words input output ended
-  performed : (job : Job) → IsJobGiven words job → files.log ≡ with_file files.log_before (output_path_of job) →
-      (before after : G) → IsFileFor files job before →
-      (result : Result (Unit {0}) Fault) → JobOutcome opener job input (writer_of files.port before after) output result →
-      IsEndOf result ended → RunOutcome opener files words input output ended
+      IsUntouched input → file.new ≡ file.old → IsUntouched output → RunOutcome opener file words input output ended
+  performed : (job : Job) → IsJobGiven words job → (placed : G) → IsPlaced file job placed →
+      (result : Result (Unit {0}) Fault) → JobOutcome opener job input (writer_of file.port placed file.new) output result →
+      IsEndOf result ended → RunOutcome opener file words input output ended
 
 -- A run of the program, from its words to its status: its effects, its messages on the output and on the standard error, and its exit
 -- status.
-abbrev pub ProgramOutcome : {F G X Z : Type 0} → Opener F → OutputFiles G → Given X Z → Reader → Writer → PrinterState → PrinterState →
+abbrev pub ProgramOutcome : {F G X Z : Type 0} → Opener F → JobFile G → Given X Z → Reader → Writer → PrinterState → PrinterState →
     ℕ → Type 0
-ProgramOutcome opener files words input output help errors status =
-    (ended : Result (Unit {0}) Stop) × RunOutcome opener files words input output ended × IsExitOf ended help errors status
+ProgramOutcome opener file words input output help errors status =
+    (ended : Result (Unit {0}) Stop) × RunOutcome opener file words input output ended × IsExitOf ended help errors status

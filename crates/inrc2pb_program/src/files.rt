@@ -4,11 +4,11 @@ ghost use Rattle.std.specs.Fs.{new_options, with_create, with_truncate, with_wri
 ghost use Rattle.inrc2pb_program.specs.Files.{IsFlushed, IsWritten, left_of};
 ghost use Rattle.inrc2pb_job.specs.Paths.{unknown};
 ghost use Rattle.rota_core.specs.PortCalls.{SendsOnWrite};
-ghost use Rattle.rota_core.specs.Ports.{known_len};
+ghost use Rattle.rota_core.specs.Ports.{KnownBytes, known_len};
 ghost use Rattle.rota_core.specs.StdPorts.{IsUnasked, inner_writer, is_failed_writer};
 ghost use Rattle.std.specs.Io.KnownBytes.{Keeps, WriteAppends};
 
-use crate::file_maker::FileMaker;
+use crate::output_file::OutputFile;
 use inrc2pb_job::{HasPath, Opens};
 use rota_core::{FromRead, PortFault, Target, ToWrite};
 use std::alloc::AllocError;
@@ -94,15 +94,15 @@ impl<R: Files> Drop for FileOnFirstWrite<'_, R> {
 }
 
 impl<'a, R: Files> FileOnFirstWrite<'a, R> {
-    /// The file at the path, which is not created yet.
-    pub fn new(rt: &'a R, path: Option<String>) -> FileOnFirstWrite<'a, R>
+    /// A file that has no path yet, and is not created.
+    pub fn new(rt: &'a R) -> FileOnFirstWrite<'a, R>
         ensures unmade { result.file ≡ None }
         ensures sound { result.failed ≡ false }
-        ensures path { result.path ≡ path }
+        ensures unplaced { result.path ≡ None }
     {
         FileOnFirstWrite {
             rt,
-            path,
+            path: None,
             file: None,
             failed: false,
         }
@@ -205,30 +205,19 @@ impl<R: Files> HasPath for FileOnFirstWrite<'_, R> {
     ghost path = { λ file. option_map string_bytes file.path };
 }
 
-/// The files that jobs write, which are created at the first write to them.
-#[derive(Drop)]
-pub struct HostOutputFiles<'a, R> {
-    rt: &'a R,
-}
-
-impl<'a, R: Files + AllocGlobal> HostOutputFiles<'a, R> {
-    /// The output files of this runtime. None is created yet.
-    pub fn new(rt: &'a R) -> HostOutputFiles<'a, R> {
-        HostOutputFiles { rt }
-    }
-}
-
-impl<'a, R: Files + AllocGlobal> FileMaker for HostOutputFiles<'a, R> {
-    type File = FileOnFirstWrite<'a, R>;
-
-    ghost log = { λ _. None };
-
-    fn file(&mut self, path: Option<&str>) -> Result<FileOnFirstWrite<'a, R>, AllocError> {
-        let path = match path {
+impl<R: Files + AllocGlobal> OutputFile for FileOnFirstWrite<'_, R> {
+    fn place(&mut self, path: Option<&str>) -> Result<(), AllocError>
+        ensures path { IfOk result (λ _. option_map string_bytes self.new.path ≡ option_map (λ p. p.now) path.entry) }
+        ensures sound { IfOk result (λ _. self.new.failed ≡ self.old.failed) }
+        ensures unwritten { IfOk result (λ _. ◌≡◌ {A = KnownBytes} None None) }
+        ensures uncreated { IfOk result (λ _. self.new.file ≡ self.old.file) }
+        ensures unplaced { IfErr result (λ _. self.new ≡ self.old) }
+    {
+        self.path = match path {
             Some(path) => Some(String::from_str(self.rt.alloc(), path)?),
             None => None,
         };
-        Ok(FileOnFirstWrite::new(self.rt, path))
+        Ok(())
     }
 }
 

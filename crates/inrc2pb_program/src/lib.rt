@@ -4,16 +4,16 @@
 
 mod command_line;
 mod fault_line;
-mod file_maker;
 mod files;
 mod job_fault;
+mod output_file;
 mod printers;
 mod process_words;
 mod run;
 mod stop;
 
-pub use file_maker::FileMaker;
-pub use files::{FileOnFirstWrite, HostFiles, HostOutputFiles, StandardInput, StandardOutput};
+pub use files::{FileOnFirstWrite, HostFiles, StandardInput, StandardOutput};
+pub use output_file::OutputFile;
 pub use printers::{Printer, StderrPrinter, StdoutPrinter};
 pub use run::program;
 pub use stop::Stop;

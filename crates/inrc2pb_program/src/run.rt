@@ -2,11 +2,11 @@
 ghost use Rattle.std.specs.Prelude.{◌≡◌, None, false};
 ghost use Rattle.std.specs.Process.{exit_status as code_of};
 ghost use Rattle.inrc2pb_program.specs.Exits.{printer_state};
-ghost use Rattle.inrc2pb_program.specs.Programs.{IsEndOf, ProgramOutcome, RunOutcome, output_files};
+ghost use Rattle.inrc2pb_program.specs.Programs.{IsEndOf, ProgramOutcome, RunOutcome, file_of};
 ghost use Rattle.inrc2pb_job.specs.JobOutcomes.{opener_of};
 ghost use Rattle.rota_pb.specs.RunPorts.{reader_of, writer_of};
 
-use crate::file_maker::FileMaker;
+use crate::output_file::OutputFile;
 use crate::printers::Printer;
 use crate::process_words::job_of_args;
 use crate::stop::{Stop, exit_code};
@@ -18,14 +18,14 @@ use std::env::Args;
 use std::io;
 use std::process::ExitCode;
 
-/// Does the work that the words ask for, over any files, input and outputs. Returns the exit code of the
-/// process.
-pub fn program<O: Opens, A: Source, M: FileMaker, W: Target + HasPath, H: Printer, E: Printer>(
+/// Does the work that the words ask for, over any files, input and outputs; `file` gets the path of the
+/// job's output. Returns the exit code of the process.
+pub fn program<O: Opens, A: Source, F: OutputFile, W: Target + HasPath, H: Printer, E: Printer>(
     alloc: Global,
     words: io::Result<Args>,
     files: &mut O,
     input: &mut A,
-    maker: &mut M,
+    file: &mut F,
     output: &mut W,
     help: &mut H,
     errors: &mut E,
@@ -34,34 +34,30 @@ pub fn program<O: Opens, A: Source, M: FileMaker, W: Target + HasPath, H: Printe
     requires help { H.has_failed help.old ≡ false }
     requires errors { E.has_failed errors.old ≡ false }
     ensures { ProgramOutcome (opener_of O.File.Source (O.at files.old) (O.log files.old) (O.log files.new))
-        (output_files M.File.Target M.File.path (M.log maker.old) (M.log maker.new)) words
-        (reader_of A.Source input.old input.new) (writer_of W.Target output.old output.new)
+        (file_of F.Target F.path file.old file.new) words (reader_of A.Source input.old input.new)
+        (writer_of W.Target output.old output.new)
         (printer_state H.Printer help.old help.new) (printer_state E.Printer errors.old errors.new) (code_of result) }
 {
-    exit_code(
-        &run(alloc, words, files, input, maker, output),
-        help,
-        errors,
-    )
+    exit_code(&run(alloc, words, files, input, file, output), help, errors)
 }
 
 /// Does the work that the words ask for. An `Err` says why it was not done.
-pub fn run<O: Opens, A: Source, M: FileMaker, W: Target + HasPath>(
+pub fn run<O: Opens, A: Source, F: OutputFile, W: Target + HasPath>(
     alloc: Global,
     words: io::Result<Args>,
     files: &mut O,
     input: &mut A,
-    maker: &mut M,
+    file: &mut F,
     output: &mut W,
 ) -> Result<(), Stop>
     requires { W.path output.old ≡ None }
     ensures { RunOutcome (opener_of O.File.Source (O.at files.old) (O.log files.old) (O.log files.new))
-        (output_files M.File.Target M.File.path (M.log maker.old) (M.log maker.new)) words
-        (reader_of A.Source input.old input.new) (writer_of W.Target output.old output.new) result }
+        (file_of F.Target F.path file.old file.new) words (reader_of A.Source input.old input.new)
+        (writer_of W.Target output.old output.new) result }
 {
     let job = job_of_args(alloc, words)?;
-    let mut file = maker.file(job.output_path())?;
-    ended(perform(alloc, &job, files, input, &mut file, output))
+    file.place(job.output_path())?;
+    ended(perform(alloc, &job, files, input, file, output))
 }
 
 // The end of the program for a job's result.

@@ -1,8 +1,7 @@
-use Rattle.std.proofs.Common.{◌∙◌, ap, Ok, Err, refl}
+use Rattle.std.proofs.Common.{◌∙◌, Ok, Err, refl}
 use Rattle.std.proofs.lemmas.Result.{err_from_is_err_and}
 use Rattle.inrc2pb_job.specs.declared.job.Job.{Job}
 use Rattle.rota_pb.specs.declared.fault.Fault.TheVariants.{Memory}
-use Rattle.inrc2pb_program.specs.MadeFiles.{with_file}
 use Rattle.inrc2pb_program.specs.Programs.{Given, IsJobGiven, IsStopGiven}
 use Rattle.inrc2pb_program.specs.Programs.RunOutcome.{performed, stopped}
 use Rattle.inrc2pb_program.specs.declared.stop.Stop.TheVariants as stops
@@ -18,20 +17,18 @@ returns-in_err-job g c =
     let p = err_from_is_err_and c.from_residual.result c.from_residual.ensures.1 in
     stopped c.in_err-job.field-0.0 (rw (p.1, p.2) refl) c.in_err-job.ensures.err refl refl refl refl
 
-pub returns-in_err-file : goal.returns-in_err-file
-returns-in_err-file g c =
-    let p = err_from_is_err_and c.from_residual-in_err-file.result c.from_residual-in_err-file.ensures.1 in
-    stopped (stops.Job Memory) (rw (p.1, p.2) refl) (memory_stop c.args.words c.in_ok-job.job c.in_ok-job.ensures.ok) refl
-    c.in_err-file.ensures.unmade refl refl
+pub returns-in_err-place : goal.returns-in_err-place
+returns-in_err-place g c =
+    let p = err_from_is_err_and c.from_residual-in_err-place.result c.from_residual-in_err-place.ensures.1 in
+    stopped (stops.Job Memory) (rw (p.1, p.2) refl) (memory_stop c.args.words c.in_ok-job.job c.in_ok-job.ensures.ok) refl refl
+    c.in_err-place.ensures.unplaced refl
 
 pub returns : goal.returns
 returns g c =
-    performed c.in_ok-job.job c.in_ok-job.ensures.ok
-    (c.in_ok-file.ensures.log ∙ ap (with_file (g.M.FileMaker.log c.args.maker.now)) c.output_path.ensures)
-    c.in_ok-file.file c.perform.new.file
+    performed c.in_ok-job.job c.in_ok-job.ensures.ok c.place.new.self
     (record {
-      placed = c.in_ok-file.ensures.path ∙ c.output_path.ensures;
-      sound = c.in_ok-file.ensures.sound;
-      unwritten = c.in_ok-file.ensures.unwritten;
+      path = c.in_ok-place.ensures.path ∙ c.output_path.ensures;
+      sound = c.in_ok-place.ensures.sound;
+      unwritten = c.in_ok-place.ensures.unwritten;
     })
     c.perform.result c.perform.ensures c.ended.ensures
