@@ -60,7 +60,7 @@ pub record JobFile (F : Type 0) : Type 1 where
 abbrev pub file_of : {F : Type 0} → Ghosts F → (F → Option Path) → F → F → JobFile F
 file_of port path old new = record { port = port; path = path; old = old; new = new }
 
--- the file before the job's run: it has the job's own path, and nothing was written to it
+-- the file when it was placed: it has the job's own path, and the program has neither written to it nor made it fail
 pub record IsPlaced {F : Type 0} (file : JobFile F) (job : Job) (placed : F) : Type 0 where
   pub path : file.path placed ≡ output_path_of job
   pub sound : file.port.has_failed placed ≡ file.port.has_failed file.old

@@ -1,5 +1,5 @@
 //! The file that a job writes.
-ghost use Rattle.std.specs.Prelude.{◌≡◌, IfErr, IfOk, option_map};
+ghost use Rattle.std.specs.Prelude.{◌≡◌, IfErr, IfOk, None, option_map};
 
 use inrc2pb_job::HasPath;
 use rota_core::Target;
@@ -7,9 +7,10 @@ use std::alloc::AllocError;
 
 /// The file that a job writes. Its path is known only after the words have been read.
 pub trait OutputFile: Target + HasPath {
-    /// Gives the file its path, at which the first write creates it; without a path each write fails. The call
-    /// itself writes nothing, and fails only if memory runs out: then the file is as before.
+    /// Gives the file its path, once: the first write creates it there. Without a path a write that is not empty
+    /// fails. The call itself writes nothing, and fails only if memory runs out: then the file is as before.
     fn place(&mut self, path: Option<&str>) -> Result<(), AllocError>
+        requires { Self.path self.old ≡ None }
         ensures path { IfOk result (λ _. Self.path self.new ≡ option_map (λ p. p.now) path.entry) }
         ensures sound { IfOk result (λ _. Self.has_failed self.new ≡ Self.has_failed self.old) }
         ensures unwritten { IfOk result (λ _. Self.sent self.new ≡ Self.sent self.old) }

@@ -30,6 +30,7 @@ pub fn program<O: Opens, A: Source, F: OutputFile, W: Target + HasPath, H: Print
     help: &mut H,
     errors: &mut E,
 ) -> ExitCode
+    requires file { F.path file.old ≡ None }
     requires output { W.path output.old ≡ None }
     requires help { H.has_failed help.old ≡ false }
     requires errors { E.has_failed errors.old ≡ false }
@@ -50,7 +51,8 @@ pub fn run<O: Opens, A: Source, F: OutputFile, W: Target + HasPath>(
     file: &mut F,
     output: &mut W,
 ) -> Result<(), Stop>
-    requires { W.path output.old ≡ None }
+    requires file { F.path file.old ≡ None }
+    requires output { W.path output.old ≡ None }
     ensures { RunOutcome (opener_of O.File.Source (O.at files.old) (O.log files.old) (O.log files.new))
         (file_of F.Target F.path file.old file.new) words (reader_of A.Source input.old input.new)
         (writer_of W.Target output.old output.new) result }
