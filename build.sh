@@ -29,7 +29,7 @@ copy_readers() {
     cp -Rl crates/rota_core crates/rota_read $readers/crates
 }
 
-# The check notes where the proofs are now: a check in another clone begins with them.
+# The check notes the new folder of the proofs: a check in another clone begins with them.
 take_readers_back() {
     rm -rf crates/rota_read/out
     mv $readers/crates/rota_read/out crates/rota_read

@@ -39,7 +39,7 @@ class BestRoster:
         self._best: Optional[Snapshot] = None
         # The roster in the file: the search may be at another one of the same cost.
         self._written: Optional[Snapshot] = None
-        # The greatest bound of each solver, in a new table each time, so that no lock is needed to read it.
+        # The highest bound of each solver, in a new table each time, so that no lock is needed to read it.
         self._bounds: Dict[str, int] = {}
         # The solvers that claimed a bound above the cost of a roster.
         self._wrong: Set[str] = set()
@@ -122,7 +122,7 @@ class BestRoster:
             return self.is_proved()
 
     def bound(self) -> Tuple[Optional[int], str]:
-        """The greatest lower bound of the solvers that are believed, or None, and its solver."""
+        """The highest lower bound of the solvers that are believed, or None, and its solver."""
         bound, solver = max(((bound, solver) for solver, bound in self._bounds.items()), default=(None, ""))
         return bound, solver
 

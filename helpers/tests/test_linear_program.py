@@ -23,7 +23,7 @@ BEST = "o 15\nv x1 x3\n"
 
 
 # The bytes of a long model, the kilobytes that its conversion may take at most, and a program that prints what it took. The
-# largest size in /proc is the program's own; `ru_maxrss` may be that of the process that started it.
+# largest size in /proc is the program's own; `ru_maxrss` may belong to the process that started it.
 LONG_MODEL = 30_000_000
 MAX_MEMORY = 60_000
 MEASURED = """
