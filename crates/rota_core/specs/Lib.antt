@@ -12,6 +12,8 @@ pub mod NumeralLaws
 pub mod Parts
 pub mod PortCalls
 pub mod Ports
+pub mod PriceTables
+pub mod Prices
 pub mod RisingLists
 pub mod Roster
 pub mod RosterCalls

@@ -29,11 +29,15 @@ max_contracts = 64
 abbrev pub max_weeks : ℕ
 max_weeks = 52
 
--- the maximum of every other number in a file, except for counts of names in a row and the 0 or 1 for complete weekends
+-- the maximum of every other number in a file, except for counts of names in a row, the 0 or 1 for complete weekends, and prices
 abbrev pub max_number : ℕ
 max_number = 9999
 
--- the maximum number of bytes in a scenario, history, week, solution or fix file
+-- the maximum price, in thousandths of a point
+abbrev pub max_price : ℕ
+max_price = 999999999
+
+-- the maximum number of bytes in a scenario, history, week, solution, fix or prices file
 abbrev pub max_file_len : ℕ
 max_file_len = 4194304
 

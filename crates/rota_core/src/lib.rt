@@ -35,6 +35,7 @@ mod limits;
 mod memory_ports;
 mod names;
 mod ports;
+mod prices;
 mod roster;
 mod roster_cells;
 mod rule;
@@ -49,11 +50,13 @@ pub use fault::{FileFault, FileName, Kind};
 pub use history::{History, HistoryParts};
 pub use instance::Instance;
 pub use limits::{
-    DAYS, MAX_CONTRACTS, MAX_FILE_LEN, MAX_NUMBER, MAX_NURSES, MAX_SHIFTS, MAX_SKILLS, MAX_WEEKS,
+    DAYS, MAX_CONTRACTS, MAX_FILE_LEN, MAX_NUMBER, MAX_NURSES, MAX_PRICE, MAX_SHIFTS, MAX_SKILLS,
+    MAX_WEEKS,
 };
 pub use memory_ports::{CallPlan, MemorySource, MemoryTarget};
 pub use names::{add_name, index_of_name, is_name};
 pub use ports::{PortFault, Source, Target};
+pub use prices::Prices;
 pub use roster::Roster;
 pub use roster_cells::Cells;
 pub use rule::{Rule, SOFT_RULES, rules_in_order};

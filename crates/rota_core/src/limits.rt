@@ -19,9 +19,12 @@ pub const MAX_CONTRACTS: u16 = 64;
 pub const MAX_WEEKS: u16 = 52;
 
 /// The maximum of every other number in a file, except for counts of names in a row, which are at most the
-/// number of these names, and the 0 or 1 for complete weekends.
+/// number of these names, the 0 or 1 for complete weekends, and prices.
 pub const MAX_NUMBER: u16 = 9999;
 
-/// The maximum number of bytes in a scenario, history, week, solution or fix file. A solver's answer may have any
-/// length.
+/// The maximum price, in thousandths of a point.
+pub const MAX_PRICE: u32 = 999_999_999;
+
+/// The maximum number of bytes in a scenario, history, week, solution, fix or prices file. A solver's answer may
+/// have any length.
 pub const MAX_FILE_LEN: usize = 4_194_304;
