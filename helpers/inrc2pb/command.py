@@ -109,11 +109,12 @@ def _standard_output(stream: Optional[TextIO]) -> TextIO:
 
 
 def _standard_error(stream: Optional[TextIO]) -> TextIO:
-    """The stream, of which no write fails from now on."""
+    """The stream, of which no write fails from now on. One of a script, without a descriptor, stays as it is."""
     stream = stream or open(os.devnull, "w")
-    if not isinstance(stream, io.TextIOWrapper):
+    try:
+        unbuffered = open(stream.fileno(), "wb", buffering=0, closefd=False)
+    except OSError:
         return stream
-    unbuffered = open(stream.fileno(), "wb", buffering=0, closefd=False)
     return _Remarks(io.BufferedWriter(unbuffered), encoding="utf-8", errors="backslashreplace", line_buffering=True)
 
 
