@@ -75,7 +75,7 @@ BIN = $(DESTDIR)$(PREFIX)/bin
 PAGES = $(SHARE)/doc/inrc2pb
 ZSH = $(SHARE)/zsh/site-functions
 HELPERS = $(wildcard helpers/inrc2pb-*)
-MODULES = $(wildcard helpers/inrc2pb/*.py)
+MODULES = $(wildcard helpers/inrc2pb/*.py) helpers/inrc2pb/py.typed
 TOP_PAGES = README.md CHANGELOG.md CONTRIBUTING.md
 COMPLETIONS = "$(SHARE)/bash-completion/completions" "$(ZSH)" "$(SHARE)/fish/vendor_completions.d"
 

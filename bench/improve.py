@@ -15,7 +15,9 @@ import tempfile
 from pathlib import Path
 from typing import Dict, List, NamedTuple, Tuple
 
-from solvers import ROOT, Result, known_solvers, machine, processors, put_between, run_improve, run_solver, weeks
+from solvers import ROOT, Result, known_solvers, machine, put_between, run_improve, run_solver, weeks
+
+from inrc2pb.command import processors
 
 RESULTS = ROOT / "bench" / "improve.json"
 BEGIN, END = "<!-- measured with three seeds -->", "<!-- end of measured with three seeds -->"

@@ -29,10 +29,11 @@ ROOT = Path(__file__).resolve().parents[1]
 sys.path.insert(0, str(ROOT / "helpers"))
 
 from inrc2pb.command import processors  # noqa: E402
+from inrc2pb.faults import ProgramFault  # noqa: E402
 from inrc2pb.improve import Progress, search  # noqa: E402
 from inrc2pb.linear_program import convert  # noqa: E402
 from inrc2pb.processes import Ended, Processes  # noqa: E402
-from inrc2pb.program import NO_ROSTER, ProgramFault, WeekFiles, decode, encode  # noqa: E402
+from inrc2pb.program import NO_ROSTER, WeekFiles, decode, encode  # noqa: E402
 from inrc2pb.solvers import CLASP_BOUND, NONE_IN_TIME, Cbc, Clasp, CommandSolver, Outcome, Solver, Task, answer_of  # noqa: E402
 
 RESULTS = ROOT / "bench" / "solvers.json"

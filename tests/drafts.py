@@ -11,9 +11,9 @@ from types import SimpleNamespace
 ROOT = os.path.dirname(os.path.dirname(os.path.abspath(__file__)))
 sys.path.insert(0, f"{ROOT}/helpers")
 
-from inrc2pb import files, rules  # noqa: E402
+from inrc2pb import faults, files, rules  # noqa: E402
 
-DAYS, SOFT_RULES, FileFault = list(files.DAYS), rules.SOFT_RULES, files.FileFault
+DAYS, SOFT_RULES, FileFault = list(files.DAYS), rules.SOFT_RULES, faults.FileFault
 
 
 def week_of(draft):

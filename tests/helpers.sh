@@ -19,9 +19,9 @@ run_tests() {
     [ "${ran:-0}" -gt 0 ] || complain "no test ran: $(tail -n 3 "$err")"
 }
 
-# types_hold FILE..: every function has types, and mypy finds no mistake.
+# types_hold FILE..: mypy finds no mistake, and no function without types.
 types_hold() {
-    MYPYPATH=helpers mypy --cache-dir "$room/types" --disallow-untyped-defs --disallow-any-generics "$@" > "$out" 2>&1
+    MYPYPATH=helpers mypy --cache-dir "$room/types" --strict "$@" > "$out" 2>&1
 }
 
 checks_types() {

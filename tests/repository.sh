@@ -1,7 +1,7 @@
 #!/usr/bin/env bash
-# Checks facts that the repository states twice: the program and CHANGELOG.md have the same version, the generators write the
-# example weeks, README.md names this kit, and the examples of the libraries are their tests. Checks that no crate uses more
-# lemmas of another than before, the shell scripts by shellcheck, if it is installed, and which files can be run.
+# Checks facts that the repository states twice: the program, CHANGELOG.md and the helpers have the same version, the
+# generators write the example weeks, README.md names this kit, and the examples of the libraries are their tests. Checks that
+# no crate uses more lemmas of another than before, the shell scripts by shellcheck, if it is installed, and which files can be run.
 #
 #   tests/repository.sh [llvm | rattle | PROGRAM]
 #
@@ -10,9 +10,10 @@
 
 version_is_in_preparation() {
     local version
-    begins_case 'the version in CHANGELOG.md'
+    begins_case 'the version in CHANGELOG.md and helpers/pyproject.toml'
     version=$("$program" --version)
     grep -m 1 '^## ' CHANGELOG.md | grep -qx "## ${version#inrc2pb }" || complain "it does not begin with ${version#inrc2pb }"
+    grep -qx "version = \"${version#inrc2pb }\"" helpers/pyproject.toml || complain "helpers/pyproject.toml has another one"
 }
 
 weeks_are_made() {
@@ -74,7 +75,7 @@ scripts_are_clean() {
 scripts_are_executable() {
     local file
     begins_case 'the files that can be run'
-    for file in .ci/run ./*.sh bench/*.* examples/*.* helpers/inrc2pb-* package/*.* tests/*.*; do
+    for file in .ci/run ./*.sh bench/*.* examples/*.* helpers/launcher package/*.* tests/*.*; do
         if [ "$(head -c 2 "$file")" = '#!' ]; then
             [ -x "$file" ] || complain "$file cannot be run"
         else

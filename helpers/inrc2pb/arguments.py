@@ -48,7 +48,7 @@ class Parser(argparse.ArgumentParser):
         """Adds the option `--version`."""
         self.add_argument("--version", action=_Version, nargs=0, help="print the version of inrc2pb and exit")
 
-    def parse_args(self, args: Optional[Sequence[str]] = None, namespace: Any = None) -> Any:  # type: ignore[override]
+    def parse_args(self, args: Optional[Sequence[str]] = None, namespace: Any = None) -> Any:
         """Returns the values of the command line. A mistake is printed, and ends the program."""
         self._given = sys.argv[1:] if args is None else list(args)
         for word in self._given:
@@ -95,6 +95,6 @@ def _about_words(unknown: str, given: Sequence[str]) -> str:
 
 def parser(description: str, epilog: Optional[str] = None, order: str = "") -> Parser:
     """A parser whose help keeps the lines of its description. An option has to be written out, as for `inrc2pb`."""
-    words = Parser(description=description, epilog=epilog, order=order, formatter_class=argparse.RawDescriptionHelpFormatter, allow_abbrev=False)
-    words.add_version()
-    return words
+    options = Parser(description=description, epilog=epilog, order=order, formatter_class=argparse.RawDescriptionHelpFormatter, allow_abbrev=False)
+    options.add_version()
+    return options

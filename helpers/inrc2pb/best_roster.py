@@ -7,10 +7,11 @@ from dataclasses import dataclass
 from pathlib import Path
 from typing import Callable, Dict, Optional, Sequence, Set, Tuple
 
+from .faults import ProgramFault
 from .files import Assignment, Solution, Week, write_solution
 from .misfits import explained, other_week, read_roster
 from .neighborhoods import Neighborhood
-from .program import BROKEN_RULE, ProgramFault, Report, WeekFiles, decode, extend, penalty_of
+from .program import BROKEN_RULE, Report, WeekFiles, decode, extend, penalty_of
 
 # How many times a result is compared with the best roster, if other workers are faster.
 _TRIES = 5

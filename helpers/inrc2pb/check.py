@@ -6,13 +6,14 @@ import tempfile
 from pathlib import Path
 from typing import Callable, Iterator, List, Optional, Tuple, TypeVar
 
-from .command import Misuse, add_week_options, fault_line, parser, run, week_files
+from .command import add_week_options, parser, week_files
 from .constraint import block_of, blocks, named_row, row_of
-from .files import Assignment, FileFault, History, Scenario, Week, WeekData
+from .faults import FileFault, Misuse, ProgramFault, fault_line
+from .files import Assignment, History, Scenario, Week, WeekData
 from .files import check_week_number, read_history, read_scenario, read_solution, read_week
 from .misfits import explained, other_week, read_held, read_roster
 from .odd_values import IMPOSSIBLE, history_warnings, scenario_warnings, week_warnings
-from .program import BROKEN_RULE, FAULT, NO_PROGRAM, ProgramFault, answer_with, encode
+from .program import BROKEN_RULE, FAULT, NO_PROGRAM, answer_with, encode
 from .rules import first_broken
 from .targets import check_no_pipes
 
@@ -155,14 +156,14 @@ def _explain(number: int, week: Week, held: List[Assignment], given: argparse.Na
 
 def main() -> Optional[int]:
     """The command `inrc2pb-check`."""
-    words = parser(
+    options = parser(
         "Checks the files of a week: names the first mistake in each file and how to correct it, and prints warnings.",
         "--sce is required. Ends with status 1 if a file has a mistake; a warning is not a mistake.",
     )
-    add_week_options(words, required=False)
-    words.add_argument("--roster", metavar="FILE", type=Path, action="append", default=[], help="a roster of the week, as a solution file")
-    words.add_argument("--constraint", metavar="N", type=int, help="print the constraint N of the week's model, and its rule")
-    given = words.parse_args()
+    add_week_options(options, required=False)
+    options.add_argument("--roster", metavar="FILE", type=Path, action="append", default=[], help="a roster of the week, as a solution file")
+    options.add_argument("--constraint", metavar="N", type=int, help="print the constraint N of the week's model, and its rule")
+    given = options.parse_args()
     if not given.sce:
         raise Misuse("no scenario is given: give --sce FILE, and the files to check; is WEEK set in this terminal?")
     if given.constraint is not None and not (given.his and given.week):
@@ -179,7 +180,3 @@ def main() -> Optional[int]:
     if not check.mistakes and given.constraint is None:
         print("No mistake found, but see the warnings." if check.impossible else "No mistake found.")
     return FAULT if check.mistakes else 0
-
-
-if __name__ == "__main__":
-    run(main)

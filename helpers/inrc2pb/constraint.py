@@ -5,7 +5,7 @@ from itertools import product
 from pathlib import Path
 from typing import Iterator, List, NamedTuple, Optional, Sequence, Tuple
 
-from .command import Misuse
+from .faults import Misuse
 from .files import DAYS, Assignment, Limits, Place, Week
 
 

@@ -6,9 +6,10 @@ layouts. The values that they return are those of `records`. A `text` is what th
 
 from typing import Dict, Iterable, List, Optional, Tuple
 
+from .faults import FileFault
 from .records import ANY, DAYS, NONE, Assignment, Contract, History, Limits, Nurse, NurseHistory, Place, Request
 from .records import Requirement, Scenario, ShiftType, Solution, Week, WeekData
-from .slots import FileFault, PathLike, Slots, Token
+from .slots import PathLike, Slots, Token
 from .writing import file_at, replacing, write_text
 
 __all__ = [

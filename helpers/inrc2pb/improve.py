@@ -12,10 +12,11 @@ from typing import List, Optional, Sequence, TextIO
 
 from .best_roster import BestRoster, read_start
 from .command import add_solver_options, add_week_options, check_effort, number_of_seconds, parser, week_files
+from .faults import ProgramFault
 from .files import Assignment, Week, read_files
 from .interrupts import interrupts
 from .misfits import read_held
-from .program import NO_ROSTER, ProgramFault, Report, WeekFiles
+from .program import NO_ROSTER, Report, WeekFiles
 from .search import Search
 from .solvers import find_solvers, installed_solvers
 from .targets import check_inputs_stay, check_no_pipe_is_written, check_no_pipes, check_target
@@ -133,24 +134,24 @@ def held_rows(fix: Path, week: Week, progress: Progress) -> Sequence[Assignment]
     return read_held(fix, week.scenario, week.history, lambda warning: progress.warn(f"{fix}: {warning}")).assignments
 
 
-def _arguments() -> argparse.ArgumentParser:
-    words = parser(
+def _options() -> argparse.ArgumentParser:
+    options = parser(
         "Finds a good roster for a week, or improves one. Solvers search neighborhoods of the best roster, several at once, and\n"
         "`inrc2pb decode` checks each roster. Ctrl-C ends the search and keeps the best roster. Improvements are printed on\n"
         "standard error, the report on standard output."
     )
-    add_week_options(words)
-    words.add_argument("--sol", metavar="FILE", type=Path, required=True, help="the roster to write; it always has the best one of this run")
-    words.add_argument("--from", dest="start", metavar="FILE", type=Path, help="the roster to begin with (default: none)")
-    words.add_argument("--time", metavar="SECONDS", type=number_of_seconds, default=120.0, help="seconds to search (default: %(default).0f)")
-    words.add_argument("--seed", metavar="N", type=int, default=1, help="seed of the random choices (default: %(default)s)")
-    add_solver_options(words)
-    return words
+    add_week_options(options)
+    options.add_argument("--sol", metavar="FILE", type=Path, required=True, help="the roster to write; it always has the best one of this run")
+    options.add_argument("--from", dest="start", metavar="FILE", type=Path, help="the roster to begin with (default: none)")
+    options.add_argument("--time", metavar="SECONDS", type=number_of_seconds, default=120.0, help="seconds to search (default: %(default).0f)")
+    options.add_argument("--seed", metavar="N", type=int, default=1, help="seed of the random choices (default: %(default)s)")
+    add_solver_options(options)
+    return options
 
 
 def main(words: Optional[List[str]] = None) -> None:
     """The command `inrc2pb-improve`."""
-    given = _arguments().parse_args(words)
+    given = _options().parse_args(words)
     check_effort(given.time, "--time", given.jobs)
     with interrupts():
         outcome = search(week_files(given), given.start, given.sol, given.time, given.seed, given.jobs, given.solver, Progress(sys.stderr))

@@ -5,7 +5,8 @@ from dataclasses import replace
 from pathlib import Path
 from typing import Iterable, Iterator, List, Optional, Sequence
 
-from .command import Misuse, parser, run
+from .command import parser
+from .faults import Misuse
 from .files import DAYS, Assignment, Request, Scenario, Solution, WeekData
 from .files import read_scenario, read_solution, read_week, solution_text, week_text, write_text
 from .hints import quoted
@@ -46,21 +47,21 @@ def _nurses(text: str, known: Iterable[str], source: str) -> List[str]:
     return nurses
 
 
-def _words() -> argparse.ArgumentParser:
-    words = parser(
+def _options() -> argparse.ArgumentParser:
+    options = parser(
         "Keeps rows of a roster for --fix, as a solution file with their number.",
         "With --keep and --nurses a row is kept if it is of one of the days and one of the nurses.\n"
         "Example: inrc2pb-keep --keep Mon,Tue,Wed roster-0.txt > promised.txt\n"
         f"With --off-in the output is this week's file with {REQUESTS} requests for each day off of these nurses on these days.",
     )
-    words.add_argument("roster", type=Path, help="a solution file, as `inrc2pb decode` writes it")
-    words.add_argument("--keep", metavar="DAYS", help="the rows of these days, such as Mon,Tue,Wed")
-    words.add_argument("--nurses", metavar="NAMES", help="the rows of these nurses, such as Amara,Bruno")
-    words.add_argument("--others", action="store_true", help="keep all rows but these")
-    words.add_argument("--sce", metavar="FILE", type=Path, help="the scenario: names are checked against it")
-    words.add_argument("--off-in", metavar="WEEK", type=Path, help="keep days off, not rows, in a copy of this week's file; needs --sce")
-    words.add_argument("--out", metavar="FILE", type=Path, help="write to this file, not to standard output")
-    return words
+    options.add_argument("roster", type=Path, help="a solution file, as `inrc2pb decode` writes it")
+    options.add_argument("--keep", metavar="DAYS", help="the rows of these days, such as Mon,Tue,Wed")
+    options.add_argument("--nurses", metavar="NAMES", help="the rows of these nurses, such as Amara,Bruno")
+    options.add_argument("--others", action="store_true", help="keep all rows but these")
+    options.add_argument("--sce", metavar="FILE", type=Path, help="the scenario: names are checked against it")
+    options.add_argument("--off-in", metavar="WEEK", type=Path, help="keep days off, not rows, in a copy of this week's file; needs --sce")
+    options.add_argument("--out", metavar="FILE", type=Path, help="write to this file, not to standard output")
+    return options
 
 
 def _week_text(week: Path, scenario: Scenario, nurses: Sequence[str], days: Sequence[int], rows: Sequence[Assignment]) -> str:
@@ -73,7 +74,7 @@ def _week_text(week: Path, scenario: Scenario, nurses: Sequence[str], days: Sequ
 
 def main() -> Optional[int]:
     """The command `inrc2pb-keep`."""
-    given = _words().parse_args()
+    given = _options().parse_args()
     if given.keep is None and given.nurses is None:
         raise Misuse("nothing says which rows to keep: give --keep Mon,Tue or --nurses NAME,NAME")
     if given.off_in and (given.others or not given.sce):
@@ -95,7 +96,3 @@ def main() -> Optional[int]:
     else:
         print(text, end="")
     return 0
-
-
-if __name__ == "__main__":
-    run(main)

@@ -15,7 +15,8 @@ from dataclasses import dataclass
 from pathlib import Path
 from typing import Callable, Iterator, List, Optional, TextIO, Tuple
 
-from .command import Misuse, parser
+from .command import parser
+from .faults import Misuse
 from .files import replacing
 from .mip_solution import STATUSES, read_answer
 from .targets import check_inputs_stay
@@ -56,15 +57,16 @@ def write_linear_program(opb: TextIO, lp: TextIO, check: Check = None) -> ModelS
         raise ModelFault("the model does not begin with `* #variable= V #constraint= C`: give a file that `inrc2pb encode` wrote")
     variables, constraints = int(match.group(1)), int(match.group(2))
     lp.write("Minimize\n obj:")
-    step, found = _write_statements(_pieces(opb, check), lp)
+    step, found = _write_statements(_pieces(opb, check), lp, f"x{variables}")
     if found != constraints:
         raise ModelFault(f"the model has {found} constraints and announces {constraints}: it is cut, so encode the week again")
     _write_binaries(variables, lp)
     return ModelSize(variables, constraints, step)
 
 
-def _write_statements(pieces: Iterator[Tuple[str, bool]], lp: TextIO) -> Tuple[int, int]:
-    """Writes the objective and the constraints; returns the objective's step, and the number of constraints."""
+def _write_statements(pieces: Iterator[Tuple[str, bool]], lp: TextIO, last: str) -> Tuple[int, int]:
+    """Writes the objective and the constraints; returns the objective's step, and the number of constraints. `last` is the last
+    variable."""
     step = number = 0
     in_objective = has_terms = False
     for text, ends in pieces:
@@ -72,7 +74,7 @@ def _write_statements(pieces: Iterator[Tuple[str, bool]], lp: TextIO) -> Tuple[i
         if number == 0 and not in_objective and start.startswith("min:"):
             in_objective, text = True, start[len("min:") :]
         if in_objective:
-            words = _terms(text)
+            words = _terms(text, last)
             step = functools.reduce(math.gcd, map(int, set(words[::2])), step)
             has_terms = has_terms or bool(words)
             lp.writelines(f" {line}\n" for line in _lines(words))
@@ -83,7 +85,7 @@ def _write_statements(pieces: Iterator[Tuple[str, bool]], lp: TextIO) -> Tuple[i
         if number == 0:
             number = 1
             lp.write(" 0 x1\nSubject To\n")
-        _write_constraint(number, text, lp)
+        _write_constraint(number, text, lp, last)
         number += 1
     return step, max(0, number - 1)
 
@@ -112,13 +114,19 @@ def _pieces(opb: TextIO, check: Check) -> Iterator[Tuple[str, bool]]:
         raise ModelFault("the model ends in the middle of a statement: it is cut, so encode the week again")
 
 
-def _terms(text: str) -> List[str]:
-    """The words of the terms: coefficients and variables in turn."""
+def _terms(text: str, last: str) -> List[str]:
+    """The words of the terms: coefficients and variables in turn, none after the last one."""
     found = _TERMS.match(text)
     end = found.end() if found else 0
     if end < len(text):
         raise ModelFault(f"no linear terms as `inrc2pb encode` writes them: {' '.join(text[end : end + 200].split())[:60]}")
-    return text.split()
+    words = text.split()
+    variables = words[1::2]
+    # A longer word has a greater number; words of one length have the order of their numbers.
+    length = max(map(len, variables), default=0)
+    if length > len(last) or (length == len(last) and max(word for word in variables if len(word) == length) > last):
+        raise ModelFault(f"the model has variables after {last}, the last that it announces: encode the week again")
+    return words
 
 
 def _lines(words: List[str]) -> List[str]:
@@ -126,13 +134,13 @@ def _lines(words: List[str]) -> List[str]:
     return [" ".join(words[at : at + 2 * TERMS_PER_LINE]) for at in range(0, len(words), 2 * TERMS_PER_LINE)]
 
 
-def _write_constraint(number: int, text: str, lp: TextIO) -> None:
+def _write_constraint(number: int, text: str, lp: TextIO, last: str) -> None:
     terms, _, degree = text.partition(">=")
     match = _DEGREE.fullmatch(degree)
     if not match:
         raise ModelFault(f"constraint {number} has no `>=` with a degree of 17 digits or less: give a model that `inrc2pb encode` wrote")
     # A row without terms is legal in OPB, but not in an LP file.
-    lines = "\n ".join(_lines(_terms(terms))) or "0 x1"
+    lines = "\n ".join(_lines(_terms(terms, last))) or "0 x1"
     lp.write(f" c{number}: {lines} >= {match.group(1)}\n")
 
 
@@ -149,15 +157,15 @@ def convert(model: Path, lp: Path, check: Check = None) -> ModelSize:
         return write_linear_program(opb, target, check)
 
 
-def _arguments() -> argparse.ArgumentParser:
-    words = parser(
+def _options() -> argparse.ArgumentParser:
+    options = parser(
         "Lets a MIP solver solve a model: converts the OPB model to an LP file, and the solver's result file to an answer.",
         "Example:\n"
         "  inrc2pb encode $WEEK | inrc2pb-lp model --lp week.lp\n"
         "  cbc week.lp sec 60 timem elapsed solve solution week.sol\n"
         "  inrc2pb-lp answer week.sol | inrc2pb decode $WEEK --sol roster.txt",
     )
-    commands = words.add_subparsers(dest="command", metavar="COMMAND", required=True)
+    commands = options.add_subparsers(dest="command", metavar="COMMAND", required=True)
     model = commands.add_parser("model", allow_abbrev=False, help="convert an OPB model to an LP file")
     model.add_argument("opb", metavar="MODEL", nargs="?", type=Path, help="the model that `inrc2pb encode` wrote (default: standard input)")
     model.add_argument("--lp", metavar="FILE", type=Path, help="the LP file to write (default: standard output)")
@@ -168,12 +176,12 @@ def _arguments() -> argparse.ArgumentParser:
         choices=sorted(STATUSES),
         help="how the solver ended, if its file does not say (Gurobi, toulbar2; default: stopped); with infeasible the file may be missing",
     )
-    return words
+    return options
 
 
 def main(words: Optional[List[str]] = None) -> None:
     """The command `inrc2pb-lp`."""
-    given = _arguments().parse_args(words)
+    given = _options().parse_args(words)
     if given.command == "answer":
         # toulbar2 writes no file if its propagation finds that there is no solution.
         missing = given.status == "infeasible" and not given.solution.exists()

@@ -8,7 +8,7 @@ from array import array
 from dataclasses import dataclass, field
 from typing import Callable, Iterable, Iterator, List, Optional, TextIO, Tuple
 
-from .command import Misuse
+from .faults import Misuse
 
 # How a solver ended, and the status of its answer.
 STATUSES = {"optimal": "OPTIMUM FOUND", "stopped": "SATISFIABLE", "infeasible": "UNSATISFIABLE", "unknown": "UNKNOWN"}

@@ -4,9 +4,9 @@ import re
 from pathlib import Path
 from typing import Callable, Dict, Iterable, Iterator, List, NamedTuple, Optional, Tuple
 
-from .files import DAYS, Assignment, FileFault, History, Scenario, Solution, Week, read_solution
+from .faults import FileFault, ProgramFault
+from .files import DAYS, Assignment, History, Scenario, Solution, Week, read_solution
 from .hints import plural
-from .program import ProgramFault
 from .rules import numbers
 from .slots import text_of, tokens_of
 

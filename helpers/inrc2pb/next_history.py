@@ -3,7 +3,8 @@
 from pathlib import Path
 from typing import Callable, Dict, Iterable, Optional
 
-from .command import Misuse, parser, run
+from .command import parser
+from .faults import Misuse
 from .files import Assignment, History, NurseHistory, Scenario, history_text, read_history, read_scenario, read_solution, write_text
 from .slots import MAX_NUMBER
 from .targets import check_inputs_stay
@@ -55,17 +56,17 @@ def next_history(scenario: Scenario, history: History, assignments: Iterable[Ass
 
 def main() -> Optional[int]:
     """The command `inrc2pb-next`."""
-    words = parser(
+    options = parser(
         "Writes the history with which the next week begins.",
         "docs/rules.md says what each number is. Files of different weeks or wards are a fault, with status 1.",
         order="scenario, history, roster",
     )
-    words.add_argument("scenario", type=Path, help="the scenario")
-    words.add_argument("history", type=Path, help="the history with which the week began")
-    words.add_argument("roster", type=Path, help="the week's roster, as `inrc2pb decode` writes it")
-    words.add_argument("--new-period", action="store_true", help="the next week is the first of a new period")
-    words.add_argument("--out", metavar="FILE", type=Path, help="write to this file, not to standard output")
-    given = words.parse_args()
+    options.add_argument("scenario", type=Path, help="the scenario")
+    options.add_argument("history", type=Path, help="the history with which the week began")
+    options.add_argument("roster", type=Path, help="the week's roster, as `inrc2pb decode` writes it")
+    options.add_argument("--new-period", action="store_true", help="the next week is the first of a new period")
+    options.add_argument("--out", metavar="FILE", type=Path, help="write to this file, not to standard output")
+    given = options.parse_args()
     if given.out:
         check_inputs_stay((given.scenario, given.history, given.roster), given.out, "the next history")
     scenario = read_scenario(given.scenario)
@@ -87,7 +88,3 @@ def main() -> Optional[int]:
     else:
         print(text, end="")
     return 0
-
-
-if __name__ == "__main__":
-    run(main)

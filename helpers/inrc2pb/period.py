@@ -10,15 +10,16 @@ from dataclasses import dataclass, replace
 from pathlib import Path
 from typing import Callable, Dict, Iterable, List, Optional, Sequence
 
-from .command import Misuse, add_solver_options, check_effort, fault_line, fixes_by_week, number_of_seconds, parser, run
-from .files import FileFault, History, Scenario, Week, check_week_number, read_files, read_history, read_scenario, read_solution
+from .command import add_solver_options, check_effort, fixes_by_week, number_of_seconds, parser
+from .faults import FileFault, Misuse, ProgramFault, fault_line
+from .files import History, Scenario, Week, check_week_number, read_files, read_history, read_scenario, read_solution
 from .files import history_text, read_week, scenario_text, write_history, write_text
 from .improve import Progress, held_rows, search
 from .interrupts import Interrupts, interrupts
 from .misfits import read_held
 from .next_history import next_history
 from .processes import Processes
-from .program import NO_ROSTER, SOFT_RULES, ProgramFault, Report, WeekFiles, decode, encode_unless_stopped, extend, find_program
+from .program import NO_ROSTER, SOFT_RULES, Report, WeekFiles, decode, encode_unless_stopped, extend, find_program
 from .shared_totals import shared_week
 from .solvers import NONE_IN_TIME, Task, find_solver, installed_solvers
 from .targets import check_inputs_stay, check_no_pipes
@@ -210,31 +211,31 @@ def _of_week(number: int, fault: BaseException) -> BaseException:
     return fault
 
 
-def _words() -> argparse.ArgumentParser:
-    words = parser(
+def _options() -> argparse.ArgumentParser:
+    options = parser(
         "Plans the weeks of a period one after another, and reports what they cost together.",
         "The folder gets roster-N.txt of each week N and history-N.txt of each next one. --early and --share are heuristics:\n"
         "a week is planned before the next ones are known. The report has each roster's cost with the files as given, without\n"
         "the shares; with --early it includes the early charges.",
     )
-    words.add_argument("--sce", metavar="FILE", type=Path, required=True, help="the scenario")
-    words.add_argument("--his", metavar="FILE", type=Path, required=True, help="the history with which the first of these weeks begins")
-    words.add_argument("--week", metavar="FILE", type=Path, action="append", required=True, help="a week's file; give one for each week, in order")
-    words.add_argument("--out", metavar="FOLDER", type=Path, required=True, help="the folder for rosters and histories")
-    words.add_argument("--fix", metavar="N=FILE", action="append", default=[], help="the assignments to keep in week N, numbered from 0 as in its history")
-    totals = words.add_mutually_exclusive_group()
+    options.add_argument("--sce", metavar="FILE", type=Path, required=True, help="the scenario")
+    options.add_argument("--his", metavar="FILE", type=Path, required=True, help="the history with which the first of these weeks begins")
+    options.add_argument("--week", metavar="FILE", type=Path, action="append", required=True, help="a week's file; give one for each week, in order")
+    options.add_argument("--out", metavar="FOLDER", type=Path, required=True, help="the folder for rosters and histories")
+    options.add_argument("--fix", metavar="N=FILE", action="append", default=[], help="the assignments to keep in week N, numbered from 0 as in its history")
+    totals = options.add_mutually_exclusive_group()
     totals.add_argument("--early", action="store_true", help="charge excess assignments and weekends as soon as they occur")
     totals.add_argument("--share", action="store_true", help="plan each week with its share of the totals that are left")
-    words.add_argument("--time", metavar="SECONDS", type=number_of_seconds, default=60, help="seconds for each week (default: 60)")
-    add_solver_options(words)
-    words.add_argument("--once", action="store_true", help="let the first solver solve each week once, without improving its roster")
-    words.add_argument("--seed", metavar="N", type=int, default=1, help="the seed of the search (default: 1)")
-    return words
+    options.add_argument("--time", metavar="SECONDS", type=number_of_seconds, default=60, help="seconds for each week (default: 60)")
+    add_solver_options(options)
+    options.add_argument("--once", action="store_true", help="let the first solver solve each week once, without improving its roster")
+    options.add_argument("--seed", metavar="N", type=int, default=1, help="the seed of the search (default: 1)")
+    return options
 
 
 def main() -> Optional[int]:
     """The command `inrc2pb-period`."""
-    given = _words().parse_args()
+    given = _options().parse_args()
     check_effort(given.time, "--time", given.jobs)
     solvers = given.solver or list(installed_solvers())
     plan = plan_once(solvers[0], given.time) if given.once else plan_by_improving(solvers, given.time, given.seed, given.jobs)
@@ -247,7 +248,3 @@ def main() -> Optional[int]:
             if period.reports:
                 print("\n".join(["", *period.table(), *[period.stop_line()] * bool(signals.caught)]), flush=True)
     return 0
-
-
-if __name__ == "__main__":
-    run(main)

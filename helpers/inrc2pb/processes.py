@@ -1,14 +1,16 @@
 """Child processes that run for a limited time. Each is a group of its own, and is ended as a group."""
 
+import functools
 import os
 import selectors
+import shutil
 import signal
 import subprocess
 import threading
 import time
 from dataclasses import dataclass
 from pathlib import Path
-from typing import Callable, Dict, List, NamedTuple, Optional, Sequence
+from typing import Callable, Dict, List, NamedTuple, Optional, Sequence, Tuple
 
 # Seconds that a process has to print its answer after it was asked to end.
 GRACE = 2.0
@@ -21,6 +23,8 @@ PIECE = 1 << 16
 EXIT_SECONDS, EXIT_PAUSE = 0.5, 0.005
 # The most seconds of one wait for output: the system limits them.
 MAX_WAIT = 3600.0
+# The statuses with which `setpriv` reports that a command does not run.
+NOT_RUN = (126, 127)
 
 
 @dataclass(frozen=True)
@@ -58,7 +62,16 @@ class Processes:
         ending: int = signal.SIGTERM,
         hear: Optional[Callable[[bytes], None]] = None,
     ) -> Ended:
-        """Runs a command for at most these seconds. `hear` gets its output while it comes."""
+        """Runs a command for at most these seconds. `hear` gets its output while it comes. It is killed if this process is."""
+        # `setpriv` would give a file of an unknown kind to a shell.
+        prefix = _ending_with_this() if _is_executable(words[0]) else ()
+        ended = self._run([*prefix, *words], seconds, folder, ending, hear)
+        if ended.status in NOT_RUN and ended.errors.startswith("setpriv: "):
+            # Without `setpriv` the command's own OSError is raised.
+            return self._run(words, seconds, folder, ending, hear)
+        return ended
+
+    def _run(self, words: Sequence[str], seconds: float, folder: Path, ending: int, hear: Optional[Callable[[bytes], None]]) -> Ended:
         with self._lock:
             if self._stopped:
                 return Ended(-signal.SIGKILL, "", True)
@@ -101,6 +114,26 @@ class Processes:
             self._stopped = True
             for process in self._running:
                 _signal_group(process, signal.SIGKILL)
+
+
+def _is_executable(command: str) -> bool:
+    """Whether the command is a program of Linux, or a script that names its interpreter."""
+    try:
+        with open(shutil.which(command) or command, "rb") as file:
+            return file.read(4).startswith((b"#!", b"\x7fELF"))
+    except OSError:
+        return False
+
+
+@functools.lru_cache(maxsize=None)
+def _ending_with_this() -> Tuple[str, ...]:
+    """The words before a command that is to be killed when this process is; none if the system has no such `setpriv`."""
+    words = ("setpriv", "--pdeathsig", "KILL")
+    try:
+        subprocess.run([*words, "true"], stdin=subprocess.DEVNULL, stdout=subprocess.DEVNULL, stderr=subprocess.DEVNULL, check=True, timeout=MAX_WAIT)
+    except (OSError, subprocess.SubprocessError):
+        return ()
+    return words
 
 
 def _wait_without_reaping(process: "subprocess.Popen[bytes]", seconds: float) -> None:

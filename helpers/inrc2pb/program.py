@@ -10,6 +10,7 @@ from dataclasses import dataclass
 from pathlib import Path
 from typing import Dict, List, Optional, Sequence, Tuple
 
+from .faults import ProgramFault
 from .processes import Processes
 
 SOFT_RULES = ("S1", "S2", "S3", "S4", "S5", "S6", "S7")
@@ -18,18 +19,6 @@ FAULT, READ_OR_WRITE, OUT_OF_MEMORY, NO_ROSTER, BROKEN_RULE, NO_PROGRAM = 1, 3, 
 # A run takes less, also of the largest week; one that waits for a pipe that nobody writes would not end.
 LONGEST_RUN = 600.0
 _READ_OPTIONS = ("--sce", "--his", "--week", "--fix", "--from")
-
-
-class ProgramFault(Exception):
-    """A run of `inrc2pb` that failed: its exit status, and the fault line that it printed."""
-
-    def __init__(self, status: int, message: str) -> None:
-        super().__init__(status, message)
-        self.status = status
-        self.message = message
-
-    def __str__(self) -> str:
-        return self.message
 
 
 def is_file_fault(fault: BaseException) -> bool:
@@ -70,7 +59,7 @@ class Report:
 
 
 def find_program() -> Path:
-    """`$INRC2PB`; else `inrc2pb` next to the running helper, in PATH, or in `out` of a clone."""
+    """`$INRC2PB`; else `inrc2pb` next to the running helper, in `out` of its clone, or in PATH."""
     named = os.environ.get("INRC2PB")
     if named:
         found = shutil.which(named)
@@ -81,8 +70,8 @@ def find_program() -> Path:
         return Path(found).absolute()
     helper = Path(sys.argv[0] or ".")
     in_path = shutil.which("inrc2pb")
-    places = [helper.parent / "inrc2pb", helper.resolve().parent / "inrc2pb", *([Path(in_path)] if in_path else [])]
-    for place in [*places, Path(__file__).resolve().parents[2] / "out" / "inrc2pb"]:
+    beside = [helper.parent / "inrc2pb", helper.resolve().parent / "inrc2pb", Path(__file__).resolve().parents[2] / "out" / "inrc2pb"]
+    for place in [*beside, *([Path(in_path)] if in_path else [])]:
         if place.is_file() and os.access(place, os.X_OK):
             return place.absolute()
     raise ProgramFault(NO_PROGRAM, "there is no inrc2pb: run `make` in its folder, install it, or name it in the variable INRC2PB")

@@ -20,8 +20,8 @@ def ink_on(color: str) -> str:
 
 
 def columns(text: str) -> int:
-    """The columns that a text takes: a full-width letter, as of Chinese, takes two."""
-    return sum(2 if unicodedata.east_asian_width(letter) in "WF" else 1 for letter in text)
+    """The columns that a text takes: a full-width letter, as of Chinese, takes two, and an accent of its own none."""
+    return sum(0 if unicodedata.combining(letter) else 2 if unicodedata.east_asian_width(letter) in "WF" else 1 for letter in text)
 
 
 def _filled(text: str, width: int) -> str:

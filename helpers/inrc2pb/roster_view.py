@@ -6,7 +6,7 @@ from pathlib import Path
 from typing import Callable, Dict, Iterable, Iterator, List, Mapping, NamedTuple, Optional, Sequence, Set
 
 from . import rules
-from .command import Misuse
+from .faults import Misuse
 from .files import DAYS, Assignment, History, Scenario, Solution, Week, WeekData, check_week_number
 from .files import read_history, read_scenario, read_solution, read_week
 from .hints import plural

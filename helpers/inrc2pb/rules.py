@@ -8,7 +8,6 @@ import collections
 from pathlib import Path
 from typing import Counter, Dict, Iterable, Iterator, List, NamedTuple, Optional, Sequence, Set, Tuple
 
-from .command import add_week_options, parser, run
 from .files import Assignment, Contract, Limits, NurseHistory, Place, Request, Week, read_files, read_solution
 
 SATURDAY, SUNDAY = 5, 6
@@ -172,11 +171,13 @@ def nurse_costs(week: Week, roster: Sequence[Assignment], early: bool = False) -
 
 
 def main() -> None:
-    """The command `python3 -m inrc2pb.rules`."""
-    words = parser("Prints what a roster costs, as docs/rules.md has it.")
-    add_week_options(words)
-    words.add_argument("roster", type=Path, help="a solution file")
-    given = words.parse_args()
+    """The command `python3 -m inrc2pb.rules`; only it loads the command line."""
+    from .command import add_week_options, parser
+
+    options = parser("Prints what a roster costs, as docs/rules.md has it.")
+    add_week_options(options)
+    options.add_argument("roster", type=Path, help="a solution file")
+    given = options.parse_args()
     week = read_files(given.sce, given.his, given.week)
     held = read_solution(given.fix, week.scenario).assignments if given.fix else ()
     roster = read_solution(given.roster, week.scenario).assignments
@@ -189,4 +190,6 @@ def main() -> None:
 
 
 if __name__ == "__main__":
+    from .command import run
+
     run(main)

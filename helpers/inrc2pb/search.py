@@ -9,12 +9,12 @@ from pathlib import Path
 from typing import Callable, Optional, Sequence, Tuple
 
 from .best_roster import BestRoster, Snapshot
-from .command import Misuse
+from .faults import Misuse, ProgramFault
 from .files import Assignment, Week, read_solution, write_solution
 from .neighborhoods import Neighborhood, Neighborhoods
 from .part import write_part
 from .processes import Processes
-from .program import BROKEN_RULE, FAULT, NO_ROSTER, ProgramFault, WeekFiles, decode, encode_unless_stopped, is_file_fault, penalty_of
+from .program import BROKEN_RULE, FAULT, NO_ROSTER, WeekFiles, decode, encode_unless_stopped, is_file_fault, penalty_of
 from .rules import nurse_costs
 from .solvers import Cbc, HearBound, Solver, Task
 from .usable_solvers import UsableSolvers

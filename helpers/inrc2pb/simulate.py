@@ -5,11 +5,12 @@ import time
 from pathlib import Path
 from typing import List, Optional
 
-from .command import Misuse, add_solver_options, check_effort, number_of_seconds, parser, run
+from .command import add_solver_options, check_effort, number_of_seconds, parser
+from .faults import Misuse, ProgramFault
 from .files import read_files, write_text
 from .improve import Progress, search
 from .interrupts import interrupts
-from .program import NO_ROSTER, ProgramFault, WeekFiles
+from .program import NO_ROSTER, WeekFiles
 from .solvers import installed_solvers
 from .targets import check_inputs_stay, check_no_pipes, check_target
 
@@ -35,23 +36,23 @@ def search_seconds(timeout: float, used: float) -> float:
 
 def main() -> Optional[int]:
     """The command `inrc2pb-simulate`."""
-    words = parser(
+    options = parser(
         "Plans one week, with the command line that the simulator of the competition INRC-II calls.",
         "--cusIn and --cusOut carry a solver's own data from week to week. This one keeps none: it reads no --cusIn, and writes\n"
         "the number of the next week to --cusOut.",
     )
-    words.add_argument("--sce", metavar="FILE", type=Path, required=True, help="the scenario")
-    words.add_argument("--his", metavar="FILE", type=Path, required=True, help="the history with which the week begins")
-    words.add_argument("--week", metavar="FILE", type=Path, required=True, help="the week's requirements and requests")
-    words.add_argument("--sol", metavar="FILE", type=Path, required=True, help="the solution file to write")
-    words.add_argument("--cusIn", metavar="FILE", type=Path, help="a solver's data from the week before: not read")
-    words.add_argument("--cusOut", metavar="FILE", type=Path, help="the data for the next week: its number")
-    words.add_argument("--rand", metavar="N", type=int, default=1, help="the seed (default: 1)")
+    options.add_argument("--sce", metavar="FILE", type=Path, required=True, help="the scenario")
+    options.add_argument("--his", metavar="FILE", type=Path, required=True, help="the history with which the week begins")
+    options.add_argument("--week", metavar="FILE", type=Path, required=True, help="the week's requirements and requests")
+    options.add_argument("--sol", metavar="FILE", type=Path, required=True, help="the solution file to write")
+    options.add_argument("--cusIn", metavar="FILE", type=Path, help="a solver's data from the week before: not read")
+    options.add_argument("--cusOut", metavar="FILE", type=Path, help="the data for the next week: its number")
+    options.add_argument("--rand", metavar="N", type=int, default=1, help="the seed (default: 1)")
     timeout = "seconds in which this process ends, its start included (default: 60)"
-    words.add_argument("--timeout", metavar="SECONDS", type=number_of_seconds, default=60, help=timeout)
-    add_solver_options(words)
-    words.add_argument("--no-early", action="store_true", help="charge excess assignments and weekends in the last week only")
-    given = words.parse_args()
+    options.add_argument("--timeout", metavar="SECONDS", type=number_of_seconds, default=60, help=timeout)
+    add_solver_options(options)
+    options.add_argument("--no-early", action="store_true", help="charge excess assignments and weekends in the last week only")
+    given = options.parse_args()
     check_effort(given.timeout, "--timeout", given.jobs)
     check_no_pipes((given.sce, given.his, given.week))
     week = read_files(given.sce, given.his, given.week)
@@ -76,7 +77,3 @@ def main() -> Optional[int]:
         if outcome.fault:
             raise outcome.fault
     return 0
-
-
-if __name__ == "__main__":
-    run(main)

@@ -6,6 +6,7 @@ import re
 from pathlib import Path
 from typing import Collection, Iterable, Iterator, List, NamedTuple, NoReturn, Optional, Tuple, Union
 
+from .faults import FileFault
 from .hints import HEADINGS, is_no_text, quoted, reasons
 from .records import Limits
 
@@ -16,24 +17,6 @@ _TOKEN = re.compile(r"[(),=]|[^ \t\n\r(),=]+")
 _COMMENT_STARTS = ("#", "//", ";", "%", "/*", "<!--", "--")
 
 PathLike = Union[str, Path]
-
-
-class FileFault(Exception):
-    """A file that is not as docs/formats.md says: its path, the line (0 is the whole file), and what to change.
-
-    `fault` is the text with which `inrc2pb` reports the same fault, such as `unknown name`.
-    """
-
-    def __init__(self, path: PathLike, line: int, message: str, fault: str = "") -> None:
-        super().__init__(path, line, message, fault)
-        self.path = Path(path)
-        self.line = line
-        self.message = message
-        self.fault = fault
-
-    def __str__(self) -> str:
-        where = f"{self.path} line {self.line}" if self.line else f"{self.path}"
-        return f"{where}: {self.message}"
 
 
 class Token(NamedTuple):

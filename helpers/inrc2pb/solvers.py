@@ -12,7 +12,7 @@ from dataclasses import dataclass, replace
 from pathlib import Path
 from typing import Callable, List, Optional, Sequence, Tuple
 
-from .command import Misuse
+from .faults import Misuse
 from .linear_program import convert
 from .mip_solution import SolutionFault, read_answer
 from .processes import MAX_OUTPUT, Ended, Processes

@@ -7,7 +7,7 @@ import tempfile
 from pathlib import Path
 from typing import Iterable, Optional
 
-from .command import Misuse
+from .faults import Misuse
 from .files import file_at
 from .writing import is_open_file
 

@@ -5,8 +5,8 @@ import threading
 from pathlib import Path
 from typing import Callable, Counter, Dict, List, Optional, Sequence
 
-from .command import Misuse, page
-from .program import NO_ROSTER, ProgramFault
+from .faults import Misuse, ProgramFault, page
+from .program import NO_ROSTER
 from .solvers import Solver
 
 MAX_FAULTS = 3

@@ -11,7 +11,7 @@ from unittest import mock
 
 from ward import HAS_CLASP, ROSTER, WEEK_FILES, WEEK_OPTIONS, HelperTest, program, run
 
-from inrc2pb.command import Misuse
+from inrc2pb.faults import Misuse
 from inrc2pb.processes import Processes
 from inrc2pb.solvers import Outcome, Task, find_solver
 from inrc2pb.usable_solvers import MAX_FAULTS, UsableSolvers

@@ -5,7 +5,7 @@ import unittest
 from ward import HISTORY, SCENARIO, WARD, WEEK, WEEK_FILES, WEEK_OPTIONS, HelperTest, files, program, run
 
 from inrc2pb import constraint
-from inrc2pb.command import Misuse
+from inrc2pb.faults import Misuse
 
 
 class Constraints(HelperTest):

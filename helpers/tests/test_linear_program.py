@@ -10,7 +10,7 @@ from pathlib import Path
 
 from ward import HELPERS, HelperTest, run
 
-from inrc2pb.linear_program import ModelFault, ModelSize, convert, write_linear_program
+from inrc2pb.linear_program import ModelFault, ModelSize, _write_constraint, convert, write_linear_program
 from inrc2pb.mip_solution import SolutionFault, read_answer
 
 HERE = Path(__file__).resolve().parent
@@ -104,10 +104,10 @@ class LinearPrograms(unittest.TestCase):
 
     def test_longest_terms_fit_a_line(self):
         terms = " ".join([f"-{'9' * 17} x{'9' * 10}"] * 100)
-        text, _ = lp_of(f"* #variable= 20 #constraint= 1\nmin: {terms} ;\n{terms} >= -{'9' * 17} ;\n")
         # The row of the last constraint that a header can announce.
-        row = next(line for line in text.split("\n") if line.startswith(" c1:"))
-        self.assertLessEqual(max(map(len, [*text.split("\n"), row.replace("c1", "c" + "9" * 10)])), MAX_LINE)
+        row = io.StringIO()
+        _write_constraint(int("9" * 10), f"{terms} >= -{'9' * 17}", row, "x" + "9" * 10)
+        self.assertLessEqual(max(map(len, row.getvalue().split("\n"))), MAX_LINE)
 
     def test_faults(self):
         rows = {
@@ -123,6 +123,8 @@ class LinearPrograms(unittest.TestCase):
             f"* #variable= 1 #constraint= 1\n+1 x1 +1 x{'1' * 11} >= 1 ;\n": "no linear terms",
             f"* #variable= 1 #constraint= 1\n+1 x1 >= {'1' * 18} ;\n": "degree of 17 digits or less",
             f"* #variable= {'9' * 11} #constraint= 1\n": "does not begin",
+            "* #variable= 9 #constraint= 1\nmin: +1 x9 +1 x10 ;\n+1 x1 >= 1 ;\n": "variables after x9, the last that it announces",
+            "* #variable= 10 #constraint= 1\n+1 x9 +1 x11 +1 x2 >= 1 ;\n": "variables after x10, the last that it announces",
         }
         for model, says in rows.items():
             with self.subTest(model=model), self.assertRaisesRegex(ModelFault, says):

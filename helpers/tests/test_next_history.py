@@ -5,7 +5,7 @@ from dataclasses import replace
 
 from ward import HISTORY, SCENARIO, files
 
-from inrc2pb.command import Misuse
+from inrc2pb.faults import Misuse
 from inrc2pb.next_history import next_history
 
 

@@ -2,6 +2,7 @@
 
 import errno
 import os
+import shutil
 import subprocess
 import unittest
 from pathlib import Path
@@ -9,7 +10,7 @@ from unittest import mock
 
 from ward import HELPERS, HISTORY, ROSTER, SCENARIO, WEEK, WEEK_FILES, HelperTest, files, program
 
-from inrc2pb import command, rules
+from inrc2pb import command, faults, rules
 from inrc2pb.processes import Processes
 
 
@@ -36,14 +37,14 @@ class Program(HelperTest):
             ("nonsense\n", 1, "inrc2pb: answer: no status line or a second one"),
             ("s SATISFIABLE\nv x1\n", 6, "inrc2pb: constraint 1 is not satisfied"),
         ):
-            with self.assertRaises(program.ProgramFault) as caught:
+            with self.assertRaises(faults.ProgramFault) as caught:
                 program.decode(WEEK_FILES, answer, target)
             self.assertEqual((caught.exception.status, str(caught.exception)), (status, line))
         self.assertEqual(target.read_text(), "old")
 
     def test_a_roster_that_breaks_a_rule(self):
         roster = self.changed(ROSTER, "Amara Mon Day Charge", "Chen Mon Day Charge")
-        with self.assertRaises(program.ProgramFault) as caught:
+        with self.assertRaises(faults.ProgramFault) as caught:
             program.extend(WEEK_FILES, roster)
         self.assertEqual((caught.exception.status, str(caught.exception)), (6, "inrc2pb: roster breaks H4"))
 
@@ -53,22 +54,22 @@ class Unreadable(HelperTest):
         missing = self.folder / "week.txt"
         for path, reason in ((missing, "No such file or directory: look at its name and folder"), (self.folder, "Is a directory: this is a folder")):
             for run_it in (lambda week: program.encode(week, Path(os.devnull)), lambda week: program.decode(week, "")):
-                with self.assertRaises(program.ProgramFault) as caught:
+                with self.assertRaises(faults.ProgramFault) as caught:
                     run_it(program.WeekFiles(SCENARIO, HISTORY, path))
                 self.assertEqual(caught.exception.status, 3)
-                self.assertIn(f"inrc2pb: read failed: {path}: {reason}", command.fault_line(caught.exception))
+                self.assertIn(f"inrc2pb: read failed: {path}: {reason}", faults.fault_line(caught.exception))
 
 
 class Finding(HelperTest):
     def test_a_program_that_is_missing(self):
         with mock.patch.dict(os.environ, {"INRC2PB": "/nowhere/inrc2pb"}):
-            with self.assertRaisesRegex(program.ProgramFault, "there is no program /nowhere/inrc2pb: correct or unset"):
+            with self.assertRaisesRegex(faults.ProgramFault, "there is no program /nowhere/inrc2pb: correct or unset"):
                 program.find_program()
 
     def test_a_program_that_is_not_inrc2pb(self):
         for name in ("true", "false"):
             with mock.patch.dict(os.environ, {"INRC2PB": f"/bin/{name}"}):
-                with self.assertRaises(program.ProgramFault) as caught:
+                with self.assertRaises(faults.ProgramFault) as caught:
                     program.find_program()
             says = f"INRC2PB names /bin/{name}, which is not inrc2pb: correct or unset the variable"
             self.assertEqual((caught.exception.status, str(caught.exception)), (program.NO_PROGRAM, says))
@@ -80,7 +81,7 @@ class Finding(HelperTest):
 
     def test_an_encode_of_a_search_that_does_not_end(self):
         with mock.patch.object(program, "LONGEST_RUN", 0.2), mock.patch.dict(os.environ, self.slow_to_encode(self.folder / "running")):
-            with self.assertRaisesRegex(program.ProgramFault, "^inrc2pb encode did not end in 0 s: a pipe can be read only once"):
+            with self.assertRaisesRegex(faults.ProgramFault, "^inrc2pb encode did not end in 0 s: a pipe can be read only once"):
                 program.encode_unless_stopped(WEEK_FILES, self.folder / "week.opb", Processes())
 
     def fault_of(self, text):
@@ -89,12 +90,12 @@ class Finding(HelperTest):
         broken.write_text(text)
         broken.chmod(0o755)
         with mock.patch.dict(os.environ, {"INRC2PB": str(broken)}):
-            with self.assertRaises(program.ProgramFault) as caught:
+            with self.assertRaises(faults.ProgramFault) as caught:
                 program.find_program() and program.run_program("--version")
         return caught.exception
 
     def test_a_program_that_does_not_run(self):
-        line = command.fault_line(self.fault_of("no program"))
+        line = faults.fault_line(self.fault_of("no program"))
         self.assertIn("/inrc2pb does not run: Exec format error: it is no program of this machine; a script needs", line)
 
     def test_a_program_that_a_signal_ends(self):
@@ -107,6 +108,25 @@ class Finding(HelperTest):
         ran = subprocess.run([str(link), str(ROSTER)], cwd="/", stdout=subprocess.PIPE, stderr=subprocess.PIPE)
         self.assertEqual((ran.stdout[:28], ran.stderr), (b"ward, week 0: 33 assignments", b""))
 
+    def test_a_helper_of_another_name(self):
+        ran = subprocess.run([str(HELPERS / "launcher")], stdout=subprocess.PIPE, stderr=subprocess.PIPE)
+        self.assertEqual((ran.returncode, ran.stderr[:46]), (1, b"launcher: no helper has this name: give it one"))
+
+    def test_a_clone_uses_its_own_program(self):
+        clone, other = self.folder / "clone", self.folder / "other"
+        shutil.copytree(HELPERS, clone / "helpers", symlinks=True, ignore=shutil.ignore_patterns("tests", "__pycache__"))
+        for folder, version in ((clone / "out", "inrc2pb 2"), (other, "inrc2pb 1")):
+            folder.mkdir()
+            self.script("inrc2pb", f"echo {version}").rename(folder / "inrc2pb")
+        environment = {**os.environ, "PATH": f"{other}:{os.environ['PATH']}", "INRC2PB": ""}
+        words = [str(clone / "helpers" / "inrc2pb-check"), "--version"]
+        self.assertEqual(subprocess.run(words, env=environment, stdout=subprocess.PIPE).stdout, b"inrc2pb 2\n")
+
+    def test_a_full_disk_behind_standard_error(self):
+        with open("/dev/full", "w") as full:
+            for words, status in (([], 2), ([str(self.folder / "missing")], 3), (["--fix", "a", "--fix", "b", str(ROSTER)], 1)):
+                self.assertEqual(subprocess.run([str(HELPERS / "inrc2pb-table"), *words], stderr=full).returncode, status)
+
 
 class CommandLines(unittest.TestCase):
     def test_each_fault_of_the_system_has_its_advice(self):
@@ -115,7 +135,7 @@ class CommandLines(unittest.TestCase):
             errno.EIO,
         ):  # fmt: skip
             with self.subTest(errno.errorcode[number]):
-                line = command.fault_line(OSError(number, os.strerror(number), "some\nfile"))
+                line = faults.fault_line(OSError(number, os.strerror(number), "some\nfile"))
                 self.assertRegex(line, f"^some file: {os.strerror(number)}: [a-z].{{10,}}$")
 
     def test_processors_that_the_process_may_use(self):

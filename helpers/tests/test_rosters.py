@@ -197,13 +197,13 @@ class Tables(HelperTest):
         self.assertIn("Am\ufffd\ufffdra", picture)
         xml.dom.minidom.parseString(picture.encode())
 
-    def test_full_width_letters_take_two_columns(self):
-        name = "\u5c71\u7530\u592a\u90ce"
-        roster = self.changed(ROSTER, "Amara", name)
-        roster.write_text(roster.read_text().replace("Amara", name))
-        lines = run("table", roster)[1].splitlines()
-        row, other = (next(line for line in lines if line.startswith(begin)) for begin in (name, "Bruno"))
-        self.assertEqual(row.index("|") + len(name), other.index("|"))
+    def test_letters_that_do_not_take_one_column(self):
+        for name, more in (("\u5c71\u7530\u592a\u90ce", 4), ("Jose\u0301", -1)):
+            roster = self.changed(ROSTER, "Amara", name)
+            roster.write_text(roster.read_text().replace("Amara", name))
+            lines = run("table", roster)[1].splitlines()
+            row, other = (next(line for line in lines if line.startswith(begin)) for begin in (name, "Bruno"))
+            self.assertEqual(row.index("|") + more, other.index("|"))
 
     def test_a_long_title_fits_the_picture(self):
         roster = self.solution("Amara Mon Day Charge", ward="w" * 150)

@@ -258,27 +258,6 @@ class Parts(HelperTest):
         finally:
             signal.signal(signal.SIGHUP, before)
 
-    def test_groups_end(self):
-        processes = Processes()
-        began = time.monotonic()
-        ended = processes.run(["bash", "-c", "sleep 60 & sleep 60"], 0.3, self.folder)
-        self.assertTrue(ended.timed_out)
-        self.assertLess(time.monotonic() - began, 30)
-        processes.stop()
-        self.assertTrue(processes.run(["sleep", "60"], 60, self.folder).timed_out)
-
-    def test_processes_that_are_asked_to_end_and_do_not_are_killed(self):
-        processes, began = Processes(), time.monotonic()
-
-        def hear(data):
-            if data.startswith(b"ready"):
-                processes.ask_to_end()
-
-        script = "trap 'echo answer' TERM; echo ready; while true; do sleep 0.1; done"
-        ended = processes.run(["bash", "-c", script], 60, self.folder, hear=hear)
-        self.assertEqual((ended.status, ended.output), (-signal.SIGKILL, "ready\nanswer\n"))
-        self.assertLess(time.monotonic() - began, 30)
-
 
 if __name__ == "__main__":
     unittest.main()
