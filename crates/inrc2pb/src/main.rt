@@ -5,12 +5,11 @@
 #![tactic(auto)]
 
 use inrc2pb_program::{
-    FileOnFirstWrite, HostFiles, StandardInput, StandardOutput, StderrPrinter, StdoutPrinter,
-    program,
+    FileOnFirstWrite, HostFiles, StandardInput, StderrPrinter, StdoutPrinter, program,
 };
-use rota_core::FromRead;
-use std::env;
+use rota_core::{FromRead, ToWrite};
 use std::process::ExitCode;
+use std::{env, io};
 
 fn main(rt: HostRuntime) -> ExitCode {
     program(
@@ -19,7 +18,7 @@ fn main(rt: HostRuntime) -> ExitCode {
         &mut HostFiles::new(&rt),
         &mut FromRead::new(StandardInput::new(&rt)),
         &mut FileOnFirstWrite::new(&rt),
-        &mut StandardOutput::new(&rt),
+        &mut ToWrite::new(io::writer(&rt)),
         &mut StdoutPrinter::new(&rt),
         &mut StderrPrinter::new(&rt),
     )

@@ -1,5 +1,5 @@
 -- The inputs of a job, open.
-use Rattle.std.specs.Prelude.{⊤, false, [], Option, Some, None, option_map, string_bytes}
+use Rattle.std.specs.Prelude.{⊤, false, true, [], Option, Some, None, option_map, string_bytes}
 use Rattle.rota_core.specs.declared.ports.Source.{Ghosts}
 use Rattle.rota_pb.specs.RunPorts.{WeekReaders, reader_of}
 use Rattle.inrc2pb_job.specs.Jobs.{IsChoiceOf}
@@ -9,20 +9,20 @@ use Rattle.inrc2pb_job.specs.declared.fix_file.FixFile.TheVariants.{Named, Absen
 use Rattle.inrc2pb_job.specs.declared.job.Inputs.{Inputs}
 use Rattle.inrc2pb_job.specs.declared.open_files.OpenInputs.{OpenInputs}
 
--- the port of the file of the held cells: the port of the file that is named for them, or of a file without bytes
+-- the port of the file of the held cells: the port of the file that is named for them, or of a file without bytes, at its end
 abbrev pub fix_port : {F : Type 0} → Ghosts F → Ghosts (FixFile F)
 fix_port port = record {
-  left = elim [ Named file ↦ port.left file | Absent ended ↦ Some [] ];
-  has_failed = elim [ Named file ↦ port.has_failed file | Absent ended ↦ false ];
-  has_ended = elim [ Named file ↦ port.has_ended file | Absent ended ↦ ended ];
+  left = elim [ Named file ↦ port.left file | Absent ↦ Some [] ];
+  has_failed = elim [ Named file ↦ port.has_failed file | Absent ↦ false ];
+  has_ended = elim [ Named file ↦ port.has_ended file | Absent ↦ true ];
 }
 
 -- the file of the held cells is new, if one is named for them
 abbrev pub IsFixOpen : {F : Type 0} → Ghosts F → (Path → FileAt) → Option Path → FixFile F → Type 0
 IsFixOpen port at (Some path) (Named file) = IsNew port (at path) file
-IsFixOpen port at (Some path) (Absent ended) = ⊥
+IsFixOpen port at (Some path) Absent = ⊥
 IsFixOpen port at None (Named file) = ⊥
-IsFixOpen port at None (Absent ended) = ⊤
+IsFixOpen port at None Absent = ⊤
 
 -- each input is open at its own path, and the choices of the run are the choices of the inputs
 pub record AreOpen {F : Type 0} (port : Ghosts F) (at : Path → FileAt) (inputs : Inputs) (opened : OpenInputs F) : Type 0 where

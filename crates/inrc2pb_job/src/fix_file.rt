@@ -1,31 +1,27 @@
 //! The file of the held cells.
-ghost use Rattle.std.specs.Prelude.{Some, [], false};
+ghost use Rattle.std.specs.Prelude.{Some, [], false, true};
 ghost use Rattle.inrc2pb_job.specs.declared.fix_file.FixFile.TheVariants.{Absent, Named};
 
 use rota_core::{PortFault, Source};
 
-/// The file of the held cells, if one is named, otherwise an empty file.
+/// The file of the held cells, if one is named, otherwise an empty file at its end.
 #[derive(Drop)]
 pub enum FixFile<F> {
     Named(F),
-    /// No file, and whether a read has reported its end.
-    Absent(bool),
+    Absent,
 }
 
 impl<F: Source> Source for FixFile<F> {
-    ghost left = { elim [ Named file ↦ F.left file | Absent ended ↦ Some [] ] };
+    ghost left = { elim [ Named file ↦ F.left file | Absent ↦ Some [] ] };
 
-    ghost has_failed = { elim [ Named file ↦ F.has_failed file | Absent ended ↦ false ] };
+    ghost has_failed = { elim [ Named file ↦ F.has_failed file | Absent ↦ false ] };
 
-    ghost has_ended = { elim [ Named file ↦ F.has_ended file | Absent ended ↦ ended ] };
+    ghost has_ended = { elim [ Named file ↦ F.has_ended file | Absent ↦ true ] };
 
     fn read(&mut self, buffer: &mut [u8]) -> Result<usize, PortFault> {
         match self {
             FixFile::Named(file) => file.read(buffer),
-            FixFile::Absent(ended) => {
-                *ended = *ended || !buffer.is_empty();
-                Ok(0)
-            }
+            FixFile::Absent => Ok(0),
         }
     }
 }

@@ -23,7 +23,7 @@ use std::alloc::Global;
 /// let mut input = FromRead::new(StandardInput::new(rt));
 /// let mut file = FileOnFirstWrite::new(rt);
 /// file.place(job.output_path())?;
-/// let mut output = StandardOutput::new(rt);
+/// let mut output = ToWrite::new(io::writer(rt));
 /// perform(rt.alloc(), &job, &mut files, &mut input, &mut file, &mut output)
 /// ```
 ///

@@ -85,6 +85,6 @@ fn open_fix<O: Opens>(files: &mut O, path: &Option<String>) -> Result<FixFile<O:
 {
     match path {
         Some(path) => Ok(FixFile::Named(open(files, path.as_str())?)),
-        None => Ok(FixFile::Absent(false)),
+        None => Ok(FixFile::Absent),
     }
 }

@@ -1,8 +1,8 @@
 //! Files that are opened by their paths, and outputs that have a path.
-ghost use Rattle.std.specs.Prelude.{◌≡◌, List, [], ◌∷◌, Option, IfErr, IfOk};
+ghost use Rattle.std.specs.Prelude.{◌≡◌, List, [], ◌∷◌, Option, None, IfErr, IfOk};
 ghost use Rattle.inrc2pb_job.specs.Paths.{PathLog, IsNew, MayRefuse, Path, FileAt, with_paths};
 
-use rota_core::{PortFault, Source};
+use rota_core::{PortFault, Source, ToWrite};
 
 /// Opens files by their paths.
 pub trait Opens {
@@ -25,4 +25,9 @@ pub trait Opens {
 /// An output that knows its place: the path of its file, or `None` if it is a stream.
 pub trait HasPath {
     ghost path: { Self → Option Path };
+}
+
+/// A stream, such as standard output, has no path.
+impl<W> HasPath for ToWrite<W> {
+    ghost path = { λ _. None };
 }

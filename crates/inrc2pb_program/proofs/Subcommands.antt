@@ -14,11 +14,9 @@ use Rattle.clap.specs.declared.parser.matches.ArgMatches.{ArgMatches}
 use Rattle.clap.specs.declared.parser.matches.ArgMatches.TheViews.{out-ArgMatches}
 use Rattle.clap.proofs.OnLiterals.{clap_on_literals}
 use Rattle.inrc2pb_command.specs.CommandLine.{inrc2pb_app}
-use Rattle.inrc2pb_program.specs.Jobs.{IsJobFaultOf, IsForMemoryOr, IsJobOf, IsSubcommand, LacksPath, Matched, options_of}
+use Rattle.inrc2pb_program.specs.Jobs.{IsJobOf, IsSubcommand, LacksPath, Matched, options_of}
 use Rattle.inrc2pb_job.specs.declared.job.Job.{Job}
-use Rattle.inrc2pb_program.specs.declared.job_fault.JobFault.{JobFault}
-use Rattle.inrc2pb_program.specs.declared.job_fault.JobFault.TheVariants.{Words, Missing, Memory}
-use Rattle.inrc2pb_program.specs.Stops.{IsStopFor, IsStopOf}
+use Rattle.inrc2pb_program.specs.Stops.{IsForMemoryOr, IsStopFor, IsStopOf}
 use Rattle.inrc2pb_program.specs.declared.stop.Stop.{Stop}
 use Rattle.inrc2pb_program.specs.declared.stop.Stop.TheVariants as stopped
 
@@ -92,19 +90,20 @@ subcommand_read a words m o p is has name rows some =
 
 -- ---- the meaning of the results of the job's functions, for the words
 
-pub ok_for : (o : Option Matched) (p : Matched) (r : Result Job JobFault) → o ≡ Some p → IfOk r (IsJobOf p) →
+pub ok_for : (o : Option Matched) (p : Matched) (r : Result Job Stop) → o ≡ Some p → IfOk r (IsJobOf p) →
     IfOk r (λ j. IsSomeAnd o (λ matched. IsJobOf matched j))
 ok_for o p r is = IfOk-weaker r _ _ (λ j h. subst (λ x. IsSomeAnd x (λ matched. IsJobOf matched j)) (sym is) h)
 
-fault_for : (words : List Text) (p : Matched) (e : JobFault) → fault_of inrc2pb_app words ≡ [] → subcommand_of inrc2pb_app words ≡ Some p
-    → IsForMemoryOr (LacksPath p) e → IsJobFaultOf words e
-fault_for words p (Words error) none is h = absurd h
-fault_for words p Missing none is h = (none, subst (λ x. IsSomeAnd x LacksPath) (sym is) h)
-fault_for words p Memory none is h = h
+stop_without_fault : (words : List Text) (p : Matched) (stop : Stop) → fault_of inrc2pb_app words ≡ [] → subcommand_of inrc2pb_app words ≡ Some p
+    → IsForMemoryOr (LacksPath p) stop → IsStopFor words stop
+stop_without_fault words p (stopped.Shown text) none is h = absurd h
+stop_without_fault words p (stopped.Words text) none is h = absurd h
+stop_without_fault words p (stopped.Usage text) none is h = (none, subst (λ x. IsSomeAnd x LacksPath) (sym is) h)
+stop_without_fault words p (stopped.Job fault) none is h = h
 
-pub err_for : (words : List Text) (p : Matched) (r : Result Job JobFault) → fault_of inrc2pb_app words ≡ [] → subcommand_of inrc2pb_app words ≡ Some p
-    → IfErr r (IsForMemoryOr (LacksPath p)) → IfErr r (IsJobFaultOf words)
-err_for words p r none is = IfErr-weaker r _ _ (λ e h. fault_for words p e none is h)
+pub err_for : (words : List Text) (p : Matched) (r : Result Job Stop) → fault_of inrc2pb_app words ≡ [] → subcommand_of inrc2pb_app words ≡ Some p
+    → IfErr r (IsForMemoryOr (LacksPath p)) → IfErr r (IsStopFor words)
+err_for words p r none is = IfErr-weaker r _ _ (λ stop h. stop_without_fault words p stop none is h)
 
 -- words that are parsed have no fault
 pub fault_free : (a : App) (words : List Text) → a ≡ inrc2pb_app → (is_simple_and_free a ≡ true → fault_of a words ≡ []) →
@@ -124,22 +123,11 @@ subcommand_named words p e = elim (named_of inrc2pb_app words p e) [
   ]
 ]
 
--- clap refuses words for their faults, or because memory ran out; words that the command accepts only because memory ran out
-pub words_refused : (a : App) (words : List Text) (e : Error) (r : Result Job JobFault) → a ≡ inrc2pb_app
-    → (takes a words ≡ true → kind_of e ≡ OutOfMemory) → (is_simple_and_free a ≡ true → HasKind (fault_of a words) e)
-    → IsErrAnd r (λ fault. fault ≡ Words e) → IfErr r (IsJobFaultOf words)
-words_refused a words e (Ok j) is passes kinds same = absurd same
-words_refused a words e (Err fault) is passes kinds same =
-    let kind = kinds (ap is_simple_and_free is ∙ is_simple_and_free-inrc2pb) in
-    subst (IsJobFaultOf words) (sym same)
-    (subst (λ (x : App). HasKind (fault_of x words) e) is kind, λ taken. passes (ap (λ x. takes x words) is ∙ taken))
-
--- ---- the reason why the program then ends
-
-pub stop_for : (words : List Text) (fault : JobFault) (stop : Stop) → IsJobFaultOf words fault → IsStopOf fault stop
+-- the reason why the program ends if clap refuses the words, for one of their faults or because memory ran out
+stop_for : (words : List Text) (error : Error) (stop : Stop) → HasKind (fault_of inrc2pb_app words) error → IsStopOf error stop
     → IsStopFor words stop
-stop_for words (Words error) stop h is =
-    elim h.0 [
+stop_for words error stop h is =
+    elim h [
       | inl memory ↦ subst (IsStopFor words) (sym (is.1 memory)) refl
       | inr among ↦ elim is.2 [
         | inl refused ↦ subst (IsStopFor words) (sym refused)
@@ -150,8 +138,10 @@ stop_for words (Words error) stop h is =
         ]
       ]
     ]
-stop_for words Missing (stopped.Shown text) h is = absurd is
-stop_for words Missing (stopped.Words text) h is = absurd is
-stop_for words Missing (stopped.Usage text) h is = h
-stop_for words Missing (stopped.Job fault) h is = absurd is
-stop_for words Memory stop h is = subst (IsStopFor words) (sym is) refl
+
+pub words_refused : (a : App) (words : List Text) (e : Error) (r : Result Job Stop) → a ≡ inrc2pb_app
+    → (is_simple_and_free a ≡ true → HasKind (fault_of a words) e) → IsErrAnd r (IsStopOf e) → IfErr r (IsStopFor words)
+words_refused a words e (Ok j) is kinds stops = absurd stops
+words_refused a words e (Err stop) is kinds stops =
+    let kind = kinds (ap is_simple_and_free is ∙ is_simple_and_free-inrc2pb) in
+    stop_for words e stop (subst (λ (x : App). HasKind (fault_of x words) e) is kind) stops

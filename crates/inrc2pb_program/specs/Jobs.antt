@@ -10,8 +10,6 @@ use Rattle.inrc2pb_command.specs.CommandLine.{inrc2pb_app}
 use Rattle.inrc2pb_job.specs.declared.job.Inputs.{Inputs}
 use Rattle.inrc2pb_job.specs.declared.job.Job.{Job}
 use Rattle.inrc2pb_job.specs.declared.job.Job.TheVariants.{Encode, Decode, Extend}
-use Rattle.inrc2pb_program.specs.declared.job_fault.JobFault.{JobFault}
-use Rattle.inrc2pb_program.specs.declared.job_fault.JobFault.TheVariants.{Words, Missing, Memory}
 
 -- the words without references
 abbrev pub texts : List (Bor Text) → List Text
@@ -65,17 +63,3 @@ abbrev pub LacksPath : Matched → Type 0
 LacksPath matched = LacksInput matched.1
     ⊎ (((matched.0 ≡ codes "decode") × LacksOption (codes "sol") matched.1)
     ⊎ ((matched.0 ≡ codes "extend") × LacksOption (codes "from") matched.1))
-
--- memory ran out, or a path is missing if `lacks` says so
-abbrev pub IsForMemoryOr : Type 0 → JobFault → Type 0
-IsForMemoryOr lacks (Words error) = ⊥
-IsForMemoryOr lacks Missing = lacks
-IsForMemoryOr lacks Memory = ⊤
-
--- why the words give no job: clap's error is of a kind that matches their fault, or memory ran out, which is the only reason if the
--- command accepts them; a path is missing only if nothing is wrong with the words
-abbrev pub IsJobFaultOf : List Text → JobFault → Type 0
-IsJobFaultOf words (Words error) =
-    HasKind (fault_of inrc2pb_app words) error × (takes inrc2pb_app words ≡ true → kind_of error ≡ OutOfMemory)
-IsJobFaultOf words Missing = (fault_of inrc2pb_app words ≡ []) × IsSomeAnd (subcommand_of inrc2pb_app words) LacksPath
-IsJobFaultOf words Memory = ⊤

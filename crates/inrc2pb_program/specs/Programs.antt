@@ -1,10 +1,8 @@
 -- The effects of a run of the program, from its words to its exit status.
-use Rattle.std.specs.Prelude.{◌≡◌, ◌≢◌, ℕ, List, [], Option, Result, Ok, Err, IsSomeAnd, map, string_bytes}
+use Rattle.std.specs.Prelude.{◌≡◌, ℕ, List, [], Option, Result, Ok, Err, IsSomeAnd, map, string_bytes}
 use Rattle.std.specs.Vec.Iter.{into_iter_items}
 use Rattle.std.specs.declared.string.String.{String}
-use Rattle.std.specs.IoError.{error_kind}
 use Rattle.std.specs.declared.io.Error.{Error}
-use Rattle.std.specs.declared.io.ErrorKind.TheVariants.{OutOfMemory}
 use Rattle.std.specs.declared.vec.IntoIter.{IntoIter}
 use Rattle.clap.specs.Words.{Text, fault_of, subcommand_of}
 use Rattle.inrc2pb_command.specs.CommandLine.{inrc2pb_app}
@@ -15,10 +13,9 @@ use Rattle.inrc2pb_job.specs.declared.job.Job.{Job}
 use Rattle.rota_core.specs.declared.ports.Target.{Ghosts}
 use Rattle.rota_pb.specs.RunPorts.{IsUntouched, Reader, Writer, writer_of}
 use Rattle.rota_pb.specs.declared.fault.Fault.{Fault}
-use Rattle.rota_pb.specs.declared.fault.Fault.TheVariants.{Memory}
 use Rattle.inrc2pb_program.specs.Exits.{IsExitOf, PrinterState}
 use Rattle.inrc2pb_program.specs.Jobs.{IsJobOf}
-use Rattle.inrc2pb_program.specs.Stops.{IsStopFor}
+use Rattle.inrc2pb_program.specs.Stops.{IsStopFor, IsStopForError}
 use Rattle.inrc2pb_program.specs.declared.stop.Stop.{Stop}
 use Rattle.inrc2pb_program.specs.declared.stop.Stop.TheVariants as stops
 
@@ -37,13 +34,6 @@ pub record IsJobFor (words : List Text) (job : Job) : Type 0 where
 abbrev pub IsJobGiven : {X Z : Type 0} → Given X Z → Job → Type 0
 IsJobGiven (Ok words) job = IsJobFor (texts_in words) job
 IsJobGiven (Err error) job = ⊥
-
--- why words that are not text, or for which there was not enough memory, give no job
-abbrev pub IsStopForError : Error → Stop → Type 0
-IsStopForError error (stops.Shown text) = ⊥
-IsStopForError error (stops.Words text) = ⊥
-IsStopForError error (stops.Usage text) = error_kind error ≢ OutOfMemory
-IsStopForError error (stops.Job fault) = (fault ≡ Memory) × (error_kind error ≡ OutOfMemory)
 
 -- why the words give no job
 abbrev pub IsStopGiven : {X Z : Type 0} → Given X Z → Stop → Type 0

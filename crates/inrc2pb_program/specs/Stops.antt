@@ -1,12 +1,14 @@
 -- Why the program ends if the words give no job.
-use Rattle.std.specs.Prelude.{◌≡◌, ◌⊎◌, List, [], ⊤, IsSomeAnd}
+use Rattle.std.specs.Prelude.{◌≡◌, ◌≢◌, ◌⊎◌, List, [], ⊤, IsSomeAnd}
+use Rattle.std.specs.IoError.{error_kind}
+use Rattle.std.specs.declared.io.Error.{Error as IoError}
+use Rattle.std.specs.declared.io.ErrorKind.TheVariants as io_kind
 use Rattle.clap.specs.Words.{IsAmong, Text, fault_of, kind_of, subcommand_of}
+use Rattle.clap.specs.declared.error.Error.{Error}
 use Rattle.clap.specs.declared.error.kind.ErrorKind.{ErrorKind}
 use Rattle.clap.specs.declared.error.kind.ErrorKind.TheVariants.{DisplayHelp, DisplayVersion, OutOfMemory}
 use Rattle.inrc2pb_command.specs.CommandLine.{inrc2pb_app}
 use Rattle.inrc2pb_program.specs.Jobs.{LacksPath}
-use Rattle.inrc2pb_program.specs.declared.job_fault.JobFault.{JobFault}
-use Rattle.inrc2pb_program.specs.declared.job_fault.JobFault.TheVariants.{Words, Missing, Memory}
 use Rattle.inrc2pb_program.specs.declared.stop.Stop.{Stop}
 use Rattle.inrc2pb_program.specs.declared.stop.Stop.TheVariants as stopped
 use Rattle.rota_pb.specs.declared.fault.Fault.TheVariants as failed
@@ -15,21 +17,18 @@ use Rattle.rota_pb.specs.declared.fault.Fault.TheVariants as failed
 abbrev pub IsAskedFor : ErrorKind → Type 0
 IsAskedFor kind = (kind ≡ DisplayHelp) ⊎ (kind ≡ DisplayVersion)
 
--- a reason of the program's own why the words give no job
-abbrev pub IsUsage : Stop → Type 0
-IsUsage (stopped.Shown text) = ⊥
-IsUsage (stopped.Words text) = ⊥
-IsUsage (stopped.Usage text) = ⊤
-IsUsage (stopped.Job fault) = ⊥
-
--- a requested text is shown; if memory runs out, the program ends as a job would
-abbrev pub IsStopOf : JobFault → Stop → Type 0
-IsStopOf (Words error) stop = (IsAskedFor (kind_of error) → stop ≡ stopped.Shown error)
+-- the reason for an error of clap: a requested text is shown, and if memory ran out, the program ends as a job would
+abbrev pub IsStopOf : Error → Stop → Type 0
+IsStopOf error stop = (IsAskedFor (kind_of error) → stop ≡ stopped.Shown error)
     × (kind_of error ≡ OutOfMemory → stop ≡ stopped.Job failed.Memory)
-    × ((stop ≡ stopped.Words error) ⊎ (IsAskedFor (kind_of error)
-    ⊎ (kind_of error ≡ OutOfMemory)))
-IsStopOf Missing stop = IsUsage stop
-IsStopOf Memory stop = stop ≡ stopped.Job failed.Memory
+    × ((stop ≡ stopped.Words error) ⊎ (IsAskedFor (kind_of error) ⊎ (kind_of error ≡ OutOfMemory)))
+
+-- memory ran out, or a path is missing if `lacks` says so
+abbrev pub IsForMemoryOr : Type 0 → Stop → Type 0
+IsForMemoryOr lacks (stopped.Shown text) = ⊥
+IsForMemoryOr lacks (stopped.Words text) = ⊥
+IsForMemoryOr lacks (stopped.Usage text) = lacks
+IsForMemoryOr lacks (stopped.Job fault) = fault ≡ failed.Memory
 
 -- why the program ends without the job of these words: it shows a requested text, or reports clap's reason, only if this is the kind of a
 -- fault in the words; it reports a reason of its own only if the words have no fault and a required path is missing; otherwise memory ran
@@ -39,3 +38,10 @@ IsStopFor words (stopped.Shown text) = IsAmong (kind_of text) (fault_of inrc2pb_
 IsStopFor words (stopped.Words text) = IsAmong (kind_of text) (fault_of inrc2pb_app words) × ¬ IsAskedFor (kind_of text)
 IsStopFor words (stopped.Usage text) = (fault_of inrc2pb_app words ≡ []) × IsSomeAnd (subcommand_of inrc2pb_app words) LacksPath
 IsStopFor words (stopped.Job fault) = fault ≡ failed.Memory
+
+-- why words that are not text, or for which there was not enough memory, give no job
+abbrev pub IsStopForError : IoError → Stop → Type 0
+IsStopForError error (stopped.Shown text) = ⊥
+IsStopForError error (stopped.Words text) = ⊥
+IsStopForError error (stopped.Usage text) = error_kind error ≢ io_kind.OutOfMemory
+IsStopForError error (stopped.Job fault) = (fault ≡ failed.Memory) × (error_kind error ≡ io_kind.OutOfMemory)

@@ -2,32 +2,22 @@
 ghost use Rattle.std.specs.Prelude.{◌≡◌, [], IfErr, IfOk, IsSomeAnd, OnOk, Some, option_map, string_bytes};
 ghost use Rattle.clap.specs.Words.{fault_of, first_of, subcommand_of};
 ghost use Rattle.inrc2pb_command.specs.CommandLine.{inrc2pb_app};
-ghost use Rattle.inrc2pb_program.specs.Jobs.{HasFlag, HasInputs, IsJobFaultOf, IsForMemoryOr, IsJobOf, IsSubcommand};
+ghost use Rattle.inrc2pb_program.specs.Jobs.{HasFlag, HasInputs, IsJobOf, IsSubcommand};
 ghost use Rattle.inrc2pb_program.specs.Jobs.{LacksInput, LacksOption, LacksPath, options_of, texts};
-ghost use Rattle.inrc2pb_program.specs.Stops.{IsStopFor};
+ghost use Rattle.inrc2pb_program.specs.Stops.{IsForMemoryOr, IsStopFor};
 
-use crate::job_fault::JobFault;
 use crate::stop::Stop;
 use clap::ArgMatches;
 use inrc2pb_job::{Inputs, Job};
 use std::alloc::{AllocError, Global};
 
-/// The job that the words spell, or the reason why the program ends without one.
-pub fn job_of_words(alloc: Global, words: &[&str]) -> Result<Job, Stop>
+/// The job that the words spell, or the reason why the program ends without one. The first word is the program's
+/// name.
+pub fn job(alloc: Global, words: &[&str]) -> Result<Job, Stop>
     ensures ok { IfOk result (λ j. IsSomeAnd (subcommand_of inrc2pb_app (texts words.now))
         (λ matched. IsJobOf matched j)) }
     ensures taken { OnOk result (fault_of inrc2pb_app (texts words.now) ≡ []) }
     ensures err { IfErr result (IsStopFor (texts words.now)) }
-{
-    Ok(job(alloc, words)?)
-}
-
-/// The job that the words spell. The first word is the program's name.
-pub fn job(alloc: Global, words: &[&str]) -> Result<Job, JobFault>
-    ensures ok { IfOk result (λ j. IsSomeAnd (subcommand_of inrc2pb_app (texts words.now))
-        (λ matched. IsJobOf matched j)) }
-    ensures taken { OnOk result (fault_of inrc2pb_app (texts words.now) ≡ []) }
-    ensures err { IfErr result (IsJobFaultOf (texts words.now)) }
 {
     let command = inrc2pb_command::inrc2pb(alloc)?;
     let matches = command.try_get_matches_from(words)?;
@@ -37,7 +27,7 @@ pub fn job(alloc: Global, words: &[&str]) -> Result<Job, JobFault>
     job_of(alloc, name, options)
 }
 
-fn job_of(alloc: Global, name: &str, options: &ArgMatches<'_>) -> Result<Job, JobFault>
+fn job_of(alloc: Global, name: &str, options: &ArgMatches<'_>) -> Result<Job, Stop>
     requires { IsSubcommand name.now }
     ensures ok { IfOk result (IsJobOf (name.now, options_of options.now)) }
     ensures err { IfErr result (IsForMemoryOr (LacksPath (name.now, options_of options.now))) }
@@ -60,7 +50,7 @@ fn job_of(alloc: Global, name: &str, options: &ArgMatches<'_>) -> Result<Job, Jo
     }
 }
 
-fn inputs(alloc: Global, options: &ArgMatches<'_>) -> Result<Inputs, JobFault>
+fn inputs(alloc: Global, options: &ArgMatches<'_>) -> Result<Inputs, Stop>
     ensures ok { IfOk result (HasInputs (options_of options.now)) }
     ensures err { IfErr result (IsForMemoryOr (LacksInput (options_of options.now))) }
 {
@@ -79,12 +69,12 @@ fn flag(options: &ArgMatches<'_>, id: &str) -> bool
     options.get_flag(id)
 }
 
-fn required_path(alloc: Global, options: &ArgMatches<'_>, id: &str) -> Result<String, JobFault>
+fn required_path(alloc: Global, options: &ArgMatches<'_>, id: &str) -> Result<String, Stop>
     ensures ok { IfOk result (λ path. first_of id.now (options_of options.now)
         ≡ Some (string_bytes path)) }
     ensures err { IfErr result (IsForMemoryOr (LacksOption id.now (options_of options.now))) }
 {
-    optional_path(alloc, options, id)?.ok_or(JobFault::Missing)
+    optional_path(alloc, options, id)?.ok_or(Stop::Usage("a required path is missing"))
 }
 
 fn optional_path(

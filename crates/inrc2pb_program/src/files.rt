@@ -5,15 +5,14 @@ ghost use Rattle.inrc2pb_program.specs.Files.{IsFlushed, IsWritten, left_of};
 ghost use Rattle.inrc2pb_job.specs.Paths.{unknown};
 ghost use Rattle.rota_core.specs.PortCalls.{SendsOnWrite};
 ghost use Rattle.rota_core.specs.Ports.{KnownBytes, known_len};
-ghost use Rattle.rota_core.specs.StdPorts.{IsUnasked, inner_writer, is_failed_writer};
-ghost use Rattle.std.specs.Io.KnownBytes.{Keeps, WriteAppends};
+ghost use Rattle.rota_core.specs.StdPorts.{IsUnasked};
 
 use crate::output_file::OutputFile;
 use inrc2pb_job::{HasPath, Opens};
 use rota_core::{FromRead, PortFault, Target, ToWrite};
 use std::alloc::AllocError;
 use std::fs::OpenOptions;
-use std::io::{Printer, Read, Write};
+use std::io::Read;
 use std::rt::Files;
 use std::{fs, io};
 
@@ -219,58 +218,4 @@ impl<R: Files + AllocGlobal> OutputFile for FileOnFirstWrite<'_, R> {
         };
         Ok(())
     }
-}
-
-/// Standard output: a stream, which has no path.
-#[derive(Drop)]
-pub struct StandardOutput<W> {
-    target: ToWrite<W>,
-}
-
-impl<'a, R: Print> StandardOutput<Printer<'a, R>> {
-    /// The standard output of this runtime. It has not failed.
-    pub fn new(rt: &'a R) -> StandardOutput<Printer<'a, R>>
-        ensures { is_failed_writer result.target ≡ false }
-    {
-        StandardOutput {
-            target: ToWrite::new(io::writer(rt)),
-        }
-    }
-}
-
-impl<W: Write> Target for StandardOutput<W> {
-    ghost sent = { λ _. None };
-
-    ghost flushed = { λ _. None };
-
-    ghost has_failed = { λ output. is_failed_writer output.target };
-
-    /// Writes with the stream's own write. The stream is not called after a failure, nor for an empty piece.
-    fn write(&mut self, piece: &[u8]) -> Result<usize, PortFault>
-        ensures bound { IfOk result (λ n. n ≤ length piece.now) }
-        ensures progress { IfOk result (λ n. 0 < length piece.now → 0 < n) }
-        ensures silent { SendsOnWrite None result piece.now None }
-        ensures empty { length piece.now ≡ 0 → is_failed_writer self.old.target ≡ false → IsOk result }
-        ensures failure { is_failed_writer self.new.target ≡ (is_failed_writer self.old.target || is_err result) }
-        ensures for_good { is_failed_writer self.old.target ≡ true → IsErr result }
-        ensures passed_on { WriteAppends (W.contents (inner_writer self.old.target)) (W.contents (inner_writer self.new.target))
-            result piece.now }
-        ensures unasked { IsUnasked (is_failed_writer self.old.target) piece.now → self.new ≡ self.old }
-    {
-        self.target.write(piece)
-    }
-
-    /// Flushes with the stream's own flush. The stream is not called after a failure.
-    fn flush(&mut self) -> Result<(), PortFault>
-        ensures failure { is_failed_writer self.new.target ≡ (is_failed_writer self.old.target || is_err result) }
-        ensures for_good { is_failed_writer self.old.target ≡ true → IsErr result }
-        ensures passed_on { Keeps (W.contents (inner_writer self.old.target)) (W.contents (inner_writer self.new.target)) }
-        ensures unasked { is_failed_writer self.old.target ≡ true → self.new ≡ self.old }
-    {
-        self.target.flush()
-    }
-}
-
-impl<W: Write> HasPath for StandardOutput<W> {
-    ghost path = { λ _. None };
 }

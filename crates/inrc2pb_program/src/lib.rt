@@ -5,14 +5,13 @@
 mod command_line;
 mod fault_line;
 mod files;
-mod job_fault;
 mod output_file;
 mod printers;
 mod process_words;
 mod run;
 mod stop;
 
-pub use files::{FileOnFirstWrite, HostFiles, StandardInput, StandardOutput};
+pub use files::{FileOnFirstWrite, HostFiles, StandardInput};
 pub use output_file::OutputFile;
 pub use printers::{Printer, StderrPrinter, StdoutPrinter};
 pub use run::program;

@@ -1,13 +1,11 @@
 //! The job that the words of the process ask for.
 ghost use Rattle.std.specs.Prelude.{◌≡◌, IfErr, IfOk, map, string_bytes};
 ghost use Rattle.inrc2pb_program.specs.Jobs.{texts};
-ghost use Rattle.inrc2pb_program.specs.Programs.{IsJobFor, IsJobGiven, IsStopForError, IsStopGiven, texts_in};
-ghost use Rattle.inrc2pb_program.specs.Stops.{IsStopFor};
+ghost use Rattle.inrc2pb_program.specs.Programs.{IsJobGiven, IsStopGiven, texts_in};
 
 use crate::command_line;
 use crate::stop::Stop;
 use inrc2pb_job::Job;
-use rota_pb::Fault;
 use std::alloc::{AllocError, Global};
 use std::env::Args;
 use std::io;
@@ -17,19 +15,9 @@ pub fn job_of_args(alloc: Global, words: io::Result<Args>) -> Result<Job, Stop>
     ensures ok { IfOk result (IsJobGiven words) }
     ensures err { IfErr result (IsStopGiven words) }
 {
-    match words {
-        Ok(words) => job_of_texts(alloc, words),
-        Err(error) => Err(stop_for_error(&error)),
-    }
-}
-
-fn job_of_texts(alloc: Global, words: Args) -> Result<Job, Stop>
-    ensures ok { IfOk result (λ job. IsJobFor (texts_in words) job) }
-    ensures err { IfErr result (IsStopFor (texts_in words)) }
-{
-    let words = kept(alloc, words)?;
+    let words = kept(alloc, words?)?;
     let words = borrowed(alloc, words.as_slice())?;
-    command_line::job_of_words(alloc, words.as_slice())
+    command_line::job(alloc, words.as_slice())
 }
 
 fn kept(alloc: Global, words: Args) -> Result<Vec<String>, AllocError>
@@ -42,13 +30,4 @@ fn borrowed<'a>(alloc: Global, words: &'a [String]) -> Result<Vec<&'a str>, Allo
     ensures { IfOk result (λ borrowed. texts borrowed.items ≡ map string_bytes words.now) }
 {
     words.iter().map(|word| word.as_str()).collect(alloc)
-}
-
-fn stop_for_error(error: &io::Error) -> Stop
-    ensures { IsStopForError error.now result }
-{
-    match error.kind() {
-        io::ErrorKind::OutOfMemory => Stop::Job(Fault::Memory),
-        _ => Stop::Usage("an argument is not text"),
-    }
 }

@@ -2,18 +2,17 @@
 ghost use Rattle.std.specs.Prelude.{◌≡◌, false};
 ghost use Rattle.std.specs.Process.{exit_status as code_of};
 ghost use Rattle.inrc2pb_program.specs.Exits.{IsExitOf, IsReported, IsShown, IsPrinted, stop_text, printer_state};
-ghost use Rattle.inrc2pb_program.specs.Stops.{IsStopOf};
+ghost use Rattle.inrc2pb_program.specs.Stops.{IsStopForError, IsStopOf};
 ghost use Rattle.inrc2pb_program.specs.declared.stop.Stop.TheVariants.{Job};
 ghost use Rattle.rota_pb.specs.declared.fault.Fault.TheVariants.{Memory};
 
 use crate::fault_line::FaultLine;
-use crate::job_fault::JobFault;
 use crate::printers::Printer;
 use clap::error::ErrorKind;
 use rota_pb::{Fault, status_of};
 use std::alloc::AllocError;
-use std::fmt;
 use std::process::ExitCode;
+use std::{fmt, io};
 
 /// Why the program ends without its work: the text or the fault that it reports.
 #[derive(Drop)]
@@ -100,18 +99,25 @@ fn refuse<E: Printer>(stop: &Stop, status: u8, errors: &mut E) -> u8
     }
 }
 
-impl From<JobFault> for Stop {
+impl From<clap::Error> for Stop {
     ghost from_gives = { IsStopOf };
 
-    fn from(fault: JobFault) -> Stop {
-        match fault {
-            JobFault::Words(error) => match error.kind() {
-                ErrorKind::OutOfMemory => Stop::Job(Fault::Memory),
-                ErrorKind::DisplayHelp | ErrorKind::DisplayVersion => Stop::Shown(error),
-                _ => Stop::Words(error),
-            },
-            JobFault::Missing => Stop::Usage("a required path is missing"),
-            JobFault::Memory => Stop::Job(Fault::Memory),
+    fn from(error: clap::Error) -> Stop {
+        match error.kind() {
+            ErrorKind::OutOfMemory => Stop::Job(Fault::Memory),
+            ErrorKind::DisplayHelp | ErrorKind::DisplayVersion => Stop::Shown(error),
+            _ => Stop::Words(error),
+        }
+    }
+}
+
+impl From<io::Error> for Stop {
+    ghost from_gives = { IsStopForError };
+
+    fn from(error: io::Error) -> Stop {
+        match error.kind() {
+            io::ErrorKind::OutOfMemory => Stop::Job(Fault::Memory),
+            _ => Stop::Usage("an argument is not text"),
         }
     }
 }

@@ -36,4 +36,4 @@ returns-clause-taken c = ok_whatever c.job_of.result
 pub returns-in_err-matches-clause-err : goal.returns-in_err-matches-clause-err
 returns-in_err-matches-clause-err c =
     words_refused (app_of c.in_ok-command.command) (texts c.args.words.now) c.in_err-matches.field-0.0 c.from_residual-in_err-matches.result
-    c.in_ok-command.ensures.0 c.in_err-matches.ensures.passes c.in_err-matches.ensures.kinds c.from_residual-in_err-matches.ensures.1
+    c.in_ok-command.ensures.0 c.in_err-matches.ensures.kinds c.from_residual-in_err-matches.ensures.1
