@@ -1,0 +1,68 @@
+#!/usr/bin/env python3
+"""The laws of the crates: public calls without parameters and result, whose contracts are statements about definitions.
+
+    tests/laws.py            prints the table of docs/proved.md
+    tests/laws.py all        prints every law
+    tests/laws.py compare    compares the table of docs/proved.md with the crates, and fails if they differ
+
+A row has the name of a law and the first sentence of its comment.
+"""
+import re
+import sys
+from pathlib import Path
+from typing import List, NamedTuple
+
+TOP = Path(__file__).resolve().parent.parent
+PAGE = TOP / 'docs' / 'proved.md'
+HEAD = '| law | statement |\n|---|---|\n'
+
+# The laws of these files are on the page: the meaning of the model, of the rules' charges and of a lower bound.
+ON_THE_PAGE = ('model_laws', 'rule_laws', 'extension_laws', 'bound_laws')
+CRATES_OF_TESTS = ('part_tests', 'rota_tests', 'week_report', 'who_fits')
+
+LAW = re.compile(r'((?:^///.*\n)+)(?:^#\[.*\n)*^pub fn (\w+)\(\)\n', re.MULTILINE)
+
+
+class Law(NamedTuple):
+    file: Path
+    name: str
+    statement: str
+
+
+def first_sentence(comment: str) -> str:
+    """The first sentence of a comment's lines, without the words `A law:` before it."""
+    text = ' '.join(line[3:].strip() for line in comment.strip().splitlines())
+    text = re.sub(r'^A law: (.)', lambda start: start.group(1).upper(), text)
+    return re.split(r'(?<=\.)\s', text)[0].strip()
+
+
+def laws() -> List[Law]:
+    """All laws, by crate and file."""
+    found = []
+    for file in sorted(TOP.glob('crates/*/src/**/*.rt')):
+        if file.relative_to(TOP).parts[1] in CRATES_OF_TESTS:
+            continue
+        for comment, name in LAW.findall(file.read_text()):
+            found.append(Law(file, name, first_sentence(comment)))
+    return found
+
+
+def table(chosen: List[Law]) -> str:
+    return HEAD + ''.join(f'| `{law.name}` | {law.statement} |\n' for law in chosen)
+
+
+def main(words: List[str]) -> int:
+    every = laws()
+    on_page = table([law for law in every if law.file.stem in ON_THE_PAGE])
+    if words == ['compare']:
+        if on_page not in PAGE.read_text():
+            print(f'{PAGE.relative_to(TOP)}: the table of laws is not the one that tests/laws.py prints')
+            return 1
+        print(f'laws.py: {len(every)} laws')
+        return 0
+    print(table(every) if words == ['all'] else on_page, end='')
+    return 0
+
+
+if __name__ == '__main__':
+    sys.exit(main(sys.argv[1:]))
