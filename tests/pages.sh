@@ -1,7 +1,7 @@
 #!/usr/bin/env bash
 # Checks the pages: runs each shell block, in the order of its page, in a copy of the repository, and compares its output with
-# the block of text that follows it. Checks the links between the pages, the length of README.md, the roster that it shows,
-# that the code on a page is in a crate, and that the pages exist which sources and scripts name.
+# the block of text that follows it. Checks the links between the pages, their lengths, the roster that README.md shows, the table of
+# laws, that the code on a page is in a crate, and that the pages exist which sources and scripts name.
 #
 #   tests/pages.sh [llvm | rattle | PROGRAM]
 #
@@ -125,13 +125,49 @@ named_pages_exist() {
         '\b(docs|bench)/[A-Za-z_]+\.md|\b(README|CONTRIBUTING|CHANGELOG)\.md' crates/*/src tests | sort -u)
 }
 
+# Each page has a limit of words, so that a new sentence takes the place of an old one.
+lengths_hold() {
+    local page most words
+    while read -r page most; do
+        begins_case "the length of $page"
+        words=$(wc -w < "$page")
+        [ "$words" -le "$most" ] || complain "$words words, at most $most"
+    done << END
+README.md 900
+CONTRIBUTING.md 800
+examples/README.md 320
+bench/README.md 650
+docs/DECISIONS.md 1050
+docs/answers.md 1550
+docs/changing.md 900
+docs/embedding.md 1850
+docs/formats.md 1150
+docs/helpers.md 1500
+docs/layers.md 500
+docs/model.md 1750
+docs/promises.md 650
+docs/proved.md 1750
+docs/reading.md 3000
+docs/rules.md 1450
+docs/solvers.md 2950
+docs/tested.md 800
+docs/trusted.md 850
+docs/your_ward.md 3200
+END
+    begins_case 'that each page has a limit'
+    for page in README.md docs/*.md; do
+        grep -q "^$page [0-9]*$" tests/pages.sh || complain "$page has none"
+    done
+}
+
 for page in README.md CONTRIBUTING.md CHANGELOG.md bench/README.md examples/README.md docs/*.md; do
     runs_blocks "$page"
     links_hold "$page"
     quotes_code "$page"
 done
 named_pages_exist
-begins_case 'the length of README.md'
-[ "$(wc -w < README.md)" -le 900 ] || complain "$(wc -w < README.md) words"
+lengths_hold
+begins_case 'the laws in docs/proved.md'
+python3 tests/laws.py compare > "$room/laws" || complain "$(cat "$room/laws")"
 shows_roster
 finish
