@@ -1,9 +1,9 @@
 #!/usr/bin/env bash
 # Records each call with which the program opens, reads or writes. Each file is opened once, for one use, in the order of
-# the checks, and read to its end and no further; an output is opened at its first write, and gets a write for each full
-# buffer and one for the rest; after a failed call there is no other call to the same file. Then each of these calls fails in
-# turn, once as if a signal had interrupted it (EINTR), once as on a broken device (EIO): the program repeats none, and the run
-# ends as a failed read or write. After a signal Rattle's library itself repeats an open, and the texts of help and faults.
+# the checks, and read to its end and no further; an output is opened at its first write, for all users as far as they allow
+# new files, and gets a write for each full buffer and one for the rest; after a failed call there is no other call to the same
+# file. Then each of these calls fails in turn, once as if a signal had interrupted it (EINTR), once as on a broken device (EIO),
+# once as on a device that did not answer in time (ETIMEDOUT): the program repeats none, and the run ends as a failed read or write. After a signal Rattle's library itself repeats an open, and the texts of help and faults.
 #
 #   tests/calls.sh [llvm | rattle | PROGRAM]
 #
@@ -64,7 +64,7 @@ fills() {
 
 does_jobs() {
     calls 'a model to a file' 0 encode "${five[@]}" --opb made
-    { opens_week; reads_week; printf '%s\n' 'open made write' 'write made'; } > "$room/wanted"
+    { opens_week; reads_week; printf '%s\n' 'open made write:666' 'write made'; } > "$room/wanted"
     are
     fills made week0.opb
     calls 'a model to standard output' 0 encode "${five[@]}"
@@ -72,11 +72,11 @@ does_jobs() {
     are
     fills output week0.opb
     calls 'an answer in a file' 0 decode "${five[@]}" --answer sat4j.txt --sol roster
-    { opens_week sat4j.txt; reads_week sat4j.txt; printf '%s\n' 'open roster write' 'write roster' 'write output'; } > "$room/wanted"
+    { opens_week sat4j.txt; reads_week sat4j.txt; printf '%s\n' 'open roster write:666' 'write roster' 'write output'; } > "$room/wanted"
     are
     fills roster roster
     in=$room/sat4j.txt calls 'an answer on standard input' 0 decode "${five[@]}" --sol again
-    { opens_week; reads_week; reads sat4j.txt input; printf '%s\n' 'open again write' 'write again' 'write output'; } > "$room/wanted"
+    { opens_week; reads_week; reads sat4j.txt input; printf '%s\n' 'open again write:666' 'write again' 'write output'; } > "$room/wanted"
     are
     calls 'a roster, and cells that are held' 0 extend "${five[@]}" --fix roster --from again
     { opens_week roster again; reads_week roster again; echo 'write output'; } > "$room/wanted"
@@ -99,13 +99,13 @@ fails() {
     are
     is_missing unmade
     calls 'an output in no folder' 3 encode "${five[@]}" --opb missing/made
-    { opens_week; reads_week; printf '%s\n' 'open missing/made write' 'write errors'; } > "$room/wanted"
+    { opens_week; reads_week; printf '%s\n' 'open missing/made write:666' 'write errors'; } > "$room/wanted"
     are
     calls 'a full device' 3 encode "${five[@]}" --opb /dev/full
-    { opens_week; reads_week; printf '%s\n' 'open /dev/full write' 'write /dev/full -1' 'write errors'; } > "$room/wanted"
+    { opens_week; reads_week; printf '%s\n' 'open /dev/full write:666' 'write /dev/full -1' 'write errors'; } > "$room/wanted"
     are
     calls 'a solution to a full device' 3 decode "${five[@]}" --answer sat4j.txt --sol /dev/full
-    { opens_week sat4j.txt; reads_week sat4j.txt; printf '%s\n' 'open /dev/full write' 'write /dev/full -1' 'write errors'; } > "$room/wanted"
+    { opens_week sat4j.txt; reads_week sat4j.txt; printf '%s\n' 'open /dev/full write:666' 'write /dev/full -1' 'write errors'; } > "$room/wanted"
     are
     out=/dev/full calls 'a full standard output' 3 encode "${five[@]}"
     { opens_week; reads_week; printf '%s\n' 'write output -1' 'write errors'; } > "$room/wanted"
@@ -118,7 +118,7 @@ ends_at() {
     local status=3 fault='read failed'
     case $1 in
         'write errors '*) status=$2 fault='' ;;
-        write* | open*' write') fault='write failed' ;;
+        write* | open*' write:'*) fault='write failed' ;;
     esac
     [ "$ended" = "$status" ] || complain "status $ended, not $status"
     if [ -n "$fault" ]; then
@@ -161,11 +161,16 @@ refuses_each() {
     done
 }
 
-refuses_calls() {
+# refuses_main_calls ERROR NUMBER: of runs that open, create, and read standard input.
+refuses_main_calls() {
     rm -f "$room/made"
     refuses_each "$@" 'a model to a file' 0 encode "${five[@]}" --opb made
-    refuses_each "$@" 'a model to standard output' 0 encode "${five[@]}"
     in=$room/sat4j.txt refuses_each "$@" 'an answer on standard input' 0 decode "${five[@]}" --sol made
+}
+
+refuses_calls() {
+    refuses_main_calls "$@"
+    refuses_each "$@" 'a model to standard output' 0 encode "${five[@]}"
     refuses_each "$@" 'an answer in a file' 0 decode "${five[@]}" --answer sat4j.txt --sol made
     refuses_each "$@" 'a roster, and cells that are held' 0 extend "${five[@]}" --fix roster --from again
     refuses_each "$@" 'a history with a fault' 1 encode --sce Sc-n005w4.txt --his WD-n005w4-0.txt --week WD-n005w4-0.txt
@@ -177,6 +182,7 @@ does_jobs
 fails
 refuses_calls EINTR 4
 refuses_calls EIO 5
+refuses_main_calls ETIMEDOUT 110
 calls 'help' 0 --help
 echo 'write output' > "$room/wanted"
 are

@@ -33,6 +33,8 @@ extends() {
     run 'the answer decoded again' 0 monday_report nothing decode "${closed_week[@]}" --answer answer --sol solution
     holds solution monday
     run 'nobody' 0 nobody_answer nothing extend "${week[@]}" --from nobody
+    filled monday longest 4194304
+    run 'a roster of the greatest length' 0 monday_answer nothing extend "${closed_week[@]}" --from longest
     run 'the roster named first' 0 nobody_answer nothing extend --from nobody "${week[@]}"
 }
 

@@ -73,6 +73,9 @@ changed() {
     sed "${edits[@]}" "$file" > "$room/$name"
 }
 
+# filled FILE NAME BYTES: the file under another name, filled up with blanks to this number of bytes.
+filled() { { cat "$room/$1"; head -c $(($3 - $(stat -c %s "$room/$1"))) /dev/zero | tr '\0' ' '; } > "$room/$2"; }
+
 # solution NAME [ROW..]: a solution file of the week of the base, as `decode` writes it.
 solution() {
     {

@@ -41,6 +41,8 @@ charges_early() {
 
 holds_cells() {
     run 'a cell held' 0 held_model nothing encode "${week[@]}" --fix wednesday
+    filled wednesday longest 4194304
+    run 'a cell held by a file of the greatest length' 0 held_model nothing encode "${week[@]}" --fix longest
     run 'the file named first' 0 held_model nothing encode --fix wednesday "${week[@]}"
     run 'two cells held' 0 both_model nothing encode "${week[@]}" --fix both --early
     run 'a cell held, and the flag' 0 early_held_model nothing encode --early --sce=fifteen.txt --his=twelve.txt --fix wednesday --week=week.txt

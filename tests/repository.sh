@@ -65,6 +65,31 @@ takes_contracts() {
     [ "$modules" -le 2 ] || complain "$modules, and 2 before: $(tests/doors.py)"
 }
 
+# Wrong bodies that people would write: the proofs refuse an edit of each name.
+mistakes=(
+    windows_before_monday_left_out open_run_charged_for_its_minimum closed_pattern_of_plain_weight constant_dropped unit_left_free
+    one_unsatisfiable_row unit_not_counted totals_in_every_week last_o_taken_for_the_penalty soft_rows_not_checked
+    more_put_after_a_failure cut_literal_lost second_skill_on_one_shift_allowed each_slack_of_an_extension_true
+    two_terms_on_one_cell solution_before_the_check report_first memory_fault_after_writing write_fault_of_a_sound_writer
+    later_fault_named text_after_the_end_accepted long_file_accepted rest_of_buffer_kept never_flushed later_value_wins
+    every_assignment_refused whole_excess_each_week only_first_cell_held
+)
+
+# A body that always gives up for want of memory is proved. These tests find it: tests/refused_memory.sh runs them.
+tests_of_memory=(scenario_read history_read week_read solution_read new_roster new_bits new_answer runs)
+
+mistakes_are_refused() {
+    local name
+    begins_case 'the mistakes that have to be refused'
+    for name in "${mistakes[@]}"; do
+        [ "$(find crates/*/must-fail -name "$name.edit" | wc -l)" = 1 ] || complain "not one edit $name"
+    done
+    for name in "${tests_of_memory[@]}"; do
+        grep -qs "^fn $name(rt: HostRuntime)" crates/*_tests/src/refused_*.rt || complain "no test $name"
+    done
+    tests/edits.py stale > "$room/edits" || complain "$(cat "$room/edits")"
+}
+
 scripts_are_clean() {
     begins_case 'the scripts'
     command -v shellcheck > /dev/null || return
@@ -89,6 +114,7 @@ weeks_are_made
 kit_is_named
 examples_are_tests
 takes_contracts
+mistakes_are_refused
 scripts_are_clean
 scripts_are_executable
 finish

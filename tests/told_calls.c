@@ -1,5 +1,6 @@
 /* Loaded before the C library, it tells each file that is opened, each read and each write, a line each on the file
-   descriptor 9: what was done, the path, and for what it was opened or how many bytes were moved, -1 where it failed.
+   descriptor 9: what was done, the path, and for what it was opened or how many bytes were moved, -1 where it failed. A file
+   that the open may create has the mode after the use, in octal digits, as `write:666`.
    The call that the environment names as FAILS, such as "read 3" for the third read, is not made and fails with the
    error of the number ERRNO; its line ends in "refused".
    Rattle's programs open by openat, relative to where they run. It needs no headers. */
@@ -14,6 +15,7 @@ extern int *__errno_location(void);
 
 enum { FILES = 32, LONGEST = 100, TOLD = 9 };
 enum { OPENS, READS, WRITES };
+enum { MAY_CREATE = 0100 };
 
 static char paths[FILES][LONGEST] = {"input", "output", "errors"};
 
@@ -75,16 +77,30 @@ static long told_count(const char *what, int file, long count)
     return count;
 }
 
-static int told_open(const char *path, int flags, int mode)
+/* For what a file is opened, and with which mode if the open may create it. */
+static const char *use_of(int flags, int mode)
 {
     static const char *const uses[] = {"read", "write", "both", "?"};
+    static char use[LONGEST];
+    int used = put(use, 0, uses[flags & 3]);
+    if (flags & MAY_CREATE) {
+        use[used++] = ':';
+        for (int shift = 6; shift >= 0; shift -= 3)
+            use[used++] = '0' + ((mode >> shift) & 7);
+    }
+    use[used] = 0;
+    return use;
+}
+
+static int told_open(const char *path, int flags, int mode)
+{
     int file;
     if (is_refused(OPENS)) {
         tell("open", path, "refused");
         return -1;
     }
     file = __open(path, flags, mode);
-    tell("open", path, uses[flags & 3]);
+    tell("open", path, use_of(flags, mode));
     if (file >= 0 && file < FILES)
         paths[file][put(paths[file], 0, path) % LONGEST] = 0;
     return file;

@@ -58,8 +58,8 @@ tells_options() {
     done
 }
 
-# says SUBCOMMAND SENTENCE [OPTION HELP]..: its help begins with the sentence, and says this of these options, and what all
-# commands say of the files of a week.
+# says SUBCOMMAND SENTENCE [OPTION HELP]..: its help begins with the sentence, has one list of options, and says this of these
+# options, and what all commands say of the files of a week.
 says() {
     local subcommand=$1 sentence=$2
     run "what $subcommand does" 0 text nothing "$subcommand" --help
@@ -71,6 +71,7 @@ says() {
         tr -s ' ' < "$room/out" | grep -qxF -e " --$1 <FILE> $2" || complain "another line for --$1"
         shift 2
     done
+    [ "$(grep ':$' "$room/out")" = $'Options:\nExample:' ] || complain 'other headings'
     tr -s ' ' < "$room/out" | grep -qx ' --early Charge excess assignments and weekends as soon as they occur' || complain 'another line for --early'
 }
 
@@ -142,6 +143,8 @@ fails_to_read() {
     refuses 'a file that does not open comes first' 3 'read failed' encode --sce cut.txt --his history.txt --week missing
     refuses 'so does a history' 3 'read failed' encode --sce cut.txt --his missing --week week.txt
     refuses 'a path without a name' 3 'read failed' encode --sce= --his history.txt --week week.txt
+    refuses 'a scenario with a slash after its name' 3 'read failed' encode --sce scenario.txt/ --his history.txt --week week.txt
+    refuses 'a scenario named as on the web' 3 'read failed' encode --sce file://scenario.txt --his history.txt --week week.txt
     refuses 'a directory as scenario' 3 'read failed' encode --sce . --his history.txt --week week.txt
     refuses 'a directory as history' 3 'read failed' encode --sce scenario.txt --his . --week week.txt
     refuses 'a directory as week' 3 'read failed' encode --sce scenario.txt --his history.txt --week .
@@ -152,7 +155,9 @@ fails_to_read() {
 finds_faults() {
     refuses 'an empty scenario' 1 'scenario line 1: end of file' encode --sce nothing --his history.txt --week week.txt
     refuses 'a scenario that is cut' 1 'scenario line 10: end of file' encode --sce cut.txt --his history.txt --week week.txt
-    run 'a scenario of the greatest length' 0 model nothing encode --sce longest.txt --his history.txt --week week.txt
+    run 'a scenario of the greatest length' 0 model nothing encode --sce longest_scenario.txt --his history.txt --week week.txt
+    run 'a history of the greatest length' 0 model nothing encode --sce scenario.txt --his longest_history.txt --week week.txt
+    run 'a week of the greatest length' 0 model nothing encode --sce scenario.txt --his history.txt --week longest_week.txt
     refuses 'a scenario that is too long' 1 'scenario: out of limits' encode --sce too_long.txt --his history.txt --week week.txt
     refuses 'a history that is too long' 1 'history: out of limits' encode --sce scenario.txt --his too_long.txt --week week.txt
     refuses 'a week that is too long' 1 'week: out of limits' encode --sce scenario.txt --his history.txt --week too_long.txt
@@ -166,7 +171,7 @@ writes_the_model() {
     run 'to standard output' 0 model nothing encode "${week[@]}"
     run 'to a file' 0 nothing nothing encode "${week[@]}" --opb new.opb
     holds new.opb model
-    cp "$room/longest.txt" "$room/old.opb"
+    cp "$room/longest_scenario.txt" "$room/old.opb"
     run 'over a longer file' 0 nothing nothing encode "${week[@]}" --opb old.opb
     holds old.opb model
     run 'to standard output by name' 0 model nothing encode "${week[@]}" --opb /dev/stdout
@@ -174,32 +179,30 @@ writes_the_model() {
 }
 
 leaves_files_alone() {
-    cp "$room/longest.txt" "$room/kept.opb"
+    cp "$room/longest_scenario.txt" "$room/kept.opb"
     refuses 'a fault beside an older file' 1 'scenario line 10: end of file' encode --sce cut.txt --his history.txt --week week.txt --opb kept.opb
-    holds kept.opb longest.txt
+    holds kept.opb longest_scenario.txt
     refuses 'a late week beside an older file' 1 'history: week not below WEEKS' encode --sce scenario.txt --his late.txt --week week.txt --opb kept.opb
-    holds kept.opb longest.txt
+    holds kept.opb longest_scenario.txt
     refuses 'a missing week beside an older file' 3 'read failed' encode --sce scenario.txt --his history.txt --week missing --opb kept.opb
-    holds kept.opb longest.txt
+    holds kept.opb longest_scenario.txt
     refuses 'a fault and no file' 1 'history: week not below WEEKS' encode --sce scenario.txt --his late.txt --week week.txt --opb unmade
 }
 
 fails_to_write() {
     refuses 'a file in no folder' 3 'write failed' encode "${week[@]}" --opb missing/week.opb
     refuses 'a folder as output' 3 'write failed' encode "${week[@]}" --opb .
+    refuses 'an output with a slash after its name' 3 'write failed' encode "${week[@]}" --opb unmade/
+    refuses 'an output named as on the web' 3 'write failed' encode "${week[@]}" --opb file://unmade
     refuses 'an output without a name' 3 'write failed' encode "${week[@]}" --opb=
     refuses 'a full device' 3 'write failed' encode "${week[@]}" --opb /dev/full
     out=/dev/full refuses 'a full standard output' 3 'write failed' encode "${week[@]}"
 }
 
-# The scenario, cut in line 10 and filled up with blanks to a number of bytes.
+# The scenario, cut in line 10; the files of the week as long as a file may be, and a longer one.
 sed '10s/\(Full (1,\).*/\1/;10q' "$room/scenario.txt" > "$room/cut.txt"
-fill() {
-    cat "$room/scenario.txt"
-    head -c $(($1 - $(wc -c < "$room/scenario.txt"))) /dev/zero | tr '\0' ' '
-}
-fill 4194304 > "$room/longest.txt"
-fill 4194305 > "$room/too_long.txt"
+for name in scenario history week; do filled $name.txt longest_$name.txt 4194304; done
+filled scenario.txt too_long.txt 4194305
 
 asks_for_help
 takes_no_other_words

@@ -170,6 +170,20 @@ writes_over_inputs() {
     holds both.txt model
 }
 
+# An output that exists is written anew and not replaced by another file: it keeps its links, its permissions and its owner.
+keeps_the_file() {
+    local before
+    cp "$room/scenario.txt" "$room/older.opb"
+    ln "$room/older.opb" "$room/linked.opb"
+    chmod 640 "$room/older.opb"
+    [ "$(id -u)" != 0 ] || chown 65534:65534 "$room/older.opb"
+    before=$(stat -c 'number %i, %h links, mode %a, owner %u:%g' "$room/older.opb")
+    run 'an older file as output' 0 nothing nothing encode "${week[@]}" --opb older.opb
+    [ "$(stat -c 'number %i, %h links, mode %a, owner %u:%g' "$room/older.opb")" = "$before" ] || complain "it was: $before"
+    holds linked.opb model
+    rm -f "$room/older.opb" "$room/linked.opb"
+}
+
 # over FIRST SECOND NAME: the file NAME has FIRST, and then the part of SECOND after its length.
 over() { { cat "$room/$1"; tail -c +$(($(stat -c %s "$room/$1") + 1)) "$room/$2"; } > "$room/$3"; }
 
@@ -300,6 +314,7 @@ fills_devices
 ends_by_signal
 opens_in_order
 writes_over_inputs
+keeps_the_file
 names_one_file_twice
 reads_without_waiting
 lacks_rights

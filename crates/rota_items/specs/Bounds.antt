@@ -43,10 +43,6 @@ abbrev pub max_items : Rule → ℕ
 max_items S1 = max_cells_of_nurse
 max_items rule = max_nurses * max_items_of_nurse rule
 
--- the maximum number of cells in an item's sum: of one demand, or of one nurse
-abbrev pub max_terms : ℕ
-max_terms = max max_nurses max_cells_of_nurse
-
 -- ---- weights
 
 abbrev pub max_unit_weight : ℕ
@@ -71,10 +67,6 @@ abbrev pub max_constant : ℕ
 max_constant = sum_by max_constant_of_rule soft_rules
 
 -- ---- costs and the objective
-
--- a rule costs a nurse no more than the maximum charge for each of her cells
-abbrev pub max_cost_of_nurse : ℕ
-max_cost_of_nurse = max_unit_weight * (max_cells_of_nurse * max_number)
 
 abbrev pub penalty_limit : ℕ
 penalty_limit = 2 ^ 55

@@ -12,7 +12,7 @@ mod size_laws;
 mod worked_weeks;
 
 pub use count_laws::{counter_counts_models, counter_counts_rows};
-pub use early_weeks::{early_excess, early_weeks_charge_what_they_add};
+pub use early_weeks::early_weeks_charge_what_they_add;
 pub use extension_laws::extension_truths_are_those_of_the_variables;
 pub use item_laws::{
     extension_satisfies_items, item_holds_from_its_shortage_on,

@@ -32,6 +32,9 @@ mod runs;
 mod drive;
 mod objective;
 
+// What consecutive weeks charge with `--early`.
+mod early_totals;
+
 // The counts: the numbers of variables and of constraints of the model.
 mod counting;
 
@@ -46,8 +49,8 @@ pub mod laws;
 
 pub use counting::{Counter, Counts, counts, patterns_of, windows_of};
 pub use drive::drive_constraints;
+pub use early_totals::early_excess;
 pub use judge::{Judge, Verdict, verdict_of};
-pub use laws::early_excess;
 pub use literals::{LiteralTaker, drive_extension};
 pub use objective::drive_objective;
 pub use part::Part;

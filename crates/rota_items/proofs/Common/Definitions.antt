@@ -1,8 +1,8 @@
 -- Definitions that only proofs cite: the lists that takers took, the items of a day's patterns, and bounds.
-use Rattle.std.specs.Prelude.{◌+◌, ◌*◌, ◌^◌}
+use Rattle.std.specs.Prelude.{◌+◌, ◌*◌, ◌^◌, max}
 use Rattle.rota_core.specs.declared.rule.Rule.TheVariants.{S1}
 use Rattle.rota_items.specs.Imports.{ℕ, Bool, List, Cell, Problem, Rule, DAYS}
-use Rattle.rota_items.specs.Bounds.{max_cost_of_nurse, max_terms, max_weight}
+use Rattle.rota_items.specs.Bounds.{max_cells_of_nurse, max_unit_weight, max_weight}
 use Rattle.rota_items.specs.SoftItems.{numbered_list, numbered_rows}
 use Rattle.rota_core.specs.Limits.{max_number, max_nurses}
 use Rattle.rota_items.specs.Rows.{Item, LinearRow}
@@ -35,9 +35,17 @@ abbrev pub max_slacks : Rule → ℕ
 max_slacks S1 = max_number
 max_slacks _ = DAYS
 
+-- the maximum number of cells in an item's sum: of one demand, or of one nurse
+abbrev pub max_terms : ℕ
+max_terms = max max_nurses max_cells_of_nurse
+
 -- the maximum charge of an item, on a roster that keeps no rule
 abbrev pub max_charge : ℕ
 max_charge = max_weight * (1 + max_terms)
+
+-- a rule costs a nurse no more than the maximum charge for each of her cells
+abbrev pub max_cost_of_nurse : ℕ
+max_cost_of_nurse = max_unit_weight * (max_cells_of_nurse * max_number)
 
 abbrev pub max_cost : ℕ
 max_cost = max_nurses * max_cost_of_nurse

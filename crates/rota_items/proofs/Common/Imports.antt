@@ -68,7 +68,7 @@ pub use Rattle.rota_items.specs.WeekModel.{cell_of_number, constant_terms, hard_
 pub use Rattle.rota_core.specs.declared.rule.Rule.TheVariants.{H5, H1, H2, H3, H4, S1, S4}
 pub use Rattle.rota_items.specs.Bounds.{max_cells, max_constant, max_weight, max_cells_of_nurse, max_items, max_cells_of_day}
 pub use Rattle.rota_items.specs.Bounds.{max_constant_of_rule, max_objective, max_run_items, count_limit, max_unit_weight, max_coefficient}
-pub use Rattle.rota_items.specs.Bounds.{max_constant_of_nurse, max_cost_of_nurse, max_items_of_nurse, max_terms, penalty_limit}
+pub use Rattle.rota_items.specs.Bounds.{max_constant_of_nurse, max_items_of_nurse, penalty_limit}
 pub use Rattle.rota_items.specs.CountedTotals.{added_excess, charged_excess}
 pub use Rattle.rota_items.specs.CountedItems.{max_totals_count, excess_before_counts}
 pub use Rattle.rota_items.specs.EarlyWeeks.{CountedTotal, FollowEarly, RosteredWeek, added_by_all, added_in, early_charges}
@@ -99,7 +99,8 @@ pub use Rattle.rota_items.specs.RowsOfItems.{row_of_item, RowsState, StopsAtRow,
 pub use Rattle.rota_items.specs.SoftItems.{runs_of, item_of, charged_items}
 unfoldable pub use Rattle.rota_items.specs.SoftItems.{numbered_list, numbered_rows}
 pub use Rattle.rota_items.specs.Takes.{Took, Refused, RefusedFrom, Takes, RefusedOne, TookAll, TakesAll, TakesItems}
-pub use Rattle.rota_items.proofs.Common.Definitions.{TookItems, TookLiterals, TookRows, closed_items_at, half_limit, max_charge, max_cost, max_slacks}
+pub use Rattle.rota_items.proofs.Common.Definitions.{TookItems, TookLiterals, TookRows, closed_items_at}
+pub use Rattle.rota_items.proofs.Common.Definitions.{half_limit, max_charge, max_cost, max_cost_of_nurse, max_slacks, max_terms}
 pub use Rattle.rota_items.specs.declared.part.Part.{Part}
 pub use Rattle.rota_items.specs.declared.part.Part.TheVariants.{Objective, Hard, Soft}
 pub use Rattle.rota_items.specs.declared.sums.Sign.{Sign}

@@ -1,5 +1,5 @@
 use Rattle.rota_items.proofs.Common.{◌≡◌, ◌+◌, ◌*◌, ◌≤◌, take, sum, added_excess}
-use Rattle.rota_items.proofs.laws.early_weeks.early_excess.Given as goal
+use Rattle.rota_items.proofs.early_totals.early_excess.Given as goal
 
 abbrev pub invariant-loop-step : goal.invariant-loop-step
 invariant-loop-step l =
