@@ -5,8 +5,9 @@ import threading
 import time
 from dataclasses import dataclass
 from pathlib import Path
-from typing import Callable, Dict, Optional, Sequence, Set, Tuple
+from typing import Callable, Collection, Dict, List, Optional, Sequence, Set, Tuple
 
+from .absences import Absence, working_while_away
 from .faults import ProgramFault
 from .files import Assignment, Solution, Week, write_solution
 from .misfits import explained, other_week, read_roster
@@ -29,10 +30,16 @@ Announce = Callable[[int, str], None]
 
 
 class BestRoster:
-    """Keeps the best roster, in memory and in the file `solution`, which always has a whole roster."""
+    """Keeps the best roster, in memory and in the file `solution`, which always has a whole roster.
 
-    def __init__(self, files: WeekFiles, solution: Path, announce: Announce, warn: Callable[[str], None]) -> None:
+    The best one breaks the fewest absences, and costs the least of those.
+    """
+
+    def __init__(
+        self, files: WeekFiles, solution: Path, announce: Announce, warn: Callable[[str], None], absences: Collection[Absence] = ()
+    ) -> None:
         self._files = files
+        self._absences = absences
         self._solution = solution
         self._announce = announce
         self._warn = warn
@@ -50,18 +57,26 @@ class BestRoster:
         """The best roster until now, if there is one."""
         return self._best
 
-    def offer(self, found: Snapshot, seen: Optional[Snapshot], freed: Optional[Neighborhood], folder: Path, finder: str) -> None:
-        """Keeps the roster `found`, which came from `seen`, or its merger with the best one, if it costs less than the best.
+    def breaks(self) -> List[Assignment]:
+        """The rows of the roster in the file that break an absence."""
+        return working_while_away(self._absences, self._written.roster.assignments) if self._written else []
 
-        At the same cost it is kept if no other worker has found one since, so that the search moves on.
+    def _rank(self, snapshot: Snapshot) -> Tuple[int, int]:
+        """A smaller rank is better."""
+        return len(working_while_away(self._absences, snapshot.roster.assignments)), snapshot.penalty
+
+    def offer(self, found: Snapshot, seen: Optional[Snapshot], freed: Optional[Neighborhood], folder: Path, finder: str) -> None:
+        """Keeps the roster `found`, which came from `seen`, or its merger with the best one, if it is better than the best.
+
+        One of the same rank is kept if no other worker has found one since, so that the search moves on.
         """
         for _ in range(_TRIES):
             now, better, name = self._best, found, finder
             if now and seen and freed and now is not seen and found.penalty < seen.penalty:
                 merged = self._merged(found, now, freed, folder)
-                if merged and merged.penalty < found.penalty:
+                if merged and self._rank(merged) < self._rank(found):
                     better, name = merged, f"{finder}, merged"
-            if now and (better.penalty > now.penalty or (better.penalty == now.penalty and now is not seen)):
+            if now and (self._rank(better) > self._rank(now) or (self._rank(better) == self._rank(now) and now is not seen)):
                 return
             if self._keep(better, now, name):
                 return
@@ -81,9 +96,9 @@ class BestRoster:
             return None
 
     def _keep(self, better: Snapshot, now: Optional[Snapshot], finder: str) -> bool:
-        """Keeps the roster if it costs less than the best one, or `now` is still the best."""
+        """Keeps the roster if it is better than the best one, or `now` is still the best."""
         with self._lock:
-            less = self._best is None or better.penalty < self._best.penalty
+            less = self._best is None or self._rank(better) < self._rank(self._best)
             if not less and self._best is not now:
                 return False
             if less:

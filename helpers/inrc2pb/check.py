@@ -6,16 +6,20 @@ import tempfile
 from pathlib import Path
 from typing import Callable, Iterator, List, Optional, Tuple, TypeVar
 
+from .absences import absences_of, working_while_away
 from .command import add_week_options, parser, week_files
 from .constraint import block_of, blocks, named_row, row_of
+from .demand import demand_warnings
 from .faults import FileFault, Misuse, ProgramFault, fault_line
-from .files import Assignment, History, Scenario, Week, WeekData
+from .files import DAYS, Assignment, History, Scenario, Week, WeekData
 from .files import check_week_number, read_history, read_scenario, read_solution, read_week
 from .misfits import explained, other_week, read_held, read_roster
 from .odd_values import IMPOSSIBLE, history_warnings, scenario_warnings, week_warnings
 from .program import BROKEN_RULE, FAULT, NO_PROGRAM, answer_with, encode
 from .rules import first_broken
 from .targets import check_no_pipes
+from .telling import history_sentences, scenario_sentences, week_sentences
+from .why_none import why_none
 
 Contents = TypeVar("Contents")
 
@@ -77,13 +81,14 @@ class Check:
             self.warns(path, history_warnings(history))
         return history
 
-    def week_data(self, scenario: Scenario) -> Optional[WeekData]:
+    def week_data(self, scenario: Scenario, history: Optional[History]) -> Optional[WeekData]:
         """Checks the week data."""
         path = self.given.week
         data = self.reads(lambda: read_week(path, scenario))
         if data:
             self.warns(path, self.name(data.name, scenario))
             self.warns(path, week_warnings(scenario, data))
+            self.warns(path, demand_warnings(scenario, history, data))
         return data
 
     def all_files(self) -> Tuple[Optional[Week], List[Assignment]]:
@@ -96,12 +101,25 @@ class Check:
             return None, []
         self.warns(given.sce, scenario_warnings(scenario))
         history = self.history(scenario) if given.his else None
-        data = self.week_data(scenario) if given.week else None
+        data = self.week_data(scenario, history) if given.week else None
         held = self.held(given.fix, scenario, history) if given.fix else []
+        if data:
+            for row in working_while_away(absences_of(data), held):
+                self.mistake(f"{given.fix}: {row.nurse} is away on {DAYS[row.day]}, and {row.shift} is held: remove one of the two")
+        if given.tell and not self.mistakes:
+            self.tell(scenario, history, data)
         for roster in given.roster:
             self.roster(roster, scenario, history)
         week = Week(scenario, history, data) if history and data else None
         return week, held
+
+    def tell(self, scenario: Scenario, history: Optional[History], data: Optional[WeekData]) -> None:
+        """Prints the files in sentences."""
+        print("\n".join(scenario_sentences(scenario)))
+        if history:
+            print("", *history_sentences(history), sep="\n")
+        if data:
+            print("", *week_sentences(scenario, history, data), "", sep="\n")
 
     def model(self, week: Week, held: List[Assignment]) -> None:
         """Lets `inrc2pb` check the files too. If it cannot be run, the rosters are compared with `rules`, and a warning says so."""
@@ -123,6 +141,13 @@ class Check:
                     _compare(roster, week, held)
             except ProgramFault as fault:
                 self.mistake(_said(explained(fault, roster, week, held)))
+                continue
+            self.away(roster, week)
+
+    def away(self, roster: Path, week: Week) -> None:
+        """A roster may not break an absence of its week."""
+        for row in working_while_away(absences_of(week.data), read_solution(roster, week.scenario).assignments):
+            self.mistake(f"{roster}: {row.nurse} works {row.shift} on {DAYS[row.day]}, and is away")
 
 
 def _said(fault: ProgramFault) -> str:
@@ -163,16 +188,23 @@ def main() -> Optional[int]:
     add_week_options(options, required=False)
     options.add_argument("--roster", metavar="FILE", type=Path, action="append", default=[], help="a roster of the week, as a solution file")
     options.add_argument("--constraint", metavar="N", type=int, help="print the constraint N of the week's model, and its rule")
+    options.add_argument("--tell", action="store_true", help="print the files in sentences")
+    options.add_argument("--why-none", action="store_true", help="if no roster exists: the minimum numbers to lower, and who has the skill")
     given = options.parse_args()
     if not given.sce:
         raise Misuse("no scenario is given: give --sce FILE, and the files to check; is WEEK set in this terminal?")
     if given.constraint is not None and not (given.his and given.week):
         raise Misuse("--constraint needs the whole week: give --sce, --his and --week")
+    if given.why_none and not (given.his and given.week):
+        raise Misuse("--why-none needs the whole week: give --sce, --his and --week")
     check_no_pipes((given.sce, given.his, given.week, given.fix, *given.roster))
     check = Check(given)
     week, held = check.all_files()
     if not check.mistakes and week and given.constraint is not None:
         _explain(given.constraint, week, held, given)
+    elif not check.mistakes and week and given.why_none:
+        print("\n".join(why_none(week_files(given), week)), flush=True)
+        return 0
     elif not check.mistakes and week:
         check.model(week, held)
     elif not check.mistakes and given.roster:

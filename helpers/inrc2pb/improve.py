@@ -10,6 +10,7 @@ import time
 from pathlib import Path
 from typing import List, Optional, Sequence, TextIO
 
+from .absences import absences_of, in_words
 from .best_roster import BestRoster, read_start
 from .command import add_solver_options, add_week_options, check_effort, number_of_seconds, parser, week_files
 from .faults import ProgramFault
@@ -108,7 +109,7 @@ def search(
     check_no_pipe_is_written(solution)
     check_target(solution)
     check_inputs_stay((files.scenario, files.history, files.week, files.fix), solution, "the roster")
-    best = BestRoster(files, solution, progress.improved, progress.warn)
+    best = BestRoster(files, solution, progress.improved, progress.warn, absences_of(week.data))
     running = Search(files, week, fixed, best, found, seconds, progress.warn)
     with interrupts() as signals:
         folder = Path(tempfile.mkdtemp(prefix="inrc2pb-improve-"))
@@ -126,6 +127,8 @@ def search(
             raise fault or unreported
         if not report:
             raise fault or (ProgramFault(NO_ROSTER, "stopped before the first roster") if signals.caught else running.without_roster())
+        if best.breaks():
+            progress.warn(f"no roster was found that keeps every absence: {in_words(best.breaks())}")
         return Outcome(report, best, bool(signals.caught), fault)
 
 

@@ -1,20 +1,18 @@
-"""Keeps rows of a roster, by day or nurse, for `--fix`, and days off, by requests in a copy of the week's file."""
+"""Keeps rows of a roster, by day or nurse, for `--fix`, and days off, as absences in a copy of the week's file."""
 
 import argparse
-from dataclasses import replace
+import sys
 from pathlib import Path
 from typing import Iterable, Iterator, List, Optional, Sequence
 
+from .absences import Absence, TooMany, with_absences
 from .command import parser
 from .faults import Misuse
-from .files import DAYS, Assignment, Request, Scenario, Solution, WeekData
+from .files import DAYS, Assignment, Scenario, Solution
 from .files import read_scenario, read_solution, read_week, solution_text, week_text, write_text
 from .hints import quoted
-from .slots import MAX_NUMBER, closest
+from .slots import closest
 from .targets import check_inputs_stay
-
-# The number of requests for one day off. Together they cost 100, more than most other rules.
-REQUESTS = 10
 
 
 def kept(rows: Iterable[Assignment], days: Iterable[int] = (), nurses: Iterable[str] = (), others: bool = False) -> List[Assignment]:
@@ -23,11 +21,10 @@ def kept(rows: Iterable[Assignment], days: Iterable[int] = (), nurses: Iterable[
     return [row for row in rows if (row.day in on and (not who or row.nurse in who)) != others]
 
 
-def with_days_off(data: WeekData, nurses: Iterable[str], days: Iterable[int], rows: Iterable[Assignment]) -> WeekData:
-    """The week with requests for each day on which one of these nurses is off in the roster."""
+def days_off(nurses: Iterable[str], days: Iterable[int], rows: Iterable[Assignment]) -> List[Absence]:
+    """An absence for each day on which one of these nurses is off in the roster."""
     works = {(row.nurse, row.day) for row in rows}
-    off = [Request(nurse, None, day) for nurse in nurses for day in days if (nurse, day) not in works]
-    return replace(data, requests=(*data.requests, *(request for request in off for _ in range(REQUESTS))))
+    return [Absence(nurse, day, None) for nurse in nurses for day in days if (nurse, day) not in works]
 
 
 def _days(text: str) -> Iterator[int]:
@@ -52,7 +49,7 @@ def _options() -> argparse.ArgumentParser:
         "Keeps rows of a roster for --fix, as a solution file with their number.",
         "With --keep and --nurses a row is kept if it is of one of the days and one of the nurses.\n"
         "Example: inrc2pb-keep --keep Mon,Tue,Wed roster-0.txt > promised.txt\n"
-        f"With --off-in the output is this week's file with {REQUESTS} requests for each day off of these nurses on these days.",
+        "With --off-in the output is this week's file, in which these nurses are away on these days if they are off in the roster.",
     )
     options.add_argument("roster", type=Path, help="a solution file, as `inrc2pb decode` writes it")
     options.add_argument("--keep", metavar="DAYS", help="the rows of these days, such as Mon,Tue,Wed")
@@ -65,11 +62,14 @@ def _options() -> argparse.ArgumentParser:
 
 
 def _week_text(week: Path, scenario: Scenario, nurses: Sequence[str], days: Sequence[int], rows: Sequence[Assignment]) -> str:
-    """The text of the week's file with requests for days off."""
-    data = with_days_off(read_week(week, scenario), nurses or list(scenario.nurses), days or range(len(DAYS)), rows)
-    if len(data.requests) > MAX_NUMBER:
-        raise Misuse(f"{week} would have {len(data.requests)} requests, more than {MAX_NUMBER}: give fewer days or nurses")
-    return week_text(data)
+    """The text of the week's file with absences for days off."""
+    try:
+        written = with_absences(scenario, read_week(week, scenario), days_off(nurses or list(scenario.nurses), days or range(len(DAYS)), rows))
+    except TooMany as fault:
+        raise Misuse(f"{week}: {fault}") from fault
+    if written.warning():
+        print(f"inrc2pb-keep: {written.warning()}", file=sys.stderr)
+    return week_text(written.data)
 
 
 def main() -> Optional[int]:

@@ -17,6 +17,8 @@ MODULES = {
     "inrc2pb-period": "period",
     "inrc2pb-simulate": "simulate",
     "inrc2pb-table": "table",
+    "inrc2pb-ward": "ward",
+    "inrc2pb-wish": "wish",
 }
 
 

@@ -10,6 +10,7 @@ from dataclasses import dataclass, replace
 from pathlib import Path
 from typing import Callable, Dict, Iterable, List, Optional, Sequence
 
+from .absences import absences_of, in_words, working_while_away
 from .command import add_solver_options, check_effort, fixes_by_week, number_of_seconds, parser
 from .faults import FileFault, Misuse, ProgramFault, fault_line
 from .files import History, Scenario, Week, check_week_number, read_files, read_history, read_scenario, read_solution
@@ -45,9 +46,9 @@ def plan_once(solver_name: str, seconds: float) -> Plan:
     solver = find_solver(solver_name).whole()[0]
 
     def plan(files: WeekFiles, solution: Path) -> Optional[BaseException]:
+        week, progress = read_files(files.scenario, files.history, files.week), Progress(sys.stderr)
         if files.fix:
-            week = read_files(files.scenario, files.history, files.week)
-            held_rows(files.fix, week, Progress(sys.stderr))
+            held_rows(files.fix, week, progress)
         processes = Processes()
         with interrupts() as signals, tempfile.TemporaryDirectory() as folder:
             model = Path(folder, "week.opb")
@@ -62,6 +63,9 @@ def plan_once(solver_name: str, seconds: float) -> Plan:
             if not signals.caught:
                 raise
             raise ProgramFault(NO_ROSTER, "stopped before the first roster") from fault
+        working = working_while_away(absences_of(week.data), read_solution(solution).assignments)
+        if working:
+            progress.warn(f"the roster does not keep every absence: {in_words(working)}; plan without --once")
         return KeyboardInterrupt() if signals.caught else None
 
     return plan

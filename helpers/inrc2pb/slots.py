@@ -8,6 +8,7 @@ from typing import Collection, Iterable, Iterator, List, NamedTuple, NoReturn, O
 
 from .faults import FileFault
 from .hints import HEADINGS, is_no_text, quoted, reasons
+from .odd_signs import composed_otherwise, of_another_kind, reason_of_signs
 from .records import Limits
 
 MAX_FILE_LEN = 4_194_304
@@ -96,14 +97,18 @@ class Slots:
     def fault(self, token: Token, fault: str, message: str) -> NoReturn:
         """Raises a fault at this token, with its probable reasons."""
         comment = next(filter(None, (_comment_hint(word.text) for word in (token, *self._before(token)))), "")
+        lines = self.text.split("\n")
+        signs = reason_of_signs(lines, token.line, token.text)
         if is_no_text(self.text):
             message = "this is no text file: save it as plain text"
+        elif signs:
+            message += f"; {signs}"
         elif self._is_in_a_name(token):
             message += "; a name may have none of ( ) , ="
         elif comment:
             message += comment
         else:
-            message += reasons(self.text.split("\n"), token.line, token.text, self._names, self._heading)
+            message += reasons(lines, token.line, token.text, self._names, self._heading)
         raise FileFault(self.path, token.line, message, fault)
 
     def _before(self, token: Token) -> Iterator[Token]:
@@ -145,7 +150,8 @@ class Slots:
         for word in wanted:
             token = self.next(f"'{word}'")
             if token.text != word:
-                self.fault(token, "another word expected", f"'{token.text}' where '{word}' should be")
+                other = of_another_kind(token.text) if self.at == 1 else ""
+                self.fault(token, "another word expected", f"'{token.text}' where '{word}' should be{other}")
 
     def any_word(self, what: str) -> Token:
         """A word that no list restricts."""
@@ -194,6 +200,9 @@ class Slots:
         encoding = _other_encoding(token.text, names)
         if encoding:
             self.fault(token, "unknown name", f"'{token.text}' is no {kind} of {source}: {encoding}")
+        same = composed_otherwise(token.text, names)
+        if same:
+            self.fault(token, "unknown name", f"'{token.text}' is no {kind} of {source}: it looks like '{same}', and has other letters: copy that name")
         meant = closest(token.text, names)
         message = f"'{token.text}' is no {kind} of {source}: " + (f"did you mean '{meant}'?" if meant else f"it has {quoted(names)}")
         hint = "" if _comment_hint(token.text) else _comment_hint(meant or "")

@@ -1,0 +1,148 @@
+"""The sheets of a spreadsheet: an ODS or XLSX file, or a folder of CSV files, as rows of text.
+
+Only Python's library is used. A part of a file may not be larger than `MAX_BYTES`, and may not have a document type: with one a small file
+can name entities that need all memory.
+"""
+
+import csv
+import datetime
+import io
+import zipfile
+from pathlib import Path
+from typing import Dict, Iterator, List, NamedTuple, Sequence
+from xml.etree import ElementTree
+from xml.parsers import expat
+
+from .faults import FileFault
+from .hints import plural
+
+MAX_BYTES = 33_554_432
+MAX_ROWS, MAX_COLUMNS = 5000, 1000
+_SEPARATORS = (";", ",", "\t")
+# The first bytes of an Excel file before 2007, and of a zip file.
+_OLD_EXCEL, _ZIP = b"\xd0\xcf\x11\xe0", b"PK"
+Rows = List[List[str]]
+
+
+class Book(NamedTuple):
+    """The sheets by their names in small letters, and the day with the number 0, if the file has dates as numbers."""
+
+    path: Path
+    sheets: Dict[str, Rows]
+    day_zero: datetime.date = datetime.date(1899, 12, 30)
+
+
+def read_book(path: Path) -> Book:
+    """Reads a spreadsheet, or a folder of CSV files."""
+    if path.is_dir():
+        return Book(path, {file.stem.lower(): _read_csv(file) for file in _csv_files(path)})
+    with open(path, "rb") as file:
+        begin = file.read(4)
+    if begin == _OLD_EXCEL:
+        raise FileFault(path, 0, "this is an old Excel file, or one with a password: save it without one as .xlsx or .ods")
+    if not begin.startswith(_ZIP):
+        raise FileFault(path, 0, "this is no spreadsheet: give an .ods or .xlsx file, or a folder of .csv files")
+    try:
+        with zipfile.ZipFile(path) as archive:
+            return _read_archive(path, archive)
+    except (zipfile.BadZipFile, ElementTree.ParseError, expat.ExpatError, KeyError, ValueError, IndexError, NotImplementedError) as fault:
+        raise FileFault(path, 0, "the spreadsheet is damaged: open it in its program, and save it again") from fault
+
+
+def _read_archive(path: Path, archive: zipfile.ZipFile) -> Book:
+    from . import sheet_ods, sheet_xlsx
+
+    names = set(archive.namelist())
+    parts = Parts(path, archive)
+    if "content.xml" in names:
+        return Book(path, sheet_ods.sheets(parts))
+    if "xl/workbook.xml" in names:
+        return Book(path, *sheet_xlsx.sheets(parts))
+    raise FileFault(path, 0, "this file has no sheets: give an .ods or .xlsx file, or a folder of .csv files")
+
+
+class Parts:
+    """The XML files in a spreadsheet."""
+
+    def __init__(self, path: Path, archive: zipfile.ZipFile) -> None:
+        self._path = path
+        self._archive = archive
+
+    def has(self, name: str) -> bool:
+        """Whether there is a part of this name."""
+        return name in self._archive.namelist()
+
+    def read(self, name: str) -> ElementTree.Element:
+        """The root of a part."""
+        if self._archive.getinfo(name).flag_bits & 1:
+            raise FileFault(self._path, 0, "the spreadsheet has a password: save it without one")
+        with self._archive.open(name) as part:
+            data = part.read(MAX_BYTES + 1)
+        if len(data) > MAX_BYTES:
+            raise FileFault(self._path, 0, f"the spreadsheet has more than {MAX_BYTES} bytes of XML: delete what is no part of the ward")
+        checking = expat.ParserCreate()
+        checking.StartDoctypeDeclHandler = self._refuse
+        checking.Parse(data, True)
+        return ElementTree.fromstring(data)
+
+    def _refuse(self, *_words: object) -> None:
+        raise FileFault(self._path, 0, "the spreadsheet has a document type, which no program writes: save it again with LibreOffice or Excel")
+
+    def too_large(self, sheet: str) -> FileFault:
+        """The fault of a sheet with too many cells."""
+        return FileFault(self._path, 0, f"sheet {sheet} has more than {MAX_ROWS} rows or {MAX_COLUMNS} columns: delete those that are no part of the ward")
+
+
+def trimmed(rows: Sequence[Sequence[str]]) -> Rows:
+    """The rows without empty cells at their ends, and without empty rows at the end."""
+    found = [list(row) for row in rows]
+    for row in found:
+        while row and not row[-1].strip():
+            row.pop()
+    while found and not found[-1]:
+        found.pop()
+    return found
+
+
+def _csv_files(folder: Path) -> Iterator[Path]:
+    files = sorted(file for file in folder.iterdir() if file.suffix.lower() in (".csv", ".tsv") and file.is_file())
+    stems = [file.stem.lower() for file in files]
+    for file, stem in zip(files, stems):
+        if stems.count(stem) > 1:
+            raise FileFault(folder, 0, f"{plural(stems.count(stem), 'file')} have the sheet {stem}: leave only one")
+    if not files:
+        raise FileFault(folder, 0, "this folder has no .csv files: save each sheet as one, such as shifts.csv")
+    return iter(files)
+
+
+def _read_csv(path: Path) -> Rows:
+    with open(path, "rb") as file:
+        data = file.read(MAX_BYTES + 1)
+    if len(data) > MAX_BYTES:
+        raise FileFault(path, 0, f"the file has more than {MAX_BYTES} bytes: delete what is no part of the ward")
+    text = _text_of(path, data)
+    first, _, rest = text.partition("\n")
+    if first.strip().lower().startswith("sep="):
+        separator, text = (first.strip()[4:5] or ","), rest
+    else:
+        separator = max(_SEPARATORS, key=lambda sign: next(filter(str.strip, text.split("\n")), "").count(sign))
+    try:
+        rows = list(csv.reader(io.StringIO(text, newline=""), delimiter=separator))
+    except csv.Error as fault:
+        raise FileFault(path, 0, f"this is no CSV file ({fault}): save the sheet again as CSV") from fault
+    if len(rows) > MAX_ROWS or any(len(row) > MAX_COLUMNS for row in rows):
+        raise FileFault(path, 0, f"the file has more than {MAX_ROWS} rows or {MAX_COLUMNS} columns: delete those that are no part of the ward")
+    return trimmed(rows)
+
+
+def _text_of(path: Path, data: bytes) -> str:
+    """The text: UTF-16 or UTF-8 with their marks, else UTF-8, else Windows-1252."""
+    if data.startswith(_ZIP) or data.startswith(_OLD_EXCEL):
+        raise FileFault(path, 0, "this is a spreadsheet with the name of a CSV file: give it itself, with its right name")
+    codes = ["utf-16"] if data[:2] in (b"\xff\xfe", b"\xfe\xff") else ["utf-8-sig", "cp1252"]
+    for code in codes:
+        try:
+            return data.decode(code)
+        except UnicodeDecodeError:
+            continue
+    raise FileFault(path, 0, "the file has another encoding than UTF-8, UTF-16 and Windows-1252: save it as CSV in UTF-8")

@@ -1,0 +1,122 @@
+"""Writes the files of a ward from a spreadsheet: the ward, the first history, and each week with its held shifts."""
+
+import argparse
+import contextlib
+import re
+from pathlib import Path
+from typing import Dict, Iterator, List, Sequence, TextIO, Tuple
+
+from .absences import TooMany, Written, with_absences
+from .command import parser
+from .faults import FileFault, Misuse
+from .files import Scenario, Solution, WeekData, history_text, scenario_text, solution_text, week_text
+from .files import replacing
+from .odd_values import history_warnings, scenario_warnings, week_warnings
+from .plan_sheets import AWAY, Days, WeekSheet, check_held, days_away, read_days, read_weeks
+from .sheet_files import Book, read_book
+from .sheet_rows import readable, tidy
+from .targets import check_target
+from .ward_sheets import Ward, read_ward
+from .ward_template import write_template
+from .wish import credited
+
+
+def _options() -> argparse.ArgumentParser:
+    options = parser(
+        "Writes the files of a ward from a spreadsheet: an .ods or .xlsx file, or a folder of .csv files.",
+        "The sheets are shifts, contracts, nurses, needs and plan: --template writes an example with all columns.\n"
+        "The folder gets ward.txt, history-0.txt, and for each week N week-N.txt and fix-N.txt, the shifts that are held.\n"
+        "Files of these names are replaced. Blanks in names become _.\n"
+        "Example: inrc2pb-ward ward.ods --out my_ward --credit leave,training",
+    )
+    options.add_argument("tables", nargs="?", metavar="FILE", type=Path, help="the spreadsheet, or the folder of .csv files")
+    options.add_argument("--out", metavar="FOLDER", type=Path, help="the folder for the files; it is made if there is none")
+    options.add_argument("--weeks", metavar="N", type=int, help="the weeks of the period (default: the weeks of the sheet plan)")
+    options.add_argument("--credit", metavar="WORDS", default="", help=f"absences that count as work, some of {','.join(AWAY)}")
+    options.add_argument("--template", metavar="FILE", type=Path, help="write an example spreadsheet to this .ods file")
+    return options
+
+
+def _ward_name(path: Path) -> str:
+    """A name for the ward, from that of the file."""
+    return re.sub("[(),= ]", "_", tidy(path.resolve().stem)) or "ward"
+
+
+def _period(days: Days, weeks: int) -> int:
+    """The weeks of the period, which has those of the plan."""
+    if not days.weeks <= weeks <= 52:
+        raise Misuse(f"--weeks {weeks}: the plan has {days.weeks} weeks, and a period 52 at most: give a number from {days.weeks} to 52")
+    return weeks
+
+
+def _reasons(text: str) -> List[str]:
+    """The reasons of absences that count as work."""
+    reasons = text.split(",") if text else []
+    for word in reasons:
+        if word not in AWAY:
+            raise Misuse(f"--credit {text}: '{word}' is no reason to be away: give some of {','.join(AWAY)}")
+    return reasons
+
+
+def texts(book: Book, name: str, days: Days, weeks: int, reasons: Sequence[str]) -> Tuple[Dict[str, str], List[str]]:
+    """The text of each file by its name, and warnings."""
+    ward = read_ward(book, name, weeks)
+    sheets = read_weeks(book, ward, days)
+    check_held(ward, sheets)
+    history = credited(ward.scenario, ward.history, dict(days_away(sheets, reasons)))
+    found = {"ward.txt": scenario_text(ward.scenario), "history-0.txt": history_text(history)}
+    warnings = [*(f"sheet shifts, contracts or nurses: {line}" for line in scenario_warnings(ward.scenario)), *_of_history(ward)]
+    for number, sheet in enumerate(sheets):
+        written = _week(book, ward.scenario, sheet, number)
+        found[f"week-{number}.txt"] = week_text(written.data)
+        found[f"fix-{number}.txt"] = solution_text(Solution(number, name, tuple(held.row for held in sheet.held)))
+        warnings += [f"sheet needs, week {number}: {line}" for line in week_warnings(ward.scenario, written.data)]
+        warnings += [f"week {number}: {line}" for line in filter(None, [written.warning()])]
+    return found, warnings
+
+
+def _of_history(ward: Ward) -> Iterator[str]:
+    yield from (f"sheet nurses: {line}" for line in history_warnings(ward.history))
+
+
+def _week(book: Book, scenario: Scenario, sheet: WeekSheet, number: int) -> Written:
+    """The data of a week with its absences."""
+    data = WeekData(scenario.name, sheet.requirements, tuple(sheet.wishes))
+    try:
+        return with_absences(scenario, data, sheet.absences)
+    except TooMany as fault:
+        raise FileFault(book.path, 0, f"sheet plan, week {number}: {fault}") from fault
+
+
+def _write(folder: Path, found: Dict[str, str]) -> None:
+    """Writes all files, or none of them."""
+    folder.mkdir(parents=True, exist_ok=True)
+    for name in found:
+        check_target(folder / name)
+    with contextlib.ExitStack() as stack:
+        targets: List[Tuple[TextIO, str]] = [(stack.enter_context(replacing(folder / name)), text) for name, text in found.items()]
+        for target, text in targets:
+            target.write(text)
+
+
+def main() -> int:
+    """The command `inrc2pb-ward`."""
+    given = _options().parse_args()
+    if given.template and not (given.tables or given.out):
+        write_template(given.template)
+        print(f"{given.template}: change its rows into those of your ward, then type: inrc2pb-ward {given.template} --out FOLDER")
+        return 0
+    if given.template or not (given.tables and given.out):
+        raise Misuse("give a spreadsheet and --out with a folder for the ward's files, or --template alone, with the .ods file to write")
+    reasons = _reasons(given.credit)
+    book = read_book(given.tables)
+    days = read_days(book)
+    weeks = _period(days, days.weeks if given.weeks is None else given.weeks)
+    found, warnings = texts(book, _ward_name(given.tables), days, weeks, reasons)
+    _write(given.out, found)
+    for line in warnings:
+        print(f"{given.tables}: warning: {readable(line)}")
+    print(f"{given.out}: {', '.join(found)}")
+    for nurse, count in days_away(read_weeks(book, read_ward(book, "ward", weeks), days), reasons):
+        print(f"{readable(nurse)}: {count} days count as work")
+    return 0
