@@ -88,7 +88,11 @@ class Written(NamedTuple):
 
 
 class TooMany(Exception):
-    """More absences than the rows of a week's file allow."""
+    """More absences than the requests of a week's file allow."""
+
+
+# What to do then.
+NO_SKILL = "give someone who is away for the whole week no skill, in a copy of the ward"
 
 
 def with_absences(scenario: Scenario, data: WeekData, added: Iterable[Absence], known_cost: Optional[int] = None) -> Written:
@@ -102,8 +106,8 @@ def with_absences(scenario: Scenario, data: WeekData, added: Iterable[Absence], 
     room = min(ROWS, MAX_NUMBER - len(wishes)) // max(1, len(away))
     if room < MARK:
         raise TooMany(
-            f"{plural(len(away), 'absence')} with {MARK} requests each and {plural(len(wishes), 'wish')} need more than the "
-            f"{MAX_NUMBER} rows of a week's file: give someone who is away for the whole week no skill, in a copy of the ward"
+            f"{plural(len(away), 'absence')} with {MARK} requests each and {plural(len(wishes), 'other request')} need more than the "
+            f"{MAX_NUMBER} requests of a week's file"
         )
     times = min(certain, room)
     rows = [Request(one.nurse, one.shift, one.day) for one in away for _ in range(times)]

@@ -66,7 +66,7 @@ def _week_text(week: Path, scenario: Scenario, nurses: Sequence[str], days: Sequ
     try:
         written = with_absences(scenario, read_week(week, scenario), days_off(nurses or list(scenario.nurses), days or range(len(DAYS)), rows))
     except TooMany as fault:
-        raise Misuse(f"{week}: {fault}") from fault
+        raise Misuse(f"{week}: {fault}: give fewer days or nurses") from fault
     if written.warning():
         print(f"inrc2pb-keep: {written.warning()}", file=sys.stderr)
     return week_text(written.data)

@@ -60,9 +60,8 @@ class _Weeks:
         for off in {0, *_lengths(self.contract.days_off)}:
             yield _Past(None, 0, 0, off)
         for name, shift in self.types.items():
-            for on_shift in _lengths(shift.consecutive):
-                for working in _lengths(self.contract.working_days):
-                    yield _Past(name, on_shift, working, 0)
+            lengths = _lengths(shift.consecutive) | _lengths(self.contract.working_days)
+            yield from (_Past(name, on_shift, working, 0) for on_shift in lengths for working in lengths if on_shift <= working)
 
     def _cheapest_from(self, day: int, past: _Past) -> int:
         return 0 if day == _WEEK else min(self._cost(day, past, now) + self._cheapest(day + 1, self._after(past, now)) for now in self._may_follow(past))

@@ -6,7 +6,7 @@ import re
 from pathlib import Path
 from typing import Dict, Iterator, List, Sequence, TextIO, Tuple
 
-from .absences import TooMany, Written, with_absences
+from .absences import NO_SKILL, TooMany, Written, with_absences
 from .command import parser
 from .faults import FileFault, Misuse
 from .files import Scenario, Solution, WeekData, history_text, scenario_text, solution_text, week_text
@@ -85,7 +85,7 @@ def _week(book: Book, scenario: Scenario, sheet: WeekSheet, number: int) -> Writ
     try:
         return with_absences(scenario, data, sheet.absences)
     except TooMany as fault:
-        raise FileFault(book.path, 0, f"sheet plan, week {number}: {fault}") from fault
+        raise FileFault(book.path, 0, f"sheet plan, week {number}: {fault}: {NO_SKILL}") from fault
 
 
 def _write(folder: Path, found: Dict[str, str]) -> None:

@@ -5,7 +5,7 @@ from dataclasses import replace
 from pathlib import Path
 from typing import Dict, Iterable, List, Optional, Sequence
 
-from .absences import Absence, TooMany, Written, absences_of, in_words, with_absences, working_while_away
+from .absences import NO_SKILL, Absence, TooMany, Written, absences_of, in_words, with_absences, working_while_away
 from .command import parser
 from .faults import Misuse
 from .files import History, Request, Scenario, Week, WeekData, check_week_number, history_text, read_history, read_scenario, read_week
@@ -73,7 +73,7 @@ def _written(scenario: Scenario, path: Path, data: WeekData, away: Sequence[Abse
     try:
         return with_absences(scenario, replace(data, requests=requests), away, known)
     except TooMany as fault:
-        raise Misuse(f"{path}: {fault}") from fault
+        raise Misuse(f"{path}: {fault}: {NO_SKILL}") from fault
 
 
 def _targets(given: argparse.Namespace) -> List[Path]:
@@ -136,4 +136,4 @@ def _summary(result: Written) -> str:
     if not count:
         return "no absences"
     said = f"{count} absence{'s' * (count > 1)} with {result.requests} requests each: to break one costs {REQUEST * result.requests} points"
-    return f"{said}; {result.warning()}" if result.warning() else f"{said}, more than any roster that keeps all of them can cost above it"
+    return f"{said}; {result.warning()}" if result.warning() else f"{said}, more than that can save"

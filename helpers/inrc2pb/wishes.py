@@ -26,7 +26,7 @@ class Wording:
     def __init__(self, scenario: Scenario, weeks: int, monday: Optional[str]) -> None:
         self.scenario = scenario
         self.weeks = weeks
-        self.monday = None if monday is None else _date("--monday", monday)
+        self.monday = None if monday is None else _date(f"--monday {monday}", monday)
         if self.monday and self.monday.weekday():
             raise Misuse(f"--monday {monday} is a {_long_name(self.monday)}: give the date of the first week's Monday")
 

@@ -6,9 +6,10 @@ import re
 import subprocess
 import unittest
 import xml.dom.minidom
-from collections import Counter
 
 from ward import HELPERS, HISTORY, ROOT, ROSTER, SCENARIO, WARD, WEEK, WEEK_OPTIONS, HelperTest, files, run
+
+from inrc2pb.absences import Absence, absences_of, wishes_of
 
 EXAMPLES = ROOT / "examples"
 TWO_WEEKS = ("--sce", SCENARIO, "--his", HISTORY, "--week", WEEK, "--week", WARD / "week-1.txt", ROSTER, ROSTER)
@@ -35,35 +36,31 @@ class Keep(HelperTest):
         self.assertEqual(run("keep", "--keep", "Mon", ROSTER, "--out", kept), (0, "", ""))
         self.assertEqual(run("check", *WEEK_OPTIONS, "--fix", kept, "--roster", ROSTER)[0], 0)
 
-    def test_days_off_are_kept_by_requests(self):
+    def test_days_off_are_kept_as_absences(self):
         scenario = files.read_scenario(SCENARIO)
         before = files.read_week(WEEK, scenario).requests
         works = {(row.nurse, row.day) for row in files.read_solution(ROSTER).assignments}
         for words, nurses, days in (
             (("--keep", "Mon,Tue"), scenario.nurses, (0, 1)),
-            (("--nurses", "Chen,Ewa"), ("Chen", "Ewa"), range(7)),
-            (("--nurses", "Chen", "--keep", "Sat"), ("Chen",), (5,)),
             (("--nurses", "Chen,Chen", "--keep", "Sat,Sat"), ("Chen",), (5,)),
         ):
             week = self.folder / "kept-week.txt"
             self.assertEqual(run("keep", "--sce", SCENARIO, "--off-in", WEEK, *words, ROSTER, "--out", week), (0, "", ""))
-            added = files.read_week(week, scenario).requests[len(before) :]
-            off = {files.Request(nurse, None, day): 10 for nurse in nurses for day in days if (nurse, day) not in works}
-            self.assertEqual(Counter(added), off)
-            self.assertEqual(files.read_week(week, scenario).requests[: len(before)], before)
+            data = files.read_week(week, scenario)
+            off = {Absence(nurse, day, None) for nurse in nurses for day in days if (nurse, day) not in works}
+            self.assertEqual(absences_of(data), off)
+            self.assertEqual(wishes_of(data), tuple(wish for wish in before if Absence(wish.nurse, wish.day, wish.shift) not in off))
 
     def test_days_off_of_too_many(self):
         ward, roster = EXAMPLES / "last120/ward.txt", self.folder / "empty.txt"
         roster.write_text("SOLUTION\n3 ward120\n\nASSIGNMENTS = 0\n")
-        words = ("--sce", ward, "--off-in", EXAMPLES / "last120/week-3.txt", roster)
-        self.assertEqual(run("keep", "--keep", "Mon,Tue,Wed,Thu,Fri,Sat,Sun", *words)[0], 0)
-        many = self.folder / "many.txt"
-        requests = "".join(["Ada Any Mon\n"] * 1700)
-        week = files.read_week(EXAMPLES / "last120/week-3.txt", files.read_scenario(ward))
-        many.write_text((EXAMPLES / "last120/week-3.txt").read_text().replace("REQUESTS = 100", "REQUESTS = 1800") + requests)
-        self.assertEqual(len(week.requests), 100)
-        _, _, said = run("keep", "--keep", "Mon,Tue,Wed,Thu,Fri,Sat,Sun", "--sce", ward, "--off-in", many, roster)
-        self.assertEqual(said, f"inrc2pb-keep: {many} would have 10200 requests, more than 9999: give fewer days or nurses\n")
+        week = EXAMPLES / "last120/week-3.txt"
+        words = ("--sce", ward, "--off-in", week, roster)
+        status, _, said = run("keep", "--keep", "Mon,Tue", *words)
+        self.assertEqual((status, said[:53]), (0, "inrc2pb-keep: each absence has 37 requests, as many a"))
+        _, _, said = run("keep", "--keep", "Mon,Tue,Wed", *words)
+        line = "360 absences with 30 requests each and 92 other requests need more than the 9999 requests of a week's file: give fewer days or nurses"
+        self.assertEqual(said, f"inrc2pb-keep: {week}: {line}\n")
 
     def test_faults(self):
         line = "inrc2pb-keep: --off-in needs --sce, and has no --others: give the scenario, and the days and nurses themselves"
