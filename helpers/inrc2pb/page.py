@@ -6,7 +6,7 @@ from .charge_words import costs_text, in_words
 from .dates import date_text
 from .hints import plural
 from .markup import Markup, element, escaped, joined
-from .page_tables import RosterTable, Shown, changes_table, coverage_tables, plain, totals_table, wishes_table
+from .page_tables import Content, RosterTable, changes_table, coverage_tables, plain, totals_table, wishes_table
 from .roster_text import COLORS, ink_on
 from .rules import Charge, cost_by_rule
 from .why import breach_lines
@@ -14,23 +14,48 @@ from .why import breach_lines
 STYLE = """
 :root { color-scheme: light }
 body { font: 10pt/1.3 sans-serif; margin: 1.2em; color: #111; background: #fff; max-width: 1100px }
-h1 { font-size: 1.4em; margin: 0 0 .2em } h2 { font-size: 1.15em; margin: 1.2em 0 .3em } p, ul { margin: .3em 0 }
-table { border-collapse: collapse; margin: .6em 0 1em } caption { text-align: left; padding: .2em 0; font-size: .9em }
+h1 { font-size: 1.4em; margin: 0 0 .2em }
+h2 { font-size: 1.15em; margin: 1.2em 0 .3em }
+p, ul { margin: .3em 0 }
+section { overflow-x: auto }
+table { border-collapse: collapse; margin: .6em 0 1em }
+caption { text-align: left; padding: .2em 0; font-size: .9em }
 th, td { border: 1px solid #999; padding: .15em .4em; text-align: center; font-variant-numeric: tabular-nums }
-thead th { background: #eee; vertical-align: bottom } tbody th, thead th:first-child, .words td { text-align: left }
-th { font-weight: 600 } td small { font-size: .82em } .date { display: block; font-weight: normal; font-size: .85em; white-space: nowrap }
-.sat { border-left: 2.5px solid #111 } .sun { border-right: 2.5px solid #111 }
-.roster { width: 100% } .roster th:first-child { width: 8em }
-.many td small { font-size: .7em; margin-left: .1em } .many td, .many thead th { padding: .15em .2em; min-width: 1.5em } .many .date { font-size: .7em; white-space: normal }
-.mark { font-weight: bold; margin-left: .25em } .away { font-style: italic; font-size: .85em } .changed { border: 2.5px dashed #111 }
-.few { border: 2.5px solid #111 } .coverage small { white-space: nowrap }
+th { font-weight: 600 }
+thead th { background: #eee; vertical-align: bottom }
+tbody th, thead th:first-child, .words td { text-align: left }
+td small { font-size: .82em }
+.date { display: block; font-weight: normal; font-size: .85em; white-space: nowrap }
+.sat { border-left: 2.5px solid #111 }
+.sun { border-right: 2.5px solid #111 }
+.roster { width: 100% }
+.roster th:first-child { width: 8em }
+.many td, .many thead th { padding: .15em .2em; min-width: 1.5em }
+.many td small { font-size: .7em; margin-left: .1em }
+.many .date { font-size: .7em; white-space: normal }
+.mark { font-weight: bold; margin-left: .25em }
+.away { font-style: italic; font-size: .85em }
+.changed { border: 2.5px dashed #111 }
+.few { border: 2.5px solid #111 }
+.coverage small { white-space: nowrap }
 .hidden { position: absolute; width: 1px; height: 1px; overflow: hidden; clip-path: inset(50%); white-space: nowrap }
-.folds { columns: 27em } details { margin: 0 0 .5em; break-inside: avoid } .folds ul { padding-left: 1.6em } summary { cursor: pointer } .legend li { display: inline-block; margin-right: 1.4em } .legend { padding: 0 }
+.folds { columns: 27em }
+.folds ul { padding-left: 1.6em }
+details { margin: 0 0 .5em; break-inside: avoid }
+summary { cursor: pointer }
+.legend { padding: 0 }
+.legend li { display: inline-block; margin-right: 1.4em }
 @page { size: A4 landscape; margin: 10mm }
 @media print {
-body { margin: 0; font-size: 9pt; max-width: none } td, th { background: none !important; color: #000 !important } thead { display: table-header-group }
-.many td, .many tbody th { padding-top: .02em; padding-bottom: .02em } .many { line-height: 1.15; margin: .2em 0 .4em }
-tr, caption, li, .coverage, .changes { break-inside: avoid } caption, h2, summary { break-after: avoid } .sheet { break-before: page }
+body { margin: 0; font-size: 9pt; max-width: none }
+td, th { background: none !important; color: #000 !important }
+section { overflow: visible }
+thead { display: table-header-group }
+.many { line-height: 1.15; margin: .2em 0 .4em }
+.many td, .many tbody th { padding-top: .02em; padding-bottom: .02em }
+tr, caption, li, .coverage, .changes { break-inside: avoid }
+caption, h2, summary { break-after: avoid }
+.sheet { break-before: page }
 }
 """
 RULES = {
@@ -39,13 +64,13 @@ RULES = {
 }  # fmt: skip
 
 
-def _style(page: Shown) -> Markup:
+def _style(page: Content) -> Markup:
     """The style, with the colors of the shift types on a screen."""
     colors = "".join(f".s{number} {{ background: {color}; color: {ink_on(color)} }}\n" for number, color in enumerate(COLORS))
     return Markup(STYLE + f"@media screen {{\n{colors}}}\n")
 
 
-def title(page: Shown) -> str:
+def title(page: Content) -> str:
     """The ward and its weeks, with their dates if they are known."""
     view = page.view
     if page.monday is None:
@@ -55,7 +80,7 @@ def title(page: Shown) -> str:
     return f"{plain(view.name)}, {date_text(page.monday)}{year} to {date_text(last)} {last.year}"
 
 
-def _summary(page: Shown) -> Iterator[str]:
+def _summary(page: Content) -> Iterator[str]:
     """Sentences below the title."""
     view = page.view
     count = sum(len(week.rows) for week in view.weeks)
@@ -67,7 +92,7 @@ def _summary(page: Shown) -> Iterator[str]:
     yield from breach_lines(view)
 
 
-def _roster(page: Shown) -> Markup:
+def _roster(page: Content) -> Markup:
     roster = RosterTable(page)
     lines = [element("p", line) for line in _summary(page)]
     legend = roster.legend()
@@ -83,7 +108,7 @@ def section(heading: str, *inside: str, class_: Optional[str] = None) -> Markup:
 # ---- charges
 
 
-def _charge(page: Shown, week: int, charge: Charge) -> Markup:
+def _charge(page: Content, week: int, charge: Charge) -> Markup:
     prefix = "" if page.monday else page.view.prefix(page.view.weeks[week])
     words = plain(f"{prefix}{in_words(charge, False, page.days(week))}")
     return element("li", f"{charge.cost} ({charge.rule}) {words}")
@@ -96,7 +121,7 @@ def _foldable(name: str, charged: List[Charge], items: List[Markup]) -> Markup:
     return element("details", summary, element("ul", *items), open="")
 
 
-def charges_section(page: Shown) -> Markup:
+def charges_section(page: Content) -> Markup:
     """What the roster is charged, by nurse."""
     view = page.view
     charged: Dict[Optional[str], List[Charge]] = {}
@@ -115,7 +140,7 @@ def charges_section(page: Shown) -> Markup:
     return section(f"Cost: {view.penalty} points" if view.penalty is not None else "Cost", *lines, element("div", *folds, class_="folds"))
 
 
-def page_text(page: Shown) -> str:
+def page_text(page: Content) -> str:
     """The page: well-formed XML, and HTML."""
     changed, counted, wished = changes_table(page), totals_table(page), wishes_table(page)
     parts = [_roster(page)]

@@ -4,13 +4,14 @@ import datetime
 from dataclasses import dataclass, field
 from typing import Dict, Iterator, List, Mapping, Optional, Sequence
 
+from .absences import Absence
+from .changes import Change, cells_text, changes
 from .coverage import Covered, coverage
 from .dates import Times, day_names
 from .markup import Markup, element, hidden, joined, shown
 from .roster_text import COLORS, cuts
 from .roster_view import MEANINGS, Cell, RosterView
 from .totals import Totals, Wish, totals
-from .why import Change, cells_text, changes
 
 # Weeks next to one another in a table of the roster and of the coverage, so that it fits a page.
 WEEKS_OF_ROSTER, WEEKS_OF_COVERAGE = 4, 2
@@ -24,7 +25,7 @@ def plain(name: str) -> str:
 
 
 @dataclass(frozen=True)
-class Shown:
+class Content:
     """What a page shows: the roster, an older one, the date of the first Monday, and the times of shift types, as far as they are known."""
 
     view: RosterView
@@ -67,7 +68,7 @@ def _groups(shown_weeks: int, size: int) -> List[range]:
     return [range(at, min(at + size, shown_weeks)) for at in range(0, shown_weeks, size)]
 
 
-def day_heads(page: Shown, weeks: Sequence[int], corner: str) -> List[Markup]:
+def day_heads(page: Content, weeks: Sequence[int], corner: str) -> List[Markup]:
     """The heads of the columns of some weeks: the weeks, if there are several, and their days."""
     days = []
     for week in weeks:
@@ -87,7 +88,7 @@ def day_heads(page: Shown, weeks: Sequence[int], corner: str) -> List[Markup]:
 class RosterTable:
     """The table of the roster."""
 
-    def __init__(self, page: Shown) -> None:
+    def __init__(self, page: Content) -> None:
         self.page, self.view = page, page.view
         self.single = len(self.view.weeks) == 1
         self.short, self.skills = cuts(self.view.shifts, 1), cuts(self.view.skills, 1)
@@ -105,7 +106,7 @@ class RosterTable:
         cells = self.view.cells(week, nurse, day)
         change = self.changed.get((week, nurse, day))
         parts = [self._shift(cell) for cell in cells]
-        if not cells and any(absence[:2] == (nurse, day) and absence.shift is None for absence in self.view.weeks[week].absences):
+        if not cells and Absence(nurse, day, None) in self.view.weeks[week].absences:
             parts.append(element("span", "away", class_="away"))
         if change:
             parts.append(joined(shown(CHANGED, class_="mark"), hidden(f" {CHANGED_MEANING}, before: {plain(cells_text(change.before))}")))
@@ -148,7 +149,7 @@ def _left(of: Totals, is_last: bool) -> str:
     return f"{max(0, least)} to {greatest} left"
 
 
-def totals_table(page: Shown) -> Optional[Markup]:
+def totals_table(page: Content) -> Optional[Markup]:
     """The totals of each nurse, if they are known."""
     view, found = page.view, totals(page.view)
     if not found:
@@ -190,7 +191,7 @@ def _covered(place: Covered, day: int) -> Markup:
     )  # fmt: skip
 
 
-def coverage_tables(page: Shown) -> Iterator[Markup]:
+def coverage_tables(page: Content) -> Iterator[Markup]:
     """The nurses at each place beside those that it needs, for each two weeks."""
     known = [week.week and coverage(week.week, week.rows) for week in page.view.weeks]
     for weeks in _groups(len(known), WEEKS_OF_COVERAGE):
@@ -211,12 +212,12 @@ def coverage_tables(page: Shown) -> Iterator[Markup]:
 # ---- wishes and changes
 
 
-def _wish(page: Shown, wish: Wish) -> str:
+def _wish(page: Content, wish: Wish) -> str:
     asked = f"no {plain(wish.request.shift)}" if wish.request.shift else "off"
     return f"{page.days(wish.week)[wish.request.day]} {asked}"
 
 
-def wishes_table(page: Shown) -> Optional[Markup]:
+def wishes_table(page: Content) -> Optional[Markup]:
     """The wishes of each nurse who has some."""
     rows = []
     for nurse, of in (totals(page.view) or {}).items():
@@ -226,7 +227,7 @@ def wishes_table(page: Shown) -> Optional[Markup]:
     return table("Wishes", [joined(*map(column, ("nurse", "granted", "missed")))], rows, "words") if rows else None
 
 
-def changes_table(page: Shown) -> Optional[Markup]:
+def changes_table(page: Content) -> Optional[Markup]:
     """The changes since the older roster."""
     rows = [
         [first(plain(change.nurse)), *(element("td", text) for text in (

@@ -9,18 +9,19 @@ from pathlib import Path
 from typing import Iterable, Mapping, Optional, Sequence
 
 from .calendars import write_calendars
+from .changes import changed_lines, swapped
 from .command import fixes_by_week, parser
 from .dates import read_monday, read_times
 from .faults import Misuse
 from .page import page_text
-from .page_tables import Shown
+from .page_tables import Content
 from .program import BROKEN_RULE
 from .roster_files import RosterFiles, read_old, read_view
 from .roster_picture import picture
 from .roster_text import TextTable, spreadsheet
 from .roster_view import AWAY, HELD, REFUSED, RosterView
 from .targets import check_inputs_stay
-from .why import change_lines, changed_lines, swapped, why_lines
+from .why import change_lines, why_lines
 from .writing import write_text
 
 
@@ -82,6 +83,8 @@ def _check_options(given: argparse.Namespace) -> None:
         raise Misuse(f"{'--why' if given.why else '--swap'} needs --sce, --his and --week: give the files of each week")
     if given.swap and given.old:
         raise Misuse("--swap and --old are two changes: give one of them")
+    if given.old and (given.svg or given.csv):
+        raise Misuse("--old is for the table, --why and --html: leave it out")
     if given.ics and not given.monday:
         raise Misuse("--ics needs --monday: give the date of the first Monday, such as 2026-11-30")
     for name, value in (("--monday", given.monday), ("--times", given.times)):
@@ -95,15 +98,15 @@ def _check_options(given: argparse.Namespace) -> None:
             check_inputs_stay(inputs, file, "a calendar", "folder")
 
 
-def table_text(view: RosterView, given: argparse.Namespace, shown: Shown) -> str:
+def table_text(view: RosterView, given: argparse.Namespace, content: Content) -> str:
     """What the command writes, but for the reasons of costs."""
     if given.html:
-        return page_text(shown)
+        return page_text(content)
     if given.csv:
         return csv_text(view)
     if given.svg:
         return _lines(picture(view))
-    changed = [f"changed: {line}" for line in changed_lines(shown.old, view)] if shown.old else []
+    changed = [f"changed: {line}" for line in changed_lines(content.old, view)] if content.old else []
     return _lines([*TextTable(view, not given.out and _wants_color()).lines(), *changed])
 
 
@@ -119,7 +122,7 @@ def main() -> Optional[int]:
     files = RosterFiles(given.roster, given.sce, given.his, given.week, _fixes(given.fix, len(given.roster)), given.early)
     view = read_view(files)
     old = read_old(files, given.old) if given.old else None
-    shown = Shown(view, old, monday, read_times(given.times, view.shifts))
+    content = Content(view, old, monday, read_times(given.times, view.shifts))
     for warning in view.warnings:
         print(f"{os.path.basename(sys.argv[0])}: {warning}", file=sys.stderr)
     status = 0
@@ -129,9 +132,9 @@ def main() -> Optional[int]:
         text = _lines(change_lines(before, new) if before else why_lines(new))
         status = BROKEN_RULE if any(week.breaches for week in new.weeks) else 0
     else:
-        text = table_text(view, given, shown)
+        text = table_text(view, given, content)
     if monday and given.ics:
-        write_calendars(view, given.ics, monday, shown.times)
+        write_calendars(view, given.ics, monday, content.times)
     if given.out:
         write_text(given.out, text)
     else:
