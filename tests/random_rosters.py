@@ -79,14 +79,23 @@ def hard_class(week, roster, held):
     return broken or "kept"
 
 
+def may_charge(week, rule, what, early):
+    """Whether the rule may charge this in a week."""
+    if rule == "S4":
+        return any((shift == "Any") == (what == "Any") for _, shift, _ in week.requests)
+    if rule in ("S6", "S7"):
+        return week.number + 1 == week.weeks or early and what == "above"
+    return True
+
+
 def counted_classes(week, roster, early):
-    """What the soft rules counted, and what they did not."""
-    found = collections.Counter()
-    for rule, what, count, _ in rules.counts(week_of(week), rows(roster), early):
-        found[rule, what] += count
+    """What the soft rules charge, and what they do not."""
+    charged = {(charge.rule, charge.what) for charge in rules.charges(week_of(week), rows(roster), early)}
     when = ", last week" if week.number + 1 == week.weeks else ", before"
-    for (rule, what), count in found.items():
-        yield f"{rule} {what}{when if rule in ('S6', 'S7') else ''}: {'some' if count else 'none'}"
+    kinds = {tuple(name.split(",")[0].split(" ", 1)) for name in COUNTED}
+    for rule, what in kinds:
+        if may_charge(week, rule, what, early):
+            yield f"{rule} {what}{when if rule in ('S6', 'S7') else ''}: {'some' if (rule, what) in charged else 'none'}"
 
 
 def met_classes(week, roster):

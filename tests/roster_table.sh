@@ -6,7 +6,7 @@
 #
 # Needs Python 3.8; for colors `script`, of the usual tools of Linux.
 . "$(dirname "$0")/kit.sh"
-table=$(realpath helpers/inrc2pb-table)
+table=$PWD/helpers/inrc2pb-table
 cp examples/n005w4/*.txt "$room"
 cd "$room" || exit 2
 week=(--sce Sc-n005w4.txt --his H0-n005w4-0.txt --week WD-n005w4-0.txt)

@@ -2,18 +2,16 @@
 
 import re
 from pathlib import Path
-from typing import Callable, Dict, Iterable, Iterator, List, NamedTuple, Optional, Tuple
+from typing import Callable, Iterable, Iterator, List, NamedTuple, Optional
 
+from .breaches import Shifts, breaches_by, held_breaches, minimum_breaches
 from .faults import FileFault, ProgramFault
-from .files import DAYS, Assignment, History, Scenario, Solution, Week, read_solution
-from .hints import plural
-from .rules import numbers
+from .files import Assignment, History, Scenario, Solution, Week, read_solution
 from .slots import text_of, tokens_of
 
 # The indices of the week's number, of the scenario's name and of the first row among the tokens of a solution file, and the number of
 # tokens of a row.
 _NUMBER, _NAME, _ROWS, _ROW = 1, 2, 6, 4
-Shifts = Dict[Tuple[str, int], List[str]]
 
 
 class Misfit(NamedTuple):
@@ -58,29 +56,13 @@ def read_roster(path: Path, scenario: Scenario, history: Optional[History]) -> S
         raise FileFault(fault.path, fault.line, fault.message + _hint(path, scenario, history), fault.fault) from fault
 
 
-def _broken_by(row: Assignment, shifts: Shifts, scenario: Scenario) -> Iterator[Tuple[str, str]]:
-    """The rules that a row breaks, alone or with the shifts of rows above it, and the reasons."""
-    nurse, day = row.nurse, row.day
-    if shifts.get((nurse, day)):
-        yield "H1", f"{nurse} has two places on {DAYS[day]}"
-    for earlier in shifts.get((nurse, day - 1), ()):
-        if row.shift in scenario.shift_types[earlier].forbidden_next:
-            before = DAYS[day - 1] if day else "the Sunday before"
-            yield "H3", f"{nurse} may not work {row.shift} on {DAYS[day]} after {earlier} on {before}"
-    for later in shifts.get((nurse, day + 1), ()):
-        if later in scenario.shift_types[row.shift].forbidden_next:
-            yield "H3", f"{nurse} may not work {later} on {DAYS[day + 1]} after {row.shift} on {DAYS[day]}"
-    if row.skill not in scenario.nurses[nurse].skills:
-        yield "H4", f"{nurse} does not have the skill {row.skill}"
-
-
 def misfits(path: Path, solution: Solution, scenario: Scenario, history: Optional[History]) -> Iterator[Misfit]:
     """The rows that break H1, H3 or H4, alone or with rows above them, in the order of the file."""
     pasts = history.nurses.values() if history else ()
     shifts: Shifts = {(past.nurse, -1): [past.last_shift] for past in pasts if past.last_shift is not None}
     for line, row in zip(_lines(text_of(path))[_ROWS::_ROW], solution.assignments):
-        for rule, reason in _broken_by(row, shifts, scenario):
-            yield Misfit(rule, line, reason)
+        for breach in breaches_by(row, shifts, scenario):
+            yield Misfit(breach.rule, line, breach.reason)
         shifts.setdefault((row.nurse, row.day), []).append(row.shift)
 
 
@@ -110,11 +92,6 @@ def explained(fault: ProgramFault, path: Path, week: Week, held: Iterable[Assign
 def _misfits_of(rule: str, path: Path, solution: Solution, week: Week, held: Iterable[Assignment]) -> Iterator[Misfit]:
     yield from (found for found in misfits(path, solution, week.scenario, week.history) if found.rule == rule)
     if rule == "H2":
-        number = numbers(solution.assignments)
-        for place, required in week.data.requirements.items():
-            if number[place] < required.minimum:
-                named = f"{DAYS[place.day]} {place.shift} {place.skill}"
-                yield Misfit(rule, 0, f"{named} has {plural(number[place], 'nurse')} and needs at least {required.minimum}")
+        yield from (Misfit(rule, 0, breach.reason) for breach in minimum_breaches(week, solution.assignments))
     if rule == "H5":
-        rows = set(solution.assignments)
-        yield from (Misfit(rule, 0, f"the held row '{row.row()}' is missing") for row in held if row not in rows)
+        yield from (Misfit(rule, 0, breach.reason) for breach in held_breaches(solution.assignments, held))

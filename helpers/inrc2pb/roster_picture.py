@@ -1,13 +1,15 @@
 """A roster as a picture (SVG), for light and dark pages."""
 
-import re
 import textwrap
 from html import escape
-from typing import Dict, Iterator, List, Sequence
+from typing import Dict, Iterator, List, Sequence, Tuple
 
 from .files import DAYS
+from .charge_words import costs_text
+from .markup import allowed
 from .roster_text import COLORS, abbreviations, columns, cuts, ink_on
-from .roster_view import HELD, Cell, RosterView, costs_text
+from .roster_view import HELD, Cell, RosterView
+from .totals import HEADS, LEGEND, totals
 
 STYLE = """<style>
 .page { fill: #ffffff } .ink { fill: #1a1a1a } .weekend { fill: #eeeeee } .off { fill: none; stroke: #dddddd }
@@ -20,8 +22,6 @@ LEFT, HIGH, COST_WIDTH, LEGEND_WIDTH, EDGE = 130, 26, 230, 90, 10
 WEEKEND_GAP, WEEK_GAP = 12, 18
 # The width of a character in a cell, in a picture of one week and of more weeks, and in a name, a cost and the title.
 CELL_LETTERS, LETTER, COST_LETTER, TITLE_LETTER = (6.6, 6.4), 8, 7.5, 9.5
-# All but the characters that XML allows. A byte that is not UTF-8 is a surrogate.
-_NOT_IN_XML = re.compile("[^\t\n\r\x20-\ud7ff\ue000-\ufffd\U00010000-\U0010ffff]")
 # How many letters of a shift type and of a skill a cell has, if they fit; fewer come last. No two names look the same.
 LETTERS = ((99, 99), (99, 2), (5, 2), (1, 2))
 
@@ -56,15 +56,19 @@ class Picture:
         week = 7 * self.wide + WEEKEND_GAP
         left = max([LEFT, *(20 + LETTER * columns(nurse) for nurse in view.nurses)])
         self.starts = [left + at * (week + WEEK_GAP) for at in range(len(view.weeks))]
-        self.costs = {nurse: _cost_of(view.costs_of(nurse)) for nurse in view.nurses} if view.has_costs else {}
+        self.costs = {nurse: _cost_of(view.costs[nurse]) for nurse in view.nurses} if view.has_costs else {}
         costs = max([COST_WIDTH, *(20 + round(COST_LETTER * len(text)) for text in self.costs.values())])
+        self.totals = [(head, dict(zip(view.nurses, texts))) for head, texts in _totals_of(view)]
+        self.total_widths = [12 + LETTER * max(columns(text) for text in (head, *texts.values())) for head, texts in self.totals]
+        week_end = self.starts[-1] + week + sum(self.total_widths)
         self.step = max([LEGEND_WIDTH, *(30 + LETTER * columns(shift) for shift in view.shifts)])
         title = round(TITLE_LETTER * columns(view.title))
-        self.right = max(self.starts[-1] + week + (costs if self.costs else EDGE), 2 * EDGE + title, 2 * EDGE + self.step)
+        self.right = max(week_end + (costs if self.costs else EDGE), 2 * EDGE + title, 2 * EDGE + self.step)
         self.bottom = self.top + len(view.nurses) * HIGH
         self.in_line = max(1, min(8, self.right // self.step))
         self.under = self.bottom + 24 + 20 * -(-len(view.shifts) // self.in_line)
-        lines = abbreviations(self.texts.shifts, self.texts.skills) + view.legend() + view.misfilled()
+        names = [self.texts.shifts, self.texts.skills, *[cuts(view.shifts, 1)] * bool(self.totals)]
+        lines = abbreviations(*names) + [LEGEND] * bool(self.totals) + view.legend() + view.misfilled()
         self.below = [part for line in lines for part in textwrap.wrap(line, self.right // 7, subsequent_indent="    ")]
 
     def left(self, week: int, day: int) -> int:
@@ -83,6 +87,10 @@ class Picture:
         yield f'<text class="ink" x="10" y="22" font-size="15" font-weight="bold">{escape(self.view.title)}</text>'
         for at, week in enumerate(self.view.weeks):
             yield from self.week_head(at, week.number)
+        for x, (head, _) in self.columns_of_totals():
+            yield f'<text class="ink" x="{x}" y="{self.top - 10}">{escape(head)}</text>'
+        if self.costs:
+            yield f'<text class="ink" x="{self.end_of_days() + sum(self.total_widths)}" y="{self.top - 10}">cost</text>'
         for row, nurse in enumerate(self.view.nurses):
             yield from self.row(nurse, self.top + row * HIGH)
         for at, shift in enumerate(self.view.shifts):
@@ -108,9 +116,22 @@ class Picture:
         for week in range(len(self.view.weeks)):
             for day in range(7):
                 yield from self.cells(self.view.cells(week, nurse, day), self.left(week, day), y)
+        for x, (_, texts) in self.columns_of_totals():
+            yield f'<text class="ink" x="{x}" y="{y + 15}">{texts[nurse]}</text>'
         if nurse in self.costs:
-            x = self.left(len(self.view.weeks) - 1, 6) + self.wide + 10
+            x = self.end_of_days() + sum(self.total_widths)
             yield f'<text class="ink" x="{x}" y="{y + 15}">{self.costs[nurse]}</text>'
+
+    def end_of_days(self) -> int:
+        """Where the columns right of the days begin."""
+        return self.left(len(self.view.weeks) - 1, 6) + self.wide + 10
+
+    def columns_of_totals(self) -> Iterator[Tuple[int, Tuple[str, Dict[str, str]]]]:
+        """Where the column of each total begins, its head, and its text for each nurse."""
+        x = self.end_of_days()
+        for width, column in zip(self.total_widths, self.totals):
+            yield x, column
+            x += width
 
     def cells(self, cells: Sequence[Cell], x: int, y: int) -> Iterator[str]:
         """The cells of one nurse and day."""
@@ -125,6 +146,16 @@ class Picture:
                 f'<text x="{x + (at + 0.5) * part:g}" y="{y + 15}" font-size="{11 if self.single else 10}" text-anchor="middle" '
                 f'fill="{ink_on(COLORS[number % len(COLORS)])}">{text}<title>{escape(cell.shift)} {escape(cell.skill)}</title></text>'
             )
+
+
+def _totals_of(view: RosterView) -> List[Tuple[str, Sequence[str]]]:
+    """The head of each total, and its text for each nurse, if they are known."""
+    counted = totals(view)
+    if not counted:
+        return []
+    types = list(cuts(view.shifts, 1).values())
+    by_type = [" / ".join(map(str, of.by_shift.values())) for of in counted.values()]
+    return [(" / ".join(types), by_type), *zip(HEADS, zip(*(of.texts() for of in counted.values())))]
 
 
 def _cost_of(costs: Dict[str, int]) -> str:
@@ -142,4 +173,4 @@ def _place(x: float, y: int, width: float, height: int, number: int, framed: boo
 def picture(view: RosterView) -> List[str]:
     """The lines of a roster's picture. Letters of a name that XML does not allow, and bytes that are not UTF-8, are replaced, so that the
     picture can be shown."""
-    return [_NOT_IN_XML.sub("\ufffd", line) for line in Picture(view).lines()]
+    return [allowed(line) for line in Picture(view).lines()]

@@ -3,8 +3,10 @@
 import unicodedata
 from typing import Dict, Iterator, List, Sequence
 
+from .charge_words import costs_text
 from .files import DAYS
-from .roster_view import Cell, RosterView, costs_text
+from .roster_view import Cell, RosterView
+from .totals import HEADS, LEGEND, totals
 
 # Colors that color-blind eyes distinguish (Okabe and Ito), and their numbers in a terminal. Shift types from the ninth on
 # have them again, in a picture with a dashed frame.
@@ -39,7 +41,7 @@ def cuts(names: Sequence[str], least: int) -> Dict[str, str]:
 
 def abbreviations(*shortened: Dict[str, str]) -> List[str]:
     """A line with the meaning of each name that was cut, if one was."""
-    cut = [f"{short} = {name}" for names in shortened for name, short in names.items() if short != name]
+    cut = dict.fromkeys(f"{short} = {name}" for names in shortened for name, short in names.items() if short != name)
     return ["  ".join(cut)] * bool(cut)
 
 
@@ -67,6 +69,22 @@ class TextTable:
         cells = [self.text(view.cells(week, nurse, day)) for week in range(len(view.weeks)) for nurse in view.nurses for day in range(7)]
         self.width = max([3 if self.single else 2, *map(columns, cells)])
         self.first = max([columns(name) for name in self.nurses.values()], default=0)
+        self.types = cuts(view.shifts, 1)
+        self.right = self._right()
+
+    def _right(self) -> List[List[str]]:
+        """The columns right of the days, each with its head and a text for each nurse: totals and costs, if they are known."""
+        found = []
+        counted = totals(self.view)
+        if counted:
+            of_types = [list(map(str, of.by_shift.values())) for of in counted.values()]
+            table = [list(self.types.values()), *of_types]
+            wide = [max(map(columns, column)) for column in zip(*table)]
+            found.append([" ".join(_filled(text, width) for text, width in zip(row, wide)) for row in table])
+            found += [[head, *texts] for head, *texts in zip(HEADS, *(of.texts() for of in counted.values()))]
+        if self.view.has_costs:
+            found.append(["cost", *(f"{sum(self.view.costs[nurse].values()):4}  {costs_text(self.view.costs[nurse])}" for nurse in self.view.nurses)])
+        return [[_filled(text, max(map(columns, column))) for text in column] for column in found]
 
     def text(self, cells: Sequence[Cell]) -> str:
         """The text of the cells of one nurse and day."""
@@ -87,30 +105,34 @@ class TextTable:
             numbers = between.join(f"{f'week {week.number}':{len(days)}}" for week in self.view.weeks)
             lines.append(f"{'':{self.first}}  {numbers}".rstrip())
         named = between.join([days] * len(self.view.weeks))
-        return [*lines, f"{'':{self.first}}  {named}{'  cost' if self.view.has_costs else ''}".rstrip()]
+        return [*lines, "  ".join([" " * self.first, named, *(column[0] for column in self.right)]).rstrip()]
 
     def lines(self) -> List[str]:
         """The whole table."""
         view, lines = self.view, self.head()
-        for nurse, name in self.nurses.items():
+        for row, (nurse, name) in enumerate(self.nurses.items(), 1):
             weeks = [
                 _with_weekend_apart([self.shown(view.cells(week, nurse, day)) for day in range(7)], self.gap) for week in range(len(view.weeks))
             ]
-            costs = view.costs_of(nurse)
-            cost = f"  {sum(costs.values()):4}  {costs_text(costs)}" if view.has_costs else ""
-            lines.append(f"{_filled(name, self.first)}  {'  ||  '.join(weeks)}{cost}".rstrip())
-        names = (self.shifts, self.skills) if self.single else (self.shifts,)
-        below = abbreviations(self.nurses, *names) + view.legend() + view.misfilled()
+            lines.append("  ".join([_filled(name, self.first), "  ||  ".join(weeks), *(column[row] for column in self.right)]).rstrip())
+        names = [self.nurses, self.shifts] + [self.skills] * self.single + [self.types] * bool(self.right)
+        below = abbreviations(*names) + [LEGEND] * bool(totals(view)) + view.legend() + view.misfilled()
         return lines + [""] * bool(below) + below
 
 
 def spreadsheet(view: RosterView) -> Iterator[List[object]]:
-    """Rows of a spreadsheet: nurses by days, then the cost and the rules that charge it."""
-    single = len(view.weeks) == 1
+    """Rows of a spreadsheet: nurses by days, then the cost and the rules that charge it, then the totals."""
+    single, counted = len(view.weeks) == 1, totals(view)
     days = [day if single else f"week {week.number} {day}" for week in view.weeks for day in DAYS]
-    yield ["nurse", *days, *["cost", "rules"] * view.has_costs]
+    heads = ["shifts", "minimum", "maximum", "weekends", "most weekends", "wishes", "granted", *view.shifts] if counted else []
+    yield ["nurse", *days, *["cost", "rules"] * view.has_costs, *heads]
     for nurse in view.nurses:
         of_days = [view.cells(week, nurse, day) for week in range(len(view.weeks)) for day in range(7)]
         shown = [" + ".join(" ".join([cell.shift, cell.skill, *cell.marks]) for cell in cells) for cells in of_days]
-        costs = view.costs_of(nurse)
-        yield [nurse, *shown, *([sum(costs.values()), costs_text(costs)] if view.has_costs else [])]
+        row: List[object] = [nurse, *shown]
+        if view.has_costs:
+            row += [sum(view.costs[nurse].values()), costs_text(view.costs[nurse])]
+        if counted:
+            of = counted[nurse]
+            row += [of.shifts, *of.contract, of.weekends, of.max_weekends, len(of.wishes), of.granted, *of.by_shift.values()]
+        yield row

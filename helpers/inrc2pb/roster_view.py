@@ -1,22 +1,17 @@
-"""A roster of one or more weeks, ready to be shown: cells with marks, costs, and lines that go below."""
+"""A roster of one or more weeks, ready to be shown: cells with marks, charges, and lines that go below."""
 
-import itertools
-from dataclasses import dataclass, field
-from pathlib import Path
-from typing import Callable, Dict, Iterable, Iterator, List, Mapping, NamedTuple, Optional, Sequence, Set
+from dataclasses import dataclass
+from functools import cached_property
+from typing import Callable, Dict, FrozenSet, Iterator, List, NamedTuple, Optional, Sequence
 
 from . import rules
-from .faults import Misuse
-from .files import DAYS, Assignment, History, Scenario, Solution, Week, WeekData, check_week_number
-from .files import read_history, read_scenario, read_solution, read_week
-from .hints import plural
-from .misfits import other_week
-from .next_history import next_history
-from .records import Place, Requirement
-from .slots import text_of
+from .absences import Absence, absences_of, is_broken_by
+from .breaches import Breach, breaches
+from .coverage import missing_nurses, spare_nurses
+from .files import Assignment, Week, WeekData
 
-HELD, REFUSED = "*", "!"
-MEANINGS = {HELD: "held", REFUSED: "a request to be off was not granted"}
+HELD, REFUSED, AWAY = "*", "!", "#"
+MEANINGS = {HELD: "held", REFUSED: "a request to be off was not granted", AWAY: "on duty while away"}
 
 
 class Cell(NamedTuple):
@@ -27,37 +22,71 @@ class Cell(NamedTuple):
     marks: str
 
 
-@dataclass(frozen=True)
-class RosterFiles:
-    """The files of a table: one roster for each week, and what else is known of these weeks.
-
-    `fixes` has fix files by the number of their week, or by None if there is only one week.
-    """
-
-    rosters: Sequence[Path]
-    scenario: Optional[Path] = None
-    histories: Sequence[Path] = ()
-    weeks: Sequence[Path] = ()
-    fixes: Mapping[Optional[int], Path] = field(default_factory=dict)
-    early: bool = False
-
-
 @dataclass
 class WeekView:
-    """One week of a table."""
+    """One week of a table: its roster, the requests and held rows if they are known, and all files of the week if they are."""
 
     number: int
     rows: Sequence[Assignment]
-    held: Set[Assignment]
-    refused: Set[Assignment]
-    costs: Dict[str, Dict[str, int]]
-    penalty: Optional[int]
-    notes: List[str]
-    misfilled: List[str]
+    data: Optional[WeekData] = None
+    week: Optional[Week] = None
+    held: Sequence[Assignment] = ()
+    early: bool = False
 
     def marks(self, row: Assignment) -> str:
         """The marks of an assignment."""
-        return HELD * (row in self.held) + REFUSED * (row in self.refused)
+        away = is_broken_by(self.absences, row)
+        return HELD * (row in self._held) + AWAY * away + REFUSED * (not away and self._is_refused(row))
+
+    @cached_property
+    def _held(self) -> FrozenSet[Assignment]:
+        return frozenset(self.held)
+
+    @cached_property
+    def absences(self) -> FrozenSet[Absence]:
+        """The absences of the week's file."""
+        return absences_of(self.data) if self.data else frozenset()
+
+    @cached_property
+    def _asked(self) -> FrozenSet[object]:
+        """The nurses, days and shift types of the requests; None is any shift type."""
+        return frozenset((request.nurse, request.day, request.shift) for request in self.data.requests) if self.data else frozenset()
+
+    def _is_refused(self, row: Assignment) -> bool:
+        return (row.nurse, row.day, row.shift) in self._asked or (row.nurse, row.day, None) in self._asked
+
+    @cached_property
+    def breaches(self) -> List[Breach]:
+        """The hard rules that the roster breaks, if the week's files are known."""
+        return breaches(self.week, self.rows, self.held) if self.week else []
+
+    @cached_property
+    def charges(self) -> Optional[List[rules.Charge]]:
+        """What the soft rules charge; None if the week's files are not known, or the roster breaks a hard rule."""
+        return list(rules.charges(self.week, self.rows, self.early)) if self.week and not self.breaches else None
+
+    @property
+    def penalty(self) -> Optional[int]:
+        """The penalty of the roster, if it has one."""
+        return None if self.charges is None else sum(charge.cost for charge in self.charges)
+
+    @property
+    def notes(self) -> List[str]:
+        """Lines on held rows that are missing, and on the cost."""
+        rows = set(self.rows)
+        lines = [f"held, and not in the roster: {row.row()}" for row in self.held if row not in rows]
+        if self.breaches:
+            lines.append(f"roster breaks {self.breaches[0].rule}: it has no penalty")
+        if self.charges is not None:
+            places = sum(charge.cost for charge in self.charges if charge.nurse is None)
+            whole = sum(charge.cost for charge in self.charges)
+            lines.append(f"cost: of the nurses {whole - places}, of places not filled (S1) {places}; penalty {whole}")
+        return lines
+
+    @property
+    def misfilled(self) -> List[str]:
+        """A line for each day with places that have too few nurses, and then for each with too many."""
+        return [*missing_nurses(self.week, self.rows), *spare_nurses(self.week, self.rows)] if self.week else []
 
 
 @dataclass
@@ -71,24 +100,29 @@ class RosterView:
     weeks: Sequence[WeekView]
     warnings: Sequence[str] = ()
 
-    def __post_init__(self) -> None:
-        self._cells: Dict[object, List[Cell]] = {}
+    @cached_property
+    def _cells(self) -> Dict[object, List[Cell]]:
+        cells: Dict[object, List[Cell]] = {}
         for at, week in enumerate(self.weeks):
             for row in week.rows:
-                self._cells.setdefault((at, row.nurse, row.day), []).append(Cell(row.shift, row.skill, week.marks(row)))
+                cells.setdefault((at, row.nurse, row.day), []).append(Cell(row.shift, row.skill, week.marks(row)))
+        return cells
 
     @property
     def title(self) -> str:
         """The name of the ward, the weeks, and the number of assignments."""
         count = sum(len(week.rows) for week in self.weeks)
+        return f"{self.name}, {self.weeks_text}: {count} assignment{'' if count == 1 else 's'}"
+
+    @property
+    def weeks_text(self) -> str:
+        """The numbers of the weeks, as `weeks 0 to 3`."""
         numbers = [week.number for week in self.weeks]
         if len(numbers) == 1:
-            named = f"week {numbers[0]}"
-        elif numbers == list(range(numbers[0], numbers[-1] + 1)):
-            named = f"weeks {numbers[0]} to {numbers[-1]}"
-        else:
-            named = f"weeks {', '.join(map(str, numbers))}"
-        return f"{self.name}, {named}: {count} assignment{'' if count == 1 else 's'}"
+            return f"week {numbers[0]}"
+        if numbers == list(range(numbers[0], numbers[-1] + 1)):
+            return f"weeks {numbers[0]} to {numbers[-1]}"
+        return f"weeks {', '.join(map(str, numbers))}"
 
     def cells(self, week: int, nurse: str, day: int) -> List[Cell]:
         """A nurse's cells on a day; weeks are counted from 0 in the table."""
@@ -97,15 +131,16 @@ class RosterView:
     @property
     def has_costs(self) -> bool:
         """Whether the cost of each nurse is known."""
-        return any(week.costs for week in self.weeks)
+        return any(week.charges is not None for week in self.weeks)
 
-    def costs_of(self, nurse: str) -> Dict[str, int]:
-        """A nurse's cost in all weeks, by rule."""
-        paid: Dict[str, int] = {}
-        for week in self.weeks:
-            for rule, cost in week.costs.get(nurse, {}).items():
-                paid[rule] = paid.get(rule, 0) + cost
-        return {rule: cost for rule, cost in paid.items() if cost}
+    @cached_property
+    def costs(self) -> Dict[str, Dict[str, int]]:
+        """The cost of each nurse in all weeks, by rule."""
+        paid = {nurse: dict.fromkeys(rules.SOFT_RULES, 0) for nurse in self.nurses}
+        for charge in (charge for week in self.weeks for charge in week.charges or ()):
+            if charge.nurse is not None:
+                paid[charge.nurse][charge.rule] += charge.cost
+        return {nurse: {rule: cost for rule, cost in by_rule.items() if cost} for nurse, by_rule in paid.items()}
 
     def legend(self) -> List[str]:
         """The meaning of the marks, and notes on the whole roster."""
@@ -113,153 +148,23 @@ class RosterView:
         meanings = [f"{mark} = {MEANINGS[mark]}" for mark in sorted(marks, reverse=True)]
         return [*meanings, *self._with_week(lambda week: week.notes), *self._sum()]
 
-    def _sum(self) -> Iterator[str]:
-        """The penalty of several weeks together, if each has one."""
+    @property
+    def penalty(self) -> Optional[int]:
+        """The penalty of all weeks together, if each has one."""
         penalties = [week.penalty for week in self.weeks if week.penalty is not None]
-        if len(penalties) == len(self.weeks) > 1:
-            yield f"all {len(penalties)} weeks: penalty {sum(penalties)}"
+        return sum(penalties) if len(penalties) == len(self.weeks) else None
+
+    def _sum(self) -> Iterator[str]:
+        if len(self.weeks) > 1 and self.penalty is not None:
+            yield f"all {len(self.weeks)} weeks: penalty {self.penalty}"
 
     def misfilled(self) -> List[str]:
-        """A line for each day with places that have too few nurses, and then for each with too many."""
+        """The lines of each week on places with too few or too many nurses."""
         return self._with_week(lambda week: week.misfilled)
 
     def _with_week(self, lines_of: Callable[[WeekView], List[str]]) -> List[str]:
-        prefixed = len(self.weeks) > 1
-        return [f"week {week.number}: {line}" if prefixed else line for week in self.weeks for line in lines_of(week)]
+        return [f"{self.prefix(week)}{line}" for week in self.weeks for line in lines_of(week)]
 
-
-def costs_text(costs: Dict[str, int]) -> str:
-    """The rules and what they charge, as `S2 30 + S4 10`."""
-    return " + ".join(f"{rule} {cost}" for rule, cost in costs.items())
-
-
-def read_view(files: RosterFiles) -> RosterView:
-    """Reads the files of a table."""
-    _check_numbers(files)
-    scenario = read_scenario(files.scenario) if files.scenario else None
-    texts = {path: text_of(path) for path in (*files.rosters, *files.fixes.values())}
-    solutions = [read_solution(path, scenario, texts[path]) for path in files.rosters]
-    datas = [read_week(path, scenario) for path in files.weeks] if scenario else []
-    histories = _histories(files, scenario, solutions) if scenario else []
-    fixes = _fix_of_each(files, [of_week.week for of_week in histories or solutions])
-    views = []
-    for at, (solution, fix) in enumerate(zip(solutions, fixes)):
-        held = read_solution(fix, scenario, texts[fix]).assignments if fix else ()
-        view = WeekView(solution.week, solution.assignments, set(held), set(), {}, None, [], [])
-        if datas:
-            view.refused = set(_refused(datas[at], solution.assignments))
-        rows = set(solution.assignments)
-        view.notes += [f"held, and not in the roster: {row.row()}" for row in held if row not in rows]
-        if scenario and histories and datas:
-            view.number = histories[at].week
-            _add_costs(view, Week(scenario, histories[at], datas[at]), held, files.early)
-        views.append(view)
-    if scenario:
-        warnings = [*_other_weeks(files.rosters, texts, scenario, histories), *_other_weeks(fixes, texts, scenario, histories)]
-        return RosterView(scenario.name, list(scenario.nurses), list(scenario.shift_types), list(scenario.skills), views, warnings)
-    shown = [row for view in views for row in view.rows]
-    nurses, shifts, skills = (row.nurse for row in shown), (row.shift for row in shown), (row.skill for row in shown)
-    return RosterView(solutions[0].scenario, _each_once(nurses), _each_once(shifts), _each_once(skills), views)
-
-
-def _each_once(names: Iterable[str]) -> List[str]:
-    """The names in the order in which they first occur."""
-    return list(dict.fromkeys(names))
-
-
-def _check_numbers(files: RosterFiles) -> None:
-    """Each roster has its files, or none does."""
-    count = len(files.rosters)
-    if len(files.weeks) not in (0, count):
-        raise Misuse(f"--week is given {plural(len(files.weeks), 'time')} for {plural(count, 'roster')}: give it once for each, in their order")
-    if len(files.histories) not in (0, 1, count):
-        raise Misuse(f"--his is given {plural(len(files.histories), 'time')} for {plural(count, 'roster')}: give the first week's, or each week's in order")
-    if files.weeks and not files.scenario:
-        raise Misuse("--week needs --sce: give the scenario too")
-    if files.histories and not (files.scenario and files.weeks):
-        raise Misuse("--his needs --sce and --week: give all three for the costs")
-
-
-def _histories(files: RosterFiles, scenario: Scenario, solutions: Sequence[Solution]) -> List[History]:
-    """The history of each week: as given, or computed from the first one and the rosters."""
-    histories = [read_history(path, scenario) for path in files.histories]
-    for path, history in zip(files.histories, histories):
-        check_week_number(path, history, scenario)
-    while histories and len(histories) < len(solutions):
-        at = len(histories) - 1
-        if histories[at].week + 1 >= scenario.weeks:
-            raise Misuse(f"{files.rosters[at]}: week {histories[at].week} is the last of {scenario.weeks}: give --his once for each roster")
-        try:
-            histories.append(next_history(scenario, histories[at], solutions[at].assignments))
-        except Misuse as fault:
-            raise Misuse(f"{files.rosters[at]}: {fault}") from fault
-    return histories
-
-
-def _fix_of_each(files: RosterFiles, numbers: Sequence[int]) -> List[Optional[Path]]:
-    """The fix file of each week, if it has one."""
-    for number, path in files.fixes.items():
-        if number is not None and number not in numbers:
-            raise Misuse(f"--fix {number}={path}: no roster is of week {number}, the weeks are {', '.join(map(str, numbers))}")
-    return [files.fixes.get(number, files.fixes.get(None)) for number in numbers]
-
-
-def _other_weeks(
-    paths: Sequence[Optional[Path]], texts: Dict[Path, str], scenario: Scenario, histories: Sequence[History]
-) -> Iterator[str]:
-    """A warning for each file, one of each week, that is of another ward or week than it is shown with."""
-    for at, path in enumerate(paths):
-        found = other_week(path, scenario, histories[at] if histories else None, texts[path]) if path else ""
-        if found:
-            yield f"{path}: {found}"
-
-
-def _refused(data: WeekData, rows: Iterable[Assignment]) -> Iterator[Assignment]:
-    """The assignments that a request asked to be free."""
-    asked = {(request.nurse, request.day, request.shift) for request in data.requests}
-    for row in rows:
-        if (row.nurse, row.day, row.shift) in asked or (row.nurse, row.day, None) in asked:
-            yield row
-
-
-def _add_costs(view: WeekView, week: Week, held: Sequence[Assignment], early: bool) -> None:
-    """Adds each nurse's cost, and the places that have too few or too many nurses."""
-    view.misfilled = [*missing_nurses(week, view.rows), *spare_nurses(week, view.rows)]
-    broken = rules.first_broken(week, view.rows, held)
-    if broken:
-        view.notes.append(f"roster breaks {broken}: it has no penalty")
-        return
-    view.costs = rules.nurse_costs(week, view.rows, early)
-    cost = rules.costs(week, view.rows, early)
-    places, penalty = cost["S1"], sum(cost.values())
-    view.penalty = penalty
-    view.notes.append(f"cost: of the nurses {penalty - places}, of places not filled (S1) {places}; penalty {penalty}")
-
-
-def missing_nurses(week: Week, rows: Iterable[Assignment]) -> Iterator[str]:
-    """A line for each day on which a place has fewer nurses than it asks for."""
-    number = rules.numbers(rows)
-    for day, name in enumerate(DAYS):
-        places = []
-        for place, required in week.data.requirements.items():
-            wanted = max(required.minimum, required.optimal)
-            if place.day == day and number[place] < wanted:
-                least = f", at least {required.minimum}" * (number[place] < required.minimum)
-                places.append(f"{place.shift} {place.skill} ({number[place]} of {wanted}{least})")
-        if places:
-            yield f"missing on {name}: {', '.join(places)}"
-
-
-def spare_nurses(week: Week, rows: Iterable[Assignment]) -> Iterator[str]:
-    """A line for each day on which a place has more nurses than are best, also one that asks for none. They cost nothing."""
-    number = rules.numbers(rows)
-    for day, name in enumerate(DAYS):
-        places = []
-        for shift, skill in itertools.product(week.scenario.shift_types, week.scenario.skills):
-            place = Place(day, shift, skill)
-            required = week.data.requirements.get(place, Requirement(0, 0))
-            wanted = max(required.minimum, required.optimal)
-            if number[place] > wanted:
-                places.append(f"{shift} {skill} ({number[place]} of {wanted})")
-        if places:
-            yield f"too many on {name}: {', '.join(places)}"
+    def prefix(self, week: WeekView) -> str:
+        """The beginning of a line on this week, if there are several."""
+        return f"week {week.number}: " if len(self.weeks) > 1 else ""

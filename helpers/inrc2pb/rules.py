@@ -23,13 +23,29 @@ WEEKEND_TOTAL = 30
 Shifts = Dict[Tuple[str, int], List[str]]
 
 
-class Count(NamedTuple):
-    """A count of a soft rule: how many times something occurs, and the weight of each time."""
+class Charge(NamedTuple):
+    """What a soft rule charges: something that occurs a number of times, and the weight of each time.
+
+    The nurse is None for a place that lacks nurses, and `subject` names the place, the shift type or the request, if there is
+    one. `days` are the first and the last day of this week that it concerns; None for what happened before Monday, and for the
+    totals of a period. `number` is what the rule compares with `limit`, and `before` is its part from before Monday.
+    """
 
     rule: str
     what: str
+    nurse: Optional[str]
+    subject: str
+    days: Optional[Tuple[int, int]]
+    number: int
+    limit: int
+    before: int
     times: int
     weight: int
+
+    @property
+    def cost(self) -> int:
+        """What it costs."""
+        return self.times * self.weight
 
 
 # ---- hard rules
@@ -83,28 +99,38 @@ def first_broken(week: Week, roster: Sequence[Assignment], held: Iterable[Assign
 # ---- soft rules
 
 
-def run_counts(has: Sequence[bool], before: int, limits: Limits) -> Tuple[int, int]:
-    """The days above the maximum and below the minimum, for the days with a property after a history of some days."""
-    above = below = 0
-    length = before
-    for day in range(7):
-        if has[day]:
-            length += 1
-            above += length > limits.maximum
-        else:
-            below += max(0, limits.minimum - length) if length >= 1 else 0
-            length = 0
-    return above, below
+def run_charges(base: Charge, has: Sequence[bool], before: int, limits: Limits) -> Iterator[Charge]:
+    """The days above the maximum and below the minimum in each run of a property, given the days that have it, and the length of
+    its run on the Sunday before. `base` has the rest of the charges."""
+    least, greatest = limits
+    first = 0
+    for day in range(8):
+        if day < 7 and has[day]:
+            continue
+        length = before + day - first
+        above = min(day - first, length - greatest)
+        # A run that goes on after Sunday may still grow.
+        below = least - length if 0 < length and day < 7 else 0
+        if above > 0 or below > 0:
+            found = base._replace(days=(first, day - 1) if first < day else None, number=length, before=before)
+            if above > 0:
+                yield found._replace(what=f"{base.what} above", limit=greatest, times=above)
+            if below > 0:
+                yield found._replace(what=f"{base.what} below", limit=least, times=below)
+        first, before = day + 1, 0
 
 
-def counts(week: Week, roster: Sequence[Assignment], early: bool = False) -> Iterator[Count]:
-    """Everything that the soft rules count."""
+def charges(week: Week, roster: Sequence[Assignment], early: bool = False) -> Iterator[Charge]:
+    """Everything that the soft rules charge: first the places, then each nurse."""
     shifts, number = shifts_by_day(roster), numbers(roster)
     for place, required in week.data.requirements.items():
-        yield Count("S1", "missing", max(0, required.optimal - number[place]), MISSING_NURSE)
+        missing, day = required.optimal - number[place], place.day
+        if missing > 0:
+            named = f"{place.shift} {place.skill}"
+            yield Charge("S1", "missing", None, named, (day, day), number[place], required.optimal, 0, missing, MISSING_NURSE)
     requests = requests_by_nurse(week)
     for nurse in week.scenario.nurses:
-        yield from nurse_counts(week, shifts, requests[nurse], nurse, early)
+        yield from nurse_charges(week, shifts, requests[nurse], nurse, early)
 
 
 def requests_by_nurse(week: Week) -> Dict[str, List[Request]]:
@@ -115,59 +141,68 @@ def requests_by_nurse(week: Week) -> Dict[str, List[Request]]:
     return found
 
 
-def nurse_counts(week: Week, shifts: Shifts, requests: Sequence[Request], nurse: str, early: bool = False) -> Iterator[Count]:
-    """The counts for a nurse with these requests, given the shift types that nurses have on days."""
+def nurse_charges(week: Week, shifts: Shifts, requests: Sequence[Request], nurse: str, early: bool = False) -> Iterator[Charge]:
+    """What a nurse with these requests is charged, given the shift types that nurses have on days."""
     contract, history = week.scenario.contract_of(nurse), week.history.nurses[nurse]
     shift_on = [shifts[nurse, day] for day in range(7)]
     for name, shift in week.scenario.shift_types.items():
         before = history.consecutive_shifts if history.last_shift == name else 0
-        above, below = run_counts([name in now for now in shift_on], before, shift.consecutive)
-        yield Count("S2", "shift above", above, SHIFT_RUN)
-        yield Count("S2", "shift below", below, SHIFT_RUN)
-    above, below = run_counts([bool(now) for now in shift_on], history.working_days, contract.working_days)
-    yield Count("S2", "work above", above, WORK_RUN)
-    yield Count("S2", "work below", below, WORK_RUN)
-    above, below = run_counts([not now for now in shift_on], history.days_off, contract.days_off)
-    yield Count("S3", "off above", above, DAYS_OFF_RUN)
-    yield Count("S3", "off below", below, DAYS_OFF_RUN)
-    for request in requests:
-        matching = [shift for shift in shift_on[request.day] if request.shift in (None, shift)]
-        yield Count("S4", "Any" if request.shift is None else "shift", len(matching), REQUEST)
+        base = Charge("S2", "shift", nurse, name, None, 0, 0, 0, 0, SHIFT_RUN)
+        yield from run_charges(base, [name in now for now in shift_on], before, shift.consecutive)
+    base = Charge("S2", "work", nurse, "", None, 0, 0, 0, 0, WORK_RUN)
+    yield from run_charges(base, [bool(now) for now in shift_on], history.working_days, contract.working_days)
+    base = Charge("S3", "off", nurse, "", None, 0, 0, 0, 0, DAYS_OFF_RUN)
+    yield from run_charges(base, [not now for now in shift_on], history.days_off, contract.days_off)
+    yield from _request_charges(nurse, shift_on, requests)
     saturday, sunday = bool(shift_on[SATURDAY]), bool(shift_on[SUNDAY])
-    yield Count("S5", "half", int(contract.complete_weekends and saturday != sunday), HALF_WEEKEND)
-    yield from _total_counts(week, contract, history, sum(map(len, shift_on)), saturday or sunday, early)
+    if contract.complete_weekends and saturday != sunday:
+        day = SATURDAY if saturday else SUNDAY
+        yield Charge("S5", "half", nurse, "", (day, day), 1, 2, 0, 1, HALF_WEEKEND)
+    yield from _total_charges(week, contract, history, sum(map(len, shift_on)), saturday or sunday, early)
 
 
-def _total_counts(week: Week, contract: Contract, history: NurseHistory, works: int, weekend: bool, early: bool) -> Iterator[Count]:
-    """The counts of S6 and S7 for a nurse."""
+def _request_charges(nurse: str, shift_on: Sequence[List[str]], requests: Sequence[Request]) -> Iterator[Charge]:
+    """The requests that are not granted; equal ones are one charge."""
+    for request, count in collections.Counter(requests).items():
+        for shift in shift_on[request.day]:
+            if request.shift in (None, shift):
+                what, days = "Any" if request.shift is None else "shift", (request.day, request.day)
+                yield Charge("S4", what, nurse, shift, days, count, 0, 0, count, REQUEST)
+
+
+def _total_charges(week: Week, contract: Contract, history: NurseHistory, works: int, weekend: bool, early: bool) -> Iterator[Charge]:
+    """What S6 and S7 charge a nurse."""
     (least, greatest), most = contract.assignments, contract.max_weekends
-    assignments, weekends = history.assignments + works, history.weekends + weekend
-    if week.is_last:
-        yield Count("S6", "below", max(0, least - assignments), ASSIGNMENT_TOTAL)
-    if early:
-        yield Count("S6", "above", max(0, assignments - greatest) - max(0, history.assignments - greatest), ASSIGNMENT_TOTAL)
-        yield Count("S7", "above", max(0, weekends - most) - max(0, history.weekends - most), WEEKEND_TOTAL)
-    elif week.is_last:
-        yield Count("S6", "above", max(0, assignments - greatest), ASSIGNMENT_TOTAL)
-        yield Count("S7", "above", max(0, weekends - most), WEEKEND_TOTAL)
+    total, weekends = history.assignments + works, history.weekends + weekend
+    if week.is_last and total < least:
+        yield Charge("S6", "below", history.nurse, "", None, total, least, history.assignments, least - total, ASSIGNMENT_TOTAL)
+    if week.is_last or early:
+        for rule, now, limit, before, weight in (
+            ("S6", total, greatest, history.assignments, ASSIGNMENT_TOTAL),
+            ("S7", weekends, most, history.weekends, WEEKEND_TOTAL),
+        ):
+            times = now - max(limit, before) if early else now - limit
+            if times > 0:
+                yield Charge(rule, "above", history.nurse, "", None, now, limit, before, times, weight)
 
 
-def _cost_by_rule(counted: Iterable[Count]) -> Dict[str, int]:
+def cost_by_rule(charged: Iterable[Charge]) -> Dict[str, int]:
+    """What these charges cost by each soft rule."""
     cost = dict.fromkeys(SOFT_RULES, 0)
-    for count in counted:
-        cost[count.rule] += count.times * count.weight
+    for charge in charged:
+        cost[charge.rule] += charge.cost
     return cost
 
 
 def costs(week: Week, roster: Sequence[Assignment], early: bool = False) -> Dict[str, int]:
     """The cost of each soft rule; the penalty is their sum."""
-    return _cost_by_rule(counts(week, roster, early))
+    return cost_by_rule(charges(week, roster, early))
 
 
 def nurse_costs(week: Week, roster: Sequence[Assignment], early: bool = False) -> Dict[str, Dict[str, int]]:
     """The same of each nurse; no nurse pays for S1."""
     shifts, requests = shifts_by_day(roster), requests_by_nurse(week)
-    return {nurse: _cost_by_rule(nurse_counts(week, shifts, requests[nurse], nurse, early)) for nurse in week.scenario.nurses}
+    return {nurse: cost_by_rule(nurse_charges(week, shifts, requests[nurse], nurse, early)) for nurse in week.scenario.nurses}
 
 
 def main() -> None:

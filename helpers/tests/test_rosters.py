@@ -113,7 +113,7 @@ class Tables(HelperTest):
             self.assertEqual(run("table", *week, form, fitting)[::2], (0, ""))
 
     def test_a_spreadsheet_has_no_lines_of_prose(self):
-        for words, columns in (((*WEEK_OPTIONS, ROSTER), 10), (TWO_WEEKS, 17)):
+        for words, columns in (((*WEEK_OPTIONS, ROSTER), 20), (TWO_WEEKS, 27)):
             status, printed, _ = run("table", "--csv", *words)
             rows = list(csv.reader(io.StringIO(printed)))
             self.assertEqual((status, len(rows), {len(row) for row in rows}), (0, 8, {columns}))
