@@ -186,6 +186,7 @@ if [ -z "$ending" ]; then
     table scenario_read '(2, 1)'
     table history_read 1
     table week_read 7
+    table prices_read 22500
     table solution_read 1
     table new_roster 0
     table rosters_held_in_turn 0

@@ -18,6 +18,8 @@ mod own_week;
 #[cfg(test)]
 mod port_calls;
 #[cfg(test)]
+mod price_files;
+#[cfg(test)]
 mod refused_tables;
 #[cfg(test)]
 mod run_counts;

@@ -3,7 +3,7 @@
 use crate::answers::of_pieces;
 use crate::week_files::{instance_of, one_nurse_one_shift};
 use rota_core::{Bits, FileFault, Instance, Roster, Scenario};
-use rota_read::{read_history, read_scenario, read_solution, read_week};
+use rota_read::{read_history, read_prices, read_scenario, read_solution, read_week};
 use solver_text::Answer;
 use std::alloc::Global;
 use std::fmt::Debug;
@@ -23,6 +23,7 @@ enum Table {
     Scenario,
     History,
     Week,
+    Prices,
 }
 
 // The numbers of weeks and nurses.
@@ -46,6 +47,17 @@ fn demands_of_week(alloc: Global, scenario: &Scenario) -> Result<usize, FileFaul
     }
 }
 
+const PRICES: &[u8] = b"PRICES s1 ROWS = 1 Day Nurse 0 0 0 0 0 0 22500";
+
+// The price of Sunday.
+fn last_price(alloc: Global, scenario: &Scenario) -> Result<u32, FileFault> {
+    match read_prices(alloc, scenario, PRICES) {
+        Ok(prices) if prices.shifts() == 1 && prices.skills() == 1 => Ok(prices.price(6, 0, 0)),
+        Ok(_) => Ok(0),
+        Err(fault) => Err(fault),
+    }
+}
+
 // Prints the size of the table.
 fn print_table(
     rt: &impl Print,
@@ -57,6 +69,7 @@ fn print_table(
         Table::Scenario => print(rt, &Ok(weeks_and_nurses(scenario))),
         Table::History => print(rt, &rows_of_history(alloc, scenario)),
         Table::Week => print(rt, &demands_of_week(alloc, scenario)),
+        Table::Prices => print(rt, &last_price(alloc, scenario)),
     }
 }
 
@@ -80,6 +93,11 @@ fn history_read(rt: HostRuntime) -> io::Result<()> {
 #[test]
 fn week_read(rt: HostRuntime) -> io::Result<()> {
     read_and_print(&rt, rt.alloc(), Table::Week)
+}
+
+#[test]
+fn prices_read(rt: HostRuntime) -> io::Result<()> {
+    read_and_print(&rt, rt.alloc(), Table::Prices)
 }
 
 // The origin of a roster.

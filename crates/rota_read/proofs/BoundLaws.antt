@@ -11,7 +11,8 @@ use Rattle.rota_read.specs.Tokens.{Token}
 use Rattle.rota_read.specs.Reading.{Reading, read_layout}
 use Rattle.rota_read.specs.Layout.{◌>>=◌, has_row, shift_or}
 use Rattle.rota_read.specs.Files.{Fills}
-use Rattle.rota_read.specs.WeekLayout.{Requirements, pair_index, requirement, part_or, max_rows, no_requirements, requirement_rows}
+use Rattle.rota_read.specs.WeekLayout.{Requirements, requirement, part_or, max_rows, no_requirements, requirement_rows}
+use Rattle.rota_read.specs.DayRows.{new_pair, pair_index}
 use Rattle.rota_read.specs.WeekBound.{BoundEndsNoRows}
 use Rattle.rota_read.proofs.EndLemmas.{then_read-same}
 use Rattle.rota_read.proofs.FileLaws.{Found, fills-read}
@@ -45,20 +46,27 @@ one_less rows index days lt free =
 abbrev OneLess : Requirements → Requirements → Type 0
 OneLess rows next = (length next ≡ length rows) × (vacant rows ≡ suc (vacant next))
 
-requirement-takes : (shifts skills : List (List ℕ)) (shift : ℕ) (rows : Requirements) (front : List Token) (next : Requirements) →
+-- the index of a pair is the index of a row that does not exist
+new_pair-free : (shifts skills : List (List ℕ)) (shift : ℕ) (rows : Requirements) (front : List Token) (pair : ℕ) →
     shift < length shifts → length rows ≡ length shifts * length skills →
-    Fills (requirement skills shift rows) front next → OneLess rows next
-unfolding Fills requirement
-requirement-takes shifts skills shift rows front next lt size h =
+    Fills (new_pair skills shift rows) front pair → (pair < length rows) × (has_row rows pair ≡ false)
+unfolding Fills new_pair
+new_pair-free shifts skills shift rows front pair lt size h =
     let index = pair_index (length skills) shift h.0 in
-    let days = h.5.0 in
     let listed : ℕ → Bool = λ k. has_row rows (pair_index (length skills) shift k) in
     let skill = known_name-below skills listed h.1 h.0 h.4 in
     let turned : index < length skills * length shifts = mul-add-lt shift (length skills) h.0 (length shifts) lt skill in
     let same : length skills * length shifts ≡ length shifts * length skills = omega arith in
     let within : index < length rows = omega (arith, turned, same, size) in
-    let free = known_name-free skills listed h.1 h.0 h.4 in
-    rw h.5.5.1 (length-set rows index (Some days), one_less rows index days within free)
+    rw h.5.1 (within, known_name-free skills listed h.1 h.0 h.4)
+
+requirement-takes : (shifts skills : List (List ℕ)) (shift : ℕ) (rows : Requirements) (front : List Token) (next : Requirements) →
+    shift < length shifts → length rows ≡ length shifts * length skills →
+    Fills (requirement skills shift rows) front next → OneLess rows next
+unfolding Fills requirement
+requirement-takes shifts skills shift rows front next lt size h =
+    let pair = new_pair-free shifts skills shift rows h.1 h.0 lt size h.4 in
+    rw h.5.5.1 (length-set rows h.0 (Some h.5.0), one_less rows h.0 h.5.0 pair.0 pair.1)
 
 -- ---- two bounds
 

@@ -1,11 +1,9 @@
 -- The week that a text spells is within the limits.
 use Rattle.std.proofs.Common.{◌≡◌, ℕ, zero, suc, ◌+◌, ◌*◌, ◌≤◌, refl, ◌∙◌, arith}
-use Rattle.std.proofs.Common.{List, [], ◌∷◌, Option, Some, None, length, get_or, map}
-use Rattle.std.specs.List.{All, AllByRecursion, count_by, flat_map, range_with_len}
-use Rattle.std.proofs.lemmas.List.{length-map, length-replicate, length-set}
+use Rattle.std.proofs.Common.{List, [], Option, Some, None, length, map}
+use Rattle.std.specs.List.{AllByRecursion, count_by, flat_map, range_with_len}
 use Rattle.std.proofs.lemmas.List.FromFn.{length-map-range_with_len}
 use Rattle.std.proofs.lemmas.List.Sums.{count_by-le-length}
-use Rattle.std.proofs.lemmas.List.Elements.{All-replicate, All-set, recursion_from_All}
 use Rattle.rota_core.specs.Limits.{AreLimited, DAYS, max_number}
 use Rattle.rota_core.specs.ScenarioTables.{ScenarioTables, numbers_of}
 use Rattle.rota_core.specs.Problem.{no_demand}
@@ -13,32 +11,14 @@ use Rattle.rota_core.specs.WeekTables.{WeekTables, IsWeek, IsDemand}
 use Rattle.rota_core.specs.declared.values.Demand.{Demand}
 use Rattle.rota_read.specs.declared.week.RequestRow.{RequestRow}
 use Rattle.rota_read.specs.Tokens.{Token, tokens}
-use Rattle.rota_read.specs.Layout.{◌>>=◌, repeat, one_more, many}
-use Rattle.rota_read.specs.WeekLayout.{demand, Requirements, pair_index, requirement, part_or, max_rows, no_requirements, requirement_rows}
-use Rattle.rota_read.specs.WeekLayout.{demand_on, demand_table, request, asks, request_table, week}
+use Rattle.rota_read.specs.Layout.{◌>>=◌, one_more, many}
+use Rattle.rota_read.specs.WeekLayout.{demand, Requirements, requirement, part_or, max_rows, no_requirements, requirement_rows}
+use Rattle.rota_read.specs.WeekLayout.{request, asks, request_table, week}
 use Rattle.rota_read.specs.Files.{Fills, Spells}
-use Rattle.rota_core.proofs.LogicWords.{AllByRecursion-append}
 use Rattle.rota_read.proofs.WordLaws.{tokens-are_tokens}
-use Rattle.rota_read.proofs.SlotLaws.{AreTokens, all_push, length_push, number-within, repeat-keeps}
+use Rattle.rota_read.proofs.SlotLaws.{AreTokens, length_push, number-within, repeat-keeps}
+use Rattle.rota_read.proofs.DayTables.{all_rows, days-all, RowsAll, no_rows-all, row_set-all, day_table-all}
 use Rattle.rota_read.proofs.ScenarioLaws.{left, right, pair-limits, rows_length}
-
--- ---- properties of each element
-
-all_map : {X Y : Type 0} (P : X → Type 0) (Q : Y → Type 0) (f : X → Y) → ((x : X) → P x → Q (f x)) →
-    (xs : List X) → AllByRecursion P xs → AllByRecursion Q (map f xs)
-all_map P Q f each [] h = tt
-all_map P Q f each (x ∷ xs) h = (each x h.0, all_map P Q f each xs h.1)
-
-all_rows : {X : Type 0} (P : X → Type 0) (row : ℕ → List X) → ((k : ℕ) → AllByRecursion P (row k)) →
-    (first n : ℕ) → AllByRecursion P (flat_map row (range_with_len first n))
-all_rows P row each first zero = tt
-all_rows P row each first (suc n) =
-    AllByRecursion-append P (row first) (flat_map row (range_with_len (first + 1) n)) (each first) (all_rows P row each (first + 1) n)
-
-at_or : {X : Type 0} (P : X → Type 0) (xs : List X) (k : ℕ) (d : X) → AllByRecursion P xs → P d → P (get_or xs k d)
-at_or P [] k d h p = p
-at_or P (x ∷ xs) zero d h p = h.0
-at_or P (x ∷ xs) (suc k) d h p = at_or P xs k d h.1 p
 
 -- ---- the requirements
 
@@ -46,39 +26,20 @@ demand-limits : (front : List Token) (d : Demand) → Fills demand front d → I
 unfolding Fills demand
 demand-limits front d h = rw h.5.1 (pair-limits h.1 h.0 h.4)
 
--- demands that are read one after the other are within the limits
-demands-limits : (n : ℕ) (before : List Demand) (front : List Token) (days : List Demand) →
-    Fills (repeat n (one_more (λ _. demand)) before) front days → AllByRecursion IsDemand before → AllByRecursion IsDemand days
-unfolding Fills repeat one_more
-demands-limits zero before front days h k = rw h.1 k
-demands-limits (suc n) before front days h k =
-    let one = h.4 in
-    demands-limits n h.0 h.2 days h.5 (rw one.5.1 (all_push IsDemand before one.0 k (demand-limits one.1 one.0 one.4)))
-
 demands_of_days-limits : (front : List Token) (days : List Demand) → Fills (many DAYS (λ _. demand)) front days →
     AllByRecursion IsDemand days
-unfolding many
-demands_of_days-limits front days h = demands-limits 7 [] front days h tt
+demands_of_days-limits = days-all demand IsDemand demand-limits
 
--- the demands of a row are within the limits, if it exists
-abbrev AreDemands : Option (List Demand) → Type 0
-AreDemands None = Unit {0}
-AreDemands (Some days) = AllByRecursion IsDemand days
-
--- rows for this number of pairs, with demands within the limits
+-- the demands of the rows are within the limits, and there is a row or none for each of this number of pairs
 abbrev RowsKept : ℕ → Requirements → Type 0
-RowsKept pairs rows = (length rows ≡ pairs) × All AreDemands rows
+RowsKept = RowsAll IsDemand
 
 requirement-keeps : (pairs : ℕ) (skills : List (List ℕ)) (shift : ℕ) (rows : Requirements) (front : List Token) (next : Requirements) →
     Fills (requirement skills shift rows) front next → RowsKept pairs rows → RowsKept pairs next
 unfolding Fills requirement
 requirement-keeps pairs skills shift rows front next h k =
-    let index = pair_index (length skills) shift h.0 in
     let days = h.5 in
-    rw days.5.1 (
-      length-set rows index (Some days.0) ∙ k.0,
-      All-set AreDemands rows index (Some days.0) (demands_of_days-limits days.1 days.0 days.4) k.1,
-    )
+    rw days.5.1 (row_set-all IsDemand pairs rows h.0 days.0 (demands_of_days-limits days.1 days.0 days.4) k)
 
 requirement_rows-keep : (pairs : ℕ) (t : ScenarioTables) (n : ℕ) (rows : Requirements) (front : List Token) (last : Requirements) →
     Fills (requirement_rows t n rows) front last → RowsKept pairs rows → RowsKept pairs last
@@ -99,21 +60,7 @@ requirements-kept : (t : ScenarioTables) (front : List Token) (rows : Requiremen
 requirements-kept t front rows h =
     let pairs = length t.shifts * length t.skills in
     requirement_rows-keep pairs t (max_rows t) (no_requirements t) front rows h
-    (length-replicate pairs None, All-replicate AreDemands pairs None tt)
-
-demand_on-limits : (day : ℕ) (row : Option (List Demand)) → AreDemands row → IsDemand (demand_on day row)
-demand_on-limits day None h = (omega arith, omega arith)
-demand_on-limits day (Some days) h = at_or IsDemand days day no_demand h (omega arith, omega arith)
-
--- the table has an index for each day, shift type and skill
-demand_table-kept : (shifts skills : ℕ) (rows : Requirements) → RowsKept (shifts * skills) rows →
-    (length (demand_table rows) ≡ 7 * shifts * skills) × AllByRecursion IsDemand (demand_table rows)
-demand_table-kept shifts skills rows k =
-    let e : 7 * (shifts * skills) ≡ 7 * shifts * skills = omega arith in (
-      rows_length (λ day. map (demand_on day) rows) (shifts * skills) (λ day. length-map rows (demand_on day) ∙ k.0) 0 7 ∙ e,
-      all_rows IsDemand (λ day. map (demand_on day) rows)
-          (λ day. all_map AreDemands IsDemand (demand_on day) (demand_on-limits day) rows (recursion_from_All AreDemands rows k.1)) 0 7,
-    )
+    (no_rows-all IsDemand pairs)
 
 -- ---- the requests
 
@@ -176,7 +123,7 @@ week-is_week t front tables counts all h =
     let few : length requests.0 ≤ max_number = omega (arith, counted, maximum) in
     rw requests.5.1 (record {
       numbers = counts;
-      demands = demand_table-kept (length t.shifts) (length t.skills) rows.0 (requirements-kept t rows.1 rows.0 rows.4);
+      demands = day_table-all IsDemand no_demand (omega arith, omega arith) (length t.shifts) (length t.skills) rows.0 (requirements-kept t rows.1 rows.0 rows.4);
       requests = (
         request_table-length (length t.nurses) (length t.shifts) requests.0,
         request_table-maximum (length t.nurses) (length t.shifts) requests.0 max_number few,

@@ -1,3 +1,4 @@
+pub mod DayRows
 pub mod FileAnswers
 pub mod FileFaults
 pub mod Files
@@ -5,6 +6,7 @@ pub mod HistoryLayout
 pub mod HistoryRows
 pub mod Layout
 pub mod OneMeaning
+pub mod PricesLayout
 pub mod Reading
 pub mod RosterReading
 pub mod ScenarioLayout

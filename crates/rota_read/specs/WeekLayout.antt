@@ -1,6 +1,6 @@
 -- The slots of a week's file.
 use Rattle.std.specs.Prelude.{ℕ, zero, suc, ◌==◌, ◌+◌, ◌*◌, Bool, true, ◌&&◌, Option, Some, None}
-use Rattle.std.specs.Prelude.{List, codes, length, map, replicate, count_by, slice_index_or, slice_set}
+use Rattle.std.specs.Prelude.{List, codes, length, map, replicate, count_by, slice_set}
 use Rattle.std.specs.List.{flat_map, range_with_len}
 use Rattle.std.specs.Option.{option_map_or}
 use Rattle.rota_core.specs.Limits.{DAYS, max_number}
@@ -9,8 +9,9 @@ use Rattle.rota_core.specs.ScenarioTables.{ScenarioTables, numbers_of}
 use Rattle.rota_core.specs.Problem.{no_demand}
 use Rattle.rota_core.specs.WeekTables.{WeekTables}
 use Rattle.rota_read.specs.declared.week.RequestRow.{RequestRow}
-use Rattle.rota_read.specs.Layout.{Layout, end, ◌>>=◌, many, has_row}
+use Rattle.rota_read.specs.Layout.{Layout, end, ◌>>=◌, many}
 use Rattle.rota_read.specs.Layout.{exactly, number, any_word, known_name, none_taken, day_names, pair, shift_or}
+use Rattle.rota_read.specs.DayRows.{new_pair, day_table}
 
 -- a minimum and an optimal number
 unfoldable pub demand : Layout Demand
@@ -22,16 +23,12 @@ demand = do
 abbrev pub Requirements : Type 0
 Requirements = List (Option (List Demand))
 
--- the index of a shift type and a skill, for this number of skills
-abbrev pub pair_index : (skills shift skill : ℕ) → ℕ
-pair_index skills shift skill = shift * skills + skill
-
 -- the rest of a row of requirements after its shift type: a skill that no earlier row has with it, and the demands of Monday to Sunday
 unfoldable pub requirement : List (List ℕ) → ℕ → Requirements → Layout Requirements
 requirement skills shift rows = do
-  skill ← known_name skills (λ skill. has_row rows (pair_index (length skills) shift skill))
+  pair ← new_pair skills shift rows
   demands ← many DAYS (λ _. demand)
-  end (slice_set rows (pair_index (length skills) shift skill) (Some demands))
+  end (slice_set rows pair (Some demands))
 
 -- the part that follows for the value; for `None`, no slot, and this result
 abbrev pub part_or : {A B : Type 0} → (A → Layout B) → Option A → B → Layout B
@@ -53,14 +50,6 @@ max_rows t = length t.shifts * length t.skills + 1
 -- no pair has a row
 abbrev pub no_requirements : ScenarioTables → Requirements
 no_requirements t = replicate (length t.shifts * length t.skills) None
-
--- the demand of a row on a day, or zero nurses if there is no row
-abbrev pub demand_on : ℕ → Option (List Demand) → Demand
-demand_on day row = option_map_or (λ demands. slice_index_or demands day no_demand) row no_demand
-
--- The demands of all pairs on Monday, then on Tuesday, and so on.
-abbrev pub demand_table : Requirements → List Demand
-demand_table rows = flat_map (λ day. map (demand_on day) rows) (range_with_len 0 DAYS)
 
 -- a row of requests: a nurse, a shift type or `Any`, and a day
 unfoldable pub request : ScenarioTables → Layout RequestRow
@@ -92,6 +81,6 @@ week t = do
   requests ← many count (λ _. request t)
   end (record {
     numbers = numbers_of t;
-    demands = demand_table requirements;
+    demands = day_table no_demand requirements;
     requests = request_table (length t.nurses) (length t.shifts) requests;
   })

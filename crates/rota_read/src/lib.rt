@@ -15,12 +15,14 @@
 
 mod contracts;
 mod cursor;
+mod day_rows;
 mod days;
 mod fault;
 mod files;
 mod history;
 mod names;
 mod nurses;
+mod prices;
 mod requirements;
 mod rows;
 mod scenario;
@@ -33,6 +35,7 @@ mod week_tables;
 pub use days::day_name;
 pub use files::{each_text_means_one_scenario, read_scenario};
 pub use history::{each_nurse_has_a_past, each_text_means_one_history, read_history};
+pub use prices::{each_text_means_one_table_of_prices, read_prices};
 pub use solution::{
     each_roster_has_its_text, each_text_means_one_solution, read_fixed, read_solution,
 };

@@ -41,7 +41,7 @@ impl<'a> Cursor<'a> {
     }
 
     // Reads the rest of a row of requirements, after its shift type.
-    #[tactic(auto, using(crate::proofs::NameSteps::known_taken), unfolding(crate::specs::WeekLayout::requirement, crate::specs::Reading::read_layout))]
+    #[tactic(auto, unfolding(crate::specs::WeekLayout::requirement, crate::specs::Reading::read_layout))]
     fn requirement(
         &mut self,
         scenario: &Scenario,
@@ -53,10 +53,8 @@ impl<'a> Cursor<'a> {
         ensures read { Reads (λ _. rows.new.items) result self.new (read_layout (requirement scenario.now.skills shift rows.old.items) self.old) }
         ensures rows { length rows.new.items ≡ length rows.old.items }
     {
-        let skill = self.skill(scenario)?;
-        let index = usize::from(shift) * usize::from(scenario.skills()) + usize::from(skill);
-        self.unless_taken(rows[index].is_some())?;
-        rows[index] = Some(self.demands_of_days()?);
+        let pair = self.new_pair(scenario, shift, rows)?;
+        rows[pair] = Some(self.demands_of_days()?);
         Ok(())
     }
 

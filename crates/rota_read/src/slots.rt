@@ -2,28 +2,28 @@
 
 ghost use Rattle.std.specs.Prelude.{◌≡◌, ◌+◌, IfOk, ◌≤◌, ◌∷◌, [], min, Some, None, MatchResult, if◌then◌else◌};
 ghost use Rattle.rota_core.specs.declared.fault.Kind.TheVariants.{Ended};
-ghost use Rattle.rota_core.specs.Limits.{max_number};
+ghost use Rattle.rota_core.specs.Limits.{max_price};
 ghost use Rattle.rota_core.specs.Numeral.{is_decimal, decimal};
 ghost use Rattle.rota_read.specs.Layout.{exactly, number, any_word};
 ghost use Rattle.rota_read.specs.Reading.{read_layout, Reads, check_end, ReadsFile};
 
 use crate::cursor::{Cursor, Token, is_sign};
 use crate::fault::{Fault, Stop};
-use rota_core::{Kind, MAX_NUMBER};
+use rota_core::{Kind, MAX_PRICE};
 
 // The value of decimal digits, or one more than the maximum of a file's numbers if it is larger, or `None` if
 // a byte is no digit.
-fn decimal_of(word: &[u8]) -> Option<u16>
-    ensures { result ≡ (if is_decimal word.now then Some (min (decimal word.now) (max_number + 1)) else None) }
+fn decimal_of(word: &[u8]) -> Option<u32>
+    ensures { result ≡ (if is_decimal word.now then Some (min (decimal word.now) (max_price + 1)) else None) }
 {
-    let mut value: u32 = 0;
+    let mut value: u64 = 0;
     for b in word {
         if !b.is_ascii_digit() {
             return None;
         }
-        value = (10 * value + u32::from(*b - b'0')).min(u32::from(MAX_NUMBER) + 1);
+        value = (10 * value + u64::from(*b - b'0')).min(u64::from(MAX_PRICE) + 1);
     }
-    Some(value as u16)
+    Some(value as u32)
 }
 
 impl Token<'_> {
@@ -87,9 +87,17 @@ impl<'a> Cursor<'a> {
     }
 
     /// A number between the limits.
-    #[tactic(auto, unfolding(crate::specs::Layout::number, crate::specs::Reading::read_layout))]
     pub fn number(&mut self, low: u16, high: u16) -> Result<u16, Stop>
-        requires { high ≤ MAX_NUMBER }
+        ensures read { Reads (λ n. n) result self.new (read_layout (number low high) self.old) }
+        ensures within { IfOk result (λ n. n ≤ high) }
+    {
+        Ok(self.long_number(u32::from(low), u32::from(high))? as u16)
+    }
+
+    /// A number between the limits, which may be those of a price.
+    #[tactic(auto, unfolding(crate::specs::Layout::number, crate::specs::Reading::read_layout))]
+    pub fn long_number(&mut self, low: u32, high: u32) -> Result<u32, Stop>
+        requires { high ≤ MAX_PRICE }
         ensures read { Reads (λ n. n) result self.new (read_layout (number low high) self.old) }
         ensures within { IfOk result (λ n. n ≤ high) }
     {

@@ -16,10 +16,17 @@ ghost use Rattle.rota_read.specs.WeekRows.{request_row, IsRequest};
 ghost use Rattle.rota_read.specs.WeekLayout.{week};
 
 use crate::cursor::Cursor;
+use crate::day_rows::day_table;
 use crate::fault::Stop;
-use crate::week_tables::{demands_of, requests_of};
-use rota_core::{FileFault, FileName, MAX_NUMBER, Scenario, Week, WeekParts};
+use crate::week_tables::requests_of;
+use rota_core::{Demand, FileFault, FileName, MAX_NUMBER, Scenario, Week, WeekParts};
 use std::alloc::Global;
+
+// The demand if no row gives it.
+const NO_DEMAND: Demand = Demand {
+    minimum: 0,
+    optimal: 0,
+};
 
 /// A row of requests: the nurse asks for the day off, from a shift type or, if none is named, from any.
 #[derive(Clone, Copy)]
@@ -83,7 +90,7 @@ fn week_parts(alloc: Global, scenario: &Scenario, text: &[u8]) -> Result<WeekPar
         nurses,
         shifts,
         skills: scenario.skills(),
-        demands: demands_of(alloc, &requirements)?,
+        demands: day_table(alloc, &requirements, NO_DEMAND)?,
         requests: requests_of(alloc, nurses, shifts, &requests)?,
     })
 }

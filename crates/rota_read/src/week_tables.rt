@@ -1,38 +1,13 @@
-//! The tables that the rows of a week's file make.
+//! The table that the requests of a week's file make.
 
 ghost use Rattle.std.specs.Prelude.{◌≡◌, ◌*◌, ◌+◌, ◌<◌, ◌≤◌, ◌&&◌, ℕ, IfOk, length, nat_le, nat_lt, slice_index, if◌then◌else◌};
 ghost use Rattle.std.specs.List.{All};
-ghost use Rattle.rota_read.specs.WeekLayout.{demand_table, request_table};
+ghost use Rattle.rota_read.specs.WeekLayout.{request_table};
 ghost use Rattle.rota_read.specs.WeekRows.{asks_at, IsRequest};
 
 use crate::week::RequestRow;
-use rota_core::{DAYS, Demand, MAX_NUMBER, MAX_NURSES};
+use rota_core::{DAYS, MAX_NUMBER, MAX_NURSES};
 use std::alloc::{AllocError, Global};
-
-// The demand if no row gives it.
-const NO_DEMAND: Demand = Demand {
-    minimum: 0,
-    optimal: 0,
-};
-
-/// The demands of all pairs of a shift type and a skill, day by day.
-pub fn demands_of(
-    alloc: Global,
-    rows: &[Option<[Demand; DAYS as usize]>],
-) -> Result<Vec<Demand>, AllocError>
-    ensures { IfOk result (λ v. v.items ≡ demand_table rows.now) }
-{
-    let mut demands = Vec::new(alloc);
-    for day in 0..DAYS as usize {
-        for row in rows {
-            demands.push(match row {
-                Some(of_week) => of_week[day],
-                None => NO_DEMAND,
-            })?;
-        }
-    }
-    Ok(demands)
-}
 
 // Adds one at `count` indices, from `first` on.
 fn add_one(table: &mut Vec<u16>, first: usize, count: usize)

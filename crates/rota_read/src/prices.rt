@@ -1,0 +1,127 @@
+//! Reads a prices' file.
+
+ghost use Rattle.std.specs.Prelude.{◌≡◌, ◌*◌, length, None, replicate, IfOk, IfErr};
+ghost use Rattle.rota_core.specs.declared.fault.FileName.TheVariants as files;
+ghost use Rattle.rota_core.specs.Limits.{max_price};
+ghost use Rattle.rota_core.specs.ScenarioTables.{ScenarioTables};
+ghost use Rattle.rota_read.specs.FileAnswers.{IsFaultOf};
+ghost use Rattle.rota_read.specs.Files.{Spells};
+ghost use Rattle.rota_read.specs.Layout.{many, number, repeat};
+ghost use Rattle.rota_read.specs.OneMeaning.{OneMeaning};
+ghost use Rattle.rota_read.specs.PricesLayout.{no_prices, price_row, prices, table_for};
+ghost use Rattle.rota_read.specs.Reading.{read_layout, read_text, Reads, ReadsFile};
+
+use crate::cursor::Cursor;
+use crate::day_rows::day_table;
+use crate::fault::Stop;
+use rota_core::{DAYS, FileFault, FileName, MAX_NUMBER, MAX_PRICE, Prices, Scenario};
+use std::alloc::{AllocError, Global};
+
+/// The prices of Monday to Sunday, if a row has them.
+type PriceRow = Option<[u32; DAYS as usize]>;
+
+impl<'a> Cursor<'a> {
+    fn price(&mut self) -> Result<u32, Stop>
+        ensures { Reads (λ price. price) result self.new (read_layout (number 0 max_price) self.old) }
+    {
+        self.long_number(0, MAX_PRICE)
+    }
+
+    // The prices of Monday to Sunday.
+    #[tactic(auto, unfolding(crate::specs::Layout::many, crate::specs::Layout::repeat, crate::specs::Layout::one_more, crate::specs::Reading::read_layout))]
+    fn prices_of_days(&mut self) -> Result<[u32; DAYS as usize], Stop>
+        ensures { Reads (λ prices. prices) result self.new (read_layout (many DAYS (λ _. number 0 max_price)) self.old) }
+    {
+        let monday = self.price()?;
+        let tuesday = self.price()?;
+        let wednesday = self.price()?;
+        let thursday = self.price()?;
+        let friday = self.price()?;
+        let saturday = self.price()?;
+        let sunday = self.price()?;
+        Ok([
+            monday, tuesday, wednesday, thursday, friday, saturday, sunday,
+        ])
+    }
+
+    // Reads one more row.
+    #[tactic(auto, unfolding(crate::specs::PricesLayout::price_row, crate::specs::Reading::read_layout))]
+    fn price_row(&mut self, scenario: &Scenario, rows: &mut [PriceRow]) -> Result<(), Stop>
+        requires { length rows.old ≡ length scenario.now.shifts * length scenario.now.skills }
+        ensures { Reads (λ _. rows.new) result self.new (read_layout (price_row scenario.now rows.old) self.old) }
+    {
+        let shift = self.shift(scenario)?;
+        let pair = self.new_pair(scenario, shift, rows)?;
+        rows[pair] = Some(self.prices_of_days()?);
+        Ok(())
+    }
+
+    // Reads this number of rows.
+    #[tactic(auto, using(crate::proofs::RowSteps::row_steps))]
+    fn price_rows(
+        &mut self,
+        scenario: &Scenario,
+        count: u16,
+        rows: &mut [PriceRow],
+    ) -> Result<(), Stop>
+        requires { length rows.old ≡ length scenario.now.shifts * length scenario.now.skills }
+        ensures { Reads (λ _. rows.new) result self.new (read_layout (repeat count (price_row scenario.now) rows.old) self.old) }
+    {
+        for _ in 0..count {
+            self.price_row(scenario, rows)?;
+        }
+        Ok(())
+    }
+}
+
+fn no_rows(alloc: Global, scenario: &Scenario) -> Result<Vec<PriceRow>, AllocError>
+    ensures { IfOk result (λ v. v.items ≡ no_prices scenario.now) }
+{
+    let pairs = usize::from(scenario.shifts()) * usize::from(scenario.skills());
+    vec![in alloc; None; pairs]
+}
+
+// The table of the prices, from the whole text.
+#[tactic(auto, using(crate::proofs::EndLemmas::front_fails), unfolding(crate::specs::PricesLayout::prices, crate::specs::Layout::exactly, crate::specs::Reading::read_layout, crate::specs::Reading::read_text))]
+fn price_table(alloc: Global, scenario: &Scenario, text: &[u8]) -> Result<Vec<u32>, Stop>
+    ensures read { ReadsFile (λ v. table_for scenario.now v.items) result (read_text (prices scenario.now) text.now) }
+{
+    let mut cursor = Cursor::open(text)?;
+    cursor.exactly(b"PRICES")?;
+    cursor.word()?;
+    let count = cursor.setting(b"ROWS", 0, MAX_NUMBER)?;
+    let mut rows = no_rows(alloc, scenario)?;
+    cursor.price_rows(scenario, count, &mut rows)?;
+    cursor.finish()?;
+    Ok(day_table(alloc, &rows, 0)?)
+}
+
+/// Returns the prices that the text spells, for a scenario.
+///
+/// The text is a prices' file, in the layout of `docs/formats.md`: for pairs of a shift type and a skill the prices
+/// of Monday to Sunday, in thousandths of a point. A pair without a row has prices of 0.
+///
+/// # Errors
+///
+/// `Bad` is the text's one fault: the fault of the first token that does not fit its position, with the
+/// token's line, or `Ended`, with the line of the last token (1 if there is none). A text of more than
+/// `MAX_FILE_LEN` bytes has `Limit` on line 0. `Memory` is returned only if memory runs out before a fault
+/// was found.
+#[tactic(auto, using(crate::proofs::FileLaws::file_steps))]
+pub fn read_prices(alloc: Global, scenario: &Scenario, text: &[u8]) -> Result<Prices, FileFault>
+    ensures spelled { IfOk result (Spells (prices scenario.now) text.now) }
+    ensures shifts { IfOk result (λ p. p.shifts ≡ length scenario.now.shifts) }
+    ensures skills { IfOk result (λ p. p.skills ≡ length scenario.now.skills) }
+    ensures fault { IfErr result (IsFaultOf files.Prices (prices scenario.now) text.now) }
+{
+    match price_table(alloc, scenario, text) {
+        Ok(table) => Ok(Prices::of_table(scenario.shifts(), scenario.skills(), table)),
+        Err(stop) => Err(stop.in_file(FileName::Prices)),
+    }
+}
+
+/// A law: for each scenario, every text spells one table of prices or has one fault, and never both.
+#[tactic(auto, using(crate::proofs::FileLaws::one_meaning))]
+pub fn each_text_means_one_table_of_prices()
+    ensures { (tables : ScenarioTables) → OneMeaning (prices tables) }
+{}
