@@ -1,9 +1,10 @@
 #!/usr/bin/env bash
-# Records each call with which the program opens, reads or writes. Each file is opened once, for one use, in the order of
-# the checks, and read to its end and no further; an output is opened at its first write, for all users as far as they allow
-# new files, and gets a write for each full buffer and one for the rest; after a failed call there is no other call to the same
-# file. Then each of these calls fails in turn, once as if a signal had interrupted it (EINTR), once as on a broken device (EIO),
-# once as on a device that did not answer in time (ETIMEDOUT): the program repeats none, and the run ends as a failed read or write. After a signal Rattle's library itself repeats an open, and the texts of help and faults.
+# Records each call with which the program opens, reads or writes. Each file is opened once, for one use, in the order of the
+# checks, and read to its end and no further; an output is opened at its first write, with the mode 666, and gets a write for
+# each full buffer and one for the rest; after a failed call there is no other call to the same file. Then each of these calls
+# fails in turn, once as if a signal had interrupted it (EINTR), once as on a broken device (EIO), and of two runs once as on a
+# device that did not answer in time (ETIMEDOUT): the program repeats none, and the run ends as a failed read or write. After a
+# signal Rattle's library itself repeats an open, and the texts of help and faults.
 #
 #   tests/calls.sh [llvm | rattle | PROGRAM]
 #
