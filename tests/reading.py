@@ -7,7 +7,7 @@ A contract cites definitions, and these rest on others: a list has the files tha
 specs/. The first list begins with the meaning of a model and the text of one, each other list with the definitions that
 its contracts cite. A file is in one list only, and comes after the files that it rests on. No other file defines a name
 of the lists. The page gives the lines of each file, and those of its definitions: without imports, comments and blank
-lines. In the first two lists each definition has a comment above it. With --fix the counts on the page are put right.
+lines. In all lists but the last each definition has a comment above it. With --fix the counts on the page are put right.
 """
 
 import argparse
@@ -40,8 +40,8 @@ class FileList(NamedTuple):
 LISTS = [
     FileList("The meaning of a model", ["rota_pb/specs/Meaning.antt", "opb_text/specs/ModelText.antt"], [], set(), True),
     FileList("The files and the run", [], [ENCODE], {EXACT}, True),
-    FileList("The exact text", [], [ENCODE], set(), False),
-    FileList("Decode and extend", [], [DECODE, EXTEND], set(), False),
+    FileList("The exact text", [], [ENCODE], set(), True),
+    FileList("Decode and extend", [], [DECODE, EXTEND], set(), True),
     FileList("The whole program", [], [PERFORM, PROGRAM], set(), False),
 ]
 USE = re.compile(r"(?m)^ *(?:pub )?(?:ghost )?use Rattle\.(\w+)\.specs\.([\w.]+?)(?:\.\{([^}]*)\})?(?: as \w+)?;?$")

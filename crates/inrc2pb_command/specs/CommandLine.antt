@@ -32,13 +32,16 @@ input_rules = week_rules ++ (file_rule (codes "fix") ∷ flag_rule (codes "early
 abbrev pub subcommand_app : Text → List Rule → App
 subcommand_app name own = fold with_rule (new_app name) (input_rules ++ own)
 
+-- the subcommand `encode`
 abbrev pub encode_app : App
 encode_app = subcommand_app (codes "encode") (file_rule (codes "opb") ∷ [])
 
+-- the subcommand `decode`
 abbrev pub decode_app : App
 decode_app = subcommand_app (codes "decode")
     (required_file_rule (codes "sol") ∷ file_rule (codes "answer") ∷ [])
 
+-- the subcommand `extend`
 abbrev pub extend_app : App
 extend_app = subcommand_app (codes "extend") (required_file_rule (codes "from") ∷ [])
 
@@ -53,6 +56,7 @@ bare_app = record (new_app (codes "inrc2pb")) {
   };
 }
 
+-- the command with its three subcommands
 abbrev pub inrc2pb_app : App
 inrc2pb_app =
     fold with_subcommand bare_app (encode_app.top ∷ decode_app.top ∷ extend_app.top ∷ [])

@@ -24,13 +24,15 @@ pub record Opener (F : Type 0) : Type 1 where
   pub log_before : PathLog
   pub log : PathLog
 
+-- the opener with this log before and after the job
 abbrev pub opener_of : {F : Type 0} → Ghosts F → (Path → FileAt) → PathLog → PathLog → Opener F
 opener_of port at before after = record { port = port; at = at; log_before = before; log = after }
 
--- files were opened at all of these paths, or up to one of them
+-- files were opened at all of these paths
 abbrev pub OpensEach : {F : Type 0} → Opener F → List Path → Type 0
 OpensEach opener paths = OpensAll opener.at paths opener.log_before opener.log
 
+-- files were opened up to one of these paths, at which none opened
 abbrev pub FailsToOpen : {F : Type 0} → Opener F → List Path → Type 0
 FailsToOpen opener paths = StopsOpening opener.at paths opener.log_before opener.log
 

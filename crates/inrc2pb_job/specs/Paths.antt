@@ -2,6 +2,7 @@
 use Rattle.std.specs.Prelude.{◌≡◌, ℕ, List, ◌++◌, false, Option, Some, option_map, ⊤}
 use Rattle.rota_core.specs.declared.ports.Source.{Ghosts}
 
+-- the bytes of a path
 abbrev pub Path : Type 0
 Path = List ℕ
 
@@ -39,5 +40,6 @@ pub record IsNew {F : Type 0} (port : Ghosts F) (content : FileAt) (file : F) : 
 abbrev pub PathLog : Type 0
 PathLog = Option (List Path)
 
+-- the paths with these after them
 abbrev pub with_paths : PathLog → List Path → PathLog
 with_paths log paths = option_map (λ (before : List Path). before ++ paths) log

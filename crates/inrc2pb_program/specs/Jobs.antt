@@ -23,6 +23,7 @@ options_of m = rows_of (found_of m)
 abbrev pub Matched : Type 0
 Matched = Text × List Row
 
+-- the name of a subcommand
 abbrev pub IsSubcommand : Text → Type 0
 IsSubcommand name =
     (name ≡ codes "encode") ⊎ ((name ≡ codes "decode") ⊎ (name ≡ codes "extend"))
@@ -51,9 +52,11 @@ IsJobOf matched (Decode inputs sol answer) = (matched.0 ≡ codes "decode")
 IsJobOf matched (Extend inputs from) = (matched.0 ≡ codes "extend") × HasInputs matched.1 inputs
     × (first_of (codes "from") matched.1 ≡ Some (string_bytes from))
 
+-- the option is missing
 abbrev pub LacksOption : Text → List Row → Type 0
 LacksOption id options = first_of id options ≡ None
 
+-- the path of a file of the week is missing
 abbrev pub LacksInput : List Row → Type 0
 LacksInput options = LacksOption (codes "sce") options ⊎ (LacksOption (codes "his") options
     ⊎ LacksOption (codes "week") options)

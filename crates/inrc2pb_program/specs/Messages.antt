@@ -6,5 +6,6 @@ use Rattle.inrc2pb_program.specs.declared.stop.Stop.{Stop}
 abbrev pub Messages : Type 0
 Messages = Option (List Stop)
 
+-- the messages with one more
 abbrev pub with_message : Messages → Stop → Messages
 with_message messages stop = option_map (λ (before : List Stop). before ++ stop ∷ []) messages

@@ -47,6 +47,7 @@ pub record JobFile (F : Type 0) : Type 1 where
   pub old : F
   pub new : F
 
+-- the file that is `old` before the program and `new` after it
 abbrev pub file_of : {F : Type 0} → Ghosts F → (F → Option Path) → F → F → JobFile F
 file_of port path old new = record { port = port; path = path; old = old; new = new }
 

@@ -7,6 +7,7 @@ use Rattle.rota_core.specs.declared.fault.FileName.TheVariants.{Scenario, Histor
 use Rattle.rota_core.specs.declared.fault.Kind.{Kind}
 use Rattle.rota_core.specs.declared.fault.Kind.TheVariants.{Ended, OtherWord, NoNumber, Limit, Unknown, Repeated, Trailing, LateWeek}
 
+-- the name of a file in a message
 abbrev pub file_text : FileName → List ℕ
 file_text Scenario = codes "scenario"
 file_text History = codes "history"
@@ -15,6 +16,7 @@ file_text Solution = codes "solution"
 file_text Fixed = codes "fix"
 file_text Prices = codes "prices"
 
+-- the kind of a fault in a message
 abbrev pub kind_text : Kind → List ℕ
 kind_text Ended = codes "end of file"
 kind_text OtherWord = codes "another word expected"

@@ -11,6 +11,7 @@ use Rattle.std.specs.Prelude.{◌∷◌, ◌+◌, ◌-◌, ◌++◌}
 abbrev pub h1_row : Problem → ℕ → ℕ → LinearRow Cell
 h1_row problem n d = record { part = Hard H1; terms = times (negsuc 0) (work_cells problem n d); degree = negsuc 0 }
 
+-- the rows of H1: one for each nurse and day
 abbrev pub h1_rows : Problem → List (LinearRow Cell)
 h1_rows problem = concat_below problem.nurses (λ n. concat_below DAYS (λ d. h1_row problem n d ∷ []))
 
@@ -26,6 +27,7 @@ h2_row problem d s k = record {
 abbrev pub h2_rows_at : Problem → (day shift skill : ℕ) → List (LinearRow Cell)
 h2_rows_at problem d s k = singleton_if (nat_lt 0 (problem.demand d s k).minimum) (h2_row problem d s k)
 
+-- the rows of H2, for all days, shift types and skills
 abbrev pub h2_rows : Problem → List (LinearRow Cell)
 h2_rows problem = concat_below DAYS (λ d. concat_below problem.shifts (λ s. concat_below problem.skills (h2_rows_at problem d s)))
 
@@ -38,9 +40,11 @@ abbrev pub is_forbidden_after : Problem → Option ℕ → ℕ → Bool
 is_forbidden_after problem None t = false
 is_forbidden_after problem (Some last) t = problem.is_forbidden last t
 
+-- the row of H3 for Monday, if t may not follow the last shift type of the history
 abbrev pub h3_monday_rows_at : Problem → ℕ → ℕ → List (LinearRow Cell)
 h3_monday_rows_at problem n t = singleton_if (is_forbidden_after problem (problem.past n).last t) (h3_monday_row problem n t)
 
+-- a nurse's rows of H3 for Monday
 abbrev pub h3_monday_rows : Problem → ℕ → List (LinearRow Cell)
 h3_monday_rows problem n = concat_below problem.shifts (h3_monday_rows_at problem n)
 
@@ -52,15 +56,19 @@ h3_row problem n d s t = record {
   degree = negsuc 0;
 }
 
+-- the row of H3, if t may not follow s
 abbrev pub h3_rows_at : Problem → (nurse day shift next : ℕ) → List (LinearRow Cell)
 h3_rows_at problem n d s t = singleton_if (problem.is_forbidden s t) (h3_row problem n d s t)
 
+-- a nurse's rows of H3 for a day and the next day
 abbrev pub h3_rows_between : Problem → ℕ → ℕ → List (LinearRow Cell)
 h3_rows_between problem n d = concat_below problem.shifts (λ s. concat_below problem.shifts (h3_rows_at problem n d s))
 
+-- a nurse's rows of H3: for Monday, then for each pair of days in the week
 abbrev pub h3_rows_of : Problem → ℕ → List (LinearRow Cell)
 h3_rows_of problem n = h3_monday_rows problem n ++ concat_below (DAYS - 1) (h3_rows_between problem n)
 
+-- the rows of H3, nurse by nurse
 abbrev pub h3_rows : Problem → List (LinearRow Cell)
 h3_rows problem = concat_below problem.nurses (h3_rows_of problem)
 
@@ -72,6 +80,7 @@ h4_row problem n k = record { part = Hard H4; terms = times (negsuc 0) (skill_ce
 abbrev pub h4_rows_at : Problem → ℕ → ℕ → List (LinearRow Cell)
 h4_rows_at problem n k = singleton_if (not (problem.has_skill n k)) (h4_row problem n k)
 
+-- the rows of H4: one for each nurse and each skill that she does not have
 abbrev pub h4_rows : Problem → List (LinearRow Cell)
 h4_rows problem = concat_below problem.nurses (λ n. concat_below problem.skills (h4_rows_at problem n))
 
@@ -83,6 +92,7 @@ h5_row one = record { part = Hard H5; terms = times (pos 1) (one ∷ []); degree
 abbrev pub h5_rows : Problem → List (LinearRow Cell)
 h5_rows problem = map h5_row (cells_of problem problem.is_held)
 
+-- the rows of a hard rule; a soft rule has none
 abbrev pub rows_of_hard_rule : Problem → Rule → List (LinearRow Cell)
 rows_of_hard_rule problem H1 = h1_rows problem
 rows_of_hard_rule problem H2 = h2_rows problem

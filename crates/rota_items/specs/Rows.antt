@@ -14,6 +14,7 @@ pub record LinearRow (X : Type 0) : Type 0 where
   pub terms : List (Term X)
   pub degree : ℤ
 
+-- the constraint of a row, without its part
 abbrev pub linear_constraint : LinearRow ℕ → Constraint
 linear_constraint row = record { terms = row.terms; degree = row.degree }
 

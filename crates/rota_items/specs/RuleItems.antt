@@ -21,6 +21,7 @@ pub record Charge : Type 0 where
   -- the objective's terms on cells
   pub cell_terms : Problem → List (Term Cell)
 
+-- no items, no constant and no terms
 abbrev pub no_charge : Charge
 no_charge = record {
   day_items = λ problem. [];
@@ -40,33 +41,43 @@ charge_of S6 = Some (record no_charge { nurse_items = totals_of; nurse_constant 
 charge_of S7 = Some (record no_charge { nurse_items = worked_weekends_of; nurse_constant = weekend_constant_of })
 charge_of _ = None
 
+-- the charge if there is one, otherwise `no_charge`
 abbrev pub or_no_charge : Option Charge → Charge
 or_no_charge None = no_charge
 or_no_charge (Some charge) = charge
 
+-- the charge of a rule; of a hard rule: `no_charge`
 abbrev pub charge_or_none : Rule → Charge
 charge_or_none rule = or_no_charge (charge_of rule)
 
+-- a nurse's items of a rule
 abbrev pub nurse_items : Problem → Rule → ℕ → List (Item Cell)
 nurse_items problem rule = (charge_or_none rule).nurse_items problem
 
+-- a nurse's part of the constant for a rule
 abbrev pub nurse_constant : Problem → Rule → ℕ → ℕ
 nurse_constant problem rule = (charge_or_none rule).nurse_constant problem
 
+-- the items of a rule: of the days, then of each nurse
 abbrev pub items_of_rule : Problem → Rule → List (Item Cell)
 items_of_rule problem rule = (charge_or_none rule).day_items problem ++ concat_below problem.nurses (nurse_items problem rule)
 
+-- the part of the constant for a rule, over all nurses
 abbrev pub constant_of_rule : Problem → Rule → ℕ
 constant_of_rule problem rule = sum_below problem.nurses (nurse_constant problem rule)
 
+-- a rule's terms on cells
 abbrev pub cell_terms_of_rule : Problem → Rule → List (Term Cell)
 cell_terms_of_rule problem rule = (charge_or_none rule).cell_terms problem
 
+-- the items of all soft rules, in their order
 abbrev pub soft_items : Problem → List (Item Cell)
 soft_items problem = flat_map (items_of_rule problem) soft_rules
 
+-- the objective's constant: the parts of all soft rules
 abbrev pub constant : Problem → ℕ
 constant problem = sum_by (constant_of_rule problem) soft_rules
 
+-- the objective's terms on cells, of all soft rules
 abbrev pub cell_terms : Problem → List (Term Cell)
 cell_terms problem = flat_map (cell_terms_of_rule problem) soft_rules

@@ -15,9 +15,11 @@ pub record Pattern : Type 0 where
   pub days : List PatternDay
   pub units : ℕ
 
+-- the day must have the property
 abbrev pub with_property : ℕ → PatternDay
 with_property d = record { day = d; has = true }
 
+-- the day must not have the property
 abbrev pub without_property : ℕ → PatternDay
 without_property d = record { day = d; has = false }
 
@@ -29,6 +31,7 @@ days_with first end = map with_property (range_with_len first (end - first))
 abbrev pub window : ℕ → ℕ → Pattern
 window maximum d = record { days = days_with (d - maximum) (d + 1); units = 1 }
 
+-- the window of d, if the days in the history and up to d are more than the maximum
 abbrev pub windows_on : ℕ → Span → ℕ → List Pattern
 windows_on history limits d = singleton_if (nat_lt limits.max (history + d + 1)) (window limits.max d)
 
@@ -54,16 +57,20 @@ edge_pattern history minimum d = record {
   units = minimum - history - d;
 }
 
+-- the edge pattern of d, if the days in the history and before d are at least 1 and below the minimum
 abbrev pub edge_patterns_on : (history minimum day : ℕ) → List Pattern
 edge_patterns_on history minimum d =
     singleton_if (nat_le 1 (history + d) && nat_lt (history + d) minimum) (edge_pattern history minimum d)
 
+-- the closed patterns of d, then its edge pattern
 abbrev pub patterns_on : ℕ → Span → ℕ → List Pattern
 patterns_on history limits d = closed_patterns_on limits.min d ++ edge_patterns_on history limits.min d
 
+-- the windows of all days of the week
 abbrev pub windows : ℕ → Span → List Pattern
 windows history limits = concat_below DAYS (windows_on history limits)
 
+-- the patterns of all days of the week
 abbrev pub patterns : ℕ → Span → List Pattern
 patterns history limits = concat_below DAYS (patterns_on history limits)
 
@@ -72,6 +79,7 @@ pub data Property (X : Type 0) : Type 0 where
   Present : (ℕ → List X) → Property X
   Absent : (ℕ → List X) → Property X
 
+-- the day's variables
 abbrev pub variables_on : {X : Type 0} → Property X → ℕ → List X
 variables_on (Present variables) d = variables d
 variables_on (Absent variables) d = variables d
@@ -81,6 +89,7 @@ abbrev pub is_plain : {X : Type 0} → Property X → PatternDay → Bool
 is_plain (Present variables) day = day.has
 is_plain (Absent variables) day = not day.has
 
+-- a term for each of the day's variables: -1 if the day's sum must be 1, and 1 if it must be 0
 abbrev pub day_terms : {X : Type 0} → Property X → PatternDay → List (Term X)
 day_terms property day = times (if is_plain property day then negsuc 0 else pos 1) (variables_on property day.day)
 
@@ -107,6 +116,7 @@ pub record Runs (X : Type 0) : Type 0 where
 abbrev pub pattern_items : {X : Type 0} → Runs X → List Pattern → List (Item X)
 pattern_items runs all = map (pattern_item runs.rule runs.weight runs.property) all
 
+-- the items of all windows, then of all patterns
 abbrev pub run_items : {X : Type 0} → Runs X → List (Item X)
 run_items runs = pattern_items runs (windows runs.history runs.limits ++ patterns runs.history runs.limits)
 

@@ -7,12 +7,15 @@ use Rattle.rota_items.specs.Variables.{cell_number, unit_number}
 use Rattle.rota_items.specs.HardRows.{rule_rows}
 use Rattle.rota_items.specs.RuleItems.{soft_items, cell_terms, constant}
 
+-- the constant as a term on the unit variable, unless it is 0
 abbrev pub constant_terms : Problem → List (Term ℕ)
 constant_terms problem = singleton_if (nat_lt 0 (constant problem)) (pos (constant problem), unit_number problem)
 
+-- the terms with the number of each cell
 abbrev pub numbered_terms : Problem → List (Term Cell) → List (Term ℕ)
 numbered_terms problem terms = map (λ (term : Term Cell). (term.0, cell_number problem term.1)) terms
 
+-- the row with the number of each cell
 abbrev pub numbered_row : Problem → LinearRow Cell → LinearRow ℕ
 numbered_row problem row = record { part = row.part; terms = numbered_terms problem row.terms; degree = row.degree }
 
@@ -20,12 +23,15 @@ numbered_row problem row = record { part = row.part; terms = numbered_terms prob
 abbrev pub unit_row : ℕ → LinearRow ℕ
 unit_row unit = record { part = Hard Unit; terms = (pos 1, unit) ∷ []; degree = pos 1 }
 
+-- the row of the unit variable, then the rows of the hard rules
 abbrev pub hard_rows : Problem → List (LinearRow ℕ)
 hard_rows problem = unit_row (unit_number problem) ∷ map (numbered_row problem) (rule_rows problem)
 
+-- the constraints of these rows
 abbrev pub hard_constraints : Problem → List Constraint
 hard_constraints problem = map linear_constraint (hard_rows problem)
 
+-- the items of all soft rules, with the number of each cell
 abbrev pub numbered_items : Problem → List (Item ℕ)
 numbered_items problem = map (numbered (cell_number problem)) (soft_items problem)
 
@@ -67,9 +73,11 @@ objective_terms problem =
     numbered_terms problem (cell_terms problem) ++
     (constant_terms problem ++ slack_weights (first_slack problem) (numbered_items problem))
 
+-- the number of all slacks of these items
 abbrev pub slack_count : {X : Type 0} → List (Item X) → ℕ
 slack_count items = sum_by (λ item. item.slacks) items
 
+-- the model of a week: the number of its variables, its objective and its constraints
 abbrev pub model_of : Problem → Model
 model_of problem = record {
   variables = unit_number problem + slack_count (soft_items problem);

@@ -6,6 +6,7 @@ use Rattle.rota_core.specs.Rules.{rule_name}
 use Rattle.solver_text.specs.FaultTexts.{answer_fault_text}
 use Rattle.solver_text.specs.Status.{status_words}
 
+-- the message for the fault of a run
 abbrev pub fault_text : Fault → List ℕ
 fault_text (File fault) = file_fault_text fault
 fault_text Memory = codes "out of memory"

@@ -3,6 +3,7 @@ use Rattle.std.specs.Prelude.{ℕ}
 use Rattle.rota_pb.specs.Imports.{Answer, Breaks, Fault, File, Memory, NoRoster, Read, Unmet, Write}
 use Rattle.rota_core.specs.declared.fault.FileFault.TheVariants as refusals
 
+-- the exit status of a run that ends with this fault
 abbrev pub exit_status : Fault → ℕ
 exit_status (File (refusals.Bad kind file line)) = 1
 exit_status (File refusals.Memory) = 4

@@ -13,6 +13,7 @@ use Rattle.rota_core.specs.ScenarioTables.{ScenarioTables}
 use Rattle.rota_read.specs.Layout.{day_names}
 use Rattle.rota_read.specs.SolutionLayout.{SpellsRoster}
 
+-- the name with this index
 abbrev pub name_at : List (List ℕ) → ℕ → List ℕ
 name_at names index = unwrap_or (slice_get names index) []
 

@@ -20,6 +20,7 @@ rows_within zero xs = []
 rows_within (suc k) [] = []
 rows_within (suc k) (x ∷ xs) = (x ∷ take 9 xs) ∷ rows_within k (drop 9 xs)
 
+-- the words in rows of ten; the last row may have fewer
 abbrev pub rows_of_ten : {A : Type 0} → List A → List (List A)
 rows_of_ten xs = rows_within (length xs) xs
 
@@ -31,6 +32,7 @@ after_blank word = codes " " ++ word
 abbrev pub blank_words : List (List ℕ) → List ℕ
 blank_words words = flat_map after_blank words
 
+-- the v line of these words
 abbrev pub value_line : List (List ℕ) → List ℕ
 value_line words = codes "v" ++ blank_words words ++ codes "\n"
 

@@ -3,6 +3,7 @@ use Rattle.std.specs.Prelude.{ℕ, List, codes}
 use Rattle.solver_text.specs.declared.outcome.AnswerFault.{AnswerFault}
 use Rattle.solver_text.specs.declared.outcome.AnswerFault.TheVariants.{Statuses, StatusText, Literal, Range, BothValues, Objective}
 
+-- the message for a fault of an answer
 abbrev pub answer_fault_text : AnswerFault → List ℕ
 answer_fault_text Statuses = codes "no status line or a second one"
 answer_fault_text StatusText = codes "unknown status"

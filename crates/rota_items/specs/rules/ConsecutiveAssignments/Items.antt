@@ -6,6 +6,7 @@ use Rattle.rota_items.specs.Rows.{concat_below, on_cells, work_cells, Item}
 use Rattle.rota_items.specs.RunItems.{Runs, Present, run_items}
 use Rattle.rota_items.specs.rules.ConsecutiveAssignments.Cost.{shift_run_weight, work_run_weight, history_on}
 
+-- a nurse's runs of days on a shift type
 abbrev pub shift_runs : Problem → ℕ → ℕ → Runs Cell
 shift_runs problem n s = record {
   rule = S2;
@@ -15,6 +16,7 @@ shift_runs problem n s = record {
   limits = problem.limits s;
 }
 
+-- a nurse's runs of working days
 abbrev pub work_runs : Problem → ℕ → Runs Cell
 work_runs problem n = record {
   rule = S2;

@@ -5,6 +5,7 @@ use Rattle.rota_items.specs.Rows.{work_cells, Item}
 use Rattle.rota_items.specs.RunItems.{Runs, Absent, run_items}
 use Rattle.rota_items.specs.rules.ConsecutiveDaysOff.Cost.{off_run_weight}
 
+-- a nurse's runs of days off
 abbrev pub off_runs : Problem → ℕ → Runs Cell
 off_runs problem n = record {
   rule = S3;

@@ -6,6 +6,7 @@ use Rattle.rota_items.specs.Imports.{ℕ, pos, nat_lt, List, Cell, Problem}
 use Rattle.rota_items.specs.Rows.{concat_below, singleton_if, demand_cells, Item, times}
 use Rattle.rota_items.specs.rules.OptimalCoverage.Cost.{optimum_weight}
 
+-- the item of a demand: its shortage is the number of nurses that lack up to the optimal number
 abbrev pub optimum_item : Problem → (day shift skill : ℕ) → Item Cell
 optimum_item problem d s k = let demand = problem.demand d s k in record {
   rule = S1;
@@ -20,6 +21,7 @@ abbrev pub optimum_items_at : Problem → (day shift skill : ℕ) → List (Item
 optimum_items_at problem d s k =
     singleton_if (nat_lt (problem.demand d s k).minimum (problem.demand d s k).optimal) (optimum_item problem d s k)
 
+-- the items of all demands
 abbrev pub optimum_items : Problem → List (Item Cell)
 optimum_items problem =
     concat_below DAYS (λ d. concat_below problem.shifts (λ s. concat_below problem.skills (optimum_items_at problem d s)))

@@ -11,6 +11,7 @@ request_terms_on problem n d s =
     concat_below problem.skills (λ k.
     singleton_if (nat_lt 0 (problem.requests n d s)) (pos (request_weight * problem.requests n d s), cell n d s k))
 
+-- the terms of all nurses, days and shift types
 abbrev pub request_terms : Problem → List (Term Cell)
 request_terms problem =
     concat_below problem.nurses (λ n. concat_below DAYS (λ d. concat_below problem.shifts (request_terms_on problem n d)))

@@ -7,13 +7,15 @@ use Rattle.rota_items.specs.Rows.{singleton_if, nurse_cells, Item, times}
 use Rattle.rota_items.specs.CountedItems.{excess_before_counts, max_totals_count}
 use Rattle.rota_items.specs.rules.TotalAssignments.Cost.{assignment_weight}
 
--- the assignments that the nurse still needs for her minimum total, and those that she may still have without exceeding her maximum
+-- the assignments that the nurse still needs for her minimum total
 abbrev pub still_wanted : Problem → ℕ → ℕ
 still_wanted problem n = (problem.contract n).total.min - (problem.past n).assignments
 
+-- the assignments that she may still have without exceeding her maximum total
 abbrev pub still_allowed : Problem → ℕ → ℕ
 still_allowed problem n = (problem.contract n).total.max - (problem.past n).assignments
 
+-- the item whose shortage is the number of assignments that the nurse lacks for her minimum total, at most one a day
 abbrev pub min_total_item : Problem → ℕ → Item Cell
 min_total_item problem n = record {
   rule = S6;
@@ -23,6 +25,7 @@ min_total_item problem n = record {
   degree = pos (min (still_wanted problem n) DAYS);
 }
 
+-- the item whose shortage is the number of this week's assignments above those that the nurse may still have
 abbrev pub max_total_item : Problem → ℕ → Item Cell
 max_total_item problem n = record {
   rule = S6;
@@ -32,9 +35,11 @@ max_total_item problem n = record {
   degree = pos 0 -ℤ pos (still_allowed problem n);
 }
 
+-- the item of the minimum total, in the last week, if the nurse still needs assignments
 abbrev pub min_totals_of : Problem → ℕ → List (Item Cell)
 min_totals_of problem n = singleton_if (problem.is_last && nat_lt 0 (still_wanted problem n)) (min_total_item problem n)
 
+-- the item of the maximum total, in a week in which it counts, if the nurse may not work on all days
 abbrev pub max_totals_of : Problem → ℕ → List (Item Cell)
 max_totals_of problem n =
     singleton_if (max_totals_count problem && nat_lt (still_allowed problem n) DAYS) (max_total_item problem n)
