@@ -6,16 +6,18 @@ from .absences import Absence, absences_of, joined
 from .odd_values import IMPOSSIBLE
 from .records import DAYS, Assignment, History, Place, Scenario, WeekData
 
+_KEEPING = "no roster can meet it and keep every absence"
+
 
 def demand_warnings(scenario: Scenario, history: Optional[History], data: WeekData) -> Iterator[str]:
     """Warnings of days for which no choice of nurses fills all minimum numbers, and of more shifts than the contracts supply."""
     found: Dict[str, List[str]] = {}
     for day, name in enumerate(DAYS):
-        short = _shortage(scenario, history, data, day)
-        if short:
-            found.setdefault(short, []).append(name)
+        always, there = _shortage(scenario, history, data, day, ()), _shortage(scenario, history, data, day, absences_of(data))
+        if always or there:
+            found.setdefault(f"{always}: {IMPOSSIBLE}" if always else f"{there}: {_KEEPING}", []).append(name)
     for text, days in found.items():
-        yield f"{joined(days)}: {text}: {IMPOSSIBLE}"
+        yield f"{joined(days)}: {text}"
     asked, supplied = asked_shifts(data), supplied_shifts(scenario, history)
     if asked[0] > supplied[1]:
         yield f"it asks for at least {asked[0]} shifts, and the contracts supply at most {supplied[1]} a week: each shift above costs points"
@@ -46,16 +48,16 @@ def can_work(scenario: Scenario, history: Optional[History], away: Collection[Ab
     return place.skill in scenario.nurses[nurse].skills and is_free and may_follow
 
 
-def _shortage(scenario: Scenario, history: Optional[History], data: WeekData, day: int) -> str:
+def _shortage(scenario: Scenario, history: Optional[History], data: WeekData, day: int, away: Collection[Absence]) -> str:
     """The places of a day that need more nurses at once than could fill them, if there are any."""
-    away = absences_of(data)
     places = [place for place, asked in data.requirements.items() if place.day == day for _ in range(min(asked.minimum, len(scenario.nurses) + 1))]
     could = {place: [nurse for nurse in scenario.nurses if can_work(scenario, history, away, nurse, place)] for place in set(places)}
     filled: Dict[str, int] = {}
     for slot in range(len(places)):
         tried = _fill(slot, places, could, filled)
         if tried is not None:
-            short = list(dict.fromkeys([places[slot], *(places[filled[nurse]] for nurse in tried)]))
+            some = {places[slot], *(places[filled[nurse]] for nurse in tried)}
+            short = [place for place in data.requirements if place in some]
             return _shortage_text(scenario, data, short, len(tried))
     return ""
 
@@ -96,7 +98,7 @@ def _shortage_text(scenario: Scenario, data: WeekData, short: Sequence[Place], h
     skill = short[0].skill
     owners = sum(skill in nurse.skills for nurse in scenario.nurses.values())
     has = f"{have} have it" if owners == have else f"{have} of the {owners} who have it could do it"
-    return f"{need} with {skill} are needed at once ({', '.join(some)}), and {has}"
+    return f"{need} with {skill} needed at once ({', '.join(some)}), and {has}"
 
 
 def hindrance(scenario: Scenario, history: History, away: Collection[Absence], rows: Sequence[Assignment], nurse: str, place: Place) -> str:

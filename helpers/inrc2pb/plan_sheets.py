@@ -16,7 +16,8 @@ AWAY = ("away", "ill", "leave", "training")
 _WISH, _NO_WISH = ("wish", "wish off", "off?"), ("", "-")
 _PAIR = re.compile(r"\(?([0-9]{1,4}) ?(\+|,|\.\.) ?([0-9]{1,4})\)?")
 _DATE = re.compile(r"([0-9]{4})-([0-9]{1,2})-([0-9]{1,2})|([0-9]{1,2})\.([0-9]{1,2})\.([0-9]{4})")
-_FIRST_SERIAL, _LAST_SERIAL = 30000, 99999
+# A date as a spreadsheet counts it, from 1954 on.
+_SERIAL = re.compile(r"\b[2-9][0-9]{4}\b")
 
 
 class Held(NamedTuple):
@@ -73,11 +74,9 @@ def read_days(book: Book) -> Days:
 
 def _date_of(cell: Cell) -> Optional[datetime.date]:
     """The date in a head: written out, or as a number of a spreadsheet."""
-    found = _DATE.search(cell.text)
-    if cell.text.isdigit() and _FIRST_SERIAL <= int(cell.text) <= _LAST_SERIAL:
-        return cell.book.day_zero + datetime.timedelta(days=int(cell.text))
+    found, serial = _DATE.search(cell.text), _SERIAL.search(cell.text)
     if not found:
-        return None
+        return cell.book.day_zero + datetime.timedelta(days=int(serial.group())) if serial else None
     words = found.groups()
     year, month, day = words[:3] if words[0] else (words[5], words[4], words[3])
     try:

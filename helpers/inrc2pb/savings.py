@@ -17,7 +17,8 @@ functions of the number, so it is greatest at an end: `_lengths` has these numbe
 """
 
 import functools
-from typing import Dict, Iterator, NamedTuple, Optional, Set
+from dataclasses import replace
+from typing import Iterator, NamedTuple, Optional, Sequence, Set, Tuple
 
 from .records import DAYS, Contract, Limits, Scenario, ShiftType, WeekData
 from .rules import ASSIGNMENT_TOTAL, DAYS_OFF_RUN, HALF_WEEKEND, MISSING_NURSE, REQUEST, SHIFT_RUN, SUNDAY, WEEKEND_TOTAL, WORK_RUN
@@ -29,9 +30,15 @@ _TOTALS = ASSIGNMENT_TOTAL * _WEEK + WEEKEND_TOTAL
 def largest_saving(scenario: Scenario, data: WeekData) -> int:
     """The most by which the costs of two rosters of the week can differ, with the requests of this data."""
     places = sum(max(0, required.optimal - required.minimum) for required in data.requirements.values())
-    of_contract = {name: _Weeks(scenario, contract).widest() for name, contract in scenario.contracts.items()}
+    types = tuple(scenario.shift_types.values())
+    of_contract = {name: _widest(types, replace(contract, name="")) for name, contract in scenario.contracts.items()}
     nurses = sum(of_contract[nurse.contract] + _TOTALS for nurse in scenario.nurses.values())
     return MISSING_NURSE * places + nurses + REQUEST * len(data.requests)
+
+
+@functools.lru_cache(maxsize=None)
+def _widest(types: Tuple[ShiftType, ...], contract: Contract) -> int:
+    return _Weeks(types, contract).widest()
 
 
 class _Past(NamedTuple):
@@ -46,8 +53,8 @@ class _Past(NamedTuple):
 class _Weeks:
     """The weeks of a nurse with this contract, by what S2, S3 and S5 charge."""
 
-    def __init__(self, scenario: Scenario, contract: Contract) -> None:
-        self.types: Dict[str, ShiftType] = scenario.shift_types
+    def __init__(self, types: Sequence[ShiftType], contract: Contract) -> None:
+        self.types = {shift.name: shift for shift in types}
         self.contract = contract
         self._cheapest = functools.lru_cache(maxsize=None)(self._cheapest_from)
         self._dearest = functools.lru_cache(maxsize=None)(self._dearest_from)

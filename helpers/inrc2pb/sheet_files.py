@@ -9,12 +9,11 @@ import datetime
 import io
 import zipfile
 from pathlib import Path
-from typing import Dict, Iterator, List, NamedTuple, Sequence
+from typing import Dict, List, NamedTuple, Sequence
 from xml.etree import ElementTree
 from xml.parsers import expat
 
 from .faults import FileFault
-from .hints import plural
 
 MAX_BYTES = 33_554_432
 MAX_ROWS, MAX_COLUMNS = 5000, 1000
@@ -35,7 +34,7 @@ class Book(NamedTuple):
 def read_book(path: Path) -> Book:
     """Reads a spreadsheet, or a folder of CSV files."""
     if path.is_dir():
-        return Book(path, {file.stem.lower(): _read_csv(file) for file in _csv_files(path)})
+        return Book(path, {sheet: _read_csv(file) for sheet, file in _csv_files(path).items()})
     with open(path, "rb") as file:
         begin = file.read(4)
     if begin == _OLD_EXCEL:
@@ -104,15 +103,18 @@ def trimmed(rows: Sequence[Sequence[str]]) -> Rows:
     return found
 
 
-def _csv_files(folder: Path) -> Iterator[Path]:
-    files = sorted(file for file in folder.iterdir() if file.suffix.lower() in (".csv", ".tsv") and file.is_file())
-    stems = [file.stem.lower() for file in files]
-    for file, stem in zip(files, stems):
-        if stems.count(stem) > 1:
-            raise FileFault(folder, 0, f"{plural(stems.count(stem), 'file')} have the sheet {stem}: leave only one")
-    if not files:
+def _csv_files(folder: Path) -> Dict[str, Path]:
+    """The files of a folder by their sheets. LibreOffice writes the sheet plan of ward.ods to ward-plan.csv."""
+    found: Dict[str, Path] = {}
+    for file in sorted(folder.iterdir()):
+        if file.suffix.lower() in (".csv", ".tsv") and file.is_file():
+            sheet = file.stem.lower().rpartition("-")[2]
+            if sheet in found:
+                raise FileFault(folder, 0, f"{found[sheet].name} and {file.name} are both the sheet {sheet}: leave one of them")
+            found[sheet] = file
+    if not found:
         raise FileFault(folder, 0, "this folder has no .csv files: save each sheet as one, such as shifts.csv")
-    return iter(files)
+    return found
 
 
 def _read_csv(path: Path) -> Rows:

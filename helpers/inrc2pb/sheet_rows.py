@@ -159,7 +159,7 @@ def _joined_head(rows: Rows, first: int, open_end: bool) -> Tuple[List[str], int
     width = max(len(head), len(below))
     head, below = (row + [""] * (width - len(row)) for row in (head, below))
     has_days = all(re.match("mon|tue|wed|thu|fri|sat|sun", cell.casefold()) for cell in below if cell)
-    is_over = any(under and not own for own, under in zip(head, below))
+    is_over = any(under and not own for own, under in zip(head, below)) and not any(re.search("[0-9]", cell) for cell in below)
     if not any(below) or below[0] or not (has_days if open_end else is_over):
         return head, first + 1
     joined, above = [], ""

@@ -38,7 +38,7 @@ def differences(scenario, pasts):
 
 class Savings(unittest.TestCase):
     def test_the_widest_difference_of_one_nurse_is_the_greatest_of_all_weeks_and_histories(self):
-        for limits, work, off, whole in (((2, 3), (2, 4), (2, 3), True), ((1, 9999), (3, 2), (0, 1), False), ((3, 4), (1, 9), (2, 9), True)):
+        for limits, work, off, whole in (((2, 3), (2, 4), (2, 3), True), ((1, 9), (3, 2), (0, 1), False), ((3, 4), (1, 9), (2, 9), True)):
             scenario = small_ward([("Day", limits, ())], Contract("Full", Limits(0, 9), Limits(*work), Limits(*off), 9, whole))
             pasts = [NurseHistory("Ann", 0, 0, None, 0, 0, length) for length in range(11)]
             pasts += [NurseHistory("Ann", 0, 0, "Day", on, days, 0) for on in range(1, 11) for days in range(on, 11)]
