@@ -29,7 +29,8 @@ td small { font-size: .82em }
 .sat { border-left: 2.5px solid #111 }
 .sun { border-right: 2.5px solid #111 }
 .roster { width: 100% }
-.roster th:first-child { width: 8em }
+.roster thead tr > :first-child { width: 8em }
+.roster tbody th { overflow-wrap: anywhere }
 .many td, .many thead th { padding: .15em .2em; min-width: 1.5em }
 .many td small { font-size: .7em; margin-left: .1em }
 .many { table-layout: fixed }
