@@ -13,7 +13,7 @@ from .why import breach_lines
 
 STYLE = """
 :root { color-scheme: light }
-body { font: 10pt/1.3 sans-serif; margin: 1.2em; color: #111; background: #fff; max-width: 1100px }
+body { font: 10pt/1.3 sans-serif; margin: 1.2em; color: #111; background: #fff; max-width: 1200px }
 h1 { font-size: 1.4em; margin: 0 0 .2em }
 h2 { font-size: 1.15em; margin: 1.2em 0 .3em }
 p, ul { margin: .3em 0 }
@@ -29,9 +29,11 @@ td small { font-size: .82em }
 .sat { border-left: 2.5px solid #111 }
 .sun { border-right: 2.5px solid #111 }
 .roster { width: 100% }
-.roster th:first-child { width: 8em }
+.roster thead tr > :first-child { width: 8em }
+.roster tbody th { overflow-wrap: anywhere }
 .many td, .many thead th { padding: .15em .2em; min-width: 1.5em }
 .many td small { font-size: .7em; margin-left: .1em }
+.many { table-layout: fixed }
 .many .date { font-size: .7em; white-space: normal }
 .mark { font-weight: bold; margin-left: .25em }
 .away { font-style: italic; font-size: .85em }

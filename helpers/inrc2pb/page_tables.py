@@ -85,13 +85,19 @@ def day_heads(page: Content, weeks: Sequence[int], corner: str) -> List[Markup]:
 # ---- the roster
 
 
+def _small(names: Dict[str, str]) -> Dict[str, str]:
+    """Short names of skills in small letters, so that none looks like a shift type, if they still differ."""
+    small = {name: short.lower() for name, short in names.items()}
+    return small if len(set(small.values())) == len(names) else names
+
+
 class RosterTable:
     """The table of the roster."""
 
     def __init__(self, page: Content) -> None:
         self.page, self.view = page, page.view
         self.single = len(self.view.weeks) == 1
-        self.short, self.skills = cuts(self.view.shifts, 1), cuts(self.view.skills, 1)
+        self.short, self.skills = cuts(self.view.shifts, 1), _small(cuts(self.view.skills, 1))
         self.changed = {(change.week, change.nurse, change.day): change for change in page.changes}
 
     def tables(self) -> Iterator[Markup]:

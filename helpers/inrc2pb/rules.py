@@ -26,21 +26,21 @@ Shifts = Dict[Tuple[str, int], List[str]]
 class Charge(NamedTuple):
     """What a soft rule charges: something that occurs a number of times, and the weight of each time.
 
-    The nurse is None for a place that lacks nurses, and `subject` names the place, the shift type or the request, if there is
-    one. `days` are the first and the last day of this week that it concerns; None for what happened before Monday, and for the
-    totals of a period. `number` is what the rule compares with `limit`, and `before` is its part from before Monday.
+    The nurse is None for a place with too few nurses, and `subject` names the place or the shift type, if there is one. `days` are
+    the first and the last day of this week that it concerns; None for days before Monday only, and for the totals of a period.
+    The rule compares `number` with `limit`; `before` is the part of it from before Monday.
     """
 
     rule: str
     what: str
     nurse: Optional[str]
-    subject: str
-    days: Optional[Tuple[int, int]]
-    number: int
-    limit: int
-    before: int
-    times: int
     weight: int
+    subject: str = ""
+    days: Optional[Tuple[int, int]] = None
+    number: int = 0
+    limit: int = 0
+    before: int = 0
+    times: int = 1
 
     @property
     def cost(self) -> int:
@@ -124,10 +124,10 @@ def charges(week: Week, roster: Sequence[Assignment], early: bool = False) -> It
     """Everything that the soft rules charge: first the places, then each nurse."""
     shifts, number = shifts_by_day(roster), numbers(roster)
     for place, required in week.data.requirements.items():
-        missing, day = required.optimal - number[place], place.day
+        missing = required.optimal - number[place]
         if missing > 0:
-            named = f"{place.shift} {place.skill}"
-            yield Charge("S1", "missing", None, named, (day, day), number[place], required.optimal, 0, missing, MISSING_NURSE)
+            charge = Charge("S1", "missing", None, MISSING_NURSE, f"{place.shift} {place.skill}", (place.day, place.day), times=missing)
+            yield charge._replace(number=number[place], limit=required.optimal)
     requests = requests_by_nurse(week)
     for nurse in week.scenario.nurses:
         yield from nurse_charges(week, shifts, requests[nurse], nurse, early)
@@ -147,17 +147,15 @@ def nurse_charges(week: Week, shifts: Shifts, requests: Sequence[Request], nurse
     shift_on = [shifts[nurse, day] for day in range(7)]
     for name, shift in week.scenario.shift_types.items():
         before = history.consecutive_shifts if history.last_shift == name else 0
-        base = Charge("S2", "shift", nurse, name, None, 0, 0, 0, 0, SHIFT_RUN)
-        yield from run_charges(base, [name in now for now in shift_on], before, shift.consecutive)
-    base = Charge("S2", "work", nurse, "", None, 0, 0, 0, 0, WORK_RUN)
-    yield from run_charges(base, [bool(now) for now in shift_on], history.working_days, contract.working_days)
-    base = Charge("S3", "off", nurse, "", None, 0, 0, 0, 0, DAYS_OFF_RUN)
-    yield from run_charges(base, [not now for now in shift_on], history.days_off, contract.days_off)
+        yield from run_charges(Charge("S2", "shift", nurse, SHIFT_RUN, name), [name in now for now in shift_on], before, shift.consecutive)
+    work, off = Charge("S2", "work", nurse, WORK_RUN), Charge("S3", "off", nurse, DAYS_OFF_RUN)
+    yield from run_charges(work, [bool(now) for now in shift_on], history.working_days, contract.working_days)
+    yield from run_charges(off, [not now for now in shift_on], history.days_off, contract.days_off)
     yield from _request_charges(nurse, shift_on, requests)
     saturday, sunday = bool(shift_on[SATURDAY]), bool(shift_on[SUNDAY])
     if contract.complete_weekends and saturday != sunday:
         day = SATURDAY if saturday else SUNDAY
-        yield Charge("S5", "half", nurse, "", (day, day), 1, 2, 0, 1, HALF_WEEKEND)
+        yield Charge("S5", "half", nurse, HALF_WEEKEND, days=(day, day))
     yield from _total_charges(week, contract, history, sum(map(len, shift_on)), saturday or sunday, early)
 
 
@@ -166,8 +164,8 @@ def _request_charges(nurse: str, shift_on: Sequence[List[str]], requests: Sequen
     for request, count in collections.Counter(requests).items():
         for shift in shift_on[request.day]:
             if request.shift in (None, shift):
-                what, days = "Any" if request.shift is None else "shift", (request.day, request.day)
-                yield Charge("S4", what, nurse, shift, days, count, 0, 0, count, REQUEST)
+                what = "Any" if request.shift is None else "shift"
+                yield Charge("S4", what, nurse, REQUEST, shift, (request.day, request.day), number=count, times=count)
 
 
 def _total_charges(week: Week, contract: Contract, history: NurseHistory, works: int, weekend: bool, early: bool) -> Iterator[Charge]:
@@ -175,7 +173,8 @@ def _total_charges(week: Week, contract: Contract, history: NurseHistory, works:
     (least, greatest), most = contract.assignments, contract.max_weekends
     total, weekends = history.assignments + works, history.weekends + weekend
     if week.is_last and total < least:
-        yield Charge("S6", "below", history.nurse, "", None, total, least, history.assignments, least - total, ASSIGNMENT_TOTAL)
+        charge = Charge("S6", "below", history.nurse, ASSIGNMENT_TOTAL, number=total, limit=least, times=least - total)
+        yield charge._replace(before=history.assignments)
     if week.is_last or early:
         for rule, now, limit, before, weight in (
             ("S6", total, greatest, history.assignments, ASSIGNMENT_TOTAL),
@@ -183,7 +182,7 @@ def _total_charges(week: Week, contract: Contract, history: NurseHistory, works:
         ):
             times = now - max(limit, before) if early else now - limit
             if times > 0:
-                yield Charge(rule, "above", history.nurse, "", None, now, limit, before, times, weight)
+                yield Charge(rule, "above", history.nurse, weight, number=now, limit=limit, before=before, times=times)
 
 
 def cost_by_rule(charged: Iterable[Charge]) -> Dict[str, int]:

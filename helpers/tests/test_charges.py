@@ -38,7 +38,7 @@ def options(week):
 
 class Words(unittest.TestCase):
     def charged(self, has, before, least, greatest):
-        base = rules.Charge("S3", "off", "Chen", "", None, 0, 0, 0, 0, 30)
+        base = rules.Charge("S3", "off", "Chen", 30)
         days = [letter == "#" for letter in has]
         return [(charge.times, in_words(charge)) for charge in rules.run_charges(base, days, before, files.Limits(least, greatest))]
 

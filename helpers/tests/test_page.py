@@ -119,8 +119,8 @@ class Page(PageTest):
         page = self.page(*two, *MONDAY, ROSTER, later)
         rows = self.caption(page, "Shifts")
         self.assertEqual((rows[0], rows[1][8], len(rows[2])), (["", "week 0", "week 1"], "Mon 7 Dec", 15))
-        self.assertEqual(rows[2][1], "DCDay Charge")
-        self.assertIn("C = Charge", [words(item) for item in page.iter("li")])
+        self.assertEqual(rows[2][1], "DcDay Charge")
+        self.assertIn("c = Charge", [words(item) for item in page.iter("li")])
         self.assertIn("Amara,10,17 to 21,7 to 11 left,10,0,0,2,2,1,0,1,10".split(","), self.caption(page, "Totals"))
         # A table of the roster has four weeks, and one of the coverage has two.
         page = self.page(*[ROSTER] * 5)
