@@ -4,6 +4,7 @@ from typing import Dict, List, Optional, Sequence, Set
 
 from .plan import POINT, WEEK_DAYS, Plan
 from .pricing import Crews, Pricing, Row
+from .records import Place
 from .row_graph import Check
 from .row_program import BELOW_MINIMUM
 from .skills import staffed
@@ -34,16 +35,16 @@ class _Matching:
         holder: Dict[int, int] = {}
         choices = [held.get(at) or 0 for at in range(len(self.rows))]
         left = {at: self._crews.minimum[at] for at, place in enumerate(self._crews.places) if place.day == day}
-        for at, place in enumerate(self._crews.places):
-            if at in left:
-                left[at] -= sum(choice == self._numbers[place.shift] and self._skill(nurse, day) == place.skill for nurse, choice in held.items() if choice)
-        wants = {place: self._wants(place, day, held) for place, number in left.items() if number > 0}
+        for at in left if held else ():
+            of = self._crews.places[at]
+            left[at] -= sum(choice == self._numbers[of.shift] and self._skill(nurse, day) == of.skill for nurse, choice in held.items() if choice)
+        wants = {at: self._wants(at, day, held) for at, number in left.items() if number > 0}
         tried = dict.fromkeys(wants, 0)
-        for place in sorted(wants, key=lambda at: len(wants[at])):
-            for _ in range(left[place]):
-                self._fill(place, wants, tried, holder)
-        for nurse, place in holder.items():
-            choices[nurse] = self._numbers[self._crews.places[place].shift]
+        for at in sorted(wants, key=lambda at: len(wants[at])):
+            for _ in range(left[at]):
+                self._fill(at, wants, tried, holder)
+        for nurse, at in holder.items():
+            choices[nurse] = self._numbers[self._crews.places[at].shift]
         for nurse, choice in enumerate(choices):
             self.rows[nurse].append(choice)
             self._last[nurse] = choice
@@ -131,7 +132,7 @@ class Descent:
         names = {nurse: at for at, nurse in enumerate(pricing.plan.nurses)}
         self._at: List[List[int]] = [[] for _ in rows]
         for cell in staffed(pricing.plan, crews, rows).cells:
-            place = index.get((cell.day, cell.shift, cell.skill))  # type: ignore[call-overload]
+            place = index.get(Place(cell.day, cell.shift, cell.skill))
             if place is not None:
                 self._at[names[cell.nurse]].append(place)
                 self._number[place] += 1
@@ -153,8 +154,8 @@ class Descent:
             better = value is None or found.value < value
         if better and found is not None:
             self.rows[nurse] = found.row
-            places = (max(crews.members[of[day][choice]], key=worth.of_place, default=None) for day, choice in enumerate(found.row))
-            self._at[nurse] = [place for place in places if place is not None]
+            members = (crews.members[of[day][choice]] for day, choice in enumerate(found.row))
+            self._at[nurse] = [max(places, key=worth.of_place) for places in members if places]
         for place in self._at[nurse]:
             self._number[place] += 1
         return better

@@ -63,7 +63,8 @@ class Crews:
 
     def best_place(self, crew: int, prices: Sequence[float]) -> Optional[int]:
         """The place of a crew that has the highest price."""
-        return max(self.members[crew], key=prices.__getitem__, default=None)
+        places = self.members[crew]
+        return max(places, key=prices.__getitem__) if places else None
 
 
 class Pricing:

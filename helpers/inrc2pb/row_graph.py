@@ -5,7 +5,7 @@ are open, and what more assignments and weekends would cost. Nodes with the same
 """
 
 from operator import add, itemgetter
-from typing import Callable, Dict, Iterable, List, NamedTuple, Sequence, Tuple
+from typing import Callable, Dict, Iterable, List, NamedTuple, Sequence, Set, Tuple
 
 from .plan import NEVER, POINT, WEEK_DAYS, Plan
 from .records import Contract, Limits, NurseHistory
@@ -45,7 +45,7 @@ class Runs:
         self.days, self.charging, self.contract = plan.days, plan.charging, contract
         self.shifts = [Limits(0, 0), *(of.consecutive for of in types)]
         self.numbers = {of.name: number for number, of in enumerate(types, 1)}
-        self.forbidden = [set(), *({self.numbers[name] for name in of.forbidden_next} for of in types)]
+        self.forbidden: List[Set[int]] = [set(), *({self.numbers[name] for name in of.forbidden_next} for of in types)]
 
     def before(self, past: NurseHistory) -> RunState:
         """The state before the first day. The numbers of a history may contradict one another: all of them count."""

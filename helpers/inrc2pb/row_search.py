@@ -53,7 +53,8 @@ class RowSearch:
         self.penalty: Optional[int] = None
         # Whether the linear program has all the rows that it needs.
         self.complete = False
-        self.value = math.inf
+        # Whether nurses are missing below minimums even so.
+        self.misses_minimums = False
 
     @property
     def lower_bound(self) -> Optional[int]:
@@ -143,7 +144,6 @@ class RowSearch:
         share = 0.0
         while not self.complete:
             now = self._relax(range(len(self.program.columns)), clock)
-            self.value = now.value
             tried = [round(share * best + (1 - share) * price) for best, price in zip(self.prices, now.prices)] if share else now.prices
             found = self._priced(tried, everyone, clock)
             self._raise_bound(tried, found)
@@ -152,7 +152,8 @@ class RowSearch:
                 if priced.cost * POINT - self._earned(now.prices, nurse, priced.row) - now.nurses[nurse] < -WORTH:
                     new += self.program.add(nurse, priced.row, priced.cost, now.prices)
             if self._meets(now.value) or not (new or share):
-                if now.missing > _EXACT and self.plan.charging and self.program.below < MOST_BELOW:
+                self.misses_minimums = now.missing > _EXACT
+                if self.misses_minimums and self.plan.charging and self.program.below < MOST_BELOW:
                     self.program.below = min(MOST_BELOW, 10 * self.program.below)
                 else:
                     self.complete = True
@@ -209,17 +210,22 @@ class RowSearch:
         assert self.penalty is not None and self.bound is not None
         return (self.penalty - STEP) * POINT - self.bound
 
+    def costly(self, rows: Sequence[Row]) -> List[int]:
+        """The nurses whose rows cost more at the best prices than their cheapest ones."""
+        found = self._priced(self.prices, range(len(rows)), self.clock)
+        return [nurse for nurse, row in enumerate(rows) if self._reduced(nurse, row, self.pricing.cost(nurse, row) or 0) > found[nurse].value]
+
+    def _reduced(self, nurse: int, row: Row, cost: int) -> int:
+        """What a row costs less what it earns at the best prices, in thousandths."""
+        return cost * POINT - self._earned(self.prices, nurse, row)
+
     def known_within(self) -> List[int]:
         """The known columns that a better roster can have."""
         if self.penalty is None or self.bound is None:
             return list(range(len(self.program.columns)))
-        least = [priced.value for _, priced in sorted(self._priced(self.prices, range(len(self.plan.nurses)), self.clock).items())]
-        gap = self.gap()
-        return [
-            at
-            for at, column in enumerate(self.program.columns)
-            if column.cost * POINT - self._earned(self.prices, column.nurse, column.row) - least[column.nurse] <= gap
-        ]
+        found, gap = self._priced(self.prices, range(len(self.plan.nurses)), self.clock), self.gap()
+        columns = enumerate(self.program.columns)
+        return [at for at, (nurse, row, cost, *_) in columns if self._reduced(nurse, row, cost) <= found[nurse].value + gap]
 
     def choose(self, use: Sequence[int], clock: Clock, finder: str) -> bool:
         """Lets the integer program choose among these columns. Returns whether the solver claims that they have nothing better than
