@@ -4,10 +4,10 @@
 #
 #   tests/improve.sh [llvm | rattle | PROGRAM]
 #
-# SEED gives the moments. Without clasp the script says so and passes.
+# SEED gives the moments. Without cbc the script says so and passes.
 . "$(dirname "$0")/kit.sh"
 
-command -v clasp > /dev/null || { echo 'improve.sh: clasp is not installed, so nothing was tried'; exit 0; }
+command -v cbc > /dev/null || { echo 'improve.sh: cbc is not installed, so nothing was tried'; exit 0; }
 export INRC2PB=$program
 RANDOM=${SEED:-1}
 stops=20
@@ -21,7 +21,7 @@ stopped() {
     rm -f "$roster"
     # In the background bash lets a child ignore Ctrl-C: Python is asked to heed it.
     TMPDIR=$room python3 -c 'import os, signal, sys; signal.signal(signal.SIGINT, signal.default_int_handler); os.execv(sys.argv[1], sys.argv[1:])' \
-        helpers/inrc2pb-improve "${week[@]}" --sol "$roster" --time 12 --jobs 2 --seed "$RANDOM" --solver clasp > "$out" 2> "$err" &
+        helpers/inrc2pb-improve "${week[@]}" --sol "$roster" --time 12 > "$out" 2> "$err" &
     search=$!
     sleep "$(($2 / 10)).$(($2 % 10))"
     kill -"$1" $search
@@ -41,7 +41,7 @@ stopped() {
 with_roster=0
 for ((stop = 1; stop <= stops; stop++)); do
     signal=$([ $((stop % 2)) = 0 ] && echo INT || echo TERM)
-    tenths=$((RANDOM % 80 + 1))
+    tenths=$((RANDOM % 30 + 1))
     begins_case "$signal after $tenths tenths of a second"
     stopped "$signal" $tenths
     [ ! -e "$room/roster" ] || with_roster=$((with_roster + 1))

@@ -4,13 +4,15 @@ import math
 import shutil
 import signal
 from pathlib import Path
-from typing import Dict, Iterator, List, NamedTuple, Optional, Sequence
+from typing import Callable, Dict, Iterator, List, NamedTuple, Optional, Sequence
 
 from .clock import Clock, TimeIsOver
-from .command import Misuse
+from .faults import Misuse
 from .processes import Ended, Processes
 
 INSTALL = "install one (Debian: apt-get install coinor-cbc)"
+# The faults in a row after which another solver is used.
+MAX_FAULTS = 3
 # An answer beyond it is none.
 _MAX_VALUE = 1e15
 # Seconds that cbc has beyond its own limit to write its answer.
@@ -39,9 +41,9 @@ class Chosen(NamedTuple):
 class LinearSolver:
     """A solver with the model and its answer in files of a folder."""
 
-    name = ""
+    name: str = ""
     # Whether it solves integer programs well enough.
-    chooses = False
+    chooses: bool = False
 
     def __init__(self, processes: Processes, folder: Path) -> None:
         self._processes, self._model, self._answer = processes, folder / "rows.mps", folder / "rows.sol"
@@ -174,9 +176,59 @@ def _names(model: str) -> "tuple[List[str], List[str]]":
     return rows, list(columns)
 
 
+def installed() -> List[str]:
+    """The names of those that are installed, in the order of use."""
+    return [name for name in ("cbc", "clp", "glpsol") if shutil.which(name)]
+
+
 def find_linear_solver(processes: Processes, folder: Path) -> Optional[LinearSolver]:
-    """The first of cbc, clp and glpsol that is installed."""
-    for name in ("cbc", "clp"):
-        if shutil.which(name):
-            return Coin(name, processes, folder)
-    return Glpsol(processes, folder) if shutil.which("glpsol") else None
+    """The first one that is installed."""
+    names = installed()
+    return LinearSolvers(names, processes, folder, lambda warning: None) if names else None
+
+
+class LinearSolvers(LinearSolver):
+    """Several solvers: after some faults in a row the next one is used. The faults of the last one are raised."""
+
+    def __init__(self, names: Sequence[str], processes: Processes, folder: Path, warn: Callable[[str], None]) -> None:
+        super().__init__(processes, folder)
+        self._others = [Glpsol(processes, folder) if name == "glpsol" else Coin(name, processes, folder) for name in names]
+        self._warn, self._faults = warn, 0
+
+    @property
+    def name(self) -> str:  # type: ignore[override]
+        """The name of the solver that is in use."""
+        return self._others[0].name
+
+    @property
+    def chooses(self) -> bool:  # type: ignore[override]
+        """Whether it solves integer programs well enough."""
+        return self._others[0].chooses
+
+    def relax(self, model: str, clock: Clock) -> Relaxed:
+        """Solves a linear program."""
+        while True:
+            try:
+                found = self._others[0].relax(model, clock)
+                self._faults = 0
+                return found
+            except SolverFault as fault:
+                self._blame(fault)
+
+    def choose(self, model: str, clock: Clock, cutoff: Optional[int], step: int) -> Chosen:
+        """Solves an integer program; a fault is no answer."""
+        try:
+            return self._others[0].choose(model, clock, cutoff, step)
+        except SolverFault as fault:
+            self._blame(fault)
+            return Chosen(None, False)
+
+    def _blame(self, fault: SolverFault) -> None:
+        self._faults += 1
+        if self._faults < MAX_FAULTS:
+            return
+        if len(self._others) == 1:
+            raise fault
+        self._warn(f"{fault}: the search goes on with {self._others[1].name}")
+        del self._others[0]
+        self._faults = 0

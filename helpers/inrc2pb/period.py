@@ -10,18 +10,19 @@ from dataclasses import dataclass, replace
 from pathlib import Path
 from typing import Callable, Dict, Iterable, List, Optional, Sequence
 
-from .command import add_solver_options, check_effort, fixes_by_week, number_of_seconds, parser
+from .command import add_solver_option, check_seconds, fixes_by_week, number_of_seconds, parser
 from .faults import FileFault, Misuse, ProgramFault, fault_line
 from .files import History, Scenario, Week, check_week_number, read_files, read_history, read_scenario, read_solution
 from .files import history_text, read_week, scenario_text, write_history, write_text
-from .improve import Progress, held_rows, search
+from .improve import search
+from .progress import Progress
 from .interrupts import Interrupts, interrupts
 from .misfits import read_held
 from .next_history import next_history
 from .processes import Processes
 from .program import NO_ROSTER, SOFT_RULES, Report, WeekFiles, decode, encode_unless_stopped, extend, find_program
 from .shared_totals import shared_week
-from .solvers import NONE_IN_TIME, Task, find_solver, installed_solvers
+from .solvers import find_solver
 from .targets import check_inputs_stay, check_no_pipes
 
 # Plans a week: writes its roster to the file. Returns what ended it early, if anything did: a fault, or KeyboardInterrupt.
@@ -40,40 +41,13 @@ class PeriodFiles:
     share: bool = False
 
 
-def plan_once(solver_name: str, seconds: float) -> Plan:
-    """Lets a solver solve the whole week once."""
-    solver = find_solver(solver_name).whole()[0]
+def plan_by_improving(solver: Optional[str], seconds: float) -> Plan:
+    """Looks for the best roster of a week."""
+    if solver:
+        find_solver(solver)
 
     def plan(files: WeekFiles, solution: Path) -> Optional[BaseException]:
-        if files.fix:
-            week = read_files(files.scenario, files.history, files.week)
-            held_rows(files.fix, week, Progress(sys.stderr))
-        processes = Processes()
-        with interrupts() as signals, tempfile.TemporaryDirectory() as folder:
-            model = Path(folder, "week.opb")
-            with signals.calling(processes.ask_to_end):
-                is_whole = encode_unless_stopped(files, model, processes)
-                outcome = solver.solve(Task(model, seconds, Path(folder)), processes) if is_whole else NONE_IN_TIME
-        if outcome.fault and not signals.caught:
-            raise Misuse(f"the solver {solver.name} has no answer: {outcome.fault}; try its command by hand")
-        try:
-            decode(files, outcome.answer, solution)
-        except ProgramFault as fault:
-            if not signals.caught:
-                raise
-            raise ProgramFault(NO_ROSTER, "stopped before the first roster") from fault
-        return KeyboardInterrupt() if signals.caught else None
-
-    return plan
-
-
-def plan_by_improving(solvers: Sequence[str], seconds: float, seed: int, jobs: int) -> Plan:
-    """Looks for a roster and improves it."""
-    for name in solvers:
-        find_solver(name)
-
-    def plan(files: WeekFiles, solution: Path) -> Optional[BaseException]:
-        outcome = search(files, None, solution, seconds, seed, jobs, solvers, Progress(sys.stderr))
+        outcome = search(files, solution, None, seconds, solver, None, Progress(sys.stderr))
         return outcome.fault or (KeyboardInterrupt() if outcome.stopped else None)
 
     return plan
@@ -227,18 +201,15 @@ def _options() -> argparse.ArgumentParser:
     totals.add_argument("--early", action="store_true", help="charge excess assignments and weekends as soon as they occur")
     totals.add_argument("--share", action="store_true", help="plan each week with its share of the totals that are left")
     options.add_argument("--time", metavar="SECONDS", type=number_of_seconds, default=60, help="seconds for each week (default: 60)")
-    add_solver_options(options)
-    options.add_argument("--once", action="store_true", help="let the first solver solve each week once, without improving its roster")
-    options.add_argument("--seed", metavar="N", type=int, default=1, help="the seed of the search (default: 1)")
+    add_solver_option(options)
     return options
 
 
 def main() -> Optional[int]:
     """The command `inrc2pb-period`."""
     given = _options().parse_args()
-    check_effort(given.time, "--time", given.jobs)
-    solvers = given.solver or list(installed_solvers())
-    plan = plan_once(solvers[0], given.time) if given.once else plan_by_improving(solvers, given.time, given.seed, given.jobs)
+    check_seconds(given.time, "--time")
+    plan = plan_by_improving(given.solver, given.time)
     files = PeriodFiles(given.sce, given.his, given.week, fixes_by_week(given.fix), given.early, given.share)
     period = Period(files, plan, given.out)
     with interrupts() as signals:

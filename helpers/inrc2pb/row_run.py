@@ -1,11 +1,12 @@
 """All steps of a search over rows, in their order and within its time."""
 
-from typing import Callable, List, Optional
+from typing import Callable, List, Optional, Tuple
 
 from .clock import Clock, TimeIsOver
 from .linear_solvers import LinearSolver
 from .plan import Plan
-from .pricing import Prices, Pricing
+from .pricing import Prices, Pricing, Row
+from .records import Place
 from .row_parts import RowParts
 from .row_search import NoRow, Offer, RowSearch
 
@@ -16,13 +17,15 @@ MOST_LISTED = 40_000
 
 
 class RowRun:
-    """A search over the rows of a plan. `heard` is called if the bound rises."""
+    """A search over the rows of a plan. `start` has the rows to begin with, if any; `heard` is called if the bound rises."""
 
-    def __init__(self, plan: Plan, solver: Optional[LinearSolver], clock: Clock, offer: Offer, heard: Callable[[], None]) -> None:
-        self._plan, self._solver, self._clock, self._offer, self._heard = plan, solver, clock, offer, heard
+    def __init__(
+        self, plan: Plan, solver: Optional[LinearSolver], clock: Clock, offer: Offer, heard: Callable[[], None], start: Optional[List[Row]] = None
+    ) -> None:
+        self._plan, self._solver, self._clock, self._offer, self._heard, self._start = plan, solver, clock, offer, heard, start
         self.search: Optional[RowSearch] = None
-        # Prices that prove that no roster keeps the minimums, or the nurse who has no row.
-        self.minimums: Optional[Prices] = None
+        # Places, and prices of them that prove that no roster keeps the minimums; or the nurse who has no row.
+        self.minimums: Optional[Tuple[List[Place], Prices]] = None
         self.without_row: Optional[str] = None
         # Whether the solver claims that no roster costs less, over all rows that such a roster can have.
         self.claimed = False
@@ -38,7 +41,7 @@ class RowRun:
 
     def _run(self) -> None:
         search = self.search = RowSearch(Pricing(self._plan, self._clock.check), self._solver, self._clock, self._offer, self._heard)
-        search.begin()
+        search.begin(self._start)
         if self._solver is None:
             return
         while not search.complete:
@@ -59,7 +62,7 @@ class RowRun:
         search = RowSearch(Pricing(plan, self._clock.check), self._solver, self._clock, lambda rows, finder: None, lambda: None)
         search.generate(self._clock)
         if search.bound is not None and search.bound > 0:
-            self.minimums = search.prices
+            self.minimums = search.pricing.crews.places, search.prices
         return self.minimums is not None
 
     def _close_gap(self, search: RowSearch, solver: LinearSolver) -> None:

@@ -87,10 +87,10 @@ class RowSearch:
 
     # ---- a first roster
 
-    def begin(self) -> None:
-        """Finds a first roster without a solver, if that is easy, and first rows."""
-        rows = matched_rows(self.plan, self.pricing.crews, self.clock.check)
-        self.keep(rows, "matching")
+    def begin(self, start: Optional[List[Row]] = None) -> None:
+        """Finds a first roster without a solver, or a better one than the given rows, if that is easy; and first rows."""
+        rows = start or matched_rows(self.plan, self.pricing.crews, self.clock.check)
+        self.keep(rows, "the given roster" if start else "matching")
         descent = Descent(self.pricing, rows)
         try:
             for _ in range(MOST_SWEEPS):

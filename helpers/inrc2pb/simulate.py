@@ -5,13 +5,13 @@ import time
 from pathlib import Path
 from typing import List, Optional
 
-from .command import add_solver_options, check_effort, number_of_seconds, parser
+from .command import add_solver_option, check_seconds, number_of_seconds, parser
 from .faults import Misuse, ProgramFault
 from .files import read_files, write_text
-from .improve import Progress, search
+from .improve import search
+from .progress import Progress
 from .interrupts import interrupts
 from .program import NO_ROSTER, WeekFiles
-from .solvers import installed_solvers
 from .targets import check_inputs_stay, check_no_pipes, check_target
 
 # The minimum of seconds, and of the share of the time, for the last check, the file and the end of Python.
@@ -47,16 +47,15 @@ def main() -> Optional[int]:
     options.add_argument("--sol", metavar="FILE", type=Path, required=True, help="the solution file to write")
     options.add_argument("--cusIn", metavar="FILE", type=Path, help="a solver's data from the week before: not read")
     options.add_argument("--cusOut", metavar="FILE", type=Path, help="the data for the next week: its number")
-    options.add_argument("--rand", metavar="N", type=int, default=1, help="the seed (default: 1)")
+    options.add_argument("--rand", metavar="N", type=int, help="the seed: not used")
     timeout = "seconds in which this process ends, its start included (default: 60)"
     options.add_argument("--timeout", metavar="SECONDS", type=number_of_seconds, default=60, help=timeout)
-    add_solver_options(options)
+    add_solver_option(options)
     options.add_argument("--no-early", action="store_true", help="charge excess assignments and weekends in the last week only")
     given = options.parse_args()
-    check_effort(given.timeout, "--timeout", given.jobs)
+    check_seconds(given.timeout, "--timeout")
     check_no_pipes((given.sce, given.his, given.week))
     week = read_files(given.sce, given.his, given.week)
-    solvers: List[str] = given.solver or list(installed_solvers())
     files = WeekFiles(given.sce, given.his, given.week, early=not given.no_early)
     if given.cusOut:
         check_target(given.cusOut.absolute())
@@ -66,7 +65,7 @@ def main() -> Optional[int]:
     seconds = search_seconds(given.timeout, seconds_since_start())
     with interrupts():
         try:
-            outcome = search(files, None, given.sol, seconds, given.rand, given.jobs, solvers, Progress(None))
+            outcome = search(files, given.sol, None, seconds, given.solver, None, Progress(None))
         except ProgramFault as fault:
             if fault.status != NO_ROSTER:
                 raise
