@@ -9,6 +9,7 @@ from typing import Callable, Dict, Iterable, List, NamedTuple, Sequence, Set, Tu
 
 from .plan import NEVER, POINT, WEEK_DAYS, Plan
 from .records import Contract, Limits, NurseHistory
+from .row_arrays import Arrays
 from .rules import ASSIGNMENT_TOTAL, DAYS_OFF_RUN, HALF_WEEKEND, SHIFT_RUN, WEEKEND_TOTAL, WORK_RUN
 
 Gather = Callable[[Sequence[int]], Tuple[int, ...]]
@@ -145,6 +146,7 @@ class Graph:
         self.days = found
         self.entered = [_gather(day.entered) for day in found]
         self.arcs = [[(_gather(heads), costs) for heads, costs in zip(day.heads, day.costs)] for day in found]
+        self._arrays = Arrays.of(found)
 
     def _forward(self, nodes: List[Tuple[RunState, int, int]]) -> List[_Day]:
         """All nodes that are reached, day by day."""
@@ -213,6 +215,8 @@ class Graph:
 
     def cheapest(self, start: int, pay: Sequence[Sequence[int]]) -> Tuple[int, bytes]:
         """The least cost of a row from this node on, and the first row that has it. NEVER or more: there is no row."""
+        if self._arrays:
+            return self._arrays.cheapest(start, pay)
         least, paid = self.values(pay)
         node, row = start, bytearray()
         for day, reached in zip(self.days, paid):
