@@ -56,6 +56,10 @@ class LinearSolver:
         """Solves an integer program whose values are multiples of `step`; only answers of at most the cutoff count."""
         raise NotImplementedError
 
+    def beside(self, number: int) -> "LinearSolver":
+        """The same solver with files of its own, so that it can run at the same time; the number is above 0."""
+        raise NotImplementedError
+
     def _run(self, model: str, words: Sequence[str], clock: Clock, seconds: float) -> Ended:
         self._model.write_text(model)
         self._answer.unlink(missing_ok=True)
@@ -222,6 +226,12 @@ class LinearSolvers(LinearSolver):
         except SolverFault as fault:
             self._blame(fault)
             return Chosen(None, False)
+
+    def beside(self, number: int) -> LinearSolver:
+        """The solvers that are still used, with files of their own; the number is above 0."""
+        folder = self._model.parent / str(number)
+        folder.mkdir(exist_ok=True)
+        return LinearSolvers([other.name for other in self._others], self._processes, folder, self._warn)
 
     def _blame(self, fault: SolverFault) -> None:
         self._faults += 1

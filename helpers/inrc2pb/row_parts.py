@@ -1,6 +1,8 @@
 """Neighborhoods over rows: some nurses get new rows beside those of all others, as a small plan of their own."""
 
+import concurrent.futures
 import random
+import threading
 import time
 from dataclasses import replace
 from typing import Dict, List, Optional, Sequence
@@ -21,57 +23,75 @@ GROWTH = 1.15
 
 
 class RowParts:
-    """Improves the best roster of a search part by part."""
+    """Improves the best roster of a search part by part, with each of the solvers at once. Each solver has files of its own."""
 
-    def __init__(self, search: RowSearch, solver: LinearSolver) -> None:
-        self._search, self._solver = search, solver
-        # The same search finds the same rosters each time.
+    def __init__(self, search: RowSearch, solvers: Sequence[LinearSolver]) -> None:
+        self._search, self._solvers = search, solvers
         self._chance = random.Random(1)
-        self._size = FIRST_SIZE * WEEK_DAYS / search.plan.days ** 0.5 / WEEK_DAYS ** 0.5
+        self._least = search.least_values()
+        self._size = min(len(search.plan.nurses), FIRST_SIZE * (WEEK_DAYS / search.plan.days) ** 0.5)
+        # Guards all that the threads share: the search, the size and the chance.
+        self._lock = threading.Lock()
+        self._ended = threading.Event()
 
     def run(self, clock: Clock) -> None:
         """Searches until the time is over or the best roster is proved."""
-        count = len(self._search.plan.nurses)
-        while not self._search.is_proved:
+        with concurrent.futures.ThreadPoolExecutor(len(self._solvers)) as pool:
+            workers = [pool.submit(self._work, solver, clock) for solver in self._solvers]
+            try:
+                for worker in concurrent.futures.as_completed(workers):
+                    worker.result()
+            finally:
+                self._ended.set()
+
+    def _work(self, solver: LinearSolver, clock: Clock) -> None:
+        """One thread: neighborhoods of sizes that its time allows."""
+        while not self._ended.is_set() and not self._search.is_proved:
             clock.check()
             began = time.monotonic()
-            nurses = self._nurses(min(count, max(LEAST_SIZE, int(self._size))))
             try:
-                self.improve(nurses, clock.part(MOST_SECONDS))
+                self.improve(self._nurses(), solver, clock.part(MOST_SECONDS))
             except TimeIsOver:
-                self._size = max(LEAST_SIZE, self._size / GROWTH)
+                self._resize(1 / GROWTH)
             if time.monotonic() - began < QUICK_SECONDS:
-                self._size = min(count, self._size * GROWTH)
+                self._resize(GROWTH)
+        self._ended.set()
 
-    def _nurses(self, size: int) -> List[int]:
+    def _resize(self, factor: float) -> None:
+        with self._lock:
+            self._size = min(len(self._search.plan.nurses), max(LEAST_SIZE, self._size * factor))
+
+    def _nurses(self) -> List[int]:
         """Nurses for a neighborhood: half of them have rows that cost more at the best prices than their cheapest ones."""
-        search = self._search
-        assert search.rows is not None
-        costly = search.costly(search.rows)
-        first = self._chance.sample(costly, min(len(costly), size // 2))
-        rest = [nurse for nurse in range(len(search.rows)) if nurse not in first]
-        return sorted(first + self._chance.sample(rest, size - len(first)))
+        with self._lock:
+            rows, size = self._search.rows, int(self._size)
+            assert rows is not None
+            costly = self._search.costly(rows, self._least)
+            first = self._chance.sample(costly, min(len(costly), size // 2))
+            rest = [nurse for nurse in range(len(rows)) if nurse not in first]
+            return sorted(first + self._chance.sample(rest, size - len(first)))
 
-    def improve(self, nurses: Sequence[int], clock: Clock) -> bool:
+    def improve(self, nurses: Sequence[int], solver: LinearSolver, clock: Clock) -> bool:
         """Looks for better rows of these nurses. Returns whether there are some."""
         whole = self._search
-        assert whole.rows is not None
-        rows = list(whole.rows)
+        with self._lock:
+            assert whole.rows is not None
+            rows, before = list(whole.rows), whole.penalty
         names = tuple(whole.plan.nurses[nurse] for nurse in nurses)
         plan = replace(whole.plan, nurses=names, demand=self._left(rows, set(names)))
 
         def offer(found: List[Row], finder: str) -> Optional[int]:
-            merged = list(rows)
-            for nurse, row in zip(nurses, found):
-                merged[nurse] = row
-            return part.value_of(found) if whole.keep(merged, finder) else None
+            # Meanwhile another thread may have found better rows of other nurses.
+            with self._lock:
+                assert whole.rows is not None
+                kept = whole.keep(_with(whole.rows, nurses, found), finder) or whole.keep(_with(rows, nurses, found), finder)
+            return part.value_of(found) if kept else None
 
-        part = RowSearch(whole.pricing.part(plan), self._solver, clock, offer, lambda: None)
+        part = RowSearch(whole.pricing.part(plan), solver, clock, offer, lambda: None)
         part.rows = [rows[nurse] for nurse in nurses]
         part.penalty = part.value_of(part.rows)
         for nurse, row in enumerate(part.rows):
             part.add_row(nurse, row)
-        before = whole.penalty
         part.generate(clock)
         if not part.is_proved:
             part.choose(part.known_within(), clock, f"{len(nurses)} nurses")
@@ -91,3 +111,9 @@ class RowParts:
             if asked.optimal > there:
                 left[place] = Requirement(max(0, asked.minimum - there), asked.optimal - there)
         return left
+
+
+def _with(rows: Sequence[Row], nurses: Sequence[int], found: Sequence[Row]) -> List[Row]:
+    """The rows with those of these nurses replaced."""
+    new = dict(zip(nurses, found))
+    return [new.get(nurse, row) for nurse, row in enumerate(rows)]

@@ -5,6 +5,7 @@ from typing import Callable, List, Optional, Tuple
 from .clock import Clock, TimeIsOver
 from .linear_solvers import LinearSolver
 from .plan import Plan
+from .processes import processors
 from .pricing import Prices, Pricing, Row
 from .records import Place
 from .row_parts import RowParts
@@ -81,4 +82,4 @@ class RowRun:
             if search.penalty == before:
                 break
         if search.penalty is not None and solver.chooses:
-            RowParts(search, solver).run(clock)
+            RowParts(search, [solver, *(solver.beside(number) for number in range(1, processors()))]).run(clock)

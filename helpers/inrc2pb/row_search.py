@@ -210,10 +210,14 @@ class RowSearch:
         assert self.penalty is not None and self.bound is not None
         return (self.penalty - STEP) * POINT - self.bound
 
-    def costly(self, rows: Sequence[Row]) -> List[int]:
-        """The nurses whose rows cost more at the best prices than their cheapest ones."""
-        found = self._priced(self.prices, range(len(rows)), self.clock)
-        return [nurse for nurse, row in enumerate(rows) if self._reduced(nurse, row, self.pricing.cost(nurse, row) or 0) > found[nurse].value]
+    def least_values(self) -> List[int]:
+        """What each nurse's cheapest row costs at the best prices, in thousandths."""
+        found = self._priced(self.prices, range(len(self.plan.nurses)), self.clock)
+        return [priced.value for priced in found.values()]
+
+    def costly(self, rows: Sequence[Row], least: Sequence[int]) -> List[int]:
+        """The nurses whose rows cost more at the best prices than these least values."""
+        return [nurse for nurse, row in enumerate(rows) if self._reduced(nurse, row, self.pricing.cost(nurse, row) or 0) > least[nurse]]
 
     def _reduced(self, nurse: int, row: Row, cost: int) -> int:
         """What a row costs less what it earns at the best prices, in thousandths."""
