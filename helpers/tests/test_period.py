@@ -12,10 +12,10 @@ import unittest
 from dataclasses import replace
 from pathlib import Path
 
-from ward import HELPERS, HISTORY, ROOT, ROSTER, SCENARIO, WARD, WEEK, WEEK_FILES, HelperTest, files, program, run
+from ward import HAS_CBC, HAS_CLASP, HELPERS, HISTORY, ROOT, ROSTER, SCENARIO, WARD, WEEK, WEEK_FILES, WEEK_OPTIONS, HelperTest, program, run
 
-from inrc2pb.period import Period, PeriodFiles, plan_by_improving
-from inrc2pb.shared_totals import shared_week
+from inrc2pb.period import Period
+from inrc2pb.planned_weeks import PeriodFiles
 
 MONTH = ROOT / "examples" / "month"
 WARD_OPTIONS = ("--sce", SCENARIO, "--his", HISTORY, "--week", WEEK, "--week", WARD / "week-1.txt")
@@ -25,29 +25,6 @@ MONTH_OPTIONS = ("--sce", MONTH / "ward.txt", "--his", MONTH / "history-0.txt")
 MONTH_WEEKS = [word for number in range(4) for word in ("--week", MONTH / f"week-{number}.txt")]
 # A solver that prints what is not an answer, one that crashes, and one whose answer `decode` rejects.
 BAD_SOLVERS = ["echo nonsense", "false", "sh -c 'echo s SATISFIABLE'", "sh -c 'kill -9 $$'"]
-
-
-class Shares(unittest.TestCase):
-    def setUp(self):
-        self.week = files.read_files(SCENARIO, HISTORY, WEEK)
-
-    def test_each_nurse_has_her_part_of_the_totals(self):
-        ward, history, week = self.week.scenario, self.week.history, self.week.data
-        nurses = {**history.nurses, "Amara": replace(history.nurses["Amara"], assignments=5, weekends=1)}
-        shared = shared_week(files.Week(ward, replace(history, week=1, nurses=nurses), week))
-        self.assertTrue(shared.is_last)
-        # (17,21) with 5 shifts and 3 weeks to plan: 12 are missing and 16 left. Her part of 2 weekends is 1 in 2 of 4 weeks.
-        # Each second nurse begins at half a weekend or above.
-        contract = shared.scenario.contract_of("Amara")
-        self.assertEqual((contract.assignments, contract.max_weekends), (files.Limits(4, 6), 0))
-        self.assertEqual(shared.scenario.contract_of("Bruno").max_weekends, 1)
-        self.assertEqual(contract.working_days, ward.contracts["Full"].working_days)
-        self.assertEqual({past.assignments for past in shared.history.nurses.values()}, {0})
-        self.assertEqual(files.read_scenario("sce", files.scenario_text(shared.scenario)), shared.scenario)
-
-    def test_the_last_week_is_itself(self):
-        last = replace(self.week, history=replace(self.week.history, week=3))
-        self.assertIs(shared_week(last), last)
 
 
 def without_progress(said):
@@ -72,24 +49,63 @@ class PeriodTest(HelperTest):
         self.assertEqual(table[1 + count], ["period", *(str(sum(column)) for column in zip(*rows))])
 
 
-@unittest.skipUnless(shutil.which("clasp"), "clasp is not installed")
-class Periods(PeriodTest):
+@unittest.skipUnless(HAS_CBC, "cbc is not installed")
+class Together(PeriodTest):
     def test_the_ward(self):
-        for totals in ([], ["--early"], ["--share"]):
+        for totals, says in (
+            ([], "^lower bound [0-9]+ of the sum \\(plain Python, not proved\\): "),
+            (["--early"], "^lower bound "),
+            (["--ahead"], "^planned ahead of 2 weeks that are not known: no lower bound$"),
+        ):
             with self.subTest(totals):
-                status, printed, said = run("period", *WARD_OPTIONS, *totals, "--out", self.folder, "--time", 2, "--solver", "clasp")
+                status, printed, said = run("period", *WARD_OPTIONS, *totals, "--out", self.folder, "--time", 1)
                 self.assertEqual(status, 0, said)
                 self.assert_period(printed, WARD_OPTIONS, 2, "--early" in totals)
+                self.assertRegex(printed.splitlines()[-1], says)
+                self.assertIn("weeks 0 to 1 together, at most 2 s\n", said)
 
     def test_thirty_nurses_in_four_weeks(self):
-        status, printed, said = run("period", *MONTH_OPTIONS, *MONTH_WEEKS, "--early", "--out", self.folder, "--time", 3, "--solver", "clasp")
+        status, printed, said = run("period", *MONTH_OPTIONS, *MONTH_WEEKS, "--out", self.folder, "--time", 1)
         self.assertEqual(status, 0, said)
-        self.assert_period(printed, (*MONTH_OPTIONS, *MONTH_WEEKS), 4, True)
-        table = ("--sce", MONTH / "ward.txt", "--his", MONTH / "history-0.txt", *MONTH_WEEKS, "--early")
+        self.assert_period(printed, (*MONTH_OPTIONS, *MONTH_WEEKS), 4)
+        table = ("--sce", MONTH / "ward.txt", "--his", MONTH / "history-0.txt", *MONTH_WEEKS)
         shown = run("table", *table, *(self.folder / f"roster-{number}.txt" for number in range(4)))
         self.assertEqual((shown[0], shown[2]), (0, ""))
         self.assertIn("weeks 0 to 3", shown[1])
 
+    def test_held_shifts_of_a_week(self):
+        held = self.solution("Grace Sat Day Nurse", week=1, name="held.txt")
+        status, _, said = run("period", *WARD_OPTIONS, "--fix", f"1={held}", "--out", self.folder, "--time", 1)
+        self.assertEqual(status, 0, said)
+        self.assertIn("Grace Sat Day Nurse\n", (self.folder / "roster-1.txt").read_text())
+
+    def test_held_shifts_that_no_rosters_have(self):
+        rows = [f"{nurse} Mon Day Nurse" for nurse in ("Amara", "Bruno", "Chen", "Dilek", "Ewa", "Finn", "Grace")]
+        held = self.solution(*rows, week=1, name="held.txt")
+        status, printed, said = run("period", *WARD_OPTIONS, "--fix", f"1={held}", "--out", self.folder / "out", "--time", 20)
+        self.assertEqual((status, printed), (5, ""))
+        self.assertRegex(said.splitlines()[-1], "^inrc2pb-period: no rosters keep the hard rules of these weeks together, by plain Python: ")
+
+    def test_a_stop_keeps_the_best_plan(self):
+        words = (*MONTH_OPTIONS, *MONTH_WEEKS, "--out", self.folder, "--time", 60)
+        with subprocess.Popen([sys.executable, str(HELPERS / "inrc2pb-period"), *map(str, words)], stdout=subprocess.PIPE, stderr=subprocess.PIPE) as period:
+            while not (self.folder / "roster-3.txt").exists() and period.poll() is None:
+                time.sleep(0.05)
+            period.send_signal(signal.SIGINT)
+            printed, said = period.communicate(timeout=60)
+        self.assertEqual(period.returncode, 130, said)
+        self.assert_period(printed.decode(), (*MONTH_OPTIONS, *MONTH_WEEKS), 4)
+        self.assertEqual(printed.decode().splitlines()[-1], "stopped: weeks 0 to 3 are planned")
+
+    def test_one_week_has_the_bound_of_the_week(self):
+        status, printed, said = run("period", *WEEK_OPTIONS, "--out", self.folder, "--time", 20)
+        self.assertEqual(status, 0, said)
+        self.assert_period(printed, WEEK_OPTIONS, 1)
+        self.assertRegex(printed, "\nlower bound 20 \\(.*\\)\nno roster costs less")
+
+
+@unittest.skipUnless(HAS_CLASP, "clasp is not installed")
+class Periods(PeriodTest):
     def test_held_shifts_of_a_week(self):
         held = self.folder / "held.txt"
         words = (*WARD_OPTIONS, "--fix", f"1={held}", "--out", self.folder, "--time", 5, "--solver", "clasp")
@@ -159,7 +175,7 @@ class PeriodFaults(PeriodTest):
         self.assertTrue((self.folder / "history-1.txt").exists())
 
     def test_the_weeks_that_a_stopped_period_has(self):
-        period = Period(PeriodFiles(*MONTH_OPTIONS[1::2], MONTH_WEEKS[1::2], {}), plan_by_improving("false", 1), self.folder)
+        period = Period(PeriodFiles(*MONTH_OPTIONS[1::2], MONTH_WEEKS[1::2]), self.folder)
         for planned, says in (
             (1, "week 0 is planned, weeks 1 to 3 are not"),
             (2, "weeks 0 to 1 are planned, weeks 2 to 3 are not"),
