@@ -7,7 +7,9 @@ from typing import Callable, List, Optional, Sequence
 from .clock import Clock
 from .faults import ProgramFault
 from .files import Assignment
-from .linear_solvers import INSTALL, LinearSolvers, installed
+from .linear_solvers import INSTALL, LinearSolver, LinearSolvers, installed
+from .next_history import next_history
+from .plan import WEEK_DAYS, Plan
 from .planned_weeks import PlannedWeeks
 from .pricing import Row
 from .processes import Processes
@@ -16,10 +18,13 @@ from .progress import Progress, gap_share
 from .row_arrays import INSTALL as INSTALL_NUMPY
 from .row_arrays import numpy
 from .row_run import RowRun
+from .row_search import GIVEN
 from .skills import staffed
 
 # The cells of a plan from which on NumPy makes a difference.
 LARGE = 400
+# The most of the time that goes to a first plan, week after week.
+FIRST_SHARE = 0.25
 
 # Writes rosters of all weeks, whose days count from the first one, to where they belong.
 Keep = Callable[[Sequence[Assignment]], None]
@@ -67,7 +72,7 @@ class PeriodSearch:
                 return None
             self._keep(cells)
             self.penalty = run.search.value_of(rows) if self._weeks.later() else penalty
-            self._progress.improved(penalty, finder)
+            self._progress.improved(penalty, "week after week" if finder == GIVEN else finder)
             return self.penalty
 
         def heard() -> None:
@@ -77,10 +82,33 @@ class PeriodSearch:
                 self._progress.bound_rose(self.bound)
 
         solver = LinearSolvers(names, self._processes, folder, self._progress.warn) if names else None
-        run = RowRun(plan, solver, self._clock, offer, heard)
+        run = RowRun(plan, solver, self._clock, offer, heard, self._week_after_week(plan, solver))
         run.run()
         if self.penalty is None:
             raise ProgramFault(NO_ROSTER, self._why_none(run))
+
+    def _week_after_week(self, plan: Plan, solver: Optional[LinearSolver]) -> Optional[List[Row]]:
+        """Rows of all weeks, each planned before the next one and with what it may charge early; None if a week has no roster."""
+        history, rows = plan.history, [b""] * len(plan.nurses)
+        seconds = self._clock.left() * FIRST_SHARE / len(plan.weeks)
+        for number, data in enumerate(plan.weeks):
+            held = [row._replace(day=row.day % WEEK_DAYS) for of in plan.held.values() for row in of if row.day // WEEK_DAYS == number]
+            found: List[List[Row]] = []
+
+            def offer(better: List[Row], _finder: str) -> Optional[int]:
+                assert run.search is not None
+                found.append(better)
+                return run.search.value_of(better)
+
+            week = Plan.of(plan.scenario, history, [data], True, held)
+            run = RowRun(week, solver, self._clock.part(seconds), offer, lambda: None)
+            run.run()
+            if not found or run.search is None:
+                return None
+            if number + 1 < len(plan.weeks):
+                history = next_history(plan.scenario, history, staffed(week, run.search.pricing.crews, found[-1]).cells)
+            rows = [row + more for row, more in zip(rows, found[-1])]
+        return rows
 
     def _checked(self, cells: Sequence[Assignment], folder: Path) -> Optional[int]:
         """The penalty of the rosters of the known weeks, by `inrc2pb extend`; None if one breaks a hard rule."""

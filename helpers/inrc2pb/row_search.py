@@ -26,6 +26,8 @@ FIRST_SHARE, LEAST_SHARE, MOST_SHARE = 0.06, 0.02, 0.5
 DIVE_ROUNDS = 3
 MOST_SWEEPS = 4
 _EXACT = 1e-6
+# The name of what found the rows with which a search begins.
+GIVEN = "the given roster"
 
 # Takes rows of all nurses and the name of what found them, and returns their penalty, or None if they are no roster.
 Offer = Callable[[List[Row], str], Optional[int]]
@@ -90,7 +92,7 @@ class RowSearch:
     def begin(self, start: Optional[List[Row]] = None) -> None:
         """Finds a first roster without a solver, or a better one than the given rows, if that is easy; and first rows."""
         rows = start or matched_rows(self.plan, self.pricing.crews, self.clock.check)
-        self.keep(rows, "the given roster" if start else "matching")
+        self.keep(rows, GIVEN if start else "matching")
         descent = Descent(self.pricing, rows)
         try:
             for _ in range(MOST_SWEEPS):
