@@ -6,12 +6,18 @@ import subprocess
 import sys
 import unittest
 
-from ward import HELPERS, ROOT, files
+from ward import HAS_CBC, HELPERS, ROOT, THIRTY_FILES, HelperTest, files
 
+from inrc2pb.clock import Clock
+from inrc2pb.linear_solvers import LinearSolvers
 from inrc2pb.next_history import next_history
 from inrc2pb.plan import POINT, WEEK_DAYS, Plan
 from inrc2pb.pricing import Pricing
-from inrc2pb.rules import nurse_costs
+from inrc2pb.processes import Processes
+from inrc2pb.row_parts import RowParts
+from inrc2pb.row_search import RowSearch
+from inrc2pb.rules import costs, first_broken, nurse_costs
+from inrc2pb.skills import staffed
 
 MONTH = ROOT / "examples" / "month"
 SCENARIO = files.read_scenario(MONTH / "ward.txt")
@@ -106,6 +112,29 @@ class FourWeeks(unittest.TestCase):
                 self.assertEqual(ran.stdout, b"True\n")
                 return
         self.skipTest("NumPy is not installed")
+
+
+@unittest.skipUnless(HAS_CBC, "cbc is not installed")
+class Parts(HelperTest):
+    def test_two_threads_find_the_best_roster(self):
+        week = files.read_files(THIRTY_FILES.scenario, THIRTY_FILES.history, THIRTY_FILES.week)
+        plan = Plan.of(week.scenario, week.history, [week.data])
+        solver = LinearSolvers(["cbc"], Processes(), self.folder, self.fail)
+        kept = []
+
+        def offer(rows, finder):
+            cells = staffed(plan, search.pricing.crews, rows).cells
+            self.assertIsNone(first_broken(week, cells))
+            kept.append(sum(costs(week, cells).values()))
+            return kept[-1]
+
+        search = RowSearch(Pricing(plan, lambda: None), solver, Clock(60), offer, lambda: None)
+        search.begin()
+        search.generate(search.clock)
+        RowParts(search, [solver, solver.beside(1)]).run(search.clock)
+        # docs/solvers.md has this penalty as the best.
+        self.assertEqual((search.penalty, search.lower_bound), (605, 605))
+        self.assertEqual(kept, sorted(set(kept), reverse=True))
 
 
 if __name__ == "__main__":
