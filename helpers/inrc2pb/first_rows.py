@@ -27,7 +27,7 @@ class _Matching:
         self._worked = [0] * len(pasts)
         self.rows = [bytearray() for _ in pasts]
         skills = [set(plan.scenario.nurses[nurse].skills) for nurse in plan.nurses]
-        self._skilled = {skill: [at for at, of in enumerate(skills) if skill in of] for skill in plan.scenario.skills}
+        self._skilled = {skill: {at for at, of in enumerate(skills) if skill in of} for skill in plan.scenario.skills}
 
     def day(self, day: int) -> None:
         """Chooses for each nurse on this day."""
@@ -38,11 +38,13 @@ class _Matching:
         for at in left if held else ():
             of = self._crews.places[at]
             left[at] -= sum(choice == self._numbers[of.shift] and self._skill(nurse, day) == of.skill for nurse, choice in held.items() if choice)
-        wants = {at: self._wants(at, day, held) for at, number in left.items() if number > 0}
+        asked = {at: self._crews.places[at] for at, number in left.items() if number > 0}
+        order = {shift: self._order(self._numbers[shift], day, held) for shift in dict.fromkeys(place.shift for place in asked.values())}
+        wants = {at: [nurse for nurse in order[place.shift] if nurse in self._skilled[place.skill]] for at, place in asked.items()}
         tried = dict.fromkeys(wants, 0)
         for at in sorted(wants, key=lambda at: len(wants[at])):
-            for _ in range(left[at]):
-                self._fill(at, wants, tried, holder)
+            while left[at] > 0 and self._fill(at, wants, tried, holder):
+                left[at] -= 1
         for nurse, at in holder.items():
             choices[nurse] = self._numbers[self._crews.places[at].shift]
         for nurse, choice in enumerate(choices):
@@ -58,10 +60,10 @@ class _Matching:
         rows = self._plan.held.get((self._plan.nurses[nurse], day))
         return self._numbers[rows[0].shift] if rows else None
 
-    def _wants(self, place: int, day: int, held: Dict[int, Optional[int]]) -> List[int]:
-        """The nurses who may be at the place, in the order in which they are asked."""
-        choice = self._numbers[self._crews.places[place].shift]
-        free = [nurse for nurse in self._skilled[self._crews.places[place].skill] if held.get(nurse) is None and choice not in self._forbidden[self._last[nurse]]]
+    def _order(self, choice: int, day: int, held: Dict[int, Optional[int]]) -> List[int]:
+        """The nurses who may have the choice, in the order in which they are asked."""
+        nurses = range(len(self.rows))
+        free = [nurse for nurse in nurses if held.get(nurse) is None and choice not in self._forbidden[self._last[nurse]]]
         if self._plan.held:
             free = [nurse for nurse in free if (self._held(nurse, day + 1) or 0) not in self._forbidden[choice]]
         return sorted(free, key=lambda nurse: self._rank(nurse, choice))
@@ -72,7 +74,7 @@ class _Matching:
         busy = self._worked[nurse] >= _BUSY_DAYS * (len(self.rows[nurse]) // WEEK_DAYS + 1)
         return run >= contract.maximum, busy, not 0 < run < contract.minimum, self._last[nurse] != choice, self._worked[nurse]
 
-    def _fill(self, place: int, wants: Dict[int, List[int]], tried: Dict[int, int], holder: Dict[int, int]) -> None:
+    def _fill(self, place: int, wants: Dict[int, List[int]], tried: Dict[int, int], holder: Dict[int, int]) -> bool:
         """Gives the place one more nurse, if that is possible; others may move."""
         came: Dict[int, "tuple[int, int]"] = {}
         targets = [place]
@@ -86,11 +88,12 @@ class _Matching:
                     holder[nurse] = target
                     nurse, target = moved, further
                 holder[nurse] = target
-                return
+                return True
             for nurse in wants[target]:
                 if holder[nurse] != place and holder[nurse] not in came:
                     came[holder[nurse]] = (nurse, target)
                     targets.append(holder[nurse])
+        return False
 
 
 def matched_rows(plan: Plan, crews: Crews, check: Check) -> List[Row]:

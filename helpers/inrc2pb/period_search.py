@@ -65,15 +65,15 @@ class PeriodSearch:
         trial.mkdir()
 
         def offer(rows: List[Row], finder: str) -> Optional[int]:
-            assert run.search is not None
-            cells = staffed(plan, run.search.pricing.crews, rows).cells
+            cells = staffed(plan, run.crews, rows).cells
             penalty = self._checked(cells, trial)
             if penalty is None:
                 return None
             self._keep(cells)
-            self.penalty = run.search.value_of(rows) if self._weeks.later() else penalty
+            self.penalty = run.search.value_of(rows) if self._weeks.later() and run.search else penalty
             self._progress.improved(penalty, "week after week" if finder == GIVEN else finder)
-            return self.penalty
+            # Before the search, the cost of the weeks that are not known is not known either.
+            return self.penalty if run.search or not self._weeks.later() else None
 
         def heard() -> None:
             assert run.search is not None
@@ -96,17 +96,16 @@ class PeriodSearch:
             found: List[List[Row]] = []
 
             def offer(better: List[Row], _finder: str) -> Optional[int]:
-                assert run.search is not None
                 found.append(better)
-                return run.search.value_of(better)
+                return run.search.value_of(better) if run.search else None
 
             week = Plan.of(plan.scenario, history, [data], True, held)
             run = RowRun(week, solver, self._clock.part(seconds), offer, lambda: None)
             run.run()
-            if not found or run.search is None:
+            if not found:
                 return None
             if number + 1 < len(plan.weeks):
-                history = next_history(plan.scenario, history, staffed(week, run.search.pricing.crews, found[-1]).cells)
+                history = next_history(plan.scenario, history, staffed(week, run.crews, found[-1]).cells)
             rows = [row + more for row, more in zip(rows, found[-1])]
         return rows
 

@@ -73,9 +73,8 @@ class Pricing:
     `check` is called while the graphs are built, and may raise an exception to end that.
     """
 
-    def __init__(self, plan: Plan, check: Check) -> None:
-        self.plan = plan
-        self.crews = Crews(plan)
+    def __init__(self, plan: Plan, crews: Crews, check: Check) -> None:
+        self.plan, self.crews = plan, crews
         scenario, pasts = plan.scenario, plan.history.nurses
         runs = {name: Runs(plan, contract) for name, contract in scenario.contracts.items()}
         kinds: Dict[Tuple[str, Totals], List[int]] = {}

@@ -25,6 +25,9 @@ class RunState(NamedTuple):
     off_run: int
 
 
+Step = Tuple[int, RunState]
+
+
 def shortened(run: int, limits: Limits, left: int) -> int:
     """The shortest run that costs the same as this one in the days that are left."""
     enough = max(limits.minimum, 1)
@@ -44,6 +47,7 @@ class Runs:
     def __init__(self, plan: Plan, contract: Contract) -> None:
         types = list(plan.scenario.shift_types.values())
         self.days, self.charging, self.contract = plan.days, plan.charging, contract
+        self._known: Dict[Tuple[int, RunState], List[Step]] = {}
         self.shifts = [Limits(0, 0), *(of.consecutive for of in types)]
         self.numbers = {of.name: number for number, of in enumerate(types, 1)}
         self.forbidden: List[Set[int]] = [set(), *({self.numbers[name] for name in of.forbidden_next} for of in types)]
@@ -56,24 +60,38 @@ class Runs:
     def _state(self, choice: int, shift: int, work: int, off: int, left: int) -> RunState:
         if not self.charging:
             return RunState(choice, 0, 0, 0)
-        run = shortened(shift, self.shifts[choice], left) if choice and shift else 0
+        work_limits, off_limits = self.contract.working_days, self.contract.days_off
         return RunState(
-            choice, run, shortened(work, self.contract.working_days, left) if work else 0, shortened(off, self.contract.days_off, left) if off else 0
-        )
+            choice, shortened(shift, self.shifts[choice], left) if shift else 0,
+            shortened(work, work_limits, left) if work else 0, shortened(off, off_limits, left) if off else 0,
+        )  # fmt: skip
 
-    def after(self, now: RunState, choice: int, day: int) -> Tuple[int, RunState]:
-        """What the choice costs on a day, in points, and the state at its end."""
-        work, off = self.contract.working_days, self.contract.days_off
-        cost = ended(now.shift_run, self.shifts[now.choice], SHIFT_RUN) if now.choice and now.choice != choice else 0
-        if day % WEEK_DAYS == WEEK_DAYS - 1 and self.contract.complete_weekends and (now.choice > 0) != (choice > 0):
-            cost += HALF_WEEKEND
-        left = self.days - day - 1
-        if not choice:
-            cost += ended(now.work_run, work, WORK_RUN) + DAYS_OFF_RUN * (now.off_run + 1 > off.maximum)
-            return cost, self._state(0, 0, 0, now.off_run + 1, left)
-        run = now.shift_run + 1 if now.choice == choice else 1
-        cost += ended(now.off_run, off, DAYS_OFF_RUN) + WORK_RUN * (now.work_run + 1 > work.maximum) + SHIFT_RUN * (run > self.shifts[choice].maximum)
-        return cost, self._state(choice, run, now.work_run + 1, 0, left)
+    def steps(self, day: int, now: RunState) -> List[Step]:
+        """For each choice on a day what it costs, in points, and the state at its end; NEVER, if a hard rule forbids it."""
+        found = self._known.get((day, now))
+        if found is None:
+            found = self._known[day, now] = self._steps(day, now) if self.charging else self._free_steps(now)
+        return found
+
+    def _free_steps(self, now: RunState) -> List[Step]:
+        forbidden = self.forbidden[now.choice]
+        return [(NEVER, now) if choice in forbidden else (0, RunState(choice, 0, 0, 0)) for choice in range(len(self.shifts))]
+
+    def _steps(self, day: int, now: RunState) -> List[Step]:
+        work, off, left = self.contract.working_days, self.contract.days_off, self.days - day - 1
+        half = HALF_WEEKEND * (day % WEEK_DAYS == WEEK_DAYS - 1 and self.contract.complete_weekends)
+        closed = ended(now.shift_run, self.shifts[now.choice], SHIFT_RUN)
+        rest = closed + ended(now.work_run, work, WORK_RUN) + DAYS_OFF_RUN * (now.off_run + 1 > off.maximum) + half * (now.choice > 0)
+        found = [(rest, self._state(0, 0, 0, now.off_run + 1, left))]
+        works = ended(now.off_run, off, DAYS_OFF_RUN) + WORK_RUN * (now.work_run + 1 > work.maximum) + half * (now.choice == 0)
+        run, forbidden = shortened(now.work_run + 1, work, left), self.forbidden[now.choice]
+        for choice, limits in enumerate(self.shifts[1:], 1):
+            if choice in forbidden:
+                found.append((NEVER, now))
+            else:
+                length, cost = (now.shift_run + 1, works) if choice == now.choice else (1, works + closed)
+                found.append((cost + SHIFT_RUN * (length > limits.maximum), RunState(choice, shortened(length, limits, left), run, 0)))
+        return found
 
 
 class Totals(NamedTuple):
@@ -138,7 +156,6 @@ class Graph:
 
     def __init__(self, runs: Runs, totals: Totals, states: Iterable[RunState], check: Check) -> None:
         self._runs, self._totals, self._check = runs, totals, check
-        self._steps: Dict[Tuple[RunState, int], Tuple[int, RunState]] = {}
         firsts = list(dict.fromkeys(states))
         found = self._forward([(state, 0, 0) for state in firsts])
         classes = self._merged(found)
@@ -150,44 +167,29 @@ class Graph:
 
     def _forward(self, nodes: List[Tuple[RunState, int, int]]) -> List[_Day]:
         """All nodes that are reached, day by day."""
-        runs, (works, weekends), found = self._runs, self._totals, []
+        runs, (works, weekends) = self._runs, self._totals
+        found: List[_Day] = []
         for day in range(runs.days):
             self._check()
             later: Dict[Tuple[RunState, int, int], int] = {}
             left = runs.days - day - 1
             same_works = _first_with([works[at : at + left] for at in range(day + 2)])
             same_weekends = _first_with([weekends[at : at - (-left // WEEK_DAYS)] for at in range(day // WEEK_DAYS + 2)])
-            sunday, step = day % WEEK_DAYS == WEEK_DAYS - 1, self._steps_of(day, {state for state, _, _ in nodes})
-            costs, heads = [], []
-            for choice in range(len(runs.shifts)):
-                works_now = choice > 0
-                cost_of, head_of = [], []
-                for state, work, rest in nodes:
-                    cost, reached = step[state, choice]
-                    if cost < NEVER:
-                        weekend = sunday and (works_now or state.choice > 0)
-                        cost = POINT * (cost + (works[work] if works_now else 0) + (weekends[rest] if weekend else 0))
-                        key = (reached, same_works[work + works_now], same_weekends[rest + weekend])
-                        head_of.append(later.setdefault(key, len(later)))
-                    else:
-                        head_of.append(0)
-                    cost_of.append(cost)
-                costs.append(cost_of)
-                heads.append(head_of)
+            sunday = day % WEEK_DAYS == WEEK_DAYS - 1
+            costs: List[List[int]] = [[] for _ in runs.shifts]
+            heads: List[List[int]] = [[] for _ in runs.shifts]
+            for state, work, rest in nodes:
+                for choice, (cost, reached) in enumerate(runs.steps(day, state)):
+                    if cost == NEVER:
+                        costs[choice].append(NEVER)
+                        heads[choice].append(0)
+                        continue
+                    weekend = sunday and (choice > 0 or state.choice > 0)
+                    costs[choice].append(POINT * (cost + (works[work] if choice else 0) + (weekends[rest] if weekend else 0)))
+                    key = (reached, same_works[work + (choice > 0)], same_weekends[rest + weekend])
+                    heads[choice].append(later.setdefault(key, len(later)))
             nodes = list(later)
             found.append(_Day(costs, heads, [state.choice for state, _, _ in nodes]))
-        return found
-
-    def _steps_of(self, day: int, states: Iterable[RunState]) -> Dict[Tuple[RunState, int], Tuple[int, RunState]]:
-        """The cost and the next state of each state and choice."""
-        runs, found = self._runs, {}
-        for state in states:
-            for choice in range(len(runs.shifts)):
-                if choice in runs.forbidden[state.choice]:
-                    found[state, choice] = NEVER, state
-                else:
-                    cost, reached = runs.after(state, choice, day)
-                    found[state, choice] = cost if runs.charging else 0, reached
         return found
 
     def _merged(self, found: List[_Day]) -> List[int]:

@@ -3,13 +3,15 @@
 from typing import Callable, List, Optional, Tuple
 
 from .clock import Clock, TimeIsOver
+from .first_rows import matched_rows
 from .linear_solvers import LinearSolver
 from .plan import Plan
+from .pricing import Crews, Prices, Pricing, Row
 from .processes import processors
-from .pricing import Prices, Pricing, Row
 from .records import Place
 from .row_parts import RowParts
-from .row_search import NoRow, Offer, RowSearch
+from .row_search import GIVEN, NoRow, Offer, RowSearch
+from .skills import staffed
 
 # The shares of the time that is left: for new rows before a dive, for an integer program over the known rows, and over all rows.
 ROWS_SHARE, KNOWN_SHARE, LISTED_SHARE = 0.5, 0.1, 0.5
@@ -24,6 +26,7 @@ class RowRun:
         self, plan: Plan, solver: Optional[LinearSolver], clock: Clock, offer: Offer, heard: Callable[[], None], start: Optional[List[Row]] = None
     ) -> None:
         self._plan, self._solver, self._clock, self._offer, self._heard, self._start = plan, solver, clock, offer, heard, start
+        self.crews = Crews(plan)
         self.search: Optional[RowSearch] = None
         # Places, and prices of them that prove that no roster keeps the minimums; or the nurse who has no row.
         self.minimums: Optional[Tuple[List[Place], Prices]] = None
@@ -41,8 +44,11 @@ class RowRun:
             self.without_row = none.nurse
 
     def _run(self) -> None:
-        search = self.search = RowSearch(Pricing(self._plan, self._clock.check), self._solver, self._clock, self._offer, self._heard)
-        search.begin(self._start)
+        first, finder = self._start or matched_rows(self._plan, self.crews, self._clock.check), GIVEN if self._start else "matching"
+        penalty = None if staffed(self._plan, self.crews, first).below else self._offer(first, finder)
+        pricing = Pricing(self._plan, self.crews, self._clock.check)
+        search = self.search = RowSearch(pricing, self._solver, self._clock, self._offer, self._heard)
+        search.begin(first, penalty)
         if self._solver is None:
             return
         while not search.complete:
@@ -60,7 +66,7 @@ class RowRun:
     def _no_roster(self) -> bool:
         """Whether prices prove that no roster keeps the minimums."""
         plan = self._plan.hard_only()
-        search = RowSearch(Pricing(plan, self._clock.check), self._solver, self._clock, lambda rows, finder: None, lambda: None)
+        search = RowSearch(Pricing(plan, Crews(plan), self._clock.check), self._solver, self._clock, lambda rows, finder: None, lambda: None)
         search.generate(self._clock)
         if search.bound is not None and search.bound > 0:
             self.minimums = search.pricing.crews.places, search.prices

@@ -9,7 +9,7 @@ import math
 from typing import Callable, Dict, List, Optional, Sequence, Tuple
 
 from .clock import Clock, TimeIsOver
-from .first_rows import Descent, matched_rows
+from .first_rows import Descent
 from .linear_solvers import LinearSolver
 from .plan import POINT, STEP
 from .pricing import Priced, Prices, Pricing, Row, in_steps
@@ -89,10 +89,10 @@ class RowSearch:
 
     # ---- a first roster
 
-    def begin(self, start: Optional[List[Row]] = None) -> None:
-        """Finds a first roster without a solver, or a better one than the given rows, if that is easy; and first rows."""
-        rows = start or matched_rows(self.plan, self.pricing.crews, self.clock.check)
-        self.keep(rows, GIVEN if start else "matching")
+    def begin(self, rows: List[Row], penalty: Optional[int]) -> None:
+        """Begins with these rows, and the penalty of their roster if they are one. Makes them better without a solver, if that is easy."""
+        if penalty is not None:
+            self.rows, self.penalty = rows, penalty
         descent = Descent(self.pricing, rows)
         try:
             for _ in range(MOST_SWEEPS):

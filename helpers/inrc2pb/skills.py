@@ -28,6 +28,12 @@ class _Shift:
             for place in crews.members[crew]:
                 self.at.setdefault(place, []).append(crew)
 
+    def missing(self, place: int, wanted: int) -> int:
+        """Gives this number of nurses to a place, if there are so many. Returns how many are missing."""
+        while wanted and self.fill(place):
+            wanted -= 1
+        return wanted
+
     def fill(self, place: int) -> bool:
         """Gives one more nurse to a place; others may move, but no place loses one."""
         came: Dict[int, Tuple[int, int]] = {}
@@ -72,9 +78,8 @@ def staffed(plan: Plan, crews: Crews, rows: Sequence[Row]) -> Staffed:
     for key in dict.fromkeys([*shifts, *asked]):
         members = shifts.get(key, {})
         shift, places = _Shift(crews, members), asked.get(key, [])
-        short = sum(not shift.fill(place) for place in places for _ in range(crews.minimum[place]))
-        less = sum(not shift.fill(place) for place in places for _ in range(crews.optimal[place] - crews.minimum[place]))
-        below, missing = below + short, missing + less
+        below += sum(shift.missing(place, crews.minimum[place]) for place in places)
+        missing += sum(shift.missing(place, crews.optimal[place] - crews.minimum[place]) for place in places)
         cells += _cells(plan, crews, key, members, shift)
     return Staffed(cells, below, missing)
 

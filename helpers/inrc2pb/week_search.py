@@ -51,9 +51,8 @@ class WeekSearch:
         solver = LinearSolvers(names, self._processes, folder, self._progress.warn) if names else None
 
         def offer(rows: List[Row], finder: str) -> Optional[int]:
-            assert run.search is not None
             self._see(run, bounds)
-            return self._best.offer(staffed(plan, run.search.pricing.crews, rows).cells, finder)
+            return self._best.offer(staffed(plan, run.crews, rows).cells, finder)
 
         def heard() -> None:
             if self._progress.is_due():

@@ -9,10 +9,11 @@ import unittest
 from ward import HAS_CBC, HELPERS, ROOT, THIRTY_FILES, HelperTest, files
 
 from inrc2pb.clock import Clock
+from inrc2pb.first_rows import matched_rows
 from inrc2pb.linear_solvers import LinearSolvers
 from inrc2pb.next_history import next_history
 from inrc2pb.plan import POINT, WEEK_DAYS, Plan
-from inrc2pb.pricing import Pricing
+from inrc2pb.pricing import Crews, Pricing
 from inrc2pb.processes import Processes
 from inrc2pb.row_parts import RowParts
 from inrc2pb.row_search import RowSearch
@@ -41,7 +42,8 @@ print(found == tests.cheapest(pricing))
 
 def month(count):
     """The pricing of the month's first weeks."""
-    return Pricing(Plan.of(SCENARIO, HISTORY, WEEKS[:count]), lambda: None)
+    plan = Plan.of(SCENARIO, HISTORY, WEEKS[:count])
+    return Pricing(plan, Crews(plan), lambda: None)
 
 
 def random_prices(pricing, seed):
@@ -128,8 +130,8 @@ class Parts(HelperTest):
             kept.append(sum(costs(week, cells).values()))
             return kept[-1]
 
-        search = RowSearch(Pricing(plan, lambda: None), solver, Clock(60), offer, lambda: None)
-        search.begin()
+        search = RowSearch(Pricing(plan, Crews(plan), lambda: None), solver, Clock(60), offer, lambda: None)
+        search.begin(matched_rows(plan, search.pricing.crews, lambda: None), None)
         search.generate(search.clock)
         RowParts(search, [solver, solver.beside(1)]).run(search.clock)
         # docs/solvers.md has this penalty as the best.

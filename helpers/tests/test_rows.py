@@ -9,7 +9,7 @@ from ward import ROOT, files
 from inrc2pb.clock import Clock, TimeIsOver
 from inrc2pb.next_history import next_history
 from inrc2pb.plan import Plan
-from inrc2pb.pricing import Pricing
+from inrc2pb.pricing import Crews, Pricing
 from inrc2pb.rules import broken, costs, first_broken, nurse_costs
 from inrc2pb.skills import staffed
 
@@ -38,6 +38,11 @@ def random_plan(seed, weeks=1, nurses=4, shifts=4):
     return Plan.of(ward, history, data, chance.random() < 0.5), chance
 
 
+def pricing_of(plan, check=lambda: None):
+    """The prices of a plan."""
+    return Pricing(plan, Crews(plan), check)
+
+
 def cost_by_rules(plan, nurse, cells):
     """What a nurse's cells cost by `rules`, week by week; None if they break H3."""
     history, total = plan.history, 0
@@ -60,7 +65,7 @@ class Rows(unittest.TestCase):
     def test_costs_are_those_of_the_rules(self):
         for seed in range(60):
             plan, chance = random_plan(seed, 1 + seed % 2)
-            pricing = Pricing(plan, lambda: None)
+            pricing = pricing_of(plan)
             for at, nurse in enumerate(plan.nurses):
                 for _ in range(6):
                     row = bytes(chance.randrange(len(plan.scenario.shift_types) + 1) for _ in range(plan.days))
@@ -72,7 +77,7 @@ class Rows(unittest.TestCase):
     def test_the_cheapest_row_and_all_rows_within_a_gap(self):
         for seed in range(6):
             plan, chance = random_plan(seed, nurses=2, shifts=2)
-            pricing = Pricing(plan, lambda: None)
+            pricing = pricing_of(plan)
             prices = [chance.randrange(40 * POINT) for _ in pricing.crews.places]
             gains = pricing.crews.gains(prices)
             for nurse in range(2):
@@ -90,7 +95,7 @@ class Rows(unittest.TestCase):
     def test_no_prices_give_a_bound_above_a_roster(self):
         for seed in range(60):
             plan, chance = random_plan(seed)
-            pricing, week = Pricing(plan, lambda: None), files.Week(plan.scenario, plan.history, plan.weeks[0])
+            pricing, week = pricing_of(plan), files.Week(plan.scenario, plan.history, plan.weeks[0])
             prices = [chance.choice([0, 15, 30, 200]) * POINT for _ in pricing.crews.places]
             found = [pricing.cheapest(nurse, pricing.crews.gains(prices)) for nurse in range(4)]
             bound = sum(priced.value for priced in found) + pricing.places_cost(prices)
@@ -108,7 +113,7 @@ class Rows(unittest.TestCase):
     def test_skills_fill_as_many_places_as_they_can(self):
         for seed in range(200):
             plan, chance = random_plan(seed, shifts=1)
-            pricing = Pricing(plan, lambda: None)
+            pricing = pricing_of(plan)
             rows = [bytes([int(bool(plan.scenario.nurses[nurse].skills)), *bytes(6)]) for nurse in plan.nurses]
             roster = staffed(plan, pricing.crews, rows)
             choices = [plan.scenario.nurses[nurse].skills for nurse, row in zip(plan.nurses, rows) if row[0]]
@@ -127,7 +132,7 @@ class Rows(unittest.TestCase):
         scenario = files.read_scenario(ward / "ward.txt")
         weeks = [files.read_week(ward / f"week-{number}.txt", scenario) for number in range(4)]
         with self.assertRaises(TimeIsOver):
-            Pricing(Plan.of(scenario, files.read_history(ward / "history-0.txt", scenario), weeks), Clock(0.0).check)
+            pricing_of(Plan.of(scenario, files.read_history(ward / "history-0.txt", scenario), weeks), Clock(0.0).check)
 
 
 if __name__ == "__main__":
