@@ -111,7 +111,7 @@ class RowSearches(HelperTest):
             with self.subTest(how):
                 self.script("cbc", f'exec {sys.executable} {FAKE} {how} {cbc} "$@"\n')
                 with mock.patch.dict(os.environ, PATH=f"{self.folder}:{os.environ['PATH']}"):
-                    search = self.run_rows(week, seconds=2.0).search
+                    search = self.run_rows(week, seconds=30.0 if fault else 2.0).search
                 self.assertGreaterEqual(min(self.penalties), 435)
                 self.assertLessEqual(search.lower_bound or 0, 435)
                 self.assertEqual(len(self.warnings), int(fault is not None), self.warnings)
