@@ -34,11 +34,10 @@ example: build
 tour: build
 	examples/tour.sh
 
-# Installs solvers from Debian, as root, lets each of them solve some weeks, and writes the tables of docs/solvers.md: takes hours.
+# Installs cbc from Debian, as root, plans the weeks of docs/solvers.md, and writes its table: takes some minutes.
 solvers: build
-	$(if $(filter 0,$(shell id -u)),,sudo )apt-get install -y clasp coinor-cbc glpk-utils minisat+ sat4j toulbar2
+	$(if $(filter 0,$(shell id -u)),,sudo )apt-get install -y coinor-cbc
 	python3 bench/solvers.py
-	python3 bench/improve.py
 
 test:
 	.ci/run

@@ -60,7 +60,7 @@ Maintainer: $maintainer
 Installed-Size: $kib
 Depends: libc6 (>= $libc), python3 (>= 3.8)
 Recommends: clasp, coinor-cbc
-Suggests: minisat+, sat4j
+Suggests: python3-numpy, minisat+, sat4j
 Section: math
 Priority: optional
 Description: nurse rostering as a pseudo-Boolean model

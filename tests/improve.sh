@@ -4,14 +4,16 @@
 #
 #   tests/improve.sh [llvm | rattle | PROGRAM]
 #
-# SEED gives the moments. Without clasp the script says so and passes.
+# SEED gives the moments. Without cbc the script says so and passes.
 . "$(dirname "$0")/kit.sh"
 
-command -v clasp > /dev/null || { echo 'improve.sh: clasp is not installed, so nothing was tried'; exit 0; }
+command -v cbc > /dev/null || { echo 'improve.sh: cbc is not installed, so nothing was tried'; exit 0; }
 export INRC2PB=$program
 RANDOM=${SEED:-1}
 stops=20
-week=(--sce examples/thirty/Sc-thirty.txt --his examples/thirty/H0-thirty-3.txt --week examples/thirty/WD-thirty-3.txt)
+examples/make_weeks.py "$room" 500
+ward=$room/ward500
+week=(--sce "$ward/Sc-ward500.txt" --his "$ward/H0-ward500-3.txt" --week "$ward/WD-ward500-3.txt")
 
 penalty_of_roster() { "$program" extend "${week[@]}" --from "$1" | sed -n '1s/^o //p'; }
 
@@ -20,11 +22,11 @@ stopped() {
     local search ended roster=$room/roster
     rm -f "$roster"
     # In the background bash lets a child ignore Ctrl-C: Python is asked to heed it.
-    TMPDIR=$room python3 -c 'import os, signal, sys; signal.signal(signal.SIGINT, signal.default_int_handler); os.execv(sys.argv[1], sys.argv[1:])' \
-        helpers/inrc2pb-improve "${week[@]}" --sol "$roster" --time 12 --jobs 2 --seed "$RANDOM" --solver clasp > "$out" 2> "$err" &
+    TMPDIR=$room python3 -c 'import os, signal, sys; signal.signal(signal.SIGINT, signal.SIG_DFL); os.execv(sys.argv[1], sys.argv[1:])' \
+        helpers/inrc2pb-improve "${week[@]}" --sol "$roster" --time 12 > "$out" 2> "$err" &
     search=$!
     sleep "$(($2 / 10)).$(($2 % 10))"
-    kill -"$1" $search
+    kill -"$1" $search 2> /dev/null
     wait $search
     ended=$?
     if [ -e "$roster" ]; then
@@ -41,7 +43,7 @@ stopped() {
 with_roster=0
 for ((stop = 1; stop <= stops; stop++)); do
     signal=$([ $((stop % 2)) = 0 ] && echo INT || echo TERM)
-    tenths=$((RANDOM % 80 + 1))
+    tenths=$((RANDOM % 40 + 1))
     begins_case "$signal after $tenths tenths of a second"
     stopped "$signal" $tenths
     [ ! -e "$room/roster" ] || with_roster=$((with_roster + 1))

@@ -97,11 +97,11 @@ from inrc2pb import files, program
 print(program.penalty_of(program.WeekFiles(*sys.argv[1:4]), sys.argv[4]))' "$ward"/{ward,history-0,week-0,roster-0}.txt) \
         > "$out" 2> "$err" || complain "$(tail -n 1 "$err")"
     has_line 20
-    command -v clasp > /dev/null || return
-    runs inrc2pb-improve "${week[@]}" --fix kept.txt --time 20 --jobs 1 --solver clasp --sol roster-0.txt
+    command -v cbc > /dev/null || return
+    runs inrc2pb-improve "${week[@]}" --fix kept.txt --time 20 --sol roster-0.txt
     has_line 'penalty 20'
-    runs inrc2pb-period "${week[@]}" --week "$ward/week-1.txt" --time 10 --once --solver clasp --out period
-    runs inrc2pb-simulate "${week[@]}" --timeout 5 --solver clasp --sol simulated.txt --cusOut custom.txt
+    runs inrc2pb-period "${week[@]}" --week "$ward/week-1.txt" --time 10 --out period
+    runs inrc2pb-simulate "${week[@]}" --timeout 5 --sol simulated.txt --cusOut custom.txt
 }
 
 # follows_page PAGE: whoever follows the page in an empty folder, with the installed examples, comes to its end.

@@ -38,6 +38,7 @@ for name in man apt-get; do
     printf '#!/bin/sh\n' | stand_in $name
 done
 stand_in_for_clasp
+stand_in_for_cbc
 
 # script_of PAGE: its shell blocks, each with a line that names it before, and its blocks of text to files of the room.
 script_of() {

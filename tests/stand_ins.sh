@@ -28,3 +28,12 @@ case \$line in
 esac
 END_OF_CLASP
 }
+
+# If no solver of linear programs is installed, `inrc2pb-improve` and `inrc2pb-period` take clasp. It comes after `stand_in_for_clasp`.
+stand_in_for_cbc() {
+    local name
+    command -v cbc clp glpsol > /dev/null && return
+    for name in inrc2pb-improve inrc2pb-period; do
+        printf '#!/bin/sh\nexec "%s/helpers/%s" "$@" --solver clasp\n' "$PWD" $name | stand_in $name
+    done
+}

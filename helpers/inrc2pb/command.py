@@ -14,13 +14,13 @@ from .arguments import parser
 from .faults import FileFault, Misuse, ProgramFault, fault_line
 from .program import FAULT, OUT_OF_MEMORY, READ_OR_WRITE, WeekFiles
 
-__all__ = ["add_solver_options", "add_week_options", "check_effort", "number_of_seconds", "parser", "processors", "run", "week_files"]
+__all__ = ["add_solver_option", "add_week_options", "check_seconds", "number_of_seconds", "parser", "run", "week_files"]
 
 # The exit statuses with which a shell reports that the signals PIPE and INT ended a command; that of another signal is its number more
 # than the base.
 BROKEN_PIPE, INTERRUPTED, SIGNAL_BASE = 141, 130, 128
-# The most seconds of a search, and the most solvers at once.
-MAX_SECONDS, MAX_JOBS = 10_000_000, 256
+# The most seconds of a search.
+MAX_SECONDS = 10_000_000
 
 
 def number_of_seconds(text: str) -> float:
@@ -54,30 +54,19 @@ def add_week_options(options: argparse.ArgumentParser, required: bool = True) ->
     options.add_argument("--early", action="store_true", help="charge excess assignments and weekends as soon as they occur")
 
 
-def processors() -> int:
-    """The number of processors that this process may use."""
-    if hasattr(os, "sched_getaffinity"):
-        return len(os.sched_getaffinity(0))
-    return os.cpu_count() or 1
-
-
-def add_solver_options(options: argparse.ArgumentParser) -> None:
-    """The options that say which solvers are used, and how many at once."""
-    solvers = (
-        "clasp, cbc, or a command that reads an OPB model and prints an answer, with {} for the model's path; "
-        "more than one are used in turn (default: those of clasp and cbc that are installed)"
+def add_solver_option(options: argparse.ArgumentParser) -> None:
+    """The option that names a solver for whole weeks."""
+    solver = (
+        "clasp, cbc, or a command that solves the whole week in place of this search, with {opb} or {lp} for the model, {sol} for the "
+        "result file, if it does not print its answer, and {seconds}"
     )
-    options.add_argument("--solver", metavar="SOLVER", action="append", default=[], help=solvers)
-    jobs = min(processors(), MAX_JOBS)
-    options.add_argument("--jobs", metavar="N", type=int, default=jobs, help="solvers at once (default: the processors)")
+    options.add_argument("--solver", metavar="COMMAND", help=solver)
 
 
-def check_effort(seconds: float, option: str, jobs: int) -> None:
-    """The limits of a search are numbers with which it ends."""
+def check_seconds(seconds: float, option: str) -> None:
+    """The limit of a search is a number with which it ends."""
     if not 0 < seconds <= MAX_SECONDS:
         raise Misuse(f"{option} has to be a number of seconds above 0, and at most {MAX_SECONDS}")
-    if not 1 <= jobs <= MAX_JOBS:
-        raise Misuse(f"--jobs has to be a number from 1 to {MAX_JOBS}")
 
 
 def week_files(given: argparse.Namespace) -> WeekFiles:

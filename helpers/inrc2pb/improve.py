@@ -1,74 +1,41 @@
-"""Finds a good roster for a week, or improves one, with the solvers that are installed."""
+"""Finds the best roster for a week, or improves one, and says how much better one could be."""
 
 import argparse
-import contextlib
-import os
 import shutil
 import sys
 import tempfile
-import time
 from pathlib import Path
-from typing import List, Optional, Sequence, TextIO
+from typing import List, Optional, Sequence
 
-from .absences import absences_of, in_words
-from .best_roster import BestRoster, read_start
-from .command import add_solver_options, add_week_options, check_effort, number_of_seconds, parser, week_files
+from .best_roster import BestRoster
+from .bounds import PROVER
+from .clock import Clock
+from .command import add_solver_option, add_week_options, check_seconds, number_of_seconds, parser, week_files
 from .faults import ProgramFault
 from .files import Assignment, Week, read_files
 from .interrupts import interrupts
 from .misfits import read_held
 from .program import NO_ROSTER, Report, WeekFiles
-from .search import Search
-from .solvers import find_solvers, installed_solvers
+from .progress import Progress, gap_share
+from .solvers import find_solver
 from .targets import check_inputs_stay, check_no_pipe_is_written, check_no_pipes, check_target
+from .week_search import WeekSearch
 
-
-class Progress:
-    """Prints each improvement: on one line that changes on a terminal, else on a line of its own."""
-
-    def __init__(self, target: Optional[TextIO]) -> None:
-        self._target = target
-        self._began = time.monotonic()
-        self._updates = target is not None and target.isatty()
-        self._width = 0
-
-    def improved(self, penalty: int, finder: str) -> None:
-        """A roster of this penalty was found."""
-        text = f"{time.monotonic() - self._began:7.1f} s  penalty {penalty}  ({finder})"
-        if self._updates:
-            self._put("\r" + text.ljust(self._width))
-            self._width = len(text)
-        else:
-            self._put(f"{text}\n")
-
-    def warn(self, text: str) -> None:
-        """Something that the user should know."""
-        self.finish()
-        self._put(f"{os.path.basename(sys.argv[0])}: {text}\n")
-
-    def finish(self) -> None:
-        """Ends the line that changes."""
-        if self._width:
-            self._put("\n")
-            self._width = 0
-
-    def _put(self, text: str) -> None:
-        if self._target is not None:
-            with contextlib.suppress(OSError, ValueError):
-                self._target.write(text)
-                self._target.flush()
+SECONDS = 120.0
 
 
 class Outcome:
-    """The result of a search: the report of the best roster, and the lower bound or None, with the solver that proved it.
+    """The result of a search: the report of the best roster, and the lower bound or None, with what proved or computed it.
 
     `proved` says whether no roster costs less, `stopped` whether the user stopped the search; `fault` is the fault that ended it.
     """
 
-    def __init__(self, report: Report, best: BestRoster, stopped: bool, fault: Optional[BaseException]) -> None:
+    def __init__(self, report: Report, search: WeekSearch, proved: bool, stopped: bool, fault: Optional[BaseException]) -> None:
         self.report = report
-        self.bound, self.bound_by = best.bound()
-        self.proved = best.is_proved()
+        self.bound = search.bound.points if search.bound else None
+        self.bound_by = search.bound.by if search.bound else ""
+        self.claimed_by = search.claimed_by
+        self.proved = proved
         self.stopped = stopped
         self.fault = fault
 
@@ -76,20 +43,25 @@ class Outcome:
         """The lines that follow the report."""
         if self.bound is None:
             return ["no lower bound"]
+        line = f"lower bound {self.bound} ({self.bound_by})"
+        if self.proved and self.claimed_by:
+            return [line, f"no roster costs less, says {self.claimed_by}"]
         if self.proved:
-            return [f"lower bound {self.bound} ({self.bound_by})", f"no roster costs less, says {self.bound_by}"]
+            return [line, "no roster costs less" + (", proved" if self.bound_by == PROVER else "")]
         gap = self.report.penalty - self.bound
-        share = f", {100 * gap / self.report.penalty:.1f} %" if self.report.penalty else ""
-        return [f"lower bound {self.bound} ({self.bound_by}): the gap is {gap}{share}"]
+        return [f"{line}: the gap is {gap}, {gap_share(self.report.penalty, self.bound)}"]
 
 
-def improve(files: WeekFiles, start: Optional[Path], solution: Path, seconds: float, seed: int, jobs: int, solvers: Sequence[str]) -> Outcome:
+def improve(
+    files: WeekFiles, solution: Path, *, start: Optional[Path] = None, seconds: float = SECONDS, solver: Optional[str] = None, prices: Optional[Path] = None
+) -> Outcome:
     """Searches for these seconds, writes the best roster to `solution`, and returns its report and lower bound.
 
-    `start` is the roster to begin with, if any; `solvers` has names (clasp, cbc) or commands, and none means those that
-    are installed. Ctrl-C, TERM or a fault end the search: the roster is written, then KeyboardInterrupt or the fault is raised.
+    `start` is the roster to begin with, `solver` a command that solves the whole week in place of the search over rows, and
+    `prices` the file for the prices that prove the bound. Ctrl-C, TERM or a fault end the search: the roster is written, then
+    KeyboardInterrupt or the fault is raised.
     """
-    outcome = search(files, start, solution, seconds, seed, jobs, solvers, Progress(None))
+    outcome = search(files, solution, start, seconds, solver, prices, Progress(None))
     if outcome.fault:
         raise outcome.fault
     if outcome.stopped:
@@ -98,38 +70,54 @@ def improve(files: WeekFiles, start: Optional[Path], solution: Path, seconds: fl
 
 
 def search(
-    files: WeekFiles, start: Optional[Path], solution: Path, seconds: float, seed: int, jobs: int, solvers: Sequence[str], progress: Progress
+    files: WeekFiles, solution: Path, start: Optional[Path], seconds: float, solver: Optional[str], prices: Optional[Path], progress: Progress
 ) -> Outcome:
     """As `improve`, with its progress printed. A fault is raised only if there is no roster; a signal is no fault."""
-    check_no_pipes((files.scenario, files.history, files.week, files.fix, start))
+    clock = Clock(seconds)
+    inputs = (files.scenario, files.history, files.week, files.fix)
+    check_no_pipes((*inputs, start))
     solution = Path(solution).absolute()
-    found = find_solvers(solvers or installed_solvers())
+    own = find_solver(solver) if solver else None
     week = read_files(files.scenario, files.history, files.week)
-    fixed = held_rows(files.fix, week, progress) if files.fix else ()
-    check_no_pipe_is_written(solution)
-    check_target(solution)
-    check_inputs_stay((files.scenario, files.history, files.week, files.fix), solution, "the roster")
-    best = BestRoster(files, solution, progress.improved, progress.warn, absences_of(week.data))
-    running = Search(files, week, fixed, best, found, seconds, progress.warn)
+    held = held_rows(files.fix, week, progress) if files.fix else ()
+    for target, what in ((solution, "the roster"), (prices, "the prices")):
+        if target:
+            check_no_pipe_is_written(target)
+            check_target(target)
+            check_inputs_stay(inputs, target, what)
+    best = BestRoster(files, week, solution, progress.improved)
+    running = WeekSearch(files, week, held, best, clock, progress)
+    fault: Optional[BaseException] = None
     with interrupts() as signals:
         folder = Path(tempfile.mkdtemp(prefix="inrc2pb-improve-"))
         try:
-            if start:
-                best.offer(read_start(files, start, week, fixed), None, None, folder, "the given roster")
+            rows = best.start(start, held) if start else None
             with signals.calling(running.interrupt):
-                fault = running.run(folder, seed, jobs)
+                if own:
+                    running.by_solver(own, folder)
+                else:
+                    running.over_rows(folder, rows, prices)
+        except Exception as found:
+            fault = found
         finally:
             progress.finish()
             shutil.rmtree(folder, ignore_errors=True)
-        try:
-            report = best.report()
-        except (ProgramFault, OSError) as unreported:
-            raise fault or unreported
-        if not report:
-            raise fault or (ProgramFault(NO_ROSTER, "stopped before the first roster") if signals.caught else running.without_roster())
-        if best.breaks():
-            progress.warn(f"no roster was found that keeps every absence: {in_words(best.breaks())}")
-        return Outcome(report, best, bool(signals.caught), fault)
+        return _outcome(best, running, bool(signals.caught), fault, seconds)
+
+
+def _outcome(best: BestRoster, running: WeekSearch, stopped: bool, fault: Optional[BaseException], seconds: float) -> Outcome:
+    """The result of a search that has ended. Without a roster it is a ProgramFault that says why."""
+    bound = running.bound
+    best.proved = best.penalty is not None and (bool(running.claimed_by) or (bound is not None and best.penalty <= bound.points))
+    try:
+        report = best.report()
+    except (ProgramFault, OSError) as unreported:
+        raise fault or unreported
+    if not report:
+        if stopped and not (isinstance(fault, OSError) or isinstance(fault, ProgramFault)):
+            raise ProgramFault(NO_ROSTER, "stopped before the first roster")
+        raise fault or ProgramFault(NO_ROSTER, f"no roster was found in {round(seconds, 1):g} s: give it more time")
+    return Outcome(report, running, best.proved, stopped, fault)
 
 
 def held_rows(fix: Path, week: Week, progress: Progress) -> Sequence[Assignment]:
@@ -139,25 +127,25 @@ def held_rows(fix: Path, week: Week, progress: Progress) -> Sequence[Assignment]
 
 def _options() -> argparse.ArgumentParser:
     options = parser(
-        "Finds a good roster for a week, or improves one. Solvers search neighborhoods of the best roster, several at once, and\n"
-        "`inrc2pb decode` checks each roster. Ctrl-C ends the search and keeps the best roster. Improvements are printed on\n"
-        "standard error, the report on standard output."
+        "Finds the best roster for a week, or improves one. The search is over whole weeks of nurses, by the linear programs of\n"
+        "cbc (or clp, or glpsol). `inrc2pb decode` checks each roster, and `inrc2pb-bound` proves the lower bound. Ctrl-C ends the\n"
+        "search and keeps the best roster. Improvements are printed on standard error, the report on standard output."
     )
     add_week_options(options)
     options.add_argument("--sol", metavar="FILE", type=Path, required=True, help="the roster to write; it always has the best one of this run")
     options.add_argument("--from", dest="start", metavar="FILE", type=Path, help="the roster to begin with (default: none)")
-    options.add_argument("--time", metavar="SECONDS", type=number_of_seconds, default=120.0, help="seconds to search (default: %(default).0f)")
-    options.add_argument("--seed", metavar="N", type=int, default=1, help="seed of the random choices (default: %(default)s)")
-    add_solver_options(options)
+    options.add_argument("--time", metavar="SECONDS", type=number_of_seconds, default=SECONDS, help="the most seconds to search (default: %(default).0f)")
+    options.add_argument("--prices", metavar="FILE", type=Path, help="the file for the prices that prove the lower bound, for inrc2pb-bound")
+    add_solver_option(options)
     return options
 
 
 def main(words: Optional[List[str]] = None) -> None:
     """The command `inrc2pb-improve`."""
     given = _options().parse_args(words)
-    check_effort(given.time, "--time", given.jobs)
+    check_seconds(given.time, "--time")
     with interrupts():
-        outcome = search(week_files(given), given.start, given.sol, given.time, given.seed, given.jobs, given.solver, Progress(sys.stderr))
+        outcome = search(week_files(given), given.sol, given.start, given.time, given.solver, given.prices, Progress(sys.stderr))
         print(outcome.report.text, end="")
         print("\n".join(outcome.lines()), flush=True)
         if outcome.fault:

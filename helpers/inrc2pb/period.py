@@ -1,187 +1,121 @@
-"""Plans the weeks of a period one after another, and reports what they cost together."""
+"""Plans the weeks of a period together, and reports what they cost."""
 
 import argparse
 import errno
 import os
 import shlex
 import sys
-import tempfile
-from dataclasses import dataclass, replace
 from pathlib import Path
-from typing import Callable, Dict, Iterable, List, Optional, Sequence
+from typing import Dict, Iterable, List, Optional, Sequence
 
-from .absences import absences_of, in_words, working_while_away
-from .command import add_solver_options, check_effort, fixes_by_week, number_of_seconds, parser
+from .clock import Clock
+from .command import add_solver_option, check_seconds, fixes_by_week, number_of_seconds, parser
 from .faults import FileFault, Misuse, ProgramFault, fault_line
-from .files import History, Scenario, Week, check_week_number, read_files, read_history, read_scenario, read_solution
-from .files import history_text, read_week, scenario_text, write_history, write_text
-from .improve import Progress, held_rows, search
+from .files import Assignment, read_solution, write_history
+from .improve import search
 from .interrupts import Interrupts, interrupts
-from .misfits import read_held
 from .next_history import next_history
-from .processes import Processes
-from .program import NO_ROSTER, SOFT_RULES, Report, WeekFiles, decode, encode_unless_stopped, extend, find_program
-from .shared_totals import shared_week
-from .solvers import NONE_IN_TIME, Task, find_solver, installed_solvers
+from .period_search import PeriodSearch
+from .planned_weeks import PeriodFiles, PlannedWeeks, WrittenWeek, history_name, roster_name
+from .program import SOFT_RULES, Report, extend, find_program
+from .progress import Progress
+from .solvers import find_solver
 from .targets import check_inputs_stay, check_no_pipes
-
-# Plans a week: writes its roster to the file. Returns what ended it early, if anything did: a fault, or KeyboardInterrupt.
-Plan = Callable[[WeekFiles, Path], Optional[BaseException]]
-
-
-@dataclass(frozen=True)
-class PeriodFiles:
-    """The files of a period: the weeks' files in their order, and the fix file of some weeks, by number."""
-
-    scenario: Path
-    history: Path
-    weeks: Sequence[Path]
-    fixes: Dict[int, Path]
-    early: bool = False
-    share: bool = False
-
-
-def plan_once(solver_name: str, seconds: float) -> Plan:
-    """Lets a solver solve the whole week once."""
-    solver = find_solver(solver_name).whole()[0]
-
-    def plan(files: WeekFiles, solution: Path) -> Optional[BaseException]:
-        week, progress = read_files(files.scenario, files.history, files.week), Progress(sys.stderr)
-        if files.fix:
-            held_rows(files.fix, week, progress)
-        processes = Processes()
-        with interrupts() as signals, tempfile.TemporaryDirectory() as folder:
-            model = Path(folder, "week.opb")
-            with signals.calling(processes.ask_to_end):
-                is_whole = encode_unless_stopped(files, model, processes)
-                outcome = solver.solve(Task(model, seconds, Path(folder)), processes) if is_whole else NONE_IN_TIME
-        if outcome.fault and not signals.caught:
-            raise Misuse(f"the solver {solver.name} has no answer: {outcome.fault}; try its command by hand")
-        try:
-            decode(files, outcome.answer, solution)
-        except ProgramFault as fault:
-            if not signals.caught:
-                raise
-            raise ProgramFault(NO_ROSTER, "stopped before the first roster") from fault
-        working = working_while_away(absences_of(week.data), read_solution(solution).assignments)
-        if working:
-            progress.warn(f"the roster does not keep every absence: {in_words(working)}; plan without --once")
-        return KeyboardInterrupt() if signals.caught else None
-
-    return plan
-
-
-def plan_by_improving(solvers: Sequence[str], seconds: float, seed: int, jobs: int) -> Plan:
-    """Looks for a roster and improves it."""
-    for name in solvers:
-        find_solver(name)
-
-    def plan(files: WeekFiles, solution: Path) -> Optional[BaseException]:
-        outcome = search(files, None, solution, seconds, seed, jobs, solvers, Progress(sys.stderr))
-        return outcome.fault or (KeyboardInterrupt() if outcome.stopped else None)
-
-    return plan
 
 
 class Period:
-    """A period that is planned: its reports by week, in order."""
+    """A period that is planned: its reports by week, in order, and the lines about its lower bound."""
 
-    def __init__(self, files: PeriodFiles, plan: Plan, folder: Path) -> None:
-        self.files, self.plan, self.folder = files, plan, folder
-        check_no_pipes((files.scenario, files.history, *files.weeks, *files.fixes.values()))
-        self.scenario: Scenario = read_scenario(files.scenario)
-        self.history: History = read_history(files.history, self.scenario)
-        self.history_file = files.history
+    def __init__(self, files: PeriodFiles, folder: Path) -> None:
+        self.folder, self.progress = folder, Progress(sys.stderr)
+        check_no_pipes(files.all())
+        self.weeks = PlannedWeeks(files)
+        self.numbers = self.weeks.numbers
         self.reports: Dict[int, Report] = {}
-        check_week_number(files.history, self.history, self.scenario)
-        self.first = self.history.week
-        if len(files.weeks) > self.scenario.weeks - self.first:
-            left = self.scenario.weeks - self.first
-            raise Misuse(
-                f"{len(files.weeks)} weeks are given, and {left} {'is' if left == 1 else 'are'} left from week {self.first} "
-                f"of {self.scenario.weeks}: give only the files of weeks that are not planned yet"
-            )
-        self.numbers = numbers = range(self.first, self.first + len(files.weeks))
-        for number, path in files.fixes.items():
-            if number not in numbers:
-                raise Misuse(f"--fix {number}={path}: week {number} is not planned, the weeks are {numbers[0]} to {numbers[-1]}")
-            known = self.history if number == self.first else History(number, self.history.scenario, {})
-            read_held(path, self.scenario, known, lambda warning: None)
-        for path in files.weeks:
-            read_week(path, self.scenario)
-        self._check_inputs_stay()
+        self.bound_lines: List[str] = []
+        self._written: List[WrittenWeek] = []
+        for number in self.numbers:
+            # Files of an earlier run may be replaced.
+            check_inputs_stay(files.all(), folder / roster_name(number), f"the roster of week {number}", "folder")
+            check_inputs_stay(files.all(), folder / history_name(number + 1), f"the history of week {number + 1}", "folder")
         find_program()
         folder.mkdir(parents=True, exist_ok=True)
         if not os.access(folder, os.W_OK):
             raise PermissionError(errno.EACCES, os.strerror(errno.EACCES), str(folder))
 
-    def _check_inputs_stay(self) -> None:
-        """No roster or history of these weeks may replace a given file; those of an earlier run may be replaced."""
-        inputs = (self.files.scenario, self.files.history, *self.files.weeks, *self.files.fixes.values())
-        for number in self.numbers:
-            check_inputs_stay(inputs, self._roster_file(number), f"the roster of week {number}", "folder")
-            check_inputs_stay(inputs, self._history_file(number + 1), f"the history of week {number + 1}", "folder")
-
-    def _roster_file(self, number: int) -> Path:
-        return self.folder / f"roster-{number}.txt"
-
-    def _history_file(self, number: int) -> Path:
-        return self.folder / f"history-{number}.txt"
-
-    def _name_replaced(self) -> None:
+    def name_replaced(self) -> None:
         """Says which files of an earlier run get new contents."""
-        written = [*map(self._roster_file, self.numbers), *(self._history_file(number + 1) for number in self.numbers)]
-        old = [str(path) for path in written if path.exists() and path != self._history_file(self.scenario.weeks)]
+        later = [number + 1 for number in self.numbers if number + 1 < self.weeks.scenario.weeks]
+        written = [self.folder / name for name in (*map(roster_name, self.numbers), *map(history_name, later))]
+        old = [str(path) for path in written if path.exists()]
         if old:
-            print(f"files that are replaced: {', '.join(old)}", file=sys.stderr, flush=True)
+            _say(f"files that are replaced: {', '.join(old)}")
 
-    def run(self) -> None:
-        """Plans all weeks. After a fault, or if the user stops it, the weeks that have a roster have their files and reports."""
-        self._name_replaced()
+    def plan_together(self, seconds: float) -> None:
+        """Plans all weeks together. If the user stops it, the best plan until then is reported."""
+        weeks = f"week {self.numbers[0]}" if len(self.numbers) == 1 else f"weeks {self.numbers[0]} to {self.numbers[-1]} together"
+        _say(f"{weeks}, at most {seconds:g} s")
+        for hint in self.weeks.hints:
+            self.progress.warn(hint)
+        running = PeriodSearch(self.weeks, self._keep, Clock(seconds), self.progress)
         with interrupts() as signals:
-            for number, path in zip(self.numbers, self.files.weeks):
-                self._plan_and_report(number, path, signals)
+            try:
+                with signals.calling(running.interrupt):
+                    running.run()
+            finally:
+                for number, week in zip(self.numbers, self._written):
+                    self._report(number, week)
+                self.bound_lines = [running.line()]
+            self._end(signals)
 
-    def _plan_and_report(self, number: int, path: Path, signals: Interrupts) -> None:
-        """Plans a week, and writes its roster and the next history."""
-        files = WeekFiles(self.files.scenario, self.history_file, path, self.files.fixes.get(number), self.files.early)
-        roster = self._roster_file(number)
-        shared = self.files.share and number + 1 < self.scenario.weeks
-        print(f"week {number}, {path}" + (", penalties with its share of the totals" if shared else ""), file=sys.stderr, flush=True)
-        try:
-            ended = self.plan_week(files, roster)
-            _, report = extend(files, roster)
-        except (FileFault, Misuse, ProgramFault) as fault:
-            raise _of_week(number, fault) from fault
+    def _keep(self, cells: Sequence[Assignment]) -> None:
+        """Writes a better plan to the folder."""
+        self._written = self.weeks.write(cells, self.folder)
+
+    def plan_one_by_one(self, seconds: float, solver: Optional[str]) -> None:
+        """Plans each week before the next one, by the search over one week or a user's own solver. After a fault, or if the user stops
+        it, the weeks that have a roster have their files and reports."""
+        history, path = self.weeks.history, self.weeks.files.history
+        with interrupts() as signals:
+            for number in self.numbers:
+                week = WrittenWeek(self.weeks.week_files(number, path), self.folder / roster_name(number))
+                _say(f"week {number}, {week.files.week}")
+                try:
+                    outcome = search(week.files, week.roster, None, seconds, solver, None, Progress(sys.stderr))
+                except (FileFault, Misuse, ProgramFault) as fault:
+                    raise Misuse(f"week {number}: {fault_line(fault)}") from fault
+                self._report(number, week)
+                self.bound_lines = outcome.lines() if len(self.numbers) == 1 else []
+                if number + 1 < self.weeks.scenario.weeks:
+                    history = next_history(self.weeks.scenario, history, read_solution(week.roster, self.weeks.scenario).assignments)
+                    path = self.folder / history_name(number + 1)
+                    write_history(path, history)
+                if isinstance(outcome.fault, (FileFault, Misuse, ProgramFault)):
+                    raise Misuse(f"week {number}: {fault_line(outcome.fault)}")
+                if outcome.fault:
+                    raise outcome.fault
+                if number != self.numbers[-1]:
+                    self._stop_if(signals)
+            self._end(signals)
+
+    def _report(self, number: int, week: WrittenWeek) -> None:
+        _, report = extend(week.files, week.roster)
         self.reports[number] = report
-        print(f"week {number}: penalty {report.penalty}, {roster}", flush=True)
-        if number + 1 < self.scenario.weeks:
-            rows = read_solution(roster, self.scenario).assignments
-            self.history = next_history(self.scenario, self.history, rows)
-            self.history_file = self._history_file(number + 1)
-            write_history(self.history_file, self.history)
-        else:
-            words = (self.files.scenario, self.history_file, roster, "--out", self.folder / "history-new.txt")
+        print(f"week {number}: penalty {report.penalty}, {week.roster}", flush=True)
+
+    def _end(self, signals: Interrupts) -> None:
+        """After the last week of the period, names the command for the first history of the next one."""
+        last = self.numbers[-1]
+        if last + 1 == self.weeks.scenario.weeks:
+            history = self.folder / history_name(last) if last != self.numbers[0] else self.weeks.files.history
+            words = (self.weeks.files.scenario, history, self.folder / roster_name(last), "--out", self.folder / "history-new.txt")
             command = " ".join(shlex.quote(str(word)) for word in words)
-            print(f"to make the first history of the next period, type: inrc2pb-next --new-period {command}", file=sys.stderr, flush=True)
-        if ended:
-            raise _of_week(number, ended)
+            _say(f"to make the first history of the next period, type: inrc2pb-next --new-period {command}")
+        self._stop_if(signals)
+
+    def _stop_if(self, signals: Interrupts) -> None:
         if signals.caught:
             raise KeyboardInterrupt
-
-    def plan_week(self, files: WeekFiles, roster: Path) -> Optional[BaseException]:
-        """Plans a week, if asked for with its share of the totals. Returns what ended it early, if anything did."""
-        if not self.files.share:
-            return self.plan(files, roster)
-        real = Week(self.scenario, self.history, read_week(files.week, self.scenario))
-        week = shared_week(real)
-        if week is real and not real.is_last:
-            print("the nurses have too many different shares: this week is planned without them", file=sys.stderr)
-        with tempfile.TemporaryDirectory() as folder:
-            scenario, history = Path(folder, "scenario.txt"), Path(folder, "history.txt")
-            write_text(scenario, scenario_text(week.scenario))
-            write_text(history, history_text(week.history))
-            return self.plan(replace(files, scenario=scenario, history=history), roster)
 
     def table(self) -> List[str]:
         """The penalty and the costs of each week, and their sums."""
@@ -197,6 +131,10 @@ class Period:
         return f"stopped: {_weeks(list(self.reports))} planned" + (f", {_weeks(left)} not" if left else "")
 
 
+def _say(text: str) -> None:
+    print(text, file=sys.stderr, flush=True)
+
+
 def _table_line(name: str, cells: Iterable[str]) -> str:
     """A line of the table: the name of a week, its penalty and its costs."""
     penalty, *costs = cells
@@ -208,19 +146,11 @@ def _weeks(numbers: Sequence[int]) -> str:
     return f"week {numbers[0]} is" if len(numbers) == 1 else f"weeks {numbers[0]} to {numbers[-1]} are"
 
 
-def _of_week(number: int, fault: BaseException) -> BaseException:
-    """The fault with its week's number. One of the operating system, and KeyboardInterrupt, are as they were."""
-    if isinstance(fault, (FileFault, Misuse, ProgramFault)):
-        return Misuse(f"week {number}: {fault_line(fault)}")
-    return fault
-
-
 def _options() -> argparse.ArgumentParser:
     options = parser(
-        "Plans the weeks of a period one after another, and reports what they cost together.",
-        "The folder gets roster-N.txt of each week N and history-N.txt of each next one. --early and --share are heuristics:\n"
-        "a week is planned before the next ones are known. The report has each roster's cost with the files as given, without\n"
-        "the shares; with --early it includes the early charges.",
+        "Plans the weeks of a period together, and reports what they cost, with a lower bound of their sum.",
+        "The folder gets roster-N.txt of each week N and history-N.txt of each next one; they always have the best plan of this run.\n"
+        "Ctrl-C ends the search and keeps it. With --solver each week is planned before the next ones, by that solver.",
     )
     options.add_argument("--sce", metavar="FILE", type=Path, required=True, help="the scenario")
     options.add_argument("--his", metavar="FILE", type=Path, required=True, help="the history with which the first of these weeks begins")
@@ -229,26 +159,29 @@ def _options() -> argparse.ArgumentParser:
     options.add_argument("--fix", metavar="N=FILE", action="append", default=[], help="the assignments to keep in week N, numbered from 0 as in its history")
     totals = options.add_mutually_exclusive_group()
     totals.add_argument("--early", action="store_true", help="charge excess assignments and weekends as soon as they occur")
-    totals.add_argument("--share", action="store_true", help="plan each week with its share of the totals that are left")
+    totals.add_argument("--ahead", action="store_true", help="plan for the later weeks too: they are not known, and count with the numbers of these weeks")
     options.add_argument("--time", metavar="SECONDS", type=number_of_seconds, default=60, help="seconds for each week (default: 60)")
-    add_solver_options(options)
-    options.add_argument("--once", action="store_true", help="let the first solver solve each week once, without improving its roster")
-    options.add_argument("--seed", metavar="N", type=int, default=1, help="the seed of the search (default: 1)")
+    add_solver_option(options)
     return options
 
 
 def main() -> Optional[int]:
     """The command `inrc2pb-period`."""
     given = _options().parse_args()
-    check_effort(given.time, "--time", given.jobs)
-    solvers = given.solver or list(installed_solvers())
-    plan = plan_once(solvers[0], given.time) if given.once else plan_by_improving(solvers, given.time, given.seed, given.jobs)
-    files = PeriodFiles(given.sce, given.his, given.week, fixes_by_week(given.fix), given.early, given.share)
-    period = Period(files, plan, given.out)
+    check_seconds(given.time, "--time")
+    if given.solver:
+        find_solver(given.solver)
+        if given.ahead:
+            raise Misuse("--ahead is a plan of all weeks, and --solver plans one: leave one of them out")
+    period = Period(PeriodFiles(given.sce, given.his, given.week, fixes_by_week(given.fix), given.early, given.ahead), given.out)
+    period.name_replaced()
     with interrupts() as signals:
         try:
-            period.run()
+            if given.solver or (len(period.numbers) == 1 and not period.weeks.later()):
+                period.plan_one_by_one(given.time, given.solver)
+            else:
+                period.plan_together(given.time * len(period.numbers))
         finally:
             if period.reports:
-                print("\n".join(["", *period.table(), *[period.stop_line()] * bool(signals.caught)]), flush=True)
+                print("\n".join(["", *period.table(), *period.bound_lines, *[period.stop_line()] * bool(signals.caught)]), flush=True)
     return 0

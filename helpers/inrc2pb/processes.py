@@ -45,6 +45,13 @@ class Ended:
         return "".join(char for char in lines[-1] if char.isprintable()) if lines else ""
 
 
+def processors() -> int:
+    """The number of processors that this process may use."""
+    if hasattr(os, "sched_getaffinity"):
+        return len(os.sched_getaffinity(0))
+    return os.cpu_count() or 1
+
+
 class Processes:
     """The child processes of a search. After `stop` none is left, and none starts."""
 

@@ -87,15 +87,15 @@ def _is_inrc2pb(program: str) -> bool:
     return ran.returncode < 0 or ran.stdout.startswith(b"inrc2pb ")
 
 
-def run_program(*words: str, given: str = "") -> str:
-    """Runs `inrc2pb` on these words and this standard input, and returns its standard output.
+def run_program(*words: str, given: str = "", program: Optional[Path] = None) -> str:
+    """Runs `inrc2pb`, or another program, on these words and this standard input, and returns its standard output.
 
     It runs in a session of its own, so that Ctrl-C ends the helper and not a check that it has begun.
     """
-    program = str(find_program())
+    name = str(program or find_program())
     try:
         ran = subprocess.run(
-            [program, *words],
+            [name, *words],
             input=given.encode("utf-8", errors="surrogateescape"),
             stdout=subprocess.PIPE,
             stderr=subprocess.PIPE,
@@ -105,7 +105,7 @@ def run_program(*words: str, given: str = "") -> str:
     except subprocess.TimeoutExpired as fault:
         raise _does_not_end(words) from fault
     except OSError as fault:
-        raise _does_not_run(program, fault) from fault
+        raise _does_not_run(name, fault) from fault
     _check_status(ran.returncode, ran.stderr.decode("utf-8", errors="replace"), words)
     return ran.stdout.decode("utf-8", errors="surrogateescape")
 

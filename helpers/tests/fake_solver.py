@@ -3,7 +3,7 @@
 
 `crash` ends by a signal, `silent` prints nothing, `nonsense` prints bytes that are no answer, `flood` prints them without
 end, `rejected` prints an answer that breaks the model, `liar` says that no roster exists, `unsupported` that it cannot read
-the model, `lazy` gives up at once, `deaf` ignores TERM and never ends, and `clasp` lets clasp answer.
+the model, `lazy` gives up at once, and `deaf` ignores TERM and never ends.
 """
 
 import os
@@ -13,7 +13,7 @@ import time
 
 
 def main():
-    how, model = sys.argv[1:]
+    how = sys.argv[1]
     if how == "crash":
         os.kill(os.getpid(), signal.SIGSEGV)
     elif how == "nonsense":
@@ -31,8 +31,6 @@ def main():
         signal.signal(signal.SIGTERM, signal.SIG_IGN)
         while True:
             time.sleep(10)
-    elif how == "clasp":
-        os.execvp("clasp", ["clasp", "--time-limit=2", model])
     return 0 if how in ("rejected", "silent") else 1
 
 

@@ -9,14 +9,13 @@ import sys
 import threading
 import time
 import unittest
-from unittest import mock
 
-from ward import EARLY_ANSWER, HAS_CBC, HAS_CLASP, HELPERS, ROOT, ROSTER, SCENARIO, THIRTY_FILES, WEEK, WEEK_FILES, WEEK_OPTIONS
-from ward import HelperTest, files, program, run
+from ward import EARLY_ANSWER, HAS_CBC, HELPERS, ROOT, ROSTER, SCENARIO, THIRTY_FILES, WEEK, WEEK_FILES, WEEK_OPTIONS
+from ward import HelperTest, program, run
 
-from inrc2pb.improve import Progress, improve, search
-from inrc2pb.processes import Processes
-from inrc2pb.solvers import Cbc, Task
+from inrc2pb.bounds import PLAIN, PROVER
+from inrc2pb.improve import improve, search
+from inrc2pb.progress import Progress
 
 
 class UntilBetter(Progress):
@@ -33,97 +32,70 @@ class UntilBetter(Progress):
 
 
 class Searches(HelperTest):
-    @unittest.skipUnless(HAS_CLASP, "needs clasp")
+    def setUp(self):
+        super().setUp()
+        self.target = self.folder / "best.txt"
+
+    @unittest.skipUnless(HAS_CBC, "needs cbc")
     def test_a_small_week_is_proved(self):
-        target = self.folder / "best.txt"
-        status, report, progress = run("improve", *WEEK_OPTIONS, "--sol", target, "--time", 100, "--jobs", 2, "--seed", 7)
+        prices = self.folder / "prices.txt"
+        status, report, progress = run("improve", *WEEK_OPTIONS, "--sol", self.target, "--prices", prices)
         self.assertEqual(status, 0)
         self.assertIn("status OPTIMUM FOUND\nobjective 20\npenalty 20\n", report)
-        self.assertRegex(report, "\nno roster costs less, says (clasp|cbc)\n$")
+        self.assertRegex(report, f"\nlower bound 20 \(({PROVER}|{PLAIN})\\)\nno roster costs less(, proved)?\n$")
         self.assertIn("penalty 20", progress)
-        self.assertEqual(program.penalty_of(WEEK_FILES, target), 20)
+        self.assertEqual(program.penalty_of(WEEK_FILES, self.target), 20)
+        self.assertTrue(prices.read_text().startswith("PRICES\nward\n\nROWS = "))
 
-    @unittest.skipUnless(HAS_CLASP, "needs clasp")
-    def test_it_finds_the_best_roster_of_a_small_week_from_a_worse_one(self):
-        start, target = self.swapped("Amara", "Bruno"), self.folder / "best.txt"
+    @unittest.skipUnless(HAS_CBC, "needs cbc")
+    def test_it_finds_the_best_roster_from_a_worse_one(self):
+        start = self.swapped("Amara", "Bruno")
         self.assertEqual(program.penalty_of(WEEK_FILES, start), 110)
-        found = improve(WEEK_FILES, start, target, 100, 3, 2, ["clasp"])
-        self.assertEqual((found.report.penalty, found.report.optimal, found.bound, found.proved), (20, True, 20, True))
-        self.assertEqual(program.penalty_of(WEEK_FILES, target), 20)
+        outcome = improve(WEEK_FILES, self.target, start=start, seconds=60)
+        self.assertEqual((outcome.report.penalty, outcome.bound, outcome.proved), (20, 20, True))
+        self.assertEqual(program.penalty_of(WEEK_FILES, self.target), 20)
 
-    @unittest.skipUnless(HAS_CLASP, "needs clasp")
-    def test_it_improves_a_roster_of_a_large_week(self):
-        # The search ends at the first better roster: after some seconds, or later on a machine with other work.
-        start, target, progress = self.folder / "start.txt", self.folder / "best.txt", UntilBetter()
-        before = program.decode(THIRTY_FILES, EARLY_ANSWER.read_text(), start).penalty
-        found = search(THIRTY_FILES, start, target, 300, 3, 2, ["clasp"], progress).report.penalty
-        self.assertEqual(progress.penalties[0], before)
-        self.assertLess(found, before)
-        self.assertEqual(program.penalty_of(THIRTY_FILES, target), found)
+    def test_a_search_that_is_stopped_has_the_best_roster(self):
+        start, progress = self.folder / "start.txt", UntilBetter()
+        program.decode(THIRTY_FILES, EARLY_ANSWER.read_text(), start)
+        outcome = search(THIRTY_FILES, self.target, start, 60, None, None, progress)
+        self.assertTrue(outcome.stopped)
+        self.assertEqual(program.penalty_of(THIRTY_FILES, self.target), progress.penalties[-1])
+        self.assertLess(progress.penalties[1], progress.penalties[0])
 
-    @unittest.skipUnless(HAS_CLASP, "needs clasp")
-    def test_a_roster_written_to_standard_output(self):
-        command = [sys.executable, str(HELPERS / "inrc2pb-improve"), *map(str, WEEK_OPTIONS), "--sol", "/dev/stdout", "--solver", "clasp"]
-        with open(self.folder / "printed", "wb") as regular:
-            ran = subprocess.run(command, stdout=regular, stderr=subprocess.PIPE, timeout=300)
-        self.assertEqual(ran.returncode, 1)
-        self.assertIn(b"/dev/stdout is standard output, where the report goes: name another file\n", ran.stderr)
-        ran = subprocess.run(command, stdout=subprocess.PIPE, stderr=subprocess.PIPE, timeout=300)
-        self.assertEqual(ran.returncode, 0)
-        self.assertTrue(ran.stdout.startswith(b"SOLUTION\n0 ward\n"))
-        self.assertTrue(ran.stdout.endswith(b"\nno roster costs less, says clasp\n"))
-        for device in ("/dev/null", "/dev/stdout"):
-            command[command.index("--sol") + 1] = device
-            self.assertEqual(subprocess.run(command, stdout=subprocess.DEVNULL, stderr=subprocess.PIPE, timeout=300).returncode, 0)
-
-    def test_solvers_are_texts(self):
-        for solvers in ("clasp", [Cbc()]):
-            with self.assertRaisesRegex(TypeError, "a list of texts, such as .'clasp', 'cbc'."):
-                improve(WEEK_FILES, None, self.folder / "best.txt", 5, 1, 1, solvers)
-
-    def model(self, week):
-        path = self.folder / "week.opb"
-        program.encode(week, path)
-        return path
-
-    @unittest.skipUnless(HAS_CLASP, "needs clasp")
-    def test_held_rows_and_early_stay(self):
-        promised = self.folder / "promised.txt"
-        rows = [files.Assignment("Grace", 5, "Day", "Nurse")]
-        files.write_solution(promised, files.Solution(0, "ward", tuple(rows)))
-        target = self.folder / "best.txt"
-        status, report, _ = run("improve", *WEEK_OPTIONS, "--fix", promised, "--early", "--sol", target, "--time", 10, "--jobs", 2)
+    def test_without_a_solver_a_line_says_what_to_install(self):
+        tools = self.folder / "tools"
+        tools.mkdir()
+        status, report, said = run("improve", *WEEK_OPTIONS, "--sol", self.target, environment={"PATH": str(tools)})
         self.assertEqual(status, 0)
-        self.assertIn("Grace Sat Day Nurse\n", target.read_text())
+        self.assertTrue(report.endswith("no lower bound\n"))
+        self.assertEqual(said.count("there is no cbc, clp or glpsol, so this is only a first roster: install one (Debian: apt-get install coinor-cbc)\n"), 1)
+        self.assertIn(f"penalty {program.penalty_of(WEEK_FILES, self.target)}\n", report)
+
+    @unittest.skipUnless(HAS_CBC, "needs cbc")
+    def test_a_roster_written_to_standard_output(self):
+        status, printed, _ = run("improve", *WEEK_OPTIONS, "--sol", "/dev/stdout", "--time", 60)
+        self.assertEqual(status, 0)
+        self.assertIn("SOLUTION\n0 ward\n", printed)
+        self.assertIn("penalty 20\n", printed)
+
+    @unittest.skipUnless(HAS_CBC, "needs cbc")
+    def test_held_rows_and_early_stay(self):
+        promised = self.solution("Grace Sat Day Nurse", name="promised.txt")
+        status, report, _ = run("improve", *WEEK_OPTIONS, "--fix", promised, "--early", "--sol", self.target)
+        self.assertEqual(status, 0)
+        self.assertIn("Grace Sat Day Nurse\n", self.target.read_text())
         held = program.WeekFiles(*WEEK_FILES.options()[1::2], promised, True)
-        self.assertIn(f"penalty {program.penalty_of(held, target)}\n", report)
+        self.assertIn(f"penalty {program.penalty_of(held, self.target)}\n", report)
+        self.assertIn("no roster costs less", report)
 
-    @unittest.skipUnless(HAS_CBC, "needs cbc")
-    def test_a_conversion_ends_with_its_search(self):
-        model, stopped = self.model(THIRTY_FILES), Processes()
-        stopped.stop()
-        for processes, seconds in ((stopped, 60), (Processes(), 0.01)):
-            with self.subTest(seconds=seconds):
-                self.assertEqual(Cbc().solve(Task(model, seconds, self.folder), processes).answer, "s UNKNOWN\n")
-                # The conversion did not come to its end.
-                self.assertEqual([path.name for path in self.folder.iterdir()], ["week.opb"])
-
-    def test_cbc_is_not_believed_if_it_calls_a_model_infeasible_late(self):
-        model, cbc = self.model(WEEK_FILES), self.folder / "cbc"
-        for seconds, says in ((0, "s UNSATISFIABLE\n"), (2, "s UNKNOWN\n")):
-            cbc.write_text(f"#!/bin/sh\nsleep {seconds}\nfor last; do :; done\necho 'Integer infeasible - objective value 5' > $last\n")
-            cbc.chmod(0o755)
-            with mock.patch.dict(os.environ, PATH=f"{self.folder}:{os.environ['PATH']}"):
-                self.assertEqual(Cbc().solve(Task(model, 3, self.folder), Processes()).answer, says)
-
-    @unittest.skipUnless(HAS_CBC, "needs cbc")
-    def test_bounds_of_cbc_are_multiples_of_the_step(self):
-        bounds = []
-        model = self.model(WEEK_FILES)
-        outcome = Cbc().solve(Task(model, 10, self.folder), Processes(), bounds.append)
-        if outcome.answer != "s UNKNOWN\n":
-            self.assertGreaterEqual(program.decode(WEEK_FILES, outcome.answer).penalty, 20)
-        self.assertTrue(bounds and all(bound % 5 == 0 and bound <= 20 for bound in bounds), bounds)
+    def test_a_bound_is_that_of_the_program_if_it_is_there(self):
+        self.script("inrc2pb", f'exec {program.find_program()} "$@"\n')
+        prover = self.folder / "inrc2pb-bound"
+        for bound, says in ((15, "lower bound 15 (inrc2pb-bound): the gap is 5, 25.0 %"), (20, "lower bound 20 (inrc2pb-bound)\nno roster costs less, proved")):
+            self.script(prover.name, f"echo lower bound {bound}\n")
+            ran = run("improve", *WEEK_OPTIONS, "--sol", self.target, "--time", 5, environment={"INRC2PB": str(self.folder / "inrc2pb")})
+            self.assertTrue(ran[1].endswith(f"{says}\n"), ran)
 
 
 class BadInput(HelperTest):
@@ -133,7 +105,6 @@ class BadInput(HelperTest):
         self.assertIn(says, ran[2])
         self.assertEqual(ran[2].count("\n"), 1, ran[2])
 
-    @unittest.skipUnless(HAS_CLASP, "needs clasp")
     def test_one_line(self):
         target = ("--sol", self.folder / "best.txt")
         two = self.changed(ROSTER, "Amara Mon Day Charge", "Amara Tue Late Charge")
@@ -146,13 +117,10 @@ class BadInput(HelperTest):
         for seconds in ("nan", "inf", 0, "1e12"):
             line = "inrc2pb-improve: --time has to be a number of seconds above 0, and at most 10000000\n"
             self.assert_refused(1, line, *WEEK_OPTIONS, *target, "--time", seconds)
-        for jobs in (0, 257):
-            self.assert_refused(1, "inrc2pb-improve: --jobs has to be a number from 1 to 256\n", *WEEK_OPTIONS, *target, "--jobs", jobs)
         broken = self.changed(SCENARIO, "Chen Full", "Chen Ful", "broken.txt")
         self.assert_refused(1, "line 26", "--sce", broken, *WEEK_OPTIONS[2:], *target)
         self.assertFalse((self.folder / "best.txt").exists())
 
-    @unittest.skipUnless(HAS_CLASP, "needs clasp")
     def test_a_pipe_in_place_of_a_file(self):
         pipe = self.folder / "pipe"
         os.mkfifo(pipe)
@@ -166,7 +134,7 @@ class BadInput(HelperTest):
         self.assertEqual(pipe.read_bytes(), WEEK.read_bytes())
         writer.join()
 
-    @unittest.skipUnless(HAS_CLASP, "needs clasp")
+    @unittest.skipUnless(HAS_CBC, "needs cbc")
     def test_held_rows_that_do_not_fit(self):
         fix, words = self.folder / "rows.txt", (*WEEK_OPTIONS, "--sol", self.folder / "best.txt", "--fix", self.folder / "rows.txt")
         self.solution("Amara Tue Day Charge", "Chen Mon Day Charge")
@@ -177,13 +145,15 @@ class BadInput(HelperTest):
         # Every nurse is held on the late shift of Monday, so nobody is left for the others.
         late = [f"{nurse} Mon Late Nurse" for nurse in ("Amara", "Bruno", "Chen", "Ewa", "Finn", "Grace")]
         self.solution(*late)
-        self.assert_refused(5, f"no roster keeps the hard rules and has the rows of {fix}, says clasp", *words, "--solver", "clasp")
+        ran = run("improve", *words)
+        self.assertEqual((ran[0], ran[1]), (5, ""))
+        self.assertRegex(ran[2], rf"no roster keeps the hard rules and has the rows of {fix} \(({PROVER}|{PLAIN})\): ")
 
-    @unittest.skipUnless(HAS_CLASP, "needs clasp")
+    @unittest.skipUnless(HAS_CBC, "needs cbc")
     def test_files_of_another_week(self):
         other = self.solution(*ROSTER.read_text().splitlines()[4:], week=3)
         target = self.folder / "best.txt"
-        words = (*WEEK_OPTIONS, "--sol", target, "--time", 60, "--jobs", 1, "--solver", "clasp")
+        words = (*WEEK_OPTIONS, "--sol", target, "--time", 60)
         status, report, said = run("improve", *words, "--fix", other)
         self.assertEqual(status, 0, said)
         hint = "line 2 has week 3, and the history has week 0: is the file of another week?"
@@ -194,20 +164,19 @@ class BadInput(HelperTest):
         broken = self.changed(other, "Amara Tue Day Charge", "Amara Mon Late Nurse")
         self.assert_refused(6, f"inrc2pb-improve: {broken} breaks a hard rule; {hint}\n", *words, "--from", broken)
 
-    @unittest.skipUnless(HAS_CLASP, "needs clasp")
+    @unittest.skipUnless(HAS_CBC, "needs cbc")
     def test_a_week_that_no_roster_meets(self):
         eight = ROOT / "examples" / "eight"
         words = ("--sce", eight / "Sc-eight.txt", "--his", eight / "H0-eight-1.txt", "--week", eight / "WD-eight-1.txt")
-        for solvers in ((), ("--solver", "clasp")):
-            status, report, said = run("improve", *words, "--sol", self.folder / "best.txt", "--time", 60, *solvers)
-            self.assertEqual((status, report), (5, ""))
-            self.assertRegex(said.splitlines()[-1], "no roster keeps the hard rules, says? .*clasp")
+        status, report, said = run("improve", *words, "--sol", self.folder / "best.txt", "--time", 60)
+        self.assertEqual((status, report), (5, ""))
+        self.assertRegex(said.splitlines()[-1], rf"no roster keeps the hard rules \(({PROVER}|{PLAIN})\): ")
 
 
 class Stops(HelperTest):
     def stopped(self, running, *words, environment=None):
         """A search of ten minutes that gets Ctrl-C when the file `running` exists: its status and its report."""
-        words = [*WEEK_FILES.options(), "--time", "600", "--jobs", "1", *words]
+        words = [*WEEK_FILES.options(), "--time", "600", *words]
         command = [sys.executable, str(HELPERS / "inrc2pb-improve"), *map(str, words)]
         search = subprocess.Popen(command, stdout=subprocess.PIPE, stderr=subprocess.DEVNULL, env={**os.environ, **(environment or {})})
         self.addCleanup(search.kill)
@@ -236,11 +205,11 @@ class Stops(HelperTest):
                 self.assertIn(says, ran[1])
             running.unlink(missing_ok=True)
 
-    @unittest.skipUnless(HAS_CLASP, "needs clasp")
+    @unittest.skipUnless(HAS_CBC, "needs cbc")
     def test_the_best_roster_is_reported(self):
         for number in (signal.SIGINT, signal.SIGTERM):
             target = self.folder / f"{number}.txt"
-            words = [*THIRTY_FILES.options(), "--sol", target, "--time", "60", "--jobs", "1", "--solver", "clasp"]
+            words = [*THIRTY_FILES.options(), "--sol", target, "--time", "60"]
             search = subprocess.Popen(
                 [sys.executable, str(HELPERS / "inrc2pb-improve"), *map(str, words)], stdout=subprocess.PIPE, stderr=subprocess.PIPE)
             line = search.stderr.readline()

@@ -1,6 +1,7 @@
 """Tests of `inrc2pb-period`."""
 
 import os
+import re
 import shlex
 import shutil
 import signal
@@ -11,10 +12,10 @@ import unittest
 from dataclasses import replace
 from pathlib import Path
 
-from ward import HELPERS, HISTORY, ROOT, ROSTER, SCENARIO, WARD, WEEK, WEEK_FILES, HelperTest, files, program, run
+from ward import HAS_CBC, HAS_CLASP, HELPERS, HISTORY, ROOT, ROSTER, SCENARIO, WARD, WEEK, WEEK_FILES, WEEK_OPTIONS, HelperTest, program, run
 
-from inrc2pb.period import Period, PeriodFiles, plan_once
-from inrc2pb.shared_totals import shared_week
+from inrc2pb.period import Period
+from inrc2pb.planned_weeks import PeriodFiles
 
 MONTH = ROOT / "examples" / "month"
 WARD_OPTIONS = ("--sce", SCENARIO, "--his", HISTORY, "--week", WEEK, "--week", WARD / "week-1.txt")
@@ -26,27 +27,9 @@ MONTH_WEEKS = [word for number in range(4) for word in ("--week", MONTH / f"week
 BAD_SOLVERS = ["echo nonsense", "false", "sh -c 'echo s SATISFIABLE'", "sh -c 'kill -9 $$'"]
 
 
-class Shares(unittest.TestCase):
-    def setUp(self):
-        self.week = files.read_files(SCENARIO, HISTORY, WEEK)
-
-    def test_each_nurse_has_her_part_of_the_totals(self):
-        ward, history, week = self.week.scenario, self.week.history, self.week.data
-        nurses = {**history.nurses, "Amara": replace(history.nurses["Amara"], assignments=5, weekends=1)}
-        shared = shared_week(files.Week(ward, replace(history, week=1, nurses=nurses), week))
-        self.assertTrue(shared.is_last)
-        # (17,21) with 5 shifts and 3 weeks to plan: 12 are missing and 16 left. Her part of 2 weekends is 1 in 2 of 4 weeks.
-        # Each second nurse begins at half a weekend or above.
-        contract = shared.scenario.contract_of("Amara")
-        self.assertEqual((contract.assignments, contract.max_weekends), (files.Limits(4, 6), 0))
-        self.assertEqual(shared.scenario.contract_of("Bruno").max_weekends, 1)
-        self.assertEqual(contract.working_days, ward.contracts["Full"].working_days)
-        self.assertEqual({past.assignments for past in shared.history.nurses.values()}, {0})
-        self.assertEqual(files.read_scenario("sce", files.scenario_text(shared.scenario)), shared.scenario)
-
-    def test_the_last_week_is_itself(self):
-        last = replace(self.week, history=replace(self.week.history, week=3))
-        self.assertIs(shared_week(last), last)
+def without_progress(said):
+    """The lines of standard error that are not the progress of a search."""
+    return "".join(line for line in said.splitlines(keepends=True) if not re.match(" +[0-9.]+ s  ", line))
 
 
 class PeriodTest(HelperTest):
@@ -66,33 +49,72 @@ class PeriodTest(HelperTest):
         self.assertEqual(table[1 + count], ["period", *(str(sum(column)) for column in zip(*rows))])
 
 
-@unittest.skipUnless(shutil.which("clasp"), "clasp is not installed")
-class Periods(PeriodTest):
+@unittest.skipUnless(HAS_CBC, "cbc is not installed")
+class Together(PeriodTest):
     def test_the_ward(self):
-        for totals in ([], ["--early"], ["--share"]):
+        for totals, says in (
+            ([], "^lower bound [0-9]+ of the sum \\(plain Python, not proved\\): "),
+            (["--early"], "^lower bound "),
+            (["--ahead"], "^planned ahead of 2 weeks that are not known: no lower bound$"),
+        ):
             with self.subTest(totals):
-                status, printed, said = run("period", *WARD_OPTIONS, *totals, "--out", self.folder, "--time", 2, "--solver", "clasp", "--jobs", 2)
+                status, printed, said = run("period", *WARD_OPTIONS, *totals, "--out", self.folder, "--time", 1)
                 self.assertEqual(status, 0, said)
                 self.assert_period(printed, WARD_OPTIONS, 2, "--early" in totals)
+                self.assertRegex(printed.splitlines()[-1], says)
+                self.assertIn("weeks 0 to 1 together, at most 2 s\n", said)
 
     def test_thirty_nurses_in_four_weeks(self):
-        status, printed, said = run("period", *MONTH_OPTIONS, *MONTH_WEEKS, "--early", "--out", self.folder, "--time", 3, "--once", "--solver", "clasp")
+        status, printed, said = run("period", *MONTH_OPTIONS, *MONTH_WEEKS, "--out", self.folder, "--time", 1)
         self.assertEqual(status, 0, said)
-        self.assert_period(printed, (*MONTH_OPTIONS, *MONTH_WEEKS), 4, True)
-        table = ("--sce", MONTH / "ward.txt", "--his", MONTH / "history-0.txt", *MONTH_WEEKS, "--early")
+        self.assert_period(printed, (*MONTH_OPTIONS, *MONTH_WEEKS), 4)
+        table = ("--sce", MONTH / "ward.txt", "--his", MONTH / "history-0.txt", *MONTH_WEEKS)
         shown = run("table", *table, *(self.folder / f"roster-{number}.txt" for number in range(4)))
         self.assertEqual((shown[0], shown[2]), (0, ""))
         self.assertIn("weeks 0 to 3", shown[1])
 
     def test_held_shifts_of_a_week(self):
+        held = self.solution("Grace Sat Day Nurse", week=1, name="held.txt")
+        status, _, said = run("period", *WARD_OPTIONS, "--fix", f"1={held}", "--out", self.folder, "--time", 1)
+        self.assertEqual(status, 0, said)
+        self.assertIn("Grace Sat Day Nurse\n", (self.folder / "roster-1.txt").read_text())
+
+    def test_held_shifts_that_no_rosters_have(self):
+        rows = [f"{nurse} Mon Day Nurse" for nurse in ("Amara", "Bruno", "Chen", "Dilek", "Ewa", "Finn", "Grace")]
+        held = self.solution(*rows, week=1, name="held.txt")
+        status, printed, said = run("period", *WARD_OPTIONS, "--fix", f"1={held}", "--out", self.folder / "out", "--time", 20)
+        self.assertEqual((status, printed), (5, ""))
+        self.assertRegex(said.splitlines()[-1], "^inrc2pb-period: no rosters keep the hard rules of these weeks together, by plain Python: ")
+
+    def test_a_stop_keeps_the_best_plan(self):
+        words = (*MONTH_OPTIONS, *MONTH_WEEKS, "--out", self.folder, "--time", 60)
+        with subprocess.Popen([sys.executable, str(HELPERS / "inrc2pb-period"), *map(str, words)], stdout=subprocess.PIPE, stderr=subprocess.PIPE) as period:
+            while not (self.folder / "roster-3.txt").exists() and period.poll() is None:
+                time.sleep(0.05)
+            period.send_signal(signal.SIGINT)
+            printed, said = period.communicate(timeout=60)
+        self.assertEqual(period.returncode, 130, said)
+        self.assert_period(printed.decode(), (*MONTH_OPTIONS, *MONTH_WEEKS), 4)
+        self.assertEqual(printed.decode().splitlines()[-1], "stopped: weeks 0 to 3 are planned")
+
+    def test_one_week_has_the_bound_of_the_week(self):
+        status, printed, said = run("period", *WEEK_OPTIONS, "--out", self.folder, "--time", 20)
+        self.assertEqual(status, 0, said)
+        self.assert_period(printed, WEEK_OPTIONS, 1)
+        self.assertRegex(printed, "\nlower bound 20 \\(.*\\)\nno roster costs less")
+
+
+@unittest.skipUnless(HAS_CLASP, "clasp is not installed")
+class Periods(PeriodTest):
+    def test_held_shifts_of_a_week(self):
         held = self.folder / "held.txt"
-        words = (*WARD_OPTIONS, "--fix", f"1={held}", "--out", self.folder, "--time", 5, "--once", "--solver", "clasp")
+        words = (*WARD_OPTIONS, "--fix", f"1={held}", "--out", self.folder, "--time", 5, "--solver", "clasp")
         files_of = ", ".join(str(self.folder / name) for name in ("roster-0.txt", "roster-1.txt", "history-1.txt", "history-2.txt"))
         for week, hint in ((1, ""), (3, f"inrc2pb-period: {held}: line 1 has week 3, and the history has week 1: is the file of another week?\n")):
             held.write_text(f"SOLUTION {week} ward ASSIGNMENTS = 1 Grace Sat Day Nurse\n")
             status, _, said = run("period", *words)
             replaced = f"files that are replaced: {files_of}\n" if week == 3 else ""
-            self.assertEqual((status, said), (0, f"{replaced}{BEGIN}week 1, {WARD / 'week-1.txt'}\n{hint}"))
+            self.assertEqual((status, without_progress(said)), (0, f"{replaced}{BEGIN}week 1, {WARD / 'week-1.txt'}\n{hint}"))
             self.assertIn("Grace Sat Day Nurse\n", (self.folder / "roster-1.txt").read_text())
 
 
@@ -101,29 +123,29 @@ class PeriodFaults(PeriodTest):
         return run("period", *words, "--out", self.folder, "--time", 1)
 
     def test_after_a_fault_the_week_that_has_a_roster_is_reported(self):
-        words = ("--out", self.folder, "--time", 60, "--jobs", 1, "--solver", self.answers_once())
+        words = ("--out", self.folder, "--time", 60, "--solver", self.answers_once())
         status, printed, said = run("period", *WARD_OPTIONS, *words)
         self.assertEqual((status, printed.splitlines()[0]), (1, f"week 0: penalty 20, {self.folder / 'roster-0.txt'}"))
         self.assert_period(printed, WARD_OPTIONS, 1)
         self.assertTrue((self.folder / "history-1.txt").exists())
         self.assertNotIn("stopped", printed)
-        self.assertRegex(said.splitlines()[-1], "^inrc2pb-period: week 0: sh: .*choose another solver with --solver$")
+        self.assertRegex(said.splitlines()[-1], "^inrc2pb-period: week 1: the solver sh has no answer: it printed no answer and ended with status 1; try its command by hand$")
 
     def test_after_the_last_week_the_command_for_the_next_period_is_printed(self):
         ward, answer, out = self.changed(SCENARIO, "WEEKS = 4", "WEEKS = 1"), self.folder / "answer.txt", self.folder / "my out"
         answer.write_text(program.answer_with(replace(WEEK_FILES, scenario=ward), ROSTER))
-        words = ("--sce", ward, "--his", HISTORY, "--week", WEEK, "--out", out, "--once", "--solver", f"sh -c 'cat {answer}'")
+        words = ("--sce", ward, "--his", HISTORY, "--week", WEEK, "--out", out, "--solver", f"sh -c 'cat {answer}'")
         for replaced in ("", f"files that are replaced: {out}/roster-0.txt\n"):
             status, printed, said = run("period", *words)
             command = f"inrc2pb-next --new-period {ward} {HISTORY} '{out}/roster-0.txt' --out '{out}/history-new.txt'"
             line = f"to make the first history of the next period, type: {command}\n"
-            self.assertEqual((status, said), (0, f"{replaced}{BEGIN}{line}"))
+            self.assertEqual((status, without_progress(said)), (0, f"{replaced}{BEGIN}{line}"))
         self.assertEqual(run(*shlex.split(command.replace("inrc2pb-", "", 1))), (0, "", ""))
         self.assertEqual((out / "history-new.txt").read_text()[:14], "HISTORY\n0 ward")
 
     def test_a_solver_without_an_answer(self):
         for solver in BAD_SOLVERS:
-            status, printed, said = self.period(*WARD_OPTIONS, "--once", "--solver", solver)
+            status, printed, said = self.period(*WARD_OPTIONS, "--solver", solver)
             self.assertNotEqual(status, 0)
             self.assertEqual((said.count("\n"), said.startswith(f"{BEGIN}inrc2pb-period: week 0: "), printed), (2, True, ""), said)
         self.assertEqual(list(self.folder.iterdir()), [])
@@ -133,7 +155,7 @@ class PeriodFaults(PeriodTest):
         started = self.folder / "started"
         started.unlink(missing_ok=True)
         solver = f"sh -c 'trap \"{at_end}; exit 1\" TERM; touch {started}; sleep 60 & wait'"
-        words = (*WARD_OPTIONS, "--out", self.folder, "--time", 60, "--once", "--solver", solver)
+        words = (*WARD_OPTIONS, "--out", self.folder, "--time", 60, "--solver", solver)
         command = [sys.executable, str(HELPERS / "inrc2pb-period"), *map(str, words)]
         environment = {**os.environ, **(environment or {})}
         with subprocess.Popen(command, stdout=subprocess.PIPE, stderr=subprocess.PIPE, env=environment) as period:
@@ -147,13 +169,13 @@ class PeriodFaults(PeriodTest):
         answer = self.folder / "answer.txt"
         answer.write_text(program.answer_with(WEEK_FILES, ROSTER))
         status, printed, said = self.stopped(f"cat {answer}")
-        self.assertEqual((status, said), (130, BEGIN))
+        self.assertEqual((status, without_progress(said)), (130, BEGIN))
         self.assert_period(printed, WARD_OPTIONS, 1)
         self.assertEqual(printed.splitlines()[-1], "stopped: week 0 is planned, week 1 is not")
         self.assertTrue((self.folder / "history-1.txt").exists())
 
     def test_the_weeks_that_a_stopped_period_has(self):
-        period = Period(PeriodFiles(*MONTH_OPTIONS[1::2], MONTH_WEEKS[1::2], {}), plan_once("false", 1), self.folder)
+        period = Period(PeriodFiles(*MONTH_OPTIONS[1::2], MONTH_WEEKS[1::2]), self.folder)
         for planned, says in (
             (1, "week 0 is planned, weeks 1 to 3 are not"),
             (2, "weeks 0 to 1 are planned, weeks 2 to 3 are not"),
@@ -175,8 +197,7 @@ class PeriodFaults(PeriodTest):
     def test_without_a_solver_or_the_program_no_folder_is_made(self):
         out = self.folder / "planned" / "here"
         for words, environment, status, says in (
-            (("--once", "--solver", "nosolver"), {}, 1, "there is no solver nosolver"),
-            (("--solver", sys.executable, "--solver", "nosolver"), {}, 1, "there is no solver nosolver"),
+            (("--solver", "nosolver"), {}, 1, "there is no solver nosolver"),
             (("--solver", sys.executable), {"INRC2PB": "/nowhere/inrc2pb"}, 127, "there is no program /nowhere/inrc2pb"),
         ):
             with self.subTest(words, **environment):
@@ -188,22 +209,22 @@ class PeriodFaults(PeriodTest):
     @unittest.skipIf(os.geteuid() == 0, "root may write everywhere")
     def test_a_folder_without_write_permission(self):
         self.folder.chmod(0o555)
-        self.assert_fault(self.period(*WARD_OPTIONS, "--once", "--solver", "false"), (
+        self.assert_fault(self.period(*WARD_OPTIONS, "--solver", "false"), (
             f"inrc2pb-period: {self.folder}: Permission denied: you may not read or write it: "
             "look at its permissions and those of its folder, or choose another folder"), 3)
 
     @unittest.skipUnless(Path("/sys").is_dir(), "there is no /sys")
     def test_a_folder_in_which_nobody_may_write(self):
-        status, printed, said = run("period", *WARD_OPTIONS, "--once", "--solver", "false", "--out", "/sys/planned")
+        status, printed, said = run("period", *WARD_OPTIONS, "--solver", "false", "--out", "/sys/planned")
         self.assertEqual((status, printed, said.count("\n")), (3, "", 1), said)
         self.assertRegex(said, "^inrc2pb-period: /sys/planned: .* choose another folder\n$")
 
     def test_a_week_without_a_roster(self):
         eight = ROOT / "examples" / "eight"
         words = ("--sce", eight / "Sc-eight.txt", "--his", eight / "H0-eight-1.txt", "--week", eight / "WD-eight-1.txt")
-        status, printed, said = self.period(*words, "--once", "--solver", "sh -c 'echo s UNSATISFIABLE'")
+        status, printed, said = self.period(*words, "--solver", "sh -c 'echo s UNSATISFIABLE'")
         self.assertEqual((status, printed), (1, ""))
-        self.assertIn("week 1: inrc2pb: solver found no roster: UNSATISFIABLE: the minimum numbers cannot all be met", said)
+        self.assertIn("week 1: no roster keeps the hard rules, says sh: ", said)
 
     def test_files_that_do_not_fit(self):
         _, _, said = self.period("--sce", SCENARIO, "--his", HISTORY, *(["--week", WEEK] * 5))
@@ -218,7 +239,7 @@ class PeriodFaults(PeriodTest):
         self.assertEqual(said, "inrc2pb-period: --fix 00=b.txt: week 0 has the file a.txt: put all rows into one file\n")
         pipe = self.folder / "pipe"
         os.mkfifo(pipe)
-        _, _, said = self.period("--sce", SCENARIO, "--his", HISTORY, "--week", pipe, "--once")
+        _, _, said = self.period("--sce", SCENARIO, "--his", HISTORY, "--week", pipe)
         self.assertEqual(said, f"inrc2pb-period: {pipe} is a pipe, which can be read only once: give a file\n")
         fix = self.solution("Chen Mon Day Charge", week=3, name="held.txt")
         _, _, said = self.period("--sce", SCENARIO, "--his", HISTORY, "--week", WEEK, "--week", WEEK, "--fix", f"1={fix}")

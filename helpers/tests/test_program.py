@@ -10,7 +10,7 @@ from unittest import mock
 
 from ward import HELPERS, HISTORY, ROSTER, SCENARIO, WEEK, WEEK_FILES, HelperTest, files, program
 
-from inrc2pb import command, faults, rules
+from inrc2pb import faults, processes, rules
 from inrc2pb.processes import Processes
 
 
@@ -140,7 +140,7 @@ class CommandLines(unittest.TestCase):
 
     def test_processors_that_the_process_may_use(self):
         with mock.patch("os.sched_getaffinity", return_value={1, 5}, create=True):
-            self.assertEqual(command.processors(), 2)
+            self.assertEqual(processes.processors(), 2)
 
 
 if __name__ == "__main__":

@@ -12,14 +12,6 @@ from inrc2pb.simulate import search_seconds, seconds_since_start
 
 
 class Simulation(HelperTest):
-    def test_after_a_fault_the_roster_is_reported(self):
-        solution, custom = self.folder / "solution.txt", self.folder / "custom.txt"
-        words = ("--sol", solution, "--cusOut", custom, "--timeout", 60, "--jobs", 1, "--solver", self.answers_once(early=True))
-        status, printed, said = run("simulate", *WEEK_OPTIONS, *words)
-        self.assertEqual((status, custom.read_text()), (1, "1\n"))
-        self.assertIn("penalty 20\n", printed)
-        self.assertRegex(said, "^inrc2pb-simulate: sh: .*choose another solver with --solver\n$")
-
     def test_one_file_for_two_results(self):
         target = self.folder / "solution.txt"
         line = f"inrc2pb-simulate: {target} gets the roster, so the number of the next week cannot be written to it: choose another file"
@@ -37,7 +29,7 @@ class Simulation(HelperTest):
         numbers = []
         reader = threading.Thread(target=lambda: numbers.append(pipe.read_text()), daemon=True)
         reader.start()
-        words = ("--sol", self.folder / "solution.txt", "--cusOut", pipe, "--timeout", 30, "--jobs", 1)
+        words = ("--sol", self.folder / "solution.txt", "--cusOut", pipe, "--timeout", 30)
         run("simulate", *WEEK_OPTIONS, *words, "--solver", self.answers_once(early=True))
         reader.join(timeout=30)
         self.assertEqual(numbers, ["1\n"])

@@ -18,12 +18,12 @@ FULL = "No space left on device: the disk is full: free some space, or choose an
 RIGHTS = "you may not read or write it: look at its permissions and those of its folder, or choose another folder"
 
 
-@unittest.skipUnless(shutil.which("clasp"), "needs clasp")
+@unittest.skipUnless(shutil.which("cbc"), "needs cbc")
 class Targets(HelperTest):
     """Rosters that cannot be written, also by root. The fault is one line with advice, the status is 3, and an older roster stays."""
 
     def improve(self, target):
-        return run("improve", *WEEK_OPTIONS, "--sol", target, "--time", 60, "--jobs", 1, "--solver", "clasp")
+        return run("improve", *WEEK_OPTIONS, "--sol", target, "--time", 60)
 
     def assert_not_written(self, target, says):
         self.assert_fault(self.improve(target), f"inrc2pb-improve: {target}: {says}", 3)
@@ -70,7 +70,7 @@ class Targets(HelperTest):
         for target in (roster, link):
             with self.subTest(target.name), contextlib.redirect_stderr(io.TextIOWrapper(io.BytesIO())) as said:
                 shutil.copy(start, roster)
-                words = [*WEEK_OPTIONS, "--from", start, "--sol", target, "--time", 60, "--jobs", 1, "--solver", "clasp"]
+                words = [*WEEK_OPTIONS, "--from", start, "--sol", target, "--time", 60]
                 unchanged = mock.patch("inrc2pb.command._catch_signals")
                 with mock.patch("sys.argv", ["inrc2pb-improve"]), mock.patch("os.open", self.full_after(2)), unchanged:
                     with self.assertRaises(SystemExit) as ended, contextlib.redirect_stdout(io.TextIOWrapper(io.BytesIO())):
@@ -107,7 +107,7 @@ class InputsStay(HelperTest):
         shutil.copy(ROSTER, roster)
         week = {name: shutil.copy(path, self.folder / name) for name, path in (("history-1.txt", HISTORY), ("week.txt", WEEK))}
         of_week = ("--sce", SCENARIO, "--his", HISTORY, "--week", week["week.txt"])
-        period = ("period", "--time", 1, "--out", self.folder, "--once", "--solver", "false", "--sce", SCENARIO, "--his")
+        period = ("period", "--time", 1, "--out", self.folder, "--solver", "false", "--sce", SCENARIO, "--his")
         for input_file, target, what, words in (
             (roster, "file", "the next history", ("next", SCENARIO, HISTORY, roster, "--out")),
             (week["history-1.txt"], "file", "the next history", ("next", SCENARIO, week["history-1.txt"], roster, "--out")),

@@ -1,0 +1,108 @@
+"""The weeks of a period that are planned: their files as values, and their rosters and histories as files."""
+
+from dataclasses import dataclass, field, replace
+from pathlib import Path
+from typing import Dict, List, NamedTuple, Optional, Sequence, Tuple
+
+from .faults import Misuse
+from .files import Assignment, History, Scenario, Solution, WeekData
+from .files import check_week_number, read_history, read_scenario, read_week, write_history, write_solution
+from .misfits import read_held
+from .next_history import next_history
+from .plan import WEEK_DAYS, Plan
+from .program import WeekFiles
+
+
+@dataclass(frozen=True)
+class PeriodFiles:
+    """The files of a period: the weeks' files in their order, and the fix file of some weeks, by number.
+
+    With `ahead` the weeks after them are not known yet, and count with the numbers of these.
+    """
+
+    scenario: Path
+    history: Path
+    weeks: Sequence[Path]
+    fixes: Dict[int, Path] = field(default_factory=dict)
+    early: bool = False
+    ahead: bool = False
+
+    def all(self) -> Tuple[Path, ...]:
+        """All files that are read."""
+        return (self.scenario, self.history, *self.weeks, *self.fixes.values())
+
+
+class WrittenWeek(NamedTuple):
+    """A week's files and its roster."""
+
+    files: WeekFiles
+    roster: Path
+
+
+class PlannedWeeks:
+    """The weeks that are planned, as values. `hints` names the fix files that seem to be of another week."""
+
+    def __init__(self, files: PeriodFiles) -> None:
+        self.files = files
+        self.hints: List[str] = []
+        self.scenario: Scenario = read_scenario(files.scenario)
+        self.history: History = read_history(files.history, self.scenario)
+        check_week_number(files.history, self.history, self.scenario)
+        first, left = self.history.week, self.scenario.weeks - self.history.week
+        if len(files.weeks) > left:
+            raise Misuse(
+                f"{len(files.weeks)} weeks are given, and {left} {'is' if left == 1 else 'are'} left from week {first} "
+                f"of {self.scenario.weeks}: give only the files of weeks that are not planned yet"
+            )
+        self.numbers = range(first, first + len(files.weeks))
+        self.held: List[Assignment] = []
+        for number, path in files.fixes.items():
+            self._hold(number, path)
+        self.data: List[WeekData] = [read_week(path, self.scenario) for path in files.weeks]
+
+    def _hold(self, number: int, path: Path) -> None:
+        """Keeps the rows of a fix file. The days of the plan count from its first week."""
+        if number not in self.numbers:
+            raise Misuse(f"--fix {number}={path}: week {number} is not planned, the weeks are {self.numbers[0]} to {self.numbers[-1]}")
+        known = self.history if number == self.numbers[0] else History(number, self.history.scenario, {})
+        days = WEEK_DAYS * (number - self.numbers[0])
+        rows = read_held(path, self.scenario, known, lambda hint: self.hints.append(f"{path}: {hint}")).assignments
+        self.held += [row._replace(day=row.day + days) for row in rows]
+
+    def later(self) -> List[WeekData]:
+        """A forecast of the weeks that are not known: the numbers of the known ones in turn, without requests."""
+        missing = self.scenario.weeks - self.numbers.stop if self.files.ahead else 0
+        return [replace(self.data[at % len(self.data)], requests=()) for at in range(missing)]
+
+    def plan(self) -> Plan:
+        """All weeks as one plan, those of the forecast included."""
+        return Plan.of(self.scenario, self.history, [*self.data, *self.later()], self.files.early, self.held)
+
+    def week_files(self, number: int, history: Optional[Path] = None) -> WeekFiles:
+        """The files of a week. Its history is the given one of the first week, or another."""
+        path = self.files.weeks[number - self.numbers[0]]
+        return WeekFiles(self.files.scenario, history or self.files.history, path, self.files.fixes.get(number), self.files.early)
+
+    def write(self, cells: Sequence[Assignment], folder: Path) -> List[WrittenWeek]:
+        """Writes the weeks' rosters, of assignments whose days count from the first week, and the history after each week."""
+        history, path, written = self.history, self.files.history, []
+        for at, number in enumerate(self.numbers):
+            rows = tuple(cell._replace(day=cell.day % WEEK_DAYS) for cell in cells if cell.day // WEEK_DAYS == at)
+            roster = folder / roster_name(number)
+            write_solution(roster, Solution(number, self.scenario.name, rows))
+            written.append(WrittenWeek(self.week_files(number, path), roster))
+            if number + 1 < self.scenario.weeks:
+                history = next_history(self.scenario, history, rows)
+                path = folder / history_name(number + 1)
+                write_history(path, history)
+        return written
+
+
+def roster_name(number: int) -> str:
+    """The name of the file of a week's roster."""
+    return f"roster-{number}.txt"
+
+
+def history_name(number: int) -> str:
+    """The name of the file of a week's history."""
+    return f"history-{number}.txt"

@@ -1,0 +1,74 @@
+"""The progress of a search: each better roster, with the lower bound and the gap."""
+
+import contextlib
+import os
+import sys
+import time
+from typing import Optional, TextIO
+
+# The seconds between two lines that only have a higher bound.
+BOUND_SECONDS = 5.0
+
+
+class Progress:
+    """Prints each improvement: on one line that changes on a terminal, else on a line of its own."""
+
+    def __init__(self, target: Optional[TextIO]) -> None:
+        self._target = target
+        self._began = self._printed = time.monotonic()
+        self._updates = target is not None and target.isatty()
+        self._width = 0
+        self._penalty: Optional[int] = None
+        self._bound: Optional[int] = None
+        self._finder = ""
+
+    def improved(self, penalty: int, finder: str) -> None:
+        """A roster of this penalty was found."""
+        self._penalty, self._finder = penalty, finder
+        self._show()
+
+    def bound_rose(self, bound: int) -> None:
+        """No roster costs less than this."""
+        self._bound = bound
+        if self.is_due() or self._updates:
+            self._show()
+
+    def is_due(self) -> bool:
+        """Whether a higher bound alone is worth a line."""
+        return self._target is not None and time.monotonic() - self._printed > (BOUND_SECONDS if not self._updates else 1.0)
+
+    def _show(self) -> None:
+        parts = ["no roster yet" if self._penalty is None else f"penalty {self._penalty}"]
+        if self._bound is not None:
+            parts.append(f"bound {self._bound}" + ("" if self._penalty is None else f", gap {gap_share(self._penalty, self._bound)}"))
+        if self._finder:
+            parts.append(f"({self._finder})")
+        self._printed = time.monotonic()
+        text = f"{self._printed - self._began:7.1f} s  " + "  ".join(parts)
+        if self._updates:
+            self._put("\r" + text.ljust(self._width))
+            self._width = len(text)
+        else:
+            self._put(f"{text}\n")
+
+    def warn(self, text: str) -> None:
+        """Something that the user should know."""
+        self.finish()
+        self._put(f"{os.path.basename(sys.argv[0])}: {text}\n")
+
+    def finish(self) -> None:
+        """Ends the line that changes."""
+        if self._width:
+            self._put("\n")
+            self._width = 0
+
+    def _put(self, text: str) -> None:
+        if self._target is not None:
+            with contextlib.suppress(OSError, ValueError):
+                self._target.write(text)
+                self._target.flush()
+
+
+def gap_share(penalty: int, bound: int) -> str:
+    """The gap between a penalty and a bound, as a part of the penalty."""
+    return f"{100 * max(0, penalty - bound) / penalty:.1f} %" if penalty else "0.0 %"

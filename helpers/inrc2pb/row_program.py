@@ -1,0 +1,113 @@
+"""The program that chooses one known row for each nurse, as a linear or integer program in the MPS format."""
+
+from typing import Dict, Iterable, List, NamedTuple, Optional, Set, Tuple
+
+from .linear_solvers import Relaxed, SolverFault
+from .plan import POINT, Plan
+from .pricing import MAX_PRICE, Crews, Prices, Row
+
+# What a nurse below a minimum costs at first, in points, and at most.
+BELOW_MINIMUM, MOST_BELOW = 3000, 900_000
+# With more crews of several places a column names the places of its row.
+MOST_LINKS = 6000
+
+
+class Column(NamedTuple):
+    """A row of a nurse with its cost in points, the crews for which it counts (with `direct` places), and its text."""
+
+    nurse: int
+    row: Row
+    cost: int
+    crews: Tuple[int, ...]
+    text: str
+
+
+class Solved(NamedTuple):
+    """A solution of the linear program: its value in points, whole prices of places and of nurses in thousandths, the share of each
+    column that it takes, and how many nurses are missing below minimums."""
+
+    value: float
+    prices: Prices
+    nurses: List[int]
+    shares: Dict[int, float]
+    missing: float
+
+
+def _entry(column: str, row: str, value: float) -> str:
+    return f"    {column:<8}  {row:<8}  {value:>12.10g}\n"
+
+
+class RowProgram:
+    """The known rows of all nurses, numbered as columns, and the texts of programs over some of them."""
+
+    def __init__(self, plan: Plan, crews: Crews) -> None:
+        self.columns: List[Column] = []
+        self._crews, self._nurses, self._missing = crews, len(plan.nurses), plan.missing_cost
+        self.below = BELOW_MINIMUM if plan.charging else 1
+        self._known: Set[Tuple[int, Row, Tuple[int, ...]]] = set()
+        self._direct = sum(len(places) > 1 for places in crews.members) > MOST_LINKS
+
+    def add(self, nurse: int, row: Row, cost: int, prices: Prices) -> bool:
+        """Adds a row, if it is new. If columns name places, they are those of the highest prices."""
+        of = self._crews.of[nurse]
+        crews = [of[day][choice] for day, choice in enumerate(row)]
+        named = [self._crews.members[crew] for crew in crews]
+        places = tuple(self._crews.best_place(crew, prices) for crew in crews) if self._direct else ()
+        used = places if self._direct else tuple(places[0] if len(places) == 1 else None for places in named)
+        key = (nurse, row, tuple(-1 if place is None else place for place in places))
+        if key in self._known:
+            return False
+        self._known.add(key)
+        links = () if self._direct else tuple(crew for crew, places in zip(crews, named) if len(places) > 1)
+        name = f"v{len(self.columns)}"
+        rows = [f"n{nurse}", *(f"c{place}" for place in used if place is not None), *(f"k{crew}" for crew in links)]
+        text = (_entry(name, "obj", cost) if cost else "") + "".join(_entry(name, row, 1) for row in rows)
+        self.columns.append(Column(nurse, row, cost, links, text))
+        return True
+
+    def text(self, use: Iterable[int], whole: bool = False) -> str:
+        """The program over these columns; `whole` makes them integers."""
+        columns = [self.columns[at] for at in use]
+        links = sorted({crew for column in columns for crew in column.crews})
+        places = range(len(self._crews.places))
+        lines = ["NAME          ROWS\nROWS\n N  obj\n"]
+        lines += [f" G  c{place}\n" for place in places] + [f" G  k{crew}\n" for crew in links]
+        lines += [f" E  n{nurse}\n" for nurse in range(self._nurses)]
+        lines.append("COLUMNS\n")
+        limits = []
+        for place, least, best in zip(places, self._crews.minimum, self._crews.optimal):
+            for name, most, cost in ((f"u{place}", best - least, self._missing), (f"b{place}", least, self.below)):
+                if most:
+                    lines.append((_entry(name, "obj", cost) if cost else "") + _entry(name, f"c{place}", 1))
+                    limits.append(f" UP BND       {name:<8}  {most:>12}\n")
+        for crew in links:
+            for place in self._crews.members[crew]:
+                name = f"f{len(limits)}"
+                lines.append(_entry(name, f"c{place}", 1) + _entry(name, f"k{crew}", -1))
+                limits.append(f" PL BND       {name:<8}\n")
+        mark = "    MARKER                 'MARKER'                 'INT{}'\n"
+        lines += [mark.format("ORG")] * whole + [column.text for column in columns] + [mark.format("END")] * whole
+        limits += [f" BV BND       {column.text[4:12]}\n" for column in columns] * whole
+        lines.append("RHS\n")
+        lines += [_entry("RHS", f"c{place}", best) for place, best in zip(places, self._crews.optimal)]
+        lines += [_entry("RHS", f"n{nurse}", 1) for nurse in range(self._nurses)]
+        return "".join([*lines, "BOUNDS\n", *limits, "ENDATA\n"])
+
+    def solved(self, found: Relaxed) -> Solved:
+        """A solver's answer in the terms of the plan. Prices that are no prices are cut."""
+        prices = [min(MAX_PRICE, max(0, round(found.prices.get(f"c{place}", 0) * POINT))) for place in range(len(self._crews.places))]
+        nurses = [round(found.prices.get(f"n{nurse}", 0) * POINT) for nurse in range(self._nurses)]
+        shares = {self._column(name): share for name, share in found.taken.items() if name[0] == "v"}
+        missing = sum(share for name, share in found.taken.items() if name[0] == "b")
+        return Solved(found.value, prices, nurses, shares, missing)
+
+    def chosen(self, names: Iterable[str]) -> Optional[List[int]]:
+        """The column of each nurse, by the names that an integer program took; None if a nurse has none or several."""
+        columns = {self.columns[at].nurse: at for at in map(self._column, (name for name in names if name[0] == "v"))}
+        return [columns[nurse] for nurse in range(self._nurses)] if len(columns) == self._nurses else None
+
+    def _column(self, name: str) -> int:
+        number = name[1:]
+        if not (number.isdigit() and int(number) < len(self.columns)):
+            raise SolverFault(f"the answer has an unknown column {name[:40]}")
+        return int(number)

@@ -1,0 +1,125 @@
+"""A search for the best roster of a week: over the rows of its nurses, or by a user's own solver."""
+
+from pathlib import Path
+from typing import List, Optional, Sequence
+
+from .best_roster import BestRoster
+from .bounds import Bound, Bounds
+from .clock import Clock
+from .faults import Misuse, ProgramFault, page
+from .files import Assignment, Week, read_solution
+from .linear_solvers import INSTALL, LinearSolvers, installed
+from .plan import Plan
+from .pricing import Row
+from .processes import Processes
+from .program import BROKEN_RULE, FAULT, NO_ROSTER, WeekFiles, decode
+from .progress import Progress
+from .row_run import RowRun
+from .skills import staffed
+from .solvers import Solver
+
+
+class WeekSearch:
+    """A search over one week within the time of its clock. `bound` is the best lower bound, if there is one."""
+
+    def __init__(self, files: WeekFiles, week: Week, held: Sequence[Assignment], best: BestRoster, clock: Clock, progress: Progress) -> None:
+        self._files, self._week, self._held, self._best = files, week, held, best
+        self._clock, self._progress = clock, progress
+        self._processes = Processes()
+        self._asks = False
+        self.bound: Optional[Bound] = None
+        # What claims without a proof of inrc2pb-bound that no roster costs less.
+        self.claimed_by = ""
+
+    def interrupt(self) -> None:
+        """Ends the search as the user asks: now, or as soon as a solver of the user has printed what it has."""
+        self._clock.stop()
+        if self._asks and self._best.penalty is None:
+            self._processes.ask_to_end()
+        else:
+            self._processes.stop()
+
+    # ---- over rows
+
+    def over_rows(self, folder: Path, start: Optional[Sequence[Assignment]], prices: Optional[Path]) -> None:
+        """Searches over the rows of the nurses. `prices` is the file for the prices of the bound. Without a roster it is a ProgramFault if none exists."""
+        plan = Plan.of(self._week.scenario, self._week.history, [self._week.data], self._files.early, self._held)
+        bounds = Bounds(self._files, plan.scenario, list(plan.demand), prices)
+        names = installed()
+        if not names:
+            self._progress.warn(f"there is no cbc, clp or glpsol, so this is only a first roster: {INSTALL}")
+        solver = LinearSolvers(names, self._processes, folder, self._progress.warn) if names else None
+
+        def offer(rows: List[Row], finder: str) -> Optional[int]:
+            self._see(run, bounds)
+            return self._best.offer(staffed(plan, run.crews, rows).cells, finder)
+
+        def heard() -> None:
+            if self._progress.is_due():
+                self._see(run, bounds)
+
+        run = RowRun(plan, solver, self._clock, offer, heard, _rows(plan, start) if start else None)
+        try:
+            run.run()
+        finally:
+            self._see(run, bounds)
+        if run.claimed and solver:
+            self.claimed_by = solver.name
+        self._judge(run, bounds)
+
+    def _see(self, run: RowRun, bounds: Bounds) -> None:
+        """Takes the bound of the best prices."""
+        search = run.search
+        if search and search.lower_bound is not None:
+            bound = bounds.of(search.prices, search.lower_bound)
+            if self.bound is None or bound.points > self.bound.points:
+                self.bound = bound
+                self._progress.bound_rose(bound.points)
+
+    def _judge(self, run: RowRun, bounds: Bounds) -> None:
+        """A proof that no roster exists is a ProgramFault."""
+        if self._best.penalty is not None:
+            return
+        held = f" and has the rows of {self._files.fix}" if self._files.fix else ""
+        why = f"{page('your_ward.md')} shows how to find out why"
+        if run.without_row:
+            raise ProgramFault(NO_ROSTER, f"no roster keeps the hard rules{held}: those of {run.without_row} contradict one another")
+        by = bounds.no_roster(*run.minimums) if run.minimums else None
+        if by:
+            raise ProgramFault(NO_ROSTER, f"no roster keeps the hard rules{held} ({by}): {why}")
+        if run.claimed:
+            raise ProgramFault(NO_ROSTER, f"no roster keeps the hard rules{held}, says {self.claimed_by}: {why}")
+
+    # ---- by a user's own solver
+
+    def by_solver(self, solver: Solver, folder: Path) -> None:
+        """Lets a solver of the user solve the whole week once."""
+        self._asks = True
+        outcome = solver.solve(self._files, self._clock.left(), folder, self._processes)
+        if not outcome.answer:
+            if self._clock.stopped:
+                return
+            raise Misuse(f"the solver {solver.name} has no answer: {outcome.fault}; try its command by hand")
+        path = folder / "answer.txt"
+        try:
+            report = decode(self._files, outcome.answer, path)
+        except ProgramFault as fault:
+            if fault.status in (FAULT, BROKEN_RULE):
+                raise Misuse(f"the solver {solver.name}: its answer was rejected: {fault.message}") from fault
+            if fault.status != NO_ROSTER:
+                raise
+            if "UNSATISFIABLE" in fault.message and self._best.penalty is None:
+                raise ProgramFault(NO_ROSTER, f"no roster keeps the hard rules, says {solver.name}: {page('your_ward.md')} shows how to find out why") from fault
+            return
+        self._best.offer(read_solution(path).assignments, solver.name)
+        if report.optimal and self._best.penalty == report.penalty:
+            self.bound, self.claimed_by = Bound(report.penalty, solver.name), solver.name
+
+
+def _rows(plan: Plan, cells: Sequence[Assignment]) -> List[Row]:
+    """The rows of a roster."""
+    numbers = {shift: number for number, shift in enumerate(plan.scenario.shift_types, 1)}
+    rows = {nurse: bytearray(plan.days) for nurse in plan.nurses}
+    for cell in cells:
+        rows[cell.nurse][cell.day] = numbers[cell.shift]
+    return [bytes(row) for row in rows.values()]
