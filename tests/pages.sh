@@ -152,7 +152,7 @@ docs/rules.md 1450
 docs/solvers.md 2950
 docs/tested.md 800
 docs/trusted.md 850
-docs/your_ward.md 3200
+docs/your_ward.md 2650
 END
     begins_case 'that each page has a limit'
     for page in README.md docs/*.md; do
