@@ -1,0 +1,14 @@
+pub mod BrokenRules
+pub mod Choices
+pub mod ChosenWeeks
+pub mod DaySteps
+pub mod Days
+pub mod FirstBelow
+pub mod LeastCosts
+pub mod NursePart
+pub mod PlacePart
+pub mod ShiftRuns
+pub mod Soundness
+pub mod Sums
+pub mod Tables
+pub mod WeekSearch

@@ -1,0 +1,11 @@
+pub mod CheapestWeeks
+pub mod ChosenDuties
+pub mod ChosenWeeks
+pub mod DayCharges
+pub mod KnownCosts
+pub mod LowerBound
+pub mod Minimums
+pub mod Nearness
+pub mod NurseBounds
+pub mod PlaceBounds
+pub mod ShiftCharges

@@ -1,0 +1,39 @@
+//! The laws of the bound. Each law holds for all weeks, prices and rosters, and does nothing when it runs.
+ghost use Rattle.std.specs.Prelude.{◌≡◌, ℕ, ◌≤◌, ◌<◌};
+ghost use Rattle.rota_core.specs.HardRules.{KeepsHardRules};
+ghost use Rattle.rota_core.specs.Prices.{ArePrices, Prices};
+ghost use Rattle.rota_core.specs.Problem.{Problem};
+ghost use Rattle.rota_core.specs.Roster.{Roster};
+ghost use Rattle.rota_items.specs.Penalty.{penalty};
+ghost use Rattle.rota_bound.specs.LowerBound.{BoundIsSound, IsOptimal, lower_bound, minimums_bound};
+
+/// Whatever the prices and the value of a point, the bound is at most the penalty of each roster that keeps the
+/// hard rules.
+pub fn bound_is_sound()
+    ensures { (unit : ℕ) (problem : Problem) (prices : Prices) (roster : Roster) → BoundIsSound unit problem prices roster }
+{}
+
+/// No roster that keeps the hard rules has a penalty below the lower bound, whatever the prices.
+pub fn lower_bound_is_sound()
+    ensures { (problem : Problem) (prices : Prices) (roster : Roster) →
+        ArePrices prices →
+        KeepsHardRules problem roster →
+        lower_bound problem prices ≤ penalty problem roster }
+{}
+
+/// A roster that keeps the hard rules, and whose penalty is the lower bound, is optimal.
+pub fn bound_proves_optimality()
+    ensures { (problem : Problem) (prices : Prices) (roster : Roster) →
+        ArePrices prices →
+        KeepsHardRules problem roster →
+        penalty problem roster ≡ lower_bound problem prices →
+        IsOptimal problem roster }
+{}
+
+/// No roster keeps the hard rules if the bound without the soft rules is above 0.
+pub fn minimums_prove_that_no_roster_exists()
+    ensures { (problem : Problem) (prices : Prices) (roster : Roster) →
+        ArePrices prices →
+        0 < minimums_bound problem prices →
+        KeepsHardRules problem roster → ⊥ }
+{}
