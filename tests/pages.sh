@@ -138,7 +138,7 @@ README.md 900
 CONTRIBUTING.md 800
 examples/README.md 320
 bench/README.md 650
-docs/DECISIONS.md 1150
+docs/DECISIONS.md 1250
 docs/answers.md 1550
 docs/changing.md 900
 docs/embedding.md 1850

@@ -164,11 +164,16 @@ class Formats(HelperTest):
         self.assertIn("Amära_Koch Full 2 Charge Nurse\n", texts(sheets)["ward.txt"])
 
     def test_files_that_are_no_spreadsheets(self):
+        good = (DATA / "libreoffice.ods").read_bytes()
+        with zipfile.ZipFile(DATA / "libreoffice.ods") as archive:
+            at = archive.getinfo("content.xml").header_offset + 60
+        flipped = good[:at] + bytes(200) + good[at + 200 :]
         bomb = '<!DOCTYPE x [<!ENTITY a "aaaaaaaaaa"><!ENTITY b "&a;&a;&a;&a;">]><x>&b;</x>'
         for name, data, said in (
             ("old.xls", b"\xd0\xcf\x11\xe0" + bytes(600), "this is an old Excel file, or one with a password: save it without one as .xlsx or .ods"),
             ("text.ods", b"nurse;contract\n", "this is no spreadsheet: give an .ods or .xlsx file, or a folder of .csv files"),
-            ("cut.ods", (DATA / "libreoffice.ods").read_bytes()[:3000], "the spreadsheet is damaged: open it in its program, and save it again"),
+            ("cut.ods", good[:3000], "the spreadsheet is damaged: open it in its program, and save it again"),
+            ("flipped.ods", flipped, "the spreadsheet is damaged: open it in its program, and save it again"),
             ("other.zip", {"a.txt": "a"}, "this file has no sheets: give an .ods or .xlsx file, or a folder of .csv files"),
             ("bomb.ods", {"content.xml": bomb}, "the spreadsheet has a document type, which no program writes: save it again with LibreOffice or Excel"),
             ("bomb16.ods", {"content.xml": bomb.encode("utf-16")}, "the spreadsheet has a document type, which no program writes: save it again with LibreOffice or Excel"),
