@@ -2,8 +2,9 @@
 
 import tempfile
 from pathlib import Path
-from typing import Callable, Optional, Sequence
+from typing import Callable, List, Optional, Sequence, Tuple
 
+from .absences import absences_of, working_while_away
 from .faults import ProgramFault
 from .files import Assignment, Solution, Week, write_solution
 from .misfits import explained, other_week, read_roster
@@ -14,11 +15,14 @@ Announce = Callable[[int, str], None]
 
 
 class BestRoster:
-    """Keeps the best roster in the file `solution`, which always has a whole roster. `proved` says whether no roster costs less."""
+    """Keeps the best roster in the file `solution`, which always has a whole roster: it breaks the fewest absences, and costs the least
+    of those. `proved` says whether no roster costs less."""
 
     def __init__(self, files: WeekFiles, week: Week, solution: Path, announce: Announce) -> None:
         self._files, self._week, self._solution, self._announce = files, week, solution, announce
+        self._absences = absences_of(week.data)
         self._report: Optional[Report] = None
+        self._rows: Sequence[Assignment] = ()
         self._answer = ""
         self.proved = False
 
@@ -27,8 +31,16 @@ class BestRoster:
         """The penalty of the best roster, if there is one."""
         return self._report.penalty if self._report else None
 
+    def breaks(self) -> List[Assignment]:
+        """The assignments of the best roster that break an absence."""
+        return working_while_away(self._absences, self._rows)
+
+    def _rank(self, rows: Sequence[Assignment], report: Report) -> Tuple[int, int]:
+        """A smaller rank is better."""
+        return len(working_while_away(self._absences, rows)), report.penalty
+
     def offer(self, rows: Sequence[Assignment], finder: str) -> Optional[int]:
-        """Keeps the roster if it costs less than the best one. Returns its penalty; None if it breaks a hard rule."""
+        """Keeps the roster if it is better than the best one. Returns its penalty; None if it breaks a hard rule."""
         solution = Solution(self._week.history.week, self._week.scenario.name, tuple(rows))
         with tempfile.TemporaryDirectory() as folder:
             path = Path(folder, "found.txt")
@@ -39,9 +51,9 @@ class BestRoster:
                 if fault.status != BROKEN_RULE:
                     raise
                 return None
-        if self._report is None or report.penalty < self._report.penalty:
+        if self._report is None or self._rank(rows, report) < self._rank(self._rows, self._report):
             write_solution(self._solution, solution)
-            self._answer, self._report = answer, report
+            self._answer, self._report, self._rows = answer, report, rows
             self._announce(report.penalty, finder)
         return report.penalty
 

@@ -1,15 +1,16 @@
 """Lower bounds from prices: the program `inrc2pb-bound` proves them; without it they are computed in plain Python."""
 
 import os
+import re
 import tempfile
 from dataclasses import dataclass
 from pathlib import Path
-from typing import List, Optional, Sequence
+from typing import Callable, List, Optional, Sequence
 
 from .faults import ProgramFault
 from .plan import WEEK_DAYS
 from .pricing import Prices
-from .program import WeekFiles, find_program, run_program
+from .program import FAULT, WeekFiles, find_program, run_program
 from .records import Place, Scenario
 from .writing import write_text
 
@@ -49,13 +50,11 @@ class Bounds:
         self._seen: Optional[Prices] = None
         self._best: Optional[Bound] = None
 
-    def of(self, prices: Prices, points: int) -> Bound:
-        """The bound of these prices, which is `points` in plain Python."""
+    def of(self, prices: Prices, plain: Callable[[], int]) -> Bound:
+        """The bound of these prices; `plain` computes it in plain Python."""
         if prices is not self._seen or self._best is None:
             self._seen = prices
-            found = Bound(points, PLAIN)
-            if self._prover:
-                found = Bound(int(self._prove(prices).split("\n", 1)[0].split()[-1]), PROVER)
+            found = Bound(_points(self._prove(prices)), PROVER) if self._prover else Bound(plain(), PLAIN)
             if self._target:
                 write_text(self._target, prices_text(self._scenario, self._places, prices))
             if self._best is None or found.points > self._best.points:
@@ -75,8 +74,12 @@ class Bounds:
         with tempfile.TemporaryDirectory() as folder:
             path = Path(folder, "prices.txt")
             write_text(path, prices_text(self._scenario, self._places, prices))
-            options = self._files.options()
-            try:
-                return run_program(*options, "--prices", str(path), *words, program=self._prover)
-            except (ValueError, IndexError) as fault:
-                raise ProgramFault(1, f"{PROVER}: its answer cannot be read") from fault
+            return run_program(*self._files.options(), "--prices", str(path), *words, program=self._prover)
+
+
+def _points(answer: str) -> int:
+    """The bound in an answer of `inrc2pb-bound`."""
+    found = re.match("lower bound ([0-9]+)\n", answer)
+    if not found:
+        raise ProgramFault(FAULT, f"{PROVER}: its answer cannot be read: {answer[:60]}")
+    return int(found[1])

@@ -39,7 +39,7 @@ class _Matching:
             of = self._crews.places[at]
             left[at] -= sum(choice == self._numbers[of.shift] and self._skill(nurse, day) == of.skill for nurse, choice in held.items() if choice)
         asked = {at: self._crews.places[at] for at, number in left.items() if number > 0}
-        order = {shift: self._order(self._numbers[shift], day, held) for shift in dict.fromkeys(place.shift for place in asked.values())}
+        order = {shift: self._order(shift, day, held) for shift in dict.fromkeys(place.shift for place in asked.values())}
         wants = {at: [nurse for nurse in order[place.shift] if nurse in self._skilled[place.skill]] for at, place in asked.items()}
         tried = dict.fromkeys(wants, 0)
         for at in sorted(wants, key=lambda at: len(wants[at])):
@@ -60,10 +60,12 @@ class _Matching:
         rows = self._plan.held.get((self._plan.nurses[nurse], day))
         return self._numbers[rows[0].shift] if rows else None
 
-    def _order(self, choice: int, day: int, held: Dict[int, Optional[int]]) -> List[int]:
-        """The nurses who may have the choice, in the order in which they are asked."""
-        nurses = range(len(self.rows))
+    def _order(self, shift: str, day: int, held: Dict[int, Optional[int]]) -> List[int]:
+        """The nurses who may have the shift, in the order in which they are asked."""
+        nurses, choice = range(len(self.rows)), self._numbers[shift]
         free = [nurse for nurse in nurses if held.get(nurse) is None and choice not in self._forbidden[self._last[nurse]]]
+        if self._plan.away:
+            free = [nurse for nurse in free if not self._plan.is_away(self._plan.nurses[nurse], day, shift)]
         if self._plan.held:
             free = [nurse for nurse in free if (self._held(nurse, day + 1) or 0) not in self._forbidden[choice]]
         return sorted(free, key=lambda nurse: self._rank(nurse, choice))

@@ -7,6 +7,7 @@ import tempfile
 from pathlib import Path
 from typing import List, Optional, Sequence
 
+from .absences import in_words
 from .best_roster import BestRoster
 from .bounds import PROVER
 from .clock import Clock
@@ -102,7 +103,10 @@ def search(
         finally:
             progress.finish()
             shutil.rmtree(folder, ignore_errors=True)
-        return _outcome(best, running, bool(signals.caught), fault, seconds)
+        outcome = _outcome(best, running, bool(signals.caught), fault, seconds)
+        if best.breaks():
+            progress.warn(f"no roster was found that keeps every absence: {in_words(best.breaks())}")
+        return outcome
 
 
 def _outcome(best: BestRoster, running: WeekSearch, stopped: bool, fault: Optional[BaseException], seconds: float) -> Outcome:

@@ -4,8 +4,9 @@ Days count from 0 through all weeks. A choice is 0 for a day off, and one more t
 """
 
 from dataclasses import dataclass, replace
-from typing import Dict, Iterable, List, Optional, Sequence, Tuple
+from typing import Dict, FrozenSet, Iterable, List, Optional, Sequence, Tuple
 
+from .absences import Absence, absences_of
 from .files import Assignment, History, Place, Request, Requirement, Scenario, WeekData
 from .rules import MISSING_NURSE, REQUEST
 
@@ -25,7 +26,7 @@ class Plan:
     """What is asked for on these days, and by whom it can be done.
 
     `demand` has the places that ask for nurses, with the day of the plan; its optimal numbers are not below its minimums.
-    `nurses` are those whose rows are searched. Without `charging` only the hard rules count: nothing costs anything, and
+    `nurses` are those whose rows are searched, and `away` has the absences that their rows keep, with the day of the plan. Without `charging` only the hard rules count: nothing costs anything, and
     each nurse below a minimum costs one point.
     """
 
@@ -37,10 +38,13 @@ class Plan:
     nurses: Tuple[str, ...]
     demand: Dict[Place, Requirement]
     charging: bool = True
+    away: FrozenSet[Absence] = frozenset()
 
     @staticmethod
-    def of(scenario: Scenario, history: History, weeks: Sequence[WeekData], early: bool = False, held: Iterable[Assignment] = ()) -> "Plan":
-        """The plan of these weeks, which follow the history. The days of held rows are those of the plan."""
+    def of(
+        scenario: Scenario, history: History, weeks: Sequence[WeekData], early: bool = False, held: Iterable[Assignment] = (), keeps: bool = True
+    ) -> "Plan":
+        """The plan of these weeks, which follow the history. The days of held rows are those of the plan. Its rows keep all absences, if `keeps`."""
         rows: Held = {}
         for row in held:
             rows.setdefault((row.nurse, row.day), []).append(row)
@@ -50,7 +54,9 @@ class Plan:
                 if asked.minimum or asked.optimal:
                     day = WEEK_DAYS * number + place.day
                     demand[place._replace(day=day)] = Requirement(asked.minimum, max(asked.minimum, asked.optimal))
-        return Plan(scenario, history, tuple(weeks), early, rows, tuple(scenario.nurses), demand)
+        of_weeks = [(number, absence) for number, data in enumerate(weeks) for absence in absences_of(data)] if keeps else []
+        away = frozenset(absence._replace(day=WEEK_DAYS * number + absence.day) for number, absence in of_weeks)
+        return Plan(scenario, history, tuple(weeks), early, rows, tuple(scenario.nurses), demand, away=away)
 
     @property
     def days(self) -> int:
@@ -67,6 +73,14 @@ class Plan:
         """What a nurse below an optimal number costs, in points."""
         return MISSING_NURSE if self.charging else 0
 
+    def without_absences(self) -> "Plan":
+        """The same plan, in which absences may be broken."""
+        return replace(self, away=frozenset())
+
+    def is_away(self, nurse: str, day: int, shift: str) -> bool:
+        """Whether an absence forbids the nurse this shift type."""
+        return bool(self.away) and (Absence(nurse, day, None) in self.away or Absence(nurse, day, shift) in self.away)
+
     def hard_only(self) -> "Plan":
         """The same plan without the soft rules."""
         demand = {place: Requirement(asked.minimum, asked.minimum) for place, asked in self.demand.items() if asked.minimum}
@@ -81,7 +95,7 @@ class Plan:
         return found
 
     def wishes(self, nurse: str, requests: Iterable[Request]) -> Dict[int, List[int]]:
-        """What requests and held rows make of each choice of a nurse, in thousandths, on the days that have any."""
+        """What requests, absences and held rows make of each choice of a nurse, in thousandths, on the days that have any."""
         shifts = {shift: number for number, shift in enumerate(self.scenario.shift_types, 1)}
         skills = self.scenario.nurses[nurse].skills
         found: Dict[int, List[int]] = {}
@@ -92,6 +106,9 @@ class Plan:
             for choice in [shifts[request.shift]] if request.shift is not None else shifts.values():
                 costs[choice] += REQUEST * POINT
         for day in range(self.days):
+            away = [number for shift, number in shifts.items() if self.is_away(nurse, day, shift)]
+            for choice in away:
+                found.setdefault(day, [0] * (len(shifts) + 1))[choice] = NEVER
             rows = self.held.get((nurse, day))
             if rows:
                 costs = found.setdefault(day, [0] * (len(shifts) + 1))

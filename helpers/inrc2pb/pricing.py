@@ -137,6 +137,14 @@ class Pricing:
         return sum(least * price + (best - least) * min(most, price) for least, best, price in asked)
 
 
+def plain_bound(plan: Plan, prices: Prices) -> int:
+    """What no roster of the plan costs less than by these prices, in points: no program has proved it."""
+    pricing = Pricing(plan, Crews(plan), lambda: None)
+    gains = pricing.crews.gains(prices)
+    found = (pricing.cheapest(nurse, gains) for nurse in range(len(plan.nurses)))
+    return max(0, in_steps(pricing.places_cost(prices) + sum(priced.value for priced in found if priced)))
+
+
 def in_steps(thousandths: int) -> int:
     """The least multiple of STEP that is not below a number of thousandths, in points."""
     return STEP * -(-thousandths // (STEP * POINT))

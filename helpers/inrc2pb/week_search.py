@@ -10,7 +10,7 @@ from .faults import Misuse, ProgramFault, page
 from .files import Assignment, Week, read_solution
 from .linear_solvers import INSTALL, LinearSolvers, installed
 from .plan import Plan
-from .pricing import Row
+from .pricing import Row, plain_bound
 from .processes import Processes
 from .program import BROKEN_RULE, FAULT, NO_ROSTER, WeekFiles, decode
 from .progress import Progress
@@ -42,36 +42,50 @@ class WeekSearch:
     # ---- over rows
 
     def over_rows(self, folder: Path, start: Optional[Sequence[Assignment]], prices: Optional[Path]) -> None:
-        """Searches over the rows of the nurses. `prices` is the file for the prices of the bound. Without a roster it is a ProgramFault if none exists."""
+        """Searches over the rows of the nurses. `prices` is the file for the prices of the bound. Without a roster it is a ProgramFault if none exists.
+
+        Rows keep all absences, unless no roster can.
+        """
         plan = Plan.of(self._week.scenario, self._week.history, [self._week.data], self._files.early, self._held)
         bounds = Bounds(self._files, plan.scenario, list(plan.demand), prices)
         names = installed()
         if not names:
             self._progress.warn(f"there is no cbc, clp or glpsol, so this is only a first roster: {INSTALL}")
         solver = LinearSolvers(names, self._processes, folder, self._progress.warn) if names else None
+        rows = _rows(plan, start) if start else None
+        run = self._run_rows(plan, solver, bounds, rows)
+        if plan.away and (self._best.penalty is None or self._best.breaks()):
+            run = self._run_rows(plan.without_absences(), solver, bounds, rows)
+        elif run.claimed and solver and not plan.away:
+            self.claimed_by = solver.name
+        self._judge(run, bounds)
+
+    def _run_rows(self, plan: Plan, solver: Optional[LinearSolvers], bounds: Bounds, start: Optional[List[Row]]) -> RowRun:
+        """One search over the rows of the plan."""
 
         def offer(rows: List[Row], finder: str) -> Optional[int]:
             self._see(run, bounds)
-            return self._best.offer(staffed(plan, run.crews, rows).cells, finder)
+            cells = staffed(plan, run.crews, rows).cells
+            penalty = self._best.offer(cells, finder)
+            return None if any(plan.is_away(*cell[:3]) for cell in cells) else penalty
 
         def heard() -> None:
             if self._progress.is_due():
                 self._see(run, bounds)
 
-        run = RowRun(plan, solver, self._clock, offer, heard, _rows(plan, start) if start else None)
+        run = RowRun(plan, solver, self._clock, offer, heard, start)
         try:
             run.run()
         finally:
             self._see(run, bounds)
-        if run.claimed and solver:
-            self.claimed_by = solver.name
-        self._judge(run, bounds)
+        return run
 
     def _see(self, run: RowRun, bounds: Bounds) -> None:
-        """Takes the bound of the best prices."""
+        """Takes the bound of the best prices. It holds for rosters that break absences, too."""
         search = run.search
         if search and search.lower_bound is not None:
-            bound = bounds.of(search.prices, search.lower_bound)
+            lower, prices, plan = search.lower_bound, search.prices, search.plan
+            bound = bounds.of(prices, lambda: plain_bound(plan.without_absences(), prices) if plan.away else lower)
             if self.bound is None or bound.points > self.bound.points:
                 self.bound = bound
                 self._progress.bound_rose(bound.points)

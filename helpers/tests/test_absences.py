@@ -4,11 +4,11 @@ import itertools
 import unittest
 from dataclasses import replace
 
-from ward import HAS_CLASP, HISTORY, ROSTER, SCENARIO, WEEK, WEEK_FILES, WEEK_OPTIONS, HelperTest, files, run
+from ward import HAS_CBC, HAS_CLASP, HISTORY, ROSTER, SCENARIO, WEEK, WEEK_FILES, WEEK_OPTIONS, HelperTest, files, run
 
 from inrc2pb import rules
 from inrc2pb.absences import MARK, ROWS, Absence, absences_of, in_words, wishes_of, with_absences, working_while_away
-from inrc2pb.best_roster import BestRoster, Snapshot
+from inrc2pb.best_roster import BestRoster
 from inrc2pb.program import penalty_of
 from inrc2pb.records import Assignment, Contract, History, Limits, Nurse, NurseHistory, Place, Request, Requirement, Scenario, ShiftType, Week, WeekData
 from inrc2pb.savings import largest_saving
@@ -167,17 +167,28 @@ class Wish(HelperTest):
 
 class Kept(HelperTest):
     def test_a_search_prefers_a_roster_that_keeps_absences(self):
-        away = {Absence("Chen", 6, None)}
-        start = files.read_solution(self.swapped("Chen", "Grace"))
-        costly = Snapshot(penalty_of(WEEK_FILES, self.folder / "start.txt"), start)
-        cheap = Snapshot(penalty_of(WEEK_FILES, ROSTER), files.read_solution(ROSTER))
-        self.assertFalse(working_while_away(away, start.assignments))
-        self.assertLess(cheap.penalty, costly.penalty)
+        away = Absence("Chen", 6, None)
+        week = files.read_files(SCENARIO, HISTORY, WEEK)
+        week = replace(week, data=with_absences(WARD, DATA, [away], known_cost=0).data)
+        costly, cheap = (files.read_solution(path).assignments for path in (self.swapped("Chen", "Grace"), ROSTER))
+        self.assertFalse(working_while_away({away}, costly))
+        self.assertLess(penalty_of(WEEK_FILES, ROSTER), penalty_of(WEEK_FILES, self.folder / "start.txt"))
         for offers in ((costly, cheap), (cheap, costly)):
-            best = BestRoster(WEEK_FILES, self.folder / "best.txt", lambda penalty, finder: None, lambda text: None, away)
+            best = BestRoster(WEEK_FILES, week, self.folder / "best.txt", lambda penalty, finder: None)
             for offer in offers:
-                best.offer(offer, None, None, self.folder, "test")
-            self.assertEqual((best.now(), best.breaks()), (costly, []))
+                best.offer(offer, "test")
+            self.assertEqual((set(files.read_solution(self.folder / "best.txt").assignments), best.breaks()), (set(costly), []))
+
+    @unittest.skipUnless(HAS_CBC, "needs cbc")
+    def test_rows_keep_absences_unless_no_roster_can(self):
+        target = self.folder / "roster.txt"
+        for away, kept in (({AWAY, Absence("Grace", 6, "Day")}, True), ({Absence(nurse, 4, None) for nurse in ("Amara", "Bruno", "Ewa")}, False)):
+            files.write_text(self.folder / "away.txt", files.week_text(with_absences(WARD, DATA, away).data))
+            status, report, said = run("improve", *WEEK_OPTIONS[:4], "--week", self.folder / "away.txt", "--sol", target)
+            self.assertEqual(status, 0, said)
+            self.assertEqual(working_while_away(away, files.read_solution(target).assignments) == [], kept)
+            self.assertEqual("no roster was found that keeps every absence: " in said, not kept)
+            self.assertIn("no roster costs less", report)
 
     def test_a_roster_that_breaks_an_absence_is_a_mistake(self):
         self.assertEqual(run("wish", *WEEK_OPTIONS[:2], *WEEK_OPTIONS[4:], "--away", "Chen=Mon,Wed", "--out", self.folder / "away.txt")[0], 0)
