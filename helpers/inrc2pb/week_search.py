@@ -1,8 +1,10 @@
 """A search for the best roster of a week: over the rows of its nurses, or by a user's own solver."""
 
+import collections
 from pathlib import Path
 from typing import List, Optional, Sequence
 
+from .absences import absences_of
 from .best_roster import BestRoster
 from .bounds import Bound, Bounds
 from .clock import Clock
@@ -15,6 +17,7 @@ from .processes import Processes
 from .program import BROKEN_RULE, FAULT, NO_ROSTER, WeekFiles, decode
 from .progress import Progress
 from .row_run import RowRun
+from .rules import REQUEST
 from .skills import staffed
 from .solvers import Solver
 
@@ -56,9 +59,15 @@ class WeekSearch:
         run = self._run_rows(plan, solver, bounds, rows)
         if plan.away and (self._best.penalty is None or self._best.breaks()):
             run = self._run_rows(plan.without_absences(), solver, bounds, rows)
-        elif run.claimed and solver and not plan.away:
+        elif run.claimed and solver and (not plan.away or self._costs_of_absences() >= (self._best.penalty or 0)):
             self.claimed_by = solver.name
         self._judge(run, bounds)
+
+    def _costs_of_absences(self) -> int:
+        """What a roster costs at least that breaks an absence."""
+        away = absences_of(self._week.data)
+        number = collections.Counter((one.nurse, one.day, one.shift) for one in self._week.data.requests)
+        return REQUEST * min(number[one.nurse, one.day, one.shift] for one in away)
 
     def _run_rows(self, plan: Plan, solver: Optional[LinearSolvers], bounds: Bounds, start: Optional[List[Row]]) -> RowRun:
         """One search over the rows of the plan."""

@@ -1,4 +1,4 @@
-"""Why no roster exists: the smallest set of minimum numbers to lower, found by a solver.
+"""Why no roster exists: the smallest set of minimum numbers to lower, found by a search over rows.
 
 In a copy of the week each minimum is only the best number, and nothing else costs anything, but for absences. So the cost of a roster
 is 30 points for each nurse below a minimum, and the best roster shows the fewest that have to be lowered.
@@ -13,10 +13,9 @@ from .absences import absences_of, in_words, wishes_of, working_while_away
 from .faults import Misuse, ProgramFault
 from .demand import hindrance
 from .files import DAYS, Assignment, Limits, Place, Requirement, Scenario, Week, WeekData, read_solution, scenario_text, week_text, write_text
-from .processes import Processes
-from .program import NO_ROSTER, WeekFiles, decode, encode
+from .improve import improve
+from .program import NO_ROSTER, WeekFiles
 from .rules import numbers
-from .solvers import Task, find_solver, installed_solvers
 
 SECONDS = 30.0
 _ANY = Limits(0, 9999)
@@ -45,7 +44,7 @@ def why_none(files: WeekFiles, week: Week) -> Iterator[str]:
         scenario, data, roster = (folder / part for part in ("scenario.txt", "week.txt", "roster.txt"))
         write_text(scenario, scenario_text(easy.scenario))
         write_text(data, week_text(easy.data))
-        proved = _solve(replace(files, scenario=scenario, week=data, early=False), folder, roster)
+        proved = _solve(replace(files, scenario=scenario, week=data, early=False), roster)
         rows = read_solution(roster).assignments
     yield from _missing(week, rows, proved)
     working = working_while_away(absences_of(week.data), rows)
@@ -53,18 +52,12 @@ def why_none(files: WeekFiles, week: Week) -> Iterator[str]:
         yield f"{in_words(working)}, though away: no roster keeps every absence, even without minimum numbers; look at --fix"
 
 
-def _solve(files: WeekFiles, folder: Path, roster: Path) -> bool:
-    """Writes a roster that lowers few numbers; returns whether the solver says that none lowers fewer."""
-    model = folder / "week.opb"
-    encode(files, model)
-    solver = find_solver(installed_solvers()[0]).whole()[0]
-    outcome = solver.solve(Task(model, SECONDS, folder), Processes())
-    if outcome.fault:
-        raise Misuse(f"the solver {solver.name} has no answer: {outcome.fault}; try its command by hand")
+def _solve(files: WeekFiles, roster: Path) -> bool:
+    """Writes a roster that lowers few numbers; returns whether none lowers fewer."""
     try:
-        return decode(files, outcome.answer, roster).optimal
+        return improve(files, roster, seconds=SECONDS).proved
     except ProgramFault as fault:
-        if fault.status == NO_ROSTER and "UNSATISFIABLE" in fault.message:
+        if fault.status == NO_ROSTER and fault.message.startswith("no roster keeps"):
             raise Misuse("even without minimum numbers there is no roster: the cause is a shift that --fix holds, so look at its file") from fault
         raise
 
