@@ -58,7 +58,12 @@ def in_words(rows: Iterable[Assignment]) -> str:
     days: Dict[Tuple[str, str], List[int]] = {}
     for row in rows:
         days.setdefault((row.nurse, row.shift), []).append(row.day)
-    return ", ".join(f"{nurse} works {shift} on {joined(DAYS[day] for day in sorted(on))}" for (nurse, shift), on in days.items())
+    return ", ".join(f"{readable(nurse)} works {readable(shift)} on {joined(DAYS[day] for day in sorted(on))}" for (nurse, shift), on in days.items())
+
+
+def readable(name: str) -> str:
+    """A name as it was in a spreadsheet, with blanks."""
+    return name.replace("_", " ")
 
 
 def joined(words: Iterable[str]) -> str:
@@ -81,10 +86,8 @@ class Written(NamedTuple):
         """What the planner should know if the file has too few rows to be certain; else nothing."""
         if self.requests >= self.certain:
             return ""
-        return (
-            f"each absence has {self.requests} requests, as many as the file has rows for, and only {self.certain} "
-            "would be certain for any solver: plan with inrc2pb-improve or inrc2pb-period, which keep absences like hard rules"
-        )
+        room = f"the file has room for {self.requests} requests for each absence, and {self.certain} would be certain for each solver"
+        return f"{room}: plan with inrc2pb-improve or inrc2pb-period, which keep absences like hard rules"
 
 
 class TooMany(Exception):

@@ -6,7 +6,7 @@ import tempfile
 from pathlib import Path
 from typing import Callable, Iterator, List, Optional, Tuple, TypeVar
 
-from .absences import absences_of, working_while_away
+from .absences import absences_of, readable, working_while_away
 from .command import add_week_options, parser, week_files
 from .constraint import block_of, blocks, named_row, row_of
 from .demand import demand_warnings
@@ -115,11 +115,10 @@ class Check:
 
     def tell(self, scenario: Scenario, history: Optional[History], data: Optional[WeekData]) -> None:
         """Prints the files in sentences."""
-        print("\n".join(scenario_sentences(scenario)))
-        if history:
-            print("", *history_sentences(history), sep="\n")
-        if data:
-            print("", *week_sentences(scenario, history, data), "", sep="\n")
+        lines = [*scenario_sentences(scenario), ""]
+        lines += [*history_sentences(history), ""] if history else []
+        lines += [*week_sentences(scenario, history, data), ""] if data else []
+        print(readable("\n".join(lines)))
 
     def model(self, week: Week, held: List[Assignment]) -> None:
         """Lets `inrc2pb` check the files too. If it cannot be run, the rosters are compared with `rules`, and a warning says so."""

@@ -4,11 +4,11 @@ import datetime
 import re
 from typing import Collection, Dict, Iterator, List, NamedTuple, Optional, Tuple
 
-from .absences import Absence
+from .absences import Absence, readable
 from .hints import plural
 from .records import DAYS, Assignment, Place, Request, Requirement, Scenario
 from .sheet_files import Book
-from .sheet_rows import Cell, Row, Table, readable
+from .sheet_rows import Cell, Row, Table
 from .slots import MAX_NUMBER
 from .ward_sheets import Ward, day_of
 

@@ -4,6 +4,7 @@ import re
 import unicodedata
 from typing import Collection, Dict, List, NamedTuple, NoReturn, Optional, Sequence, Tuple
 
+from .absences import readable
 from .faults import FileFault
 from .hints import quoted
 from .sheet_files import Book, Rows
@@ -77,11 +78,6 @@ class Cell(NamedTuple):
             advice = f"did you mean {readable(meant)}?" if meant else f"write one of {quoted(map(readable, names))}"
             self.fault(f"'{self.text}' is no {kind}: {advice}{others}" if self.text else f"the cell is empty: write a {kind}")
         return found
-
-
-def readable(name: str) -> str:
-    """A name as it was in the sheet."""
-    return name.replace("_", " ")
 
 
 class Row:

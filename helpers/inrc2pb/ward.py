@@ -6,7 +6,7 @@ import re
 from pathlib import Path
 from typing import Dict, Iterator, List, Sequence, TextIO, Tuple
 
-from .absences import NO_SKILL, TooMany, Written, with_absences
+from .absences import NO_SKILL, TooMany, Written, readable, with_absences
 from .command import parser
 from .faults import FileFault, Misuse
 from .files import Scenario, Solution, WeekData, history_text, scenario_text, solution_text, week_text
@@ -14,7 +14,7 @@ from .files import replacing
 from .odd_values import history_warnings, scenario_warnings, week_warnings
 from .plan_sheets import AWAY, Days, WeekSheet, check_held, days_away, read_days, read_weeks
 from .sheet_files import Book, read_book
-from .sheet_rows import readable, tidy
+from .sheet_rows import tidy
 from .targets import check_target
 from .ward_sheets import Ward, read_ward
 from .ward_template import write_template
@@ -66,12 +66,15 @@ def texts(book: Book, name: str, days: Days, weeks: int, reasons: Sequence[str])
     history = credited(ward.scenario, ward.history, dict(days_away(sheets, reasons)))
     found = {"ward.txt": scenario_text(ward.scenario), "history-0.txt": history_text(history)}
     warnings = [*(f"sheet shifts, contracts or nurses: {line}" for line in scenario_warnings(ward.scenario)), *_of_history(ward)]
+    scarce: List[Written] = []
     for number, sheet in enumerate(sheets):
         written = _week(book, ward.scenario, sheet, number)
+        scarce += [written] * bool(written.warning())
         found[f"week-{number}.txt"] = week_text(written.data)
         found[f"fix-{number}.txt"] = solution_text(Solution(number, name, tuple(held.row for held in sheet.held)))
         warnings += [f"sheet needs, week {number}: {line}" for line in week_warnings(ward.scenario, written.data)]
-        warnings += [f"week {number}: {line}" for line in filter(None, [written.warning()])]
+    if scarce:
+        warnings.append(f"sheet plan: {min(scarce, key=lambda one: one.requests).warning()}")
     return found, warnings
 
 

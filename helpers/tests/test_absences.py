@@ -81,7 +81,7 @@ class Writing(unittest.TestCase):
         every = [Absence(nurse, day, None) for nurse in WARD.nurses for day in range(7)]
         written = with_absences(WARD, DATA, every)
         self.assertEqual(written.requests, ROWS // len(every))
-        self.assertIn(f"only {written.certain} would be certain", written.warning())
+        self.assertIn(f"and {written.certain} would be certain", written.warning())
 
     def test_rows_that_break_absences(self):
         rows = [Assignment("Chen", 4, "Late", "Nurse"), Assignment("Ewa", 0, "Day", "Nurse"), Assignment("Chen", 3, "Late", "Nurse")]

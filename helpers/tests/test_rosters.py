@@ -57,7 +57,7 @@ class Keep(HelperTest):
         week = EXAMPLES / "last120/week-3.txt"
         words = ("--sce", ward, "--off-in", week, roster)
         status, _, said = run("keep", "--keep", "Mon,Tue", *words)
-        self.assertEqual((status, said[:53]), (0, "inrc2pb-keep: each absence has 37 requests, as many a"))
+        self.assertEqual((status, said[:53]), (0, "inrc2pb-keep: the file has room for 37 requests for e"))
         _, _, said = run("keep", "--keep", "Mon,Tue,Wed", *words)
         line = "360 absences with 30 requests each and 92 other requests need more than the 9999 requests of a week's file: give fewer days or nurses"
         self.assertEqual(said, f"inrc2pb-keep: {week}: {line}\n")
