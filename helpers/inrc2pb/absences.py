@@ -101,7 +101,7 @@ NO_SKILL = "give someone who is away for the whole week no skill, in a copy of t
 def with_absences(scenario: Scenario, data: WeekData, added: Iterable[Absence], known_cost: Optional[int] = None) -> Written:
     """The week with these absences too: all of them have the same number of requests.
 
-    `known_cost` is the cost of a roster that keeps them all, if one is known: then fewer requests are certain.
+    `known_cost` is the cost of a roster that keeps them all, if one is known: then fewer requests may be certain.
     """
     away = sorted({*absences_of(data), *added}, key=lambda one: (list(scenario.nurses).index(one.nurse), one.day, one.shift or ""))
     wishes = [request for request in wishes_of(data) if _asked(request) not in away]

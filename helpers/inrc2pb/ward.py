@@ -4,13 +4,14 @@ import argparse
 import contextlib
 import re
 from pathlib import Path
-from typing import Dict, Iterator, List, Sequence, TextIO, Tuple
+from typing import Dict, Iterator, List, Optional, Sequence, TextIO, Tuple
 
 from .absences import NO_SKILL, TooMany, Written, readable, with_absences
 from .command import parser
 from .faults import FileFault, Misuse
-from .files import Scenario, Solution, WeekData, history_text, scenario_text, solution_text, week_text
+from .files import History, Scenario, Solution, Week, WeekData, history_text, scenario_text, solution_text, week_text
 from .files import replacing
+from .first_roster import first_cost
 from .odd_values import history_warnings, scenario_warnings, week_warnings
 from .plan_sheets import AWAY, Days, WeekSheet, check_held, days_away, read_days, read_weeks
 from .sheet_files import Book, read_book
@@ -68,7 +69,7 @@ def texts(book: Book, name: str, days: Days, weeks: int, reasons: Sequence[str])
     warnings = [*(f"sheet shifts, contracts or nurses: {line}" for line in scenario_warnings(ward.scenario)), *_of_history(ward)]
     scarce: List[Written] = []
     for number, sheet in enumerate(sheets):
-        written = _week(book, ward.scenario, sheet, number)
+        written = _week(book, ward.scenario, sheet, number, None if number else history)
         scarce += [written] * bool(written.warning())
         found[f"week-{number}.txt"] = week_text(written.data)
         found[f"fix-{number}.txt"] = solution_text(Solution(number, name, tuple(held.row for held in sheet.held)))
@@ -82,11 +83,15 @@ def _of_history(ward: Ward) -> Iterator[str]:
     yield from (f"sheet nurses: {line}" for line in history_warnings(ward.history))
 
 
-def _week(book: Book, scenario: Scenario, sheet: WeekSheet, number: int) -> Written:
-    """The data of a week with its absences."""
+def _week(book: Book, scenario: Scenario, sheet: WeekSheet, number: int, history: Optional[History]) -> Written:
+    """The data of a week with its absences. If its history is known, fewer requests are certain."""
     data = WeekData(scenario.name, sheet.requirements, tuple(sheet.wishes))
+    known = None
     try:
-        return with_absences(scenario, data, sheet.absences)
+        if history and sheet.absences:
+            week = Week(scenario, history, with_absences(scenario, data, sheet.absences, 0).data)
+            known = first_cost(week, [held.row for held in sheet.held])
+        return with_absences(scenario, data, sheet.absences, known)
     except TooMany as fault:
         raise FileFault(book.path, 0, f"sheet plan, week {number}: {fault}: {NO_SKILL}") from fault
 

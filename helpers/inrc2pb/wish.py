@@ -5,13 +5,14 @@ from dataclasses import replace
 from pathlib import Path
 from typing import Dict, Iterable, List, Optional, Sequence
 
-from .absences import NO_SKILL, Absence, TooMany, Written, absences_of, in_words, with_absences, working_while_away
+from .absences import NO_SKILL, Absence, TooMany, Written, absences_of, with_absences, working_while_away
 from .command import parser
 from .faults import Misuse
-from .files import History, Request, Scenario, Week, WeekData, check_week_number, history_text, read_history, read_scenario, read_week
+from .files import DAYS, Assignment, History, Request, Scenario, Week, WeekData, check_week_number, history_text, read_history, read_scenario, read_week
 from .files import week_text, write_text
-from .misfits import read_roster
-from .rules import REQUEST, costs, first_broken
+from .first_roster import first_cost
+from .misfits import read_held
+from .rules import REQUEST
 from .slots import MAX_NUMBER
 from .targets import check_inputs_stay, check_target
 from .wishes import Dated, Wording, of_week
@@ -34,7 +35,7 @@ def _options() -> argparse.ArgumentParser:
     options = parser(
         "Writes absences and wishes into a copy of a week's file.",
         "An absence is kept like a hard rule by inrc2pb-improve and inrc2pb-period. It is written as so many requests that a roster that\n"
-        "breaks one costs more than any other. Give --his and --from with a roster that keeps all absences, and fewer requests suffice.\n"
+        "breaks one costs more than any other. With --his, and --fix if shifts are held, fewer requests suffice.\n"
         "DAYS are Mon,Tue or dates such as 2026-12-04 or 2026-12-04..2026-12-10, which need --monday. Without days all are meant.\n"
         "Example: inrc2pb-wish --sce ward.txt --week week-0.txt --away Chen=Fri,Sat,Sun --never Ewa=Night --out week-0-ill.txt\n"
         "With several weeks --out is a folder, and the files keep their names.",
@@ -47,31 +48,27 @@ def _options() -> argparse.ArgumentParser:
     options.add_argument("--wish", metavar="NURSE=DAYS[:SHIFT]", action="append", default=[], help="she would rather not work then; adds one request")
     options.add_argument("--monday", metavar="DATE", help="the date of the first week's Monday")
     options.add_argument("--credit", metavar="FILE", type=Path, help="count the days of --away as work: write the history to this file, with these shifts")
-    options.add_argument("--from", dest="roster", metavar="FILE", type=Path, help="a roster of the week that keeps all absences; needs --his")
+    options.add_argument("--fix", metavar="FILE", type=Path, help="the assignments that are held in the first of these weeks; needs --his")
     options.add_argument("--out", metavar="FILE", type=Path, required=True, help="the file to write; a folder if several weeks are given")
     return options
 
 
-def _known_cost(week: Week, roster: Path, added: Sequence[Absence]) -> int:
-    """The cost of a roster that keeps these absences and those of the week."""
-    rows = read_roster(roster, week.scenario, week.history).assignments
-    rule = first_broken(week, rows)
-    if rule:
-        raise Misuse(f"--from {roster}: it breaks {rule}: give a roster of this week")
-    working = working_while_away({*absences_of(week.data), *added}, rows)
-    if working:
-        raise Misuse(f"--from {roster}: {in_words(working)}, so it does not keep all absences: leave out --from")
-    # With early charges it costs at most more than without, but for what its history costs with each roster.
-    return sum(costs(week, rows, early=True).values())
+def _known_cost(week: Week, added: Sequence[Absence], held: Sequence[Assignment]) -> Optional[int]:
+    """The cost of a roster that keeps these absences, those of the week, and the held rows; None if none is found."""
+    for row in working_while_away({*absences_of(week.data), *added}, held):
+        raise Misuse(f"{row.nurse} is away on {DAYS[row.day]}, and --fix holds {row.shift}: leave out one of the two")
+    return first_cost(replace(week, data=with_absences(week.scenario, week.data, added, 0).data), held)
 
 
-def _written(scenario: Scenario, path: Path, data: WeekData, away: Sequence[Absence], wishes: Sequence[Absence], known: Optional[int]) -> Written:
-    """The data of a week's file with these absences and wishes."""
-    requests = (*data.requests, *(Request(one.nurse, one.shift, one.day) for one in wishes))
-    if len(requests) > MAX_NUMBER:
-        raise Misuse(f"{path} would have {len(requests)} requests, more than {MAX_NUMBER}: give fewer wishes")
+def _written(
+    scenario: Scenario, path: Path, data: WeekData, away: Sequence[Absence], week: Optional[Week], held: Sequence[Assignment]
+) -> Written:
+    """The data of a week's file with these absences; the whole week makes fewer requests certain."""
+    if len(data.requests) > MAX_NUMBER:
+        raise Misuse(f"{path} would have {len(data.requests)} requests, more than {MAX_NUMBER}: give fewer wishes")
     try:
-        return with_absences(scenario, replace(data, requests=requests), away, known)
+        known = _known_cost(week, away, held) if week and (away or absences_of(data)) else None
+        return with_absences(scenario, data, away, known)
     except TooMany as fault:
         raise Misuse(f"{path}: {fault}: {NO_SKILL}") from fault
 
@@ -88,7 +85,7 @@ def _targets(given: argparse.Namespace) -> List[Path]:
     else:
         targets = [given.out]
     for target in (*targets, *filter(None, [given.credit])):
-        check_inputs_stay((given.sce, given.his, *given.week, given.roster), target, "the result")
+        check_inputs_stay((given.sce, given.his, *given.week, given.fix), target, "the result")
         check_target(target)
     return targets
 
@@ -98,15 +95,20 @@ def _days_away(scenario: Scenario, away: Iterable[Dated]) -> Dict[str, int]:
     return {nurse: count for nurse in scenario.nurses for count in [sum(one[0] == nurse for one in days)] if count}
 
 
-def main() -> Optional[int]:
-    """The command `inrc2pb-wish`."""
-    given = _options().parse_args()
+def _check_options(given: argparse.Namespace) -> None:
+    """Options that need others are given with them."""
     if not (given.away or given.never or given.wish):
         raise Misuse("nothing says what to write: give --away, --never or --wish")
     if given.credit and not (given.his and given.away):
         raise Misuse("--credit needs --his and --away: give the history with which the first week begins, and who is away")
-    if given.roster and (not given.his or len(given.week) > 1):
-        raise Misuse("--from needs --his and one week: give the history with which this week begins")
+    if given.fix and not given.his:
+        raise Misuse("--fix needs --his: give the history with which the first week begins")
+
+
+def main() -> Optional[int]:
+    """The command `inrc2pb-wish`."""
+    given = _options().parse_args()
+    _check_options(given)
     scenario = read_scenario(given.sce)
     history = read_history(given.his, scenario) if given.his else None
     if history:
@@ -116,16 +118,19 @@ def main() -> Optional[int]:
     away = [dated for text in given.away for dated in wording.away(text)]
     never = [dated for text in given.never for dated in wording.never(text)]
     wishes = [dated for text in given.wish for dated in wording.wish(text)]
-    known = _known_cost(Week(scenario, history, data[0]), given.roster, of_week([*away, *never], 0)) if given.roster and history else None
-    results = [
-        _written(scenario, path, one, of_week([*away, *never], at), of_week(wishes, at), known) for at, (path, one) in enumerate(zip(given.week, data))
-    ]
-    past = history_text(credited(scenario, history, _days_away(scenario, away))) if given.credit and history else ""
+    if given.credit and history:
+        history = credited(scenario, history, _days_away(scenario, away))
+    held = read_held(given.fix, scenario, history, lambda hint: print(f"{given.fix}: warning: {hint}")).assignments if given.fix else ()
+    results = []
+    for at, (path, one) in enumerate(zip(given.week, data)):
+        requests = (*one.requests, *(Request(dated.nurse, dated.shift, dated.day) for dated in of_week(wishes, at)))
+        week = Week(scenario, history, replace(one, requests=requests)) if history and not at else None
+        results.append(_written(scenario, path, replace(one, requests=requests), of_week([*away, *never], at), week, held))
     for target, result in zip(_targets(given), results):
         write_text(target, week_text(result.data))
         print(f"{target}: {_summary(result)}")
-    if given.credit:
-        write_text(given.credit, past)
+    if given.credit and history:
+        write_text(given.credit, history_text(history))
         print(f"{given.credit}: the history with leave counted as work")
     return 0
 

@@ -120,8 +120,8 @@ class Wish(HelperTest):
         for name, day in (("week-0.txt", 6), ("week-1.txt", 0)):
             self.assertEqual(absences_of(files.read_week(folder / name, WARD)), {Absence("Chen", day, None)})
 
-    def test_a_known_roster_makes_fewer_requests_certain(self):
-        status, printed, _ = self.wish("--his", HISTORY, "--from", ROSTER, "--away", "Chen=Mon")
+    def test_with_the_history_fewer_requests_are_certain(self):
+        status, printed, _ = self.wish("--his", HISTORY, "--away", "Chen=Mon")
         self.assertEqual((status, f"with {MARK} requests each" in printed), (0, True), printed)
 
     def test_leave_counts_as_work(self):
@@ -152,11 +152,8 @@ class Wish(HelperTest):
             (("--never", "Chen=Nigth"), "--never Chen=Nigth: 'Nigth' is no shift type: did you mean Night?"),
             (("--wish", "Chen"), "--wish Chen: give the nurse and the days, such as Chen=Sat or Chen=Sat:Day"),
             (("--credit", "h.txt", "--away", "Chen"), "--credit needs --his and --away: give the history with which the first week begins, and who is away"),
-            (("--from", ROSTER, "--away", "Chen"), "--from needs --his and one week: give the history with which this week begins"),
-            (
-                ("--his", HISTORY, "--from", ROSTER, "--away", "Chen=Wed"),
-                f"--from {ROSTER}: Chen works Late on Wed, so it does not keep all absences: leave out --from",
-            ),
+            (("--fix", ROSTER, "--away", "Chen"), "--fix needs --his: give the history with which the first week begins"),
+            (("--his", HISTORY, "--fix", ROSTER, "--away", "Chen=Wed"), "Chen is away on Wed, and --fix holds Late: leave out one of the two"),
         ):
             with self.subTest(words):
                 self.assert_fault(self.wish(*words), f"inrc2pb-wish: {said}")
