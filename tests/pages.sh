@@ -150,7 +150,7 @@ docs/promises.md 650
 docs/proved.md 1750
 docs/reading.md 3000
 docs/rules.md 1450
-docs/solvers.md 2950
+docs/solvers.md 1450
 docs/tested.md 800
 docs/trusted.md 850
 docs/your_ward.md 2650
