@@ -13,7 +13,7 @@ MOST_LINKS = 6000
 
 
 class Column(NamedTuple):
-    """A row of a nurse with its cost in points, the crews for which it counts (with `direct` places), and its text."""
+    """A row of a nurse with its cost in points, the crews for which it counts if it names no places, and its text."""
 
     nurse: int
     row: Row
@@ -45,20 +45,21 @@ class RowProgram:
         self._crews, self._nurses, self._missing = crews, len(plan.nurses), plan.missing_cost
         self.below = BELOW_MINIMUM if plan.charging else 1
         self._known: Set[Tuple[int, Row, Tuple[int, ...]]] = set()
-        self._direct = sum(len(places) > 1 for places in crews.members) > MOST_LINKS
+        # Whether a column names the places of its row. Then the columns of a row have some of its places, and not all.
+        self.names_places = sum(len(places) > 1 for places in crews.members) > MOST_LINKS
 
     def add(self, nurse: int, row: Row, cost: int, prices: Prices) -> bool:
         """Adds a row, if it is new. If columns name places, they are those of the highest prices."""
         of = self._crews.of[nurse]
         crews = [of[day][choice] for day, choice in enumerate(row)]
         named = [self._crews.members[crew] for crew in crews]
-        places = tuple(self._crews.best_place(crew, prices) for crew in crews) if self._direct else ()
-        used = places if self._direct else tuple(places[0] if len(places) == 1 else None for places in named)
+        places = tuple(self._crews.best_place(crew, prices) for crew in crews) if self.names_places else ()
+        used = places if self.names_places else tuple(places[0] if len(places) == 1 else None for places in named)
         key = (nurse, row, tuple(-1 if place is None else place for place in places))
         if key in self._known:
             return False
         self._known.add(key)
-        links = () if self._direct else tuple(crew for crew, places in zip(crews, named) if len(places) > 1)
+        links = () if self.names_places else tuple(crew for crew, places in zip(crews, named) if len(places) > 1)
         name = f"v{len(self.columns)}"
         rows = [f"n{nurse}", *(f"c{place}" for place in used if place is not None), *(f"k{crew}" for crew in links)]
         text = (_entry(name, "obj", cost) if cost else "") + "".join(_entry(name, row, 1) for row in rows)

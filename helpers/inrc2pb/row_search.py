@@ -234,16 +234,19 @@ class RowSearch:
         return [at for at, (nurse, row, cost, *_) in columns if self._reduced(nurse, row, cost) <= found[nurse].value + gap]
 
     def choose(self, use: Sequence[int], clock: Clock, finder: str) -> bool:
-        """Lets the integer program choose among these columns. Returns whether the solver claims that they have nothing better than
-        the best roster now."""
+        """Lets the integer program choose among these columns. Returns whether the solver claims that their rows have nothing better
+        than the best roster now."""
         if self._solver is None or not self._solver.chooses:
             return False
         cutoff = None if self.penalty is None else self.penalty - STEP
         found = self._solver.choose(self.program.text(use, whole=True), clock, cutoff, STEP)
         columns = self.program.chosen(found.names or ())
+        rows = [self.program.columns[at].row for at in columns or ()]
         if columns:
-            self.keep([self.program.columns[at].row for at in columns], finder)
-        return found.proved
+            self.keep(rows, finder)
+        # An answer with nurses below minimums is no roster, and says nothing of the rosters that cost more than it.
+        is_roster = columns is not None and self.value_of(rows) is not None
+        return found.proved and (found.names is None or is_roster) and not self.program.names_places
 
     def list_within(self, most: int, clock: Clock) -> Optional[List[int]]:
         """All columns that a better roster can have; None if there are more than `most`."""

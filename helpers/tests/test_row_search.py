@@ -10,11 +10,14 @@ from unittest import mock
 
 from ward import HAS_CBC, ROOT, HelperTest, files
 
+from inrc2pb import row_program
 from inrc2pb.clock import Clock
-from inrc2pb.linear_solvers import LinearSolvers, SolverFault
+from inrc2pb.linear_solvers import Chosen, LinearSolver, LinearSolvers, SolverFault
 from inrc2pb.plan import Plan
+from inrc2pb.pricing import Crews, Pricing
 from inrc2pb.processes import Processes
 from inrc2pb.row_run import RowRun
+from inrc2pb.row_search import RowSearch
 from inrc2pb.rules import costs, first_broken
 from inrc2pb.skills import staffed
 
@@ -28,6 +31,18 @@ def week_of(name):
     folder = ROOT / "examples" / name
     one = lambda *patterns: min(path for pattern in patterns for path in folder.glob(pattern))  # noqa: E731
     return files.read_files(one("Sc-*", "ward.txt"), one("H0-*", "history-*"), one("WD-*", "week-*"))
+
+
+class Says(LinearSolver):
+    """A solver with one answer to each integer program."""
+
+    name, chooses = "says", True
+
+    def __init__(self, names, proved):
+        self.answer = Chosen(names, proved)
+
+    def choose(self, model, clock, cutoff, step):
+        return self.answer
 
 
 class RowSearches(HelperTest):
@@ -117,6 +132,24 @@ class RowSearches(HelperTest):
                 self.assertEqual(len(self.warnings), int(fault is not None), self.warnings)
                 if fault:
                     self.assertIn(fault, self.warnings[0])
+
+    def chosen(self, names, proved):
+        """What a search makes of this answer to a program whose only rows are those of nurses who are always off."""
+        week = week_of("ward")
+        plan = Plan.of(week.scenario, week.history, [week.data])
+        search = RowSearch(Pricing(plan, Crews(plan), lambda: None), Says(names, proved), Clock(60), lambda rows, finder: None, lambda: None)
+        for nurse in range(len(plan.nurses)):
+            search.add_row(nurse, bytes(7))
+        return search.choose(range(len(search.program.columns)), Clock(60), "test")
+
+    def test_an_optimal_answer_below_minimums_claims_nothing(self):
+        off = [f"v{number}" for number in range(len(week_of("ward").scenario.nurses))]
+        for names, proved, claims in ((None, True, True), (None, False, False), (off, True, False), (off[1:], True, False), ([], True, False)):
+            self.assertEqual(self.chosen(names, proved), claims)
+
+    def test_a_program_with_some_places_of_each_row_claims_nothing(self):
+        with mock.patch.object(row_program, "MOST_LINKS", -1):
+            self.assertEqual(self.chosen(None, True), False)
 
     @unittest.skipUnless(HAS_CBC and shutil.which("glpsol"), "needs cbc and glpsol")
     def test_another_solver_goes_on(self):
