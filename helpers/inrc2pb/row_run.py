@@ -1,6 +1,6 @@
 """All steps of a search over rows, in their order and within its time."""
 
-from typing import Callable, List, Optional, Tuple
+from typing import Callable, List, Optional, Tuple, TypeVar
 
 from .clock import Clock, TimeIsOver
 from .first_rows import matched_rows
@@ -13,10 +13,12 @@ from .row_parts import RowParts
 from .row_search import GIVEN, NoRow, Offer, RowSearch
 from .skills import staffed
 
-# The shares of the time that is left: for new rows before a dive, for an integer program over the known rows, and over all rows.
-ROWS_SHARE, KNOWN_SHARE, LISTED_SHARE = 0.5, 0.1, 0.5
+# The shares of the time that is left: for new rows before a dive, for the dive, for an integer program over the known rows, and over
+# all rows.
+ROWS_SHARE, DIVE_SHARE, KNOWN_SHARE, LISTED_SHARE = 0.5, 0.5, 0.1, 0.5
 # The most rows of an integer program.
 MOST_LISTED = 40_000
+Found = TypeVar("Found")
 
 
 class RowRun:
@@ -52,16 +54,21 @@ class RowRun:
         if self._solver is None:
             return
         while not search.complete:
-            try:
-                search.generate(self._clock.part(self._clock.left() * ROWS_SHARE))
-            except TimeIsOver:
-                self._clock.check()
+            self._try(search.generate, ROWS_SHARE)
             if search.complete and search.misses_minimums and self._no_roster():
                 return
-            rows = search.dive(self._clock)
+            rows = self._try(search.dive, DIVE_SHARE)
             if rows:
                 search.keep(rows, "fixing rows")
         self._close_gap(search, self._solver)
+
+    def _try(self, step: Callable[[Clock], Found], share: float) -> Optional[Found]:
+        """What the step finds in this share of the time that is left; None if it takes longer."""
+        try:
+            return step(self._clock.part(self._clock.left() * share))
+        except TimeIsOver:
+            self._clock.check()
+            return None
 
     def _no_roster(self) -> bool:
         """Whether prices prove that no roster keeps the minimums."""
