@@ -4,14 +4,16 @@ import argparse
 import contextlib
 import re
 from pathlib import Path
-from typing import Dict, Iterator, List, Optional, Sequence, TextIO, Tuple
+from typing import Dict, List, NamedTuple, Optional, Sequence, TextIO, Tuple
 
 from .absences import NO_SKILL, TooMany, Written, readable, with_absences
 from .command import parser
+from .demand import demand_warnings
 from .faults import FileFault, Misuse
 from .files import History, Scenario, Solution, Week, WeekData, history_text, scenario_text, solution_text, week_text
 from .files import replacing
 from .first_roster import first_cost
+from .hints import plural
 from .odd_values import history_warnings, scenario_warnings, week_warnings
 from .plan_sheets import AWAY, Days, WeekSheet, check_held, days_away, read_days, read_weeks
 from .sheet_files import Book, read_book
@@ -59,28 +61,35 @@ def _reasons(text: str) -> List[str]:
     return reasons
 
 
-def texts(book: Book, name: str, days: Days, weeks: int, reasons: Sequence[str]) -> Tuple[Dict[str, str], List[str]]:
-    """The text of each file by its name, and warnings."""
+class WardFiles(NamedTuple):
+    """The text of each file by its name, warnings, and the days of each nurse that count as work."""
+
+    texts: Dict[str, str]
+    warnings: List[str]
+    credit: Dict[str, int]
+
+
+def ward_files(book: Book, name: str, days: Days, weeks: int, reasons: Sequence[str]) -> WardFiles:
+    """The files of a ward with this name and number of weeks. Absences for these reasons count as work."""
     ward = read_ward(book, name, weeks)
     sheets = read_weeks(book, ward, days)
     check_held(ward, sheets)
-    history = credited(ward.scenario, ward.history, dict(days_away(sheets, reasons)))
+    credit = dict(days_away(sheets, reasons))
+    history = credited(ward.scenario, ward.history, credit)
     found = {"ward.txt": scenario_text(ward.scenario), "history-0.txt": history_text(history)}
-    warnings = [*(f"sheet shifts, contracts or nurses: {line}" for line in scenario_warnings(ward.scenario)), *_of_history(ward)]
+    warnings = [f"sheet shifts, contracts or nurses: {line}" for line in scenario_warnings(ward.scenario)]
+    warnings += [f"sheet nurses: {line}" for line in history_warnings(ward.history)]
     scarce: List[Written] = []
     for number, sheet in enumerate(sheets):
         written = _week(book, ward.scenario, sheet, number, None if number else history)
         scarce += [written] * bool(written.warning())
         found[f"week-{number}.txt"] = week_text(written.data)
         found[f"fix-{number}.txt"] = solution_text(Solution(number, name, tuple(held.row for held in sheet.held)))
-        warnings += [f"sheet needs, week {number}: {line}" for line in week_warnings(ward.scenario, written.data)]
+        odd = (*week_warnings(ward.scenario, written.data), *demand_warnings(ward.scenario, None if number else history, written.data))
+        warnings += [f"sheet needs, week {number}: {line}" for line in odd]
     if scarce:
         warnings.append(f"sheet plan: {min(scarce, key=lambda one: one.requests).warning()}")
-    return found, warnings
-
-
-def _of_history(ward: Ward) -> Iterator[str]:
-    yield from (f"sheet nurses: {line}" for line in history_warnings(ward.history))
+    return WardFiles(found, warnings, credit)
 
 
 def _week(book: Book, scenario: Scenario, sheet: WeekSheet, number: int, history: Optional[History]) -> Written:
@@ -105,6 +114,7 @@ def _write(folder: Path, found: Dict[str, str]) -> None:
         targets: List[Tuple[TextIO, str]] = [(stack.enter_context(replacing(folder / name)), text) for name, text in found.items()]
         for target, text in targets:
             target.write(text)
+            target.flush()
 
 
 def main() -> int:
@@ -120,11 +130,11 @@ def main() -> int:
     book = read_book(given.tables)
     days = read_days(book)
     weeks = _period(days, days.weeks if given.weeks is None else given.weeks)
-    found, warnings = texts(book, _ward_name(given.tables), days, weeks, reasons)
-    _write(given.out, found)
-    for line in warnings:
+    files = ward_files(book, _ward_name(given.tables), days, weeks, reasons)
+    _write(given.out, files.texts)
+    for line in files.warnings:
         print(f"{given.tables}: warning: {readable(line)}")
-    print(f"{given.out}: {', '.join(found)}")
-    for nurse, count in days_away(read_weeks(book, read_ward(book, "ward", weeks), days), reasons):
-        print(f"{readable(nurse)}: {count} days count as work")
+    print(f"{given.out}: {', '.join(files.texts)}")
+    for nurse, count in files.credit.items():
+        print(f"{readable(nurse)}: {plural(count, 'day')} of leave {'counts' if count == 1 else 'count'} as work")
     return 0

@@ -73,7 +73,7 @@ NAMES = ["ward.txt", "history-0.txt", "week-0.txt", "fix-0.txt", "week-1.txt", "
 def texts(sheets, reasons=(), name="ward", weeks=2):
     """The files of these sheets, without warnings."""
     book = Book(Path("ward.ods"), sheets)
-    return ward.texts(book, name, read_days(book), weeks, reasons)[0]
+    return ward.ward_files(book, name, read_days(book), weeks, reasons).texts
 
 
 def changed(sheet, row, column, text):
@@ -125,7 +125,7 @@ class Formats(HelperTest):
 
     def assert_same(self, path):
         book = read_book(path)
-        self.assertEqual(ward.texts(book, "ward", read_days(book), 2, ())[0], self.wanted)
+        self.assertEqual(ward.ward_files(book, "ward", read_days(book), 2, ()).texts, self.wanted)
 
     def test_files_that_libreoffice_wrote(self):
         for name in ("libreoffice.ods", "libreoffice.xlsx"):
@@ -154,7 +154,7 @@ class Formats(HelperTest):
                 csv.writer(text, delimiter=separator, lineterminator=end).writerows([[cell.replace("Chen", "Jürgen") for cell in row] for row in rows])
                 (folder / f"ward-{name.title()}.csv").write_bytes(text.getvalue().encode(encoding))
             book = read_book(folder)
-            found = ward.texts(book, "ward", read_days(book), 2, ())[0]
+            found = ward.ward_files(book, "ward", read_days(book), 2, ()).texts
             self.assertEqual(found, {name: text.replace("Chen", "Jürgen") for name, text in self.wanted.items()})
 
     def test_decomposed_letters_and_other_blanks(self):
@@ -320,7 +320,7 @@ class Command(HelperTest):
         status, printed, said = run("ward", book, "--out", out, "--credit", "leave")
         self.assertEqual((status, said), (0, ""))
         names = [*NAMES, "week-2.txt", "fix-2.txt", "week-3.txt", "fix-3.txt"]
-        self.assertEqual(printed, f"{out}: {', '.join(names)}\nChen: 3 days count as work\n")
+        self.assertEqual(printed, f"{out}: {', '.join(names)}\nChen: 3 days of leave count as work\n")
         words = ("--sce", out / "ward.txt", "--his", out / "history-0.txt", "--week", out / "week-0.txt", "--fix", out / "fix-0.txt")
         status, printed, _ = run("check", *words)
         self.assertEqual((status, printed.splitlines()[-1]), (0, "No mistake found."))
@@ -332,6 +332,14 @@ class Command(HelperTest):
         self.assertEqual(run("ward", DATA / "libreoffice.ods", "--out", out, "--weeks", "4")[0], 0)
         self.assertIn("WEEKS = 4\n", (out / "ward.txt").read_text())
         self.assertIn("SCENARIO = libreoffice\n", (out / "ward.txt").read_text())
+
+    def test_days_on_which_too_few_are_there(self):
+        sheets = copy.deepcopy(SHEETS)
+        for row in sheets["plan"][1:]:
+            row[3] = "ill"
+        book = Book(Path("ward.ods"), sheets)
+        warnings = ward.ward_files(book, "ward", read_days(book), 2, ()).warnings
+        self.assertEqual([line for line in warnings if line.startswith("sheet needs, week 0: Wed: ")][0].rsplit(": ", 1)[1], "no roster can meet it and keep every absence")
 
     def test_faults(self):
         book, out = DATA / "libreoffice.ods", self.folder / "out"
