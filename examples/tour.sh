@@ -4,13 +4,14 @@
 #   examples/tour.sh [SOLVER]      clasp, minisat+ or sat4j; without one, the first of them that is installed
 #
 # Each command is shown before it runs, and stopped after LIMIT seconds (120). The files stay in out/tour.
-# PROGRAM names another program than out/inrc2pb.
+# PROGRAM and BOUND name other programs than out/inrc2pb and out/inrc2pb-bound.
 set -u
 cd "$(dirname "$0")/.." || exit 2
 . examples/solver_commands.sh
 
 limit=${LIMIT:-120}
 program=${PROGRAM:-out/inrc2pb}
+bound=${BOUND:-out/inrc2pb-bound}
 files=out/tour
 week="--sce examples/n005w4/Sc-n005w4.txt --his examples/n005w4/H0-n005w4-0.txt --week examples/n005w4/WD-n005w4-0.txt"
 
@@ -52,6 +53,11 @@ run "$program extend $week --from $files/roster.txt > $files/extended.txt"
 run "head -n 2 $files/extended.txt"
 run "$program decode $week --answer $files/extended.txt --sol $files/again.txt | head -n 3"
 run "cmp $files/roster.txt $files/again.txt"
+
+if [ -x "$bound" ]; then
+    say "No roster costs less: prices of the places prove it, whoever chose them."
+    run "$bound $week --prices examples/n005w4/prices.txt --roster $files/roster.txt"
+fi
 
 if "$program" encode --help | grep -q -- '--fix '; then
     say "Stefaan was promised the late shift on Tuesday: every roster has to keep that."

@@ -19,7 +19,7 @@ fn main(rt: HostRuntime) -> ExitCode {
         &mut FromRead::new(StandardInput::new(&rt)),
         &mut FileOnFirstWrite::new(&rt),
         &mut ToWrite::new(io::writer(&rt)),
-        &mut StdoutPrinter::new(&rt),
-        &mut StderrPrinter::new(&rt),
+        &mut StdoutPrinter::new(&rt, "inrc2pb"),
+        &mut StderrPrinter::new(&rt, "inrc2pb"),
     )
 }

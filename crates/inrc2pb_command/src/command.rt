@@ -2,14 +2,14 @@
 ghost use Rattle.std.specs.Prelude.{◌≡◌, [], IfOk, false, fold};
 ghost use Rattle.clap.specs.Words.{App, rule_of, with_rule, with_subcommand};
 ghost use Rattle.inrc2pb_command.specs.CommandLine.{IsCommandOf, bare_app, decode_app, encode_app};
-ghost use Rattle.inrc2pb_command.specs.CommandLine.{extend_app, file_rule, flag_rule, inrc2pb_app};
+ghost use Rattle.inrc2pb_command.specs.CommandLine.{extend_app, file_rule, flag_rule, input_rules, inrc2pb_app};
 ghost use Rattle.inrc2pb_command.specs.CommandLine.{required_file_rule, subcommand_app, week_rules};
 
 use clap::{Arg, ArgAction, Command};
 use std::alloc::{AllocError, Global};
 
-// The version of the program. It is written only here.
-const VERSION: &str = "0.2.0";
+/// The version of the programs. It is written only here.
+pub const VERSION: &str = "0.2.0";
 
 /// The whole command line, with its options and help. One of its subcommands must be named. It fails only if
 /// memory runs out.
@@ -120,6 +120,14 @@ fn subcommand<'a>(
     ensures { IfOk result (IsCommandOf (subcommand_app name.entry.now [])) }
 {
     let command = Command::new(alloc, name).about(about).after_help(example);
+    with_inputs(alloc, command)
+}
+
+/// The command with the options for the inputs of a job: the files of a week, `--fix` and `--early`.
+pub fn with_inputs<'a>(alloc: Global, command: Command<'a>) -> Result<Command<'a>, AllocError>
+    ensures { (a : App) → IsCommandOf a command.entry
+        → IfOk result (IsCommandOf (fold with_rule a input_rules)) }
+{
     with_week(alloc, command)?
         .arg(file_option(alloc, "fix", "Assignments to keep, as a solution file"))?
         .arg(flag(
@@ -140,8 +148,8 @@ fn with_week<'a>(alloc: Global, command: Command<'a>) -> Result<Command<'a>, All
         .arg(required_file(alloc, "week", "The requirements and requests of the week"))
 }
 
-// The flag `--id`.
-fn flag<'a>(alloc: Global, id: &'a str, help: &'a str) -> Arg<'a>
+/// The flag `--id`.
+pub fn flag<'a>(alloc: Global, id: &'a str, help: &'a str) -> Arg<'a>
     ensures rule { rule_of result ≡ flag_rule id.entry.now }
     ensures local { result.global ≡ false }
 {
@@ -151,8 +159,8 @@ fn flag<'a>(alloc: Global, id: &'a str, help: &'a str) -> Arg<'a>
         .action(ArgAction::SetTrue)
 }
 
-// The option `--id FILE`.
-fn file_option<'a>(alloc: Global, id: &'a str, help: &'a str) -> Arg<'a>
+/// The option `--id FILE`.
+pub fn file_option<'a>(alloc: Global, id: &'a str, help: &'a str) -> Arg<'a>
     ensures rule { rule_of result ≡ file_rule id.entry.now }
     ensures local { result.global ≡ false }
 {

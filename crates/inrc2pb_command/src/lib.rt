@@ -3,4 +3,4 @@
 
 mod command;
 
-pub use command::inrc2pb;
+pub use command::{VERSION, file_option, flag, inrc2pb, with_inputs};

@@ -2,14 +2,14 @@
 //! program, after its words have been read.
 #![tactic(auto)]
 
-mod fix_file;
 mod job;
 mod job_run;
 mod open_files;
+mod optional_file;
 mod paths;
 
-pub use fix_file::FixFile;
 pub use job::{Inputs, Job};
 pub use job_run::perform;
-pub use open_files::{OpenInputs, open_inputs};
+pub use open_files::{OpenInputs, open_inputs, open_optional};
+pub use optional_file::OptionalFile;
 pub use paths::{HasPath, Opens};

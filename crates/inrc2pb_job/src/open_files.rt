@@ -1,12 +1,12 @@
 //! The inputs of a job, open.
 ghost use Rattle.std.specs.Prelude.{◌≡◌, [], ◌∷◌, IfErr, IfOk, option_map, string_bytes};
 ghost use Rattle.inrc2pb_job.specs.Jobs.{paths_of, week_paths};
-ghost use Rattle.inrc2pb_job.specs.OpenInputs.{AreOpen, IsFixOpen};
+ghost use Rattle.inrc2pb_job.specs.OpenInputs.{AreOpen, IsOptionalOpen};
 ghost use Rattle.inrc2pb_job.specs.OpenCalls.{OpensAll, StopsOpening};
 ghost use Rattle.inrc2pb_job.specs.Paths.{IsNew};
 ghost use Rattle.rota_pb.specs.declared.fault.Fault.TheVariants.{Read as ReadFailed};
 
-use crate::fix_file::FixFile;
+use crate::optional_file::OptionalFile;
 use crate::job::Inputs;
 use crate::paths::Opens;
 use rota_pb::{Choice, Fault};
@@ -17,7 +17,7 @@ pub struct OpenInputs<F> {
     pub sce: F,
     pub his: F,
     pub week: F,
-    pub fix: FixFile<F>,
+    pub fix: OptionalFile<F>,
 }
 
 impl<F: Drop> Drop for OpenInputs<F> {
@@ -50,7 +50,7 @@ pub fn open_inputs<O: Opens>(files: &mut O, inputs: &Inputs) -> Result<OpenInput
         sce: open(files, inputs.sce.as_str())?,
         his: open(files, inputs.his.as_str())?,
         week: open(files, inputs.week.as_str())?,
-        fix: open_fix(files, &inputs.fix)?,
+        fix: open_optional(files, &inputs.fix)?,
     })
 }
 
@@ -73,8 +73,12 @@ pub fn open<O: Opens>(files: &mut O, path: &str) -> Result<O::File, Fault>
     }
 }
 
-fn open_fix<O: Opens>(files: &mut O, path: &Option<String>) -> Result<FixFile<O::File>, Fault>
-    ensures open { IfOk result (IsFixOpen O.File.Source (O.at files.old)
+/// Opens an input if it is named.
+///
+/// # Errors
+/// `Read` if the input does not open.
+pub fn open_optional<O: Opens>(files: &mut O, path: &Option<String>) -> Result<OptionalFile<O::File>, Fault>
+    ensures open { IfOk result (IsOptionalOpen O.File.Source (O.at files.old)
         (option_map string_bytes path.now)) }
     ensures all { IfOk result (λ _. OpensAll (O.at files.old)
         (paths_of (option_map string_bytes path.now)) (O.log files.old) (O.log files.new)) }
@@ -84,7 +88,7 @@ fn open_fix<O: Opens>(files: &mut O, path: &Option<String>) -> Result<FixFile<O:
     ensures same { O.at files.new ≡ O.at files.old }
 {
     match path {
-        Some(path) => Ok(FixFile::Named(open(files, path.as_str())?)),
-        None => Ok(FixFile::Absent),
+        Some(path) => Ok(OptionalFile::Named(open(files, path.as_str())?)),
+        None => Ok(OptionalFile::Absent),
     }
 }

@@ -18,7 +18,7 @@ use Rattle.inrc2pb_program.specs.Jobs.{IsJobOf, IsSubcommand, LacksPath, Matched
 use Rattle.inrc2pb_job.specs.declared.job.Job.{Job}
 use Rattle.inrc2pb_program.specs.Stops.{IsForMemoryOr, IsStopFor, IsStopOf}
 use Rattle.inrc2pb_program.specs.declared.stop.Stop.{Stop}
-use Rattle.inrc2pb_program.specs.declared.stop.Stop.TheVariants as stopped
+use Rattle.inrc2pb_program.proofs.Refusals.{IsForMemoryOr-weaker, no_fault, refused, stop_without_fault}
 
 -- ---- the command
 
@@ -94,21 +94,15 @@ pub ok_for : (o : Option Matched) (p : Matched) (r : Result Job Stop) → o ≡ 
     IfOk r (λ j. IsSomeAnd o (λ matched. IsJobOf matched j))
 ok_for o p r is = IfOk-weaker r _ _ (λ j h. subst (λ x. IsSomeAnd x (λ matched. IsJobOf matched j)) (sym is) h)
 
-stop_without_fault : (words : List Text) (p : Matched) (stop : Stop) → fault_of inrc2pb_app words ≡ [] → subcommand_of inrc2pb_app words ≡ Some p
-    → IsForMemoryOr (LacksPath p) stop → IsStopFor words stop
-stop_without_fault words p (stopped.Shown text) none is h = absurd h
-stop_without_fault words p (stopped.Words text) none is h = absurd h
-stop_without_fault words p (stopped.Usage text) none is h = (none, subst (λ x. IsSomeAnd x LacksPath) (sym is) h)
-stop_without_fault words p (stopped.Job fault) none is h = h
-
 pub err_for : (words : List Text) (p : Matched) (r : Result Job Stop) → fault_of inrc2pb_app words ≡ [] → subcommand_of inrc2pb_app words ≡ Some p
     → IfErr r (IsForMemoryOr (LacksPath p)) → IfErr r (IsStopFor words)
-err_for words p r none is = IfErr-weaker r _ _ (λ stop h. stop_without_fault words p stop none is h)
+err_for words p r none is = IfErr-weaker r _ _ (λ stop h.
+    stop_without_fault inrc2pb_app _ words stop none (IsForMemoryOr-weaker _ _ stop (λ lacks. subst (λ x. IsSomeAnd x LacksPath) (sym is) lacks) h))
 
 -- words that are parsed have no fault
 pub fault_free : (a : App) (words : List Text) → a ≡ inrc2pb_app → (is_simple_and_free a ≡ true → fault_of a words ≡ []) →
     fault_of inrc2pb_app words ≡ []
-fault_free a words is none = ap (λ x. fault_of x words) (sym is) ∙ none (ap is_simple_and_free is ∙ is_simple_and_free-inrc2pb)
+fault_free a words is none = no_fault inrc2pb_app a words is is_simple_and_free-inrc2pb none
 
 pub ok_whatever : {T E P : Type 0} (r : Result T E) → P → OnOk r P
 ok_whatever (Ok v) holds = holds
@@ -123,25 +117,6 @@ subcommand_named words p e = elim (named_of inrc2pb_app words p e) [
   ]
 ]
 
--- the reason why the program ends if clap refuses the words, for one of their faults or because memory ran out
-stop_for : (words : List Text) (error : Error) (stop : Stop) → HasKind (fault_of inrc2pb_app words) error → IsStopOf error stop
-    → IsStopFor words stop
-stop_for words error stop h is =
-    elim h [
-      | inl memory ↦ subst (IsStopFor words) (sym (is.1 memory)) refl
-      | inr among ↦ elim is.2 [
-        | inl refused ↦ subst (IsStopFor words) (sym refused)
-            (among, λ log. let both : stopped.Shown error ≡ stopped.Words error = sym (is.0 log) ∙ refused in cc)
-        | inr rest ↦ elim rest [
-          | inl log ↦ subst (IsStopFor words) (sym (is.0 log)) (among, log)
-          | inr memory ↦ subst (IsStopFor words) (sym (is.1 memory)) refl
-        ]
-      ]
-    ]
-
 pub words_refused : (a : App) (words : List Text) (e : Error) (r : Result Job Stop) → a ≡ inrc2pb_app
     → (is_simple_and_free a ≡ true → HasKind (fault_of a words) e) → IsErrAnd r (IsStopOf e) → IfErr r (IsStopFor words)
-words_refused a words e (Ok j) is kinds stops = absurd stops
-words_refused a words e (Err stop) is kinds stops =
-    let kind = kinds (ap is_simple_and_free is ∙ is_simple_and_free-inrc2pb) in
-    stop_for words e stop (subst (λ (x : App). HasKind (fault_of x words) e) is kind) stops
+words_refused a words e r is kinds stops = refused inrc2pb_app _ a words e r is is_simple_and_free-inrc2pb kinds stops

@@ -1,8 +1,7 @@
 -- The messages of the program when it ends, and its exit status.
-use Rattle.std.specs.Prelude.{◌≡◌, ℕ, List, ◌++◌, Bool, false, true, Option, None, Some, Result, Ok, Err, codes}
+use Rattle.std.specs.Prelude.{◌≡◌, ℕ, Bool, false, true, Result, Ok, Err}
 use Rattle.rota_pb.specs.Statuses.{exit_status}
 use Rattle.rota_pb.specs.declared.fault.Fault.TheVariants as failed
-use Rattle.inrc2pb_program.specs.FaultLines.{fault_line}
 use Rattle.inrc2pb_program.specs.Messages.{Messages, with_message}
 use Rattle.inrc2pb_program.specs.declared.stop.Stop.{Stop}
 use Rattle.inrc2pb_program.specs.declared.stop.Stop.TheVariants as stops
@@ -49,10 +48,3 @@ IsReported (stops.Job fault) output errors status = IsStopped (stops.Job fault) 
 abbrev pub IsExitOf : Result (Unit {0}) Stop → PrinterState → PrinterState → ℕ → Type 0
 IsExitOf (Ok done) output errors status = (status ≡ 0) × output.untouched × errors.untouched
 IsExitOf (Err stop) output errors status = IsReported stop output errors status
-
--- the message of the reason, if it is not clap's own
-abbrev pub stop_text : Stop → Option (List ℕ)
-stop_text (stops.Shown text) = None
-stop_text (stops.Words text) = None
-stop_text (stops.Usage text) = Some (codes "error: " ++ text.now ++ codes "\n")
-stop_text (stops.Job fault) = Some (fault_line fault ++ codes "\n")

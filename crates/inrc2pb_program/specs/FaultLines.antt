@@ -1,8 +1,17 @@
--- The line on standard error that reports why a job failed.
-use Rattle.std.specs.Prelude.{ℕ, List, ◌++◌, codes}
+-- The texts of the messages when a program ends. They are the outputs of `Display`.
+use Rattle.std.specs.Prelude.{ℕ, List, ◌++◌, Option, None, Some, codes}
 use Rattle.rota_pb.specs.FaultTexts.{fault_text}
 use Rattle.rota_pb.specs.declared.fault.Fault.{Fault}
+use Rattle.inrc2pb_program.specs.declared.stop.Stop.{Stop}
+use Rattle.inrc2pb_program.specs.declared.stop.Stop.TheVariants as stops
 
--- the line, without its end
-abbrev pub fault_line : Fault → List ℕ
-fault_line fault = codes "inrc2pb: " ++ fault_text fault
+-- the line of a fault, without its end, for the program with this name
+abbrev pub fault_line : List ℕ → Fault → List ℕ
+fault_line program fault = program ++ codes ": " ++ fault_text fault
+
+-- the message of the reason, if it is not clap's own
+abbrev pub stop_text : List ℕ → Stop → Option (List ℕ)
+stop_text program (stops.Shown text) = None
+stop_text program (stops.Words text) = None
+stop_text program (stops.Usage text) = Some (codes "error: " ++ text.now ++ codes "\n")
+stop_text program (stops.Job fault) = Some (fault_line program fault ++ codes "\n")

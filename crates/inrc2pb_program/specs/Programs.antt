@@ -1,9 +1,5 @@
 -- The effects of a run of the program, from its words to its exit status.
-use Rattle.std.specs.Prelude.{◌≡◌, ℕ, List, [], Option, Result, Ok, Err, IsSomeAnd, map, string_bytes}
-use Rattle.std.specs.Vec.Iter.{into_iter_items}
-use Rattle.std.specs.declared.string.String.{String}
-use Rattle.std.specs.declared.io.Error.{Error}
-use Rattle.std.specs.declared.vec.IntoIter.{IntoIter}
+use Rattle.std.specs.Prelude.{◌≡◌, ℕ, List, [], Option, Result, Ok, Err, IsSomeAnd}
 use Rattle.clap.specs.Words.{Text, fault_of, subcommand_of}
 use Rattle.inrc2pb_command.specs.CommandLine.{inrc2pb_app}
 use Rattle.inrc2pb_job.specs.JobOutcomes.{JobOutcome, Opener}
@@ -14,31 +10,16 @@ use Rattle.rota_core.specs.declared.ports.Target.{Ghosts}
 use Rattle.rota_pb.specs.RunPorts.{IsUntouched, Reader, Writer, writer_of}
 use Rattle.rota_pb.specs.declared.fault.Fault.{Fault}
 use Rattle.inrc2pb_program.specs.Exits.{IsExitOf, PrinterState}
+use Rattle.inrc2pb_program.specs.Given.{Given, IsJobGiven, IsStopGiven}
 use Rattle.inrc2pb_program.specs.Jobs.{IsJobOf}
-use Rattle.inrc2pb_program.specs.Stops.{IsStopFor, IsStopForError}
+use Rattle.inrc2pb_program.specs.Stops.{IsStopFor}
 use Rattle.inrc2pb_program.specs.declared.stop.Stop.{Stop}
 use Rattle.inrc2pb_program.specs.declared.stop.Stop.TheVariants as stops
-
--- the words of the command line, or the reason why they are not text
-abbrev pub Given : Type 0 → Type 0 → Type 0
-Given X Z = Result (IntoIter (String X) Z) Error
-
-abbrev pub texts_in : {X Z : Type 0} → IntoIter (String X) Z → List Text
-texts_in words = map string_bytes (into_iter_items words)
 
 -- the job of the words, if nothing is wrong with them
 pub record IsJobFor (words : List Text) (job : Job) : Type 0 where
   pub taken : fault_of inrc2pb_app words ≡ []
   pub spelled : IsSomeAnd (subcommand_of inrc2pb_app words) (λ matched. IsJobOf matched job)
-
-abbrev pub IsJobGiven : {X Z : Type 0} → Given X Z → Job → Type 0
-IsJobGiven (Ok words) job = IsJobFor (texts_in words) job
-IsJobGiven (Err error) job = ⊥
-
--- why the words give no job
-abbrev pub IsStopGiven : {X Z : Type 0} → Given X Z → Stop → Type 0
-IsStopGiven (Ok words) stop = IsStopFor (texts_in words) stop
-IsStopGiven (Err error) stop = IsStopForError error stop
 
 -- the file that a job may write: its port and its path, before the program and after it
 pub record JobFile (F : Type 0) : Type 1 where
@@ -66,9 +47,9 @@ IsEndOf (Err fault) ended = ended ≡ Err (stops.Job fault)
 -- words gave a job, and it was performed, with the file at its own path.
 pub data RunOutcome {F G X Z : Type 0} (opener : Opener F) (file : JobFile G) (words : Given X Z) (input : Reader) (output : Writer)
     (ended : Result (Unit {0}) Stop) : Type 0 where
-  stopped : (stop : Stop) → ended ≡ Err stop → IsStopGiven words stop → opener.log ≡ opener.log_before →
+  stopped : (stop : Stop) → ended ≡ Err stop → IsStopGiven IsStopFor words stop → opener.log ≡ opener.log_before →
       IsUntouched input → file.new ≡ file.old → IsUntouched output → RunOutcome opener file words input output ended
-  performed : (job : Job) → IsJobGiven words job → (placed : G) → IsPlaced file job placed →
+  performed : (job : Job) → IsJobGiven IsJobFor words job → (placed : G) → IsPlaced file job placed →
       (result : Result (Unit {0}) Fault) → JobOutcome opener job input (writer_of file.port placed file.new) output result →
       IsEndOf result ended → RunOutcome opener file words input output ended
 

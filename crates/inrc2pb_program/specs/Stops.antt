@@ -1,9 +1,9 @@
--- Why the program ends if the words give no job.
+-- Why a program ends if the words give no job.
 use Rattle.std.specs.Prelude.{◌≡◌, ◌≢◌, ◌⊎◌, List, [], ⊤, IsSomeAnd}
 use Rattle.std.specs.IoError.{error_kind}
 use Rattle.std.specs.declared.io.Error.{Error as IoError}
 use Rattle.std.specs.declared.io.ErrorKind.TheVariants as io_kind
-use Rattle.clap.specs.Words.{IsAmong, Text, fault_of, kind_of, subcommand_of}
+use Rattle.clap.specs.Words.{App, IsAmong, Text, fault_of, kind_of, subcommand_of}
 use Rattle.clap.specs.declared.error.Error.{Error}
 use Rattle.clap.specs.declared.error.kind.ErrorKind.{ErrorKind}
 use Rattle.clap.specs.declared.error.kind.ErrorKind.TheVariants.{DisplayHelp, DisplayVersion, OutOfMemory}
@@ -30,14 +30,17 @@ IsForMemoryOr lacks (stopped.Words text) = ⊥
 IsForMemoryOr lacks (stopped.Usage text) = lacks
 IsForMemoryOr lacks (stopped.Job fault) = fault ≡ failed.Memory
 
--- why the program ends without the job of these words: it shows a requested text, or reports clap's reason, only if this is the kind of a
--- fault in the words; it reports a reason of its own only if the words have no fault and a required path is missing; otherwise memory ran
--- out
+-- why a program with this command ends without the job of these words: it shows a requested text, or reports clap's reason, only if this is
+-- the kind of a fault in the words; it reports a reason of its own only if the words have no fault and are misused; otherwise memory ran out
+abbrev pub IsStopOfApp : App → (misused : Type 0) → List Text → Stop → Type 0
+IsStopOfApp app misused words (stopped.Shown text) = IsAmong (kind_of text) (fault_of app words) × IsAskedFor (kind_of text)
+IsStopOfApp app misused words (stopped.Words text) = IsAmong (kind_of text) (fault_of app words) × ¬ IsAskedFor (kind_of text)
+IsStopOfApp app misused words (stopped.Usage text) = (fault_of app words ≡ []) × misused
+IsStopOfApp app misused words (stopped.Job fault) = fault ≡ failed.Memory
+
+-- why `inrc2pb` ends without the job of these words: they are misused if a required path is missing
 abbrev pub IsStopFor : List Text → Stop → Type 0
-IsStopFor words (stopped.Shown text) = IsAmong (kind_of text) (fault_of inrc2pb_app words) × IsAskedFor (kind_of text)
-IsStopFor words (stopped.Words text) = IsAmong (kind_of text) (fault_of inrc2pb_app words) × ¬ IsAskedFor (kind_of text)
-IsStopFor words (stopped.Usage text) = (fault_of inrc2pb_app words ≡ []) × IsSomeAnd (subcommand_of inrc2pb_app words) LacksPath
-IsStopFor words (stopped.Job fault) = fault ≡ failed.Memory
+IsStopFor words = IsStopOfApp inrc2pb_app (IsSomeAnd (subcommand_of inrc2pb_app words) LacksPath) words
 
 -- why words that are not text, or for which there was not enough memory, give no job
 abbrev pub IsStopForError : IoError → Stop → Type 0

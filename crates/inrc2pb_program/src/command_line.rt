@@ -50,7 +50,8 @@ fn job_of(alloc: Global, name: &str, options: &ArgMatches<'_>) -> Result<Job, St
     }
 }
 
-fn inputs(alloc: Global, options: &ArgMatches<'_>) -> Result<Inputs, Stop>
+/// The paths and the flag that every job has, from the matches of its command.
+pub fn inputs(alloc: Global, options: &ArgMatches<'_>) -> Result<Inputs, Stop>
     ensures ok { IfOk result (HasInputs (options_of options.now)) }
     ensures err { IfErr result (IsForMemoryOr (LacksInput (options_of options.now))) }
 {
@@ -63,7 +64,8 @@ fn inputs(alloc: Global, options: &ArgMatches<'_>) -> Result<Inputs, Stop>
     })
 }
 
-fn flag(options: &ArgMatches<'_>, id: &str) -> bool
+/// Whether the flag is set.
+pub fn flag(options: &ArgMatches<'_>, id: &str) -> bool
     ensures { HasFlag id.now (options_of options.now) result }
 {
     options.get_flag(id)
@@ -77,7 +79,8 @@ fn required_path(alloc: Global, options: &ArgMatches<'_>, id: &str) -> Result<St
     optional_path(alloc, options, id)?.ok_or(Stop::Usage("a required path is missing"))
 }
 
-fn optional_path(
+/// The path of the option, if it is given.
+pub fn optional_path(
     alloc: Global,
     options: &ArgMatches<'_>,
     id: &str,

@@ -5,25 +5,27 @@ ghost use Rattle.inrc2pb_program.specs.FaultLines.{fault_line};
 use rota_pb::Fault;
 use std::fmt;
 
-/// Shows a fault as the program's line, without its end.
+/// Shows a fault as a program's line, without its end.
 #[derive(Clone, Copy)]
 pub struct FaultLine<'a> {
+    program: &'static str,
     fault: &'a Fault,
 }
 
 impl<'a> FaultLine<'a> {
-    /// The line of this fault.
-    pub fn of(fault: &'a Fault) -> FaultLine<'a>
-        ensures { result.fault.now ≡ fault.now }
+    /// The line of this fault, for the program with this name.
+    pub fn of(program: &'static str, fault: &'a Fault) -> FaultLine<'a>
+        ensures program { result.program.now ≡ program.now }
+        ensures fault { result.fault.now ≡ fault.now }
     {
-        FaultLine { fault }
+        FaultLine { program, fault }
     }
 }
 
 impl fmt::Display for FaultLine<'_> {
-    ghost output = { λ line. Some (fault_line line.fault.now) };
+    ghost output = { λ line. Some (fault_line line.program.now line.fault.now) };
 
     fn fmt<W: fmt::Write>(&self, f: &mut fmt::Formatter<W>) -> fmt::Result {
-        write!(f, "inrc2pb: {}", self.fault)
+        write!(f, "{}: {}", self.program, self.fault)
     }
 }

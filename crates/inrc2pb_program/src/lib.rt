@@ -11,8 +11,10 @@ mod process_words;
 mod run;
 mod stop;
 
+pub use command_line::{flag, inputs, optional_path};
 pub use files::{FileOnFirstWrite, HostFiles, StandardInput};
 pub use output_file::OutputFile;
 pub use printers::{Printer, StderrPrinter, StdoutPrinter};
-pub use run::program;
-pub use stop::Stop;
+pub use process_words::{borrowed, kept};
+pub use run::{ended, program};
+pub use stop::{Stop, StopText, exit_code};

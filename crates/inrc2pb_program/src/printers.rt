@@ -2,7 +2,7 @@
 ghost use Rattle.std.specs.Prelude.{◌≡◌, ◌||◌, Bool, None, IfErr, IfOk, false, is_err};
 ghost use Rattle.inrc2pb_program.specs.Messages.{Messages, with_message};
 
-use crate::stop::Stop;
+use crate::stop::{Stop, StopText};
 use std::io;
 
 /// Prints why the program ended, and remembers whether a text could not be printed.
@@ -24,15 +24,20 @@ pub trait Printer {
 #[derive(Drop)]
 pub struct StdoutPrinter<'a, R> {
     rt: &'a R,
+    program: &'static str,
     failed: bool,
 }
 
 impl<'a, R: Print> StdoutPrinter<'a, R> {
-    /// A printer on standard output. It has not failed.
-    pub fn new(rt: &'a R) -> StdoutPrinter<'a, R>
+    /// A printer on standard output, for the program with this name. It has not failed.
+    pub fn new(rt: &'a R, program: &'static str) -> StdoutPrinter<'a, R>
         ensures { ⟦<StdoutPrinter<'a, R> as Printer>⟧.has_failed result ≡ false }
     {
-        StdoutPrinter { rt, failed: false }
+        StdoutPrinter {
+            rt,
+            program,
+            failed: false,
+        }
     }
 }
 
@@ -43,7 +48,7 @@ impl<R: Print> Printer for StdoutPrinter<'_, R> {
     ghost messages = { λ _. None };
 
     fn print_stop(&mut self, stop: &Stop) -> io::Result<()> {
-        let printed = self.rt.print(stop);
+        let printed = self.rt.print(&StopText::of(self.program, stop));
         self.failed = self.failed || printed.is_err();
         printed
     }
@@ -53,15 +58,20 @@ impl<R: Print> Printer for StdoutPrinter<'_, R> {
 #[derive(Drop)]
 pub struct StderrPrinter<'a, R> {
     rt: &'a R,
+    program: &'static str,
     failed: bool,
 }
 
 impl<'a, R: Eprint> StderrPrinter<'a, R> {
-    /// A printer on the standard error. It has not failed.
-    pub fn new(rt: &'a R) -> StderrPrinter<'a, R>
+    /// A printer on the standard error, for the program with this name. It has not failed.
+    pub fn new(rt: &'a R, program: &'static str) -> StderrPrinter<'a, R>
         ensures { ⟦<StderrPrinter<'a, R> as Printer>⟧.has_failed result ≡ false }
     {
-        StderrPrinter { rt, failed: false }
+        StderrPrinter {
+            rt,
+            program,
+            failed: false,
+        }
     }
 }
 
@@ -72,7 +82,7 @@ impl<R: Eprint> Printer for StderrPrinter<'_, R> {
     ghost messages = { λ _. None };
 
     fn print_stop(&mut self, stop: &Stop) -> io::Result<()> {
-        let printed = self.rt.eprint(stop);
+        let printed = self.rt.eprint(&StopText::of(self.program, stop));
         self.failed = self.failed || printed.is_err();
         printed
     }

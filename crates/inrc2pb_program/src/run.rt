@@ -62,8 +62,8 @@ pub fn run<O: Opens, A: Source, F: OutputFile, W: Target + HasPath>(
     ended(perform(alloc, &job, files, input, file, output))
 }
 
-// The end of the program for a job's result.
-fn ended(performed: Result<(), Fault>) -> Result<(), Stop>
+/// The end of the program for a job's result.
+pub fn ended(performed: Result<(), Fault>) -> Result<(), Stop>
     ensures { IsEndOf performed result }
 {
     performed.map_err(Stop::Job)

@@ -1,7 +1,8 @@
 //! Why the program ends before its work is done, and its message then.
 ghost use Rattle.std.specs.Prelude.{◌≡◌, false};
 ghost use Rattle.std.specs.Process.{exit_status as code_of};
-ghost use Rattle.inrc2pb_program.specs.Exits.{IsExitOf, IsReported, IsShown, IsPrinted, stop_text, printer_state};
+ghost use Rattle.inrc2pb_program.specs.Exits.{IsExitOf, IsReported, IsShown, IsPrinted, printer_state};
+ghost use Rattle.inrc2pb_program.specs.FaultLines.{stop_text};
 ghost use Rattle.inrc2pb_program.specs.Stops.{IsStopForError, IsStopOf};
 ghost use Rattle.inrc2pb_program.specs.declared.stop.Stop.TheVariants.{Job};
 ghost use Rattle.rota_pb.specs.declared.fault.Fault.TheVariants.{Memory};
@@ -44,15 +45,32 @@ impl Stop {
     }
 }
 
-impl fmt::Display for Stop {
-    ghost output = { stop_text };
+/// Shows why a program ended, as its message.
+#[derive(Clone, Copy)]
+pub struct StopText<'a> {
+    program: &'static str,
+    stop: &'a Stop,
+}
+
+impl<'a> StopText<'a> {
+    /// The message of this reason, for the program with this name.
+    pub fn of(program: &'static str, stop: &'a Stop) -> StopText<'a>
+        ensures program { result.program.now ≡ program.now }
+        ensures stop { result.stop.now ≡ stop.now }
+    {
+        StopText { program, stop }
+    }
+}
+
+impl fmt::Display for StopText<'_> {
+    ghost output = { λ text. stop_text text.program.now text.stop.now };
 
     fn fmt<W: fmt::Write>(&self, f: &mut fmt::Formatter<W>) -> fmt::Result {
-        match self {
+        match self.stop {
             Stop::Shown(text) => write!(f, "{text}"),
             Stop::Words(text) => write!(f, "{text}"),
             Stop::Usage(text) => writeln!(f, "error: {text}"),
-            Stop::Job(fault) => writeln!(f, "{}", FaultLine::of(fault)),
+            Stop::Job(fault) => writeln!(f, "{}", FaultLine::of(self.program, fault)),
         }
     }
 }

@@ -5,7 +5,7 @@ ghost use Rattle.rota_pb.specs.Feeding.{HasTakenAll, StopsTaking};
 ghost use Rattle.rota_pb.specs.RunPorts.{reader_of};
 
 use crate::fault::Fault;
-use crate::read_file::PIECE;
+use crate::file_bytes::PIECE;
 use rota_core::Source;
 use solver_text::{Answer, Solved, fault_of_a_beginning_stays};
 use std::alloc::Global;

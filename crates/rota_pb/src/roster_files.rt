@@ -4,13 +4,13 @@ ghost use Rattle.rota_pb.specs.RunPorts.{reader_of};
 ghost use Rattle.rota_pb.specs.WeekFiles.{read_roster as roster_reading};
 
 use crate::fault::Fault;
-use crate::read_file::read_file;
+use crate::file_bytes::read_file;
 use rota_core::{Instance, Roster, Source};
 use rota_read::{read_fixed, read_solution};
 use std::alloc::Global;
 
 /// Reads a solution file to its end, or to one byte more than it may have. Returns its roster.
-pub(crate) fn read_roster<S: Source>(
+pub fn read_roster<S: Source>(
     alloc: Global,
     instance: &Instance,
     source: &mut S,

@@ -9,7 +9,7 @@ ghost use Rattle.rota_pb.specs.RunPorts.{reader_of};
 ghost use Rattle.rota_pb.specs.WeekFiles.{join as joining, read_file as file_reading, read_tables as tables_reading, read_week as week_reading};
 
 use crate::fault::Fault;
-use crate::read_file::read_file;
+use crate::file_bytes::read_file;
 use crate::roster_files::read_held;
 use rota_core::{History, Instance, Scenario, Source, Week};
 use rota_read::{read_history, read_scenario, read_week};
@@ -82,9 +82,9 @@ fn read_tables<S: Source, H: Source, K: Source>(
     join(scenario, history, week, early)
 }
 
-// The instance that the files of a week spell, with the cells of the fix file held, if one is chosen. The
-// first check that fails decides the fault, and later readers are not touched.
-pub(crate) fn read_instance<S: Source, H: Source, K: Source, F: Source>(
+/// The instance that the files of a week spell, with the cells of the fix file held, if one is chosen. The
+/// first check that fails decides the fault, and later readers are not touched.
+pub fn read_instance<S: Source, H: Source, K: Source, F: Source>(
     alloc: Global,
     choice: Choice,
     sce: &mut S,

@@ -1,17 +1,9 @@
-use Rattle.std.proofs.Common.{rules, codes, fold}
-use Rattle.clap.specs.Words.{new_app, with_rule}
-use Rattle.inrc2pb_command.specs.CommandLine.{IsCommandOf, file_rule, flag_rule, week_rules}
-use Rattle.inrc2pb_command.proofs.CommandSteps.{adds_arg, ends_with_arg}
+use Rattle.std.proofs.Common.{rules}
+use Rattle.clap.specs.Words.{new_app}
+use Rattle.inrc2pb_command.specs.CommandLine.{IsCommandOf}
 use Rattle.inrc2pb_command.proofs.command.subcommand.Goals as goal
 
 pub returns : goal.returns
 returns c =
-    let start = new_app c.args.name.now in
-    let with_files = fold with_rule start week_rules in
-    let with_fix = with_rule with_files (file_rule (codes "fix")) in
-    let named : IsCommandOf start c.after_help-command.result = search rules in
-    let files = c.in_ok-with_week.ensures start named in
-    let fix = adds_arg with_files (file_rule (codes "fix")) c.in_ok-with_week.field-0 c.file_option.result c.in_ok-arg.field-0 files
-    c.file_option.ensures.rule c.file_option.ensures.local c.in_ok-arg.ensures in
-    ends_with_arg with_fix (flag_rule (codes "early")) c.in_ok-arg.field-0 c.flag.result c.arg-2.result fix
-    c.flag.ensures.rule c.flag.ensures.local c.arg-2.ensures
+    let named : IsCommandOf (new_app c.args.name.now) c.after_help-command.result = search rules in
+    c.with_inputs.ensures (new_app c.args.name.now) named

@@ -29,11 +29,11 @@ returns-in_err-open-3-clause-stops g c =
     err_whatever _ (stops_early _ (string_bytes inputs.sce ∷ string_bytes inputs.his ∷ string_bytes inputs.week ∷ []) held _ _
     (stops_later _ _ _ _ _ _ _ (c.open-2.ensures.same ∙ c.open.ensures.same) (opens_both _ _ _ _ _ _ _ c.open.ensures.same one two) stops))
 
-pub returns-in_err-open_fix-clause-stops : goal.returns-in_err-open_fix-clause-stops
-returns-in_err-open_fix-clause-stops g c =
+pub returns-in_err-open_optional-clause-stops : goal.returns-in_err-open_optional-clause-stops
+returns-in_err-open_optional-clause-stops g c =
     let one = rw c.as_str.ensures.value at c.in_ok-open.ensures.all in
     let two = rw c.as_str-2.ensures.value at c.in_ok-open-2.ensures.all in
     let three = rw c.as_str-3.ensures.value at c.in_ok-open-3.ensures.all in
     let first = opens_both _ _ _ _ _ _ _ c.open.ensures.same one two in
     err_whatever _ (stops_later _ _ _ _ _ _ _ (c.open-3.ensures.same ∙ c.open-2.ensures.same ∙ c.open.ensures.same)
-    (opens_both _ _ _ _ _ _ _ (c.open-2.ensures.same ∙ c.open.ensures.same) first three) c.in_err-open_fix.ensures.stops)
+    (opens_both _ _ _ _ _ _ _ (c.open-2.ensures.same ∙ c.open.ensures.same) first three) c.in_err-open_optional.ensures.stops)

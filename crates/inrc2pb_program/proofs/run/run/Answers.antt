@@ -2,13 +2,15 @@ use Rattle.std.proofs.Common.{◌∙◌, Ok, Err, refl}
 use Rattle.std.proofs.lemmas.Result.{err_from_is_err_and}
 use Rattle.inrc2pb_job.specs.declared.job.Job.{Job}
 use Rattle.rota_pb.specs.declared.fault.Fault.TheVariants.{Memory}
-use Rattle.inrc2pb_program.specs.Programs.{Given, IsJobGiven, IsStopGiven}
+use Rattle.inrc2pb_program.specs.Given.{Given, IsJobGiven, IsStopGiven}
+use Rattle.inrc2pb_program.specs.Programs.{IsJobFor}
+use Rattle.inrc2pb_program.specs.Stops.{IsStopFor}
 use Rattle.inrc2pb_program.specs.Programs.RunOutcome.{performed, stopped}
 use Rattle.inrc2pb_program.specs.declared.stop.Stop.TheVariants as stops
 use Rattle.inrc2pb_program.proofs.run.run.Goals as goal
 
 -- words that spell a job may end without one if memory runs out
-memory_stop : {X Z : Type 0} (words : Given X Z) (job : Job) → IsJobGiven words job → IsStopGiven words (stops.Job Memory)
+memory_stop : {X Z : Type 0} (words : Given X Z) (job : Job) → IsJobGiven IsJobFor words job → IsStopGiven IsStopFor words (stops.Job Memory)
 memory_stop (Ok words) job given = refl
 memory_stop (Err error) job given = absurd given
 

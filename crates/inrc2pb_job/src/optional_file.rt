@@ -1,17 +1,17 @@
-//! The file of the held cells.
+//! A file that may not be named.
 ghost use Rattle.std.specs.Prelude.{Some, [], false, true};
-ghost use Rattle.inrc2pb_job.specs.declared.fix_file.FixFile.TheVariants.{Absent, Named};
+ghost use Rattle.inrc2pb_job.specs.declared.optional_file.OptionalFile.TheVariants.{Absent, Named};
 
 use rota_core::{PortFault, Source};
 
-/// The file of the held cells, if one is named, otherwise an empty file at its end.
+/// A file, if one is named, otherwise an empty file at its end.
 #[derive(Drop)]
-pub enum FixFile<F> {
+pub enum OptionalFile<F> {
     Named(F),
     Absent,
 }
 
-impl<F: Source> Source for FixFile<F> {
+impl<F: Source> Source for OptionalFile<F> {
     ghost left = { elim [ Named file ↦ F.left file | Absent ↦ Some [] ] };
 
     ghost has_failed = { elim [ Named file ↦ F.has_failed file | Absent ↦ false ] };
@@ -20,8 +20,8 @@ impl<F: Source> Source for FixFile<F> {
 
     fn read(&mut self, buffer: &mut [u8]) -> Result<usize, PortFault> {
         match self {
-            FixFile::Named(file) => file.read(buffer),
-            FixFile::Absent => Ok(0),
+            OptionalFile::Named(file) => file.read(buffer),
+            OptionalFile::Absent => Ok(0),
         }
     }
 }

@@ -3,7 +3,7 @@ use Rattle.std.specs.Io.KnownBytes.{prepend_known}
 use Rattle.opb_text.proofs.LogicWords.{or_false}
 use Rattle.rota_core.specs.Ports.{KnownBytes}
 use Rattle.rota_pb.proofs.Feeding.{prepend_known-append}
-use Rattle.rota_pb.proofs.read_file.read_within.Goals as goal
+use Rattle.rota_pb.proofs.file_bytes.read_within.Goals as goal
 
 pub returns-then-is_err-clause-fault : goal.returns-then-is_err-clause-fault
 returns-then-is_err-clause-fault g c =

@@ -34,7 +34,7 @@ fn read_within<S: Source>(alloc: Global, source: &mut S, limit: usize) -> Result
 }
 
 /// Reads a file to its end, or to one byte more than it may have.
-pub(crate) fn read_file<S: Source>(alloc: Global, source: &mut S) -> Result<Vec<u8>, Fault>
+pub fn read_file<S: Source>(alloc: Global, source: &mut S) -> Result<Vec<u8>, Fault>
     ensures read { IfOk result (λ text. IsReadUpTo (MAX_FILE_LEN + 1) (reader_of S.Source source.old source.new) text.items) }
     ensures fault { IfErr result (StopsReading (MAX_FILE_LEN + 1) (reader_of S.Source source.old source.new)) }
 {

@@ -1,0 +1,5 @@
+pub mod Answers
+pub mod Claims
+pub mod BoundText
+pub mod ExactAnswers
+pub mod Bounding

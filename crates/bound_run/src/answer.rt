@@ -1,0 +1,96 @@
+//! The answer to what was asked about a week.
+ghost use Rattle.std.specs.Prelude.{◌≡◌, IfOk, IfSome, option_map};
+ghost use Rattle.rota_core.specs.InstanceTables.{problem_of};
+ghost use Rattle.rota_core.specs.PriceTables.{IsForWeek, prices_of};
+ghost use Rattle.rota_pb.specs.Steps.{check};
+ghost use Rattle.rota_pb.specs.declared.fault.Fault.TheVariants.{Memory};
+ghost use Rattle.bound_run.specs.Answers.{IsAnswer};
+ghost use Rattle.bound_run.specs.ExactAnswers.{claim_of, is_at_bound};
+ghost use Rattle.bound_run.specs.Claims.{Holds, IsJudged};
+
+use crate::judged::Judged;
+use rota_bound::{lower_bound, no_roster_exists};
+use rota_core::{Instance, Prices};
+use rota_pb::Fault;
+use std::alloc::{AllocError, Global};
+
+/// What the prices prove about all rosters of a week.
+#[derive(Clone, Copy)]
+pub enum Claim {
+    /// Each roster that keeps H1 to H5 has at least this penalty.
+    AtLeast(u64),
+    /// No roster keeps H1 to H5.
+    NoRoster,
+    /// The prices do not prove that no roster exists.
+    Unknown,
+}
+
+/// The answer to what was asked about a week.
+#[derive(Clone, Copy)]
+pub struct Answer {
+    /// What the prices prove.
+    pub claim: Claim,
+    /// The penalty of the given roster.
+    pub penalty: Option<u64>,
+    /// The given roster has the least penalty of all rosters that keep H1 to H5.
+    pub optimal: bool,
+}
+
+// What the prices prove: with `minimums`, by the hard rules alone.
+fn claim_of(
+    alloc: Global,
+    instance: &Instance,
+    prices: &Prices,
+    minimums: bool,
+) -> Result<Claim, AllocError>
+    requires shape { IsForWeek (problem_of instance.now) prices.now }
+    ensures claim { IfOk result (λ claim. claim ≡ claim_of minimums (problem_of instance.now) (prices_of prices.now)) }
+    ensures holds { IfOk result (Holds (problem_of instance.now)) }
+{
+    if minimums {
+        return match no_roster_exists(alloc, instance, prices)? {
+            true => Ok(Claim::NoRoster),
+            false => Ok(Claim::Unknown),
+        };
+    }
+    Ok(Claim::AtLeast(lower_bound(alloc, instance, prices)?))
+}
+
+// Whether the claim is a bound, and the roster's penalty is this bound.
+fn is_at_bound(claim: Claim, judged: &Option<Judged>) -> bool
+    ensures { result ≡ is_at_bound claim judged.now }
+{
+    match (claim, judged) {
+        (Claim::AtLeast(bound), Some(judged)) => judged.penalty == bound,
+        _ => false,
+    }
+}
+
+fn penalty_in(judged: &Option<Judged>) -> Option<u64>
+    ensures { result ≡ option_map (λ (j : _). j.penalty) judged.now }
+{
+    match judged {
+        Some(judged) => Some(judged.penalty),
+        None => None,
+    }
+}
+
+/// The answer for these prices, and for the roster if one is given.
+pub(crate) fn answer_for(
+    alloc: Global,
+    instance: &Instance,
+    prices: &Prices,
+    minimums: bool,
+    judged: &Option<Judged>,
+) -> Result<Answer, Fault>
+    requires shape { IsForWeek (problem_of instance.now) prices.now }
+    requires judged { IfSome judged.now (IsJudged (problem_of instance.now)) }
+    ensures { (check (IsAnswer minimums (problem_of instance.now) (prices_of prices.now) judged.now) (λ fault. fault ≡ Memory)).ends result }
+{
+    let claim = claim_of(alloc, instance, prices, minimums)?;
+    Ok(Answer {
+        claim,
+        penalty: penalty_in(judged),
+        optimal: is_at_bound(claim, judged),
+    })
+}

@@ -1,0 +1,14 @@
+//! The run that proves how good a roster of a week can be, over any readers and any writer.
+#![tactic(auto)]
+
+mod answer;
+mod bound_text;
+mod judged;
+mod prices_file;
+mod question;
+mod run;
+
+pub use answer::{Answer, Claim};
+pub use judged::Judged;
+pub use question::Question;
+pub use run::run_bound;

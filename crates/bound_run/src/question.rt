@@ -1,0 +1,15 @@
+//! What is asked about a week.
+use rota_pb::Choice;
+
+/// What is asked about a week, in addition to its files.
+#[derive(Clone, Copy)]
+pub struct Question {
+    /// The choices for the week's files.
+    pub choice: Choice,
+    /// The prices are in a file. Otherwise each price is 0.
+    pub priced: bool,
+    /// A roster is given, and is to be judged.
+    pub judging: bool,
+    /// Only the hard rules count: whether no roster keeps them.
+    pub minimums: bool,
+}
