@@ -1,4 +1,4 @@
--- The result of a function that reads a roster's rows.
+-- The result of a function that reads a roster's rows, as the contracts of private functions see it.
 use Rattle.std.specs.Prelude.{◌≡◌, List, Result, Ok, Err}
 use Rattle.rota_core.specs.declared.values.Cell.{Cell}
 use Rattle.rota_core.specs.RosterTables.{RosterTables}

@@ -1,4 +1,4 @@
--- The rows of a week's file, as contracts see them.
+-- The rows of a week's file, as the contracts of private functions see them.
 use Rattle.std.specs.Prelude.{ℕ, ◌==◌, ◌+◌, ◌*◌, ◌/◌, ◌%◌, ◌<◌, Bool, true, ◌&&◌, List, count_by, map}
 use Rattle.std.specs.List.{range_with_len}
 use Rattle.std.specs.Option.{ForSome, option_map_or}

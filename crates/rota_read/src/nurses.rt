@@ -10,7 +10,7 @@ use crate::cursor::Cursor;
 use crate::fault::Stop;
 use crate::rows::append_marks;
 use indexmap::IndexSet;
-use rota_core::{MAX_CONTRACTS, MAX_NUMBER, MAX_NURSES, add_name};
+use rota_core::{MAX_CONTRACTS, MAX_NURSES, add_name};
 use std::alloc::Global;
 
 #[derive(Drop)]
@@ -39,7 +39,6 @@ impl<'a> Cursor<'a> {
         skill_count: u16,
         rows: &mut NurseRows,
     ) -> Result<(), Stop>
-        requires limit { skill_count ≤ MAX_NUMBER }
         requires count { length (bytes_of skills.now) ≡ skill_count }
         requires few { length (bytes_of contracts.now) ≤ MAX_CONTRACTS }
         ensures { Reads (λ _. nurses_of rows.new) result self.new (read_layout (nurse_row (bytes_of contracts.now) (bytes_of skills.now) (nurses_of rows.old)) self.old) }
@@ -62,7 +61,6 @@ impl<'a> Cursor<'a> {
         count: u16,
         rows: &mut NurseRows,
     ) -> Result<(), Stop>
-        requires limit { skill_count ≤ MAX_NUMBER }
         requires count { length (bytes_of skills.now) ≡ skill_count }
         requires few { length (bytes_of contracts.now) ≤ MAX_CONTRACTS }
         ensures { Reads (λ _. nurses_of rows.new) result self.new (read_layout (repeat count (nurse_row (bytes_of contracts.now) (bytes_of skills.now)) (nurses_of rows.old)) self.old) }
@@ -82,7 +80,6 @@ impl<'a> Cursor<'a> {
         skill_count: u16,
         rows: &mut NurseRows,
     ) -> Result<(), Stop>
-        requires limit { skill_count ≤ MAX_NUMBER }
         requires count { length (bytes_of skills.now) ≡ skill_count }
         requires few { length (bytes_of contracts.now) ≤ MAX_CONTRACTS }
         requires none { nurses_of rows.old ≡ no_nurses }

@@ -13,7 +13,7 @@ use crate::fault::Stop;
 use crate::nurses::{NurseRows, no_nurses};
 use crate::shift_types::{ShiftRows, no_shift_types};
 use indexmap::IndexSet;
-use rota_core::{MAX_NUMBER, MAX_SKILLS, MAX_WEEKS, ScenarioParts};
+use rota_core::{MAX_SKILLS, MAX_WEEKS, ScenarioParts};
 use std::alloc::Global;
 
 // The contents of the sections of a scenario file.
@@ -91,7 +91,6 @@ impl<'a> Cursor<'a> {
         requires { bytes_of names.old ≡ [] }
         ensures read { Reads (λ _. bytes_of names.new) result self.new (read_layout (section (codes "SKILLS") MAX_SKILLS new_name) self.old) }
         ensures count { IfOk result (λ count. length (bytes_of names.new) ≡ count) }
-        ensures maximum { IfOk result (λ count. count ≤ MAX_NUMBER) }
     {
         let count = self.setting(b"SKILLS", 1, MAX_SKILLS)?;
         self.new_names(alloc, count, names)?;

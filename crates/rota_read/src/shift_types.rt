@@ -13,7 +13,7 @@ use crate::fault::Stop;
 use crate::names::is_taken;
 use crate::rows::append_marks;
 use indexmap::IndexSet;
-use rota_core::{MAX_NUMBER, MAX_SHIFTS, Span, add_name};
+use rota_core::{MAX_SHIFTS, Span, add_name};
 use std::alloc::{AllocError, Global};
 
 #[derive(Drop)]
@@ -56,7 +56,6 @@ impl<'a> Cursor<'a> {
         requires { shifts_of rows.old ≡ no_shift_types }
         ensures read { Reads (λ _. shifts_of rows.new) result self.new (read_layout (columns (codes "SHIFT_TYPES") MAX_SHIFTS shift_row no_shift_types) self.old) }
         ensures count { IfOk result (λ count. length (bytes_of rows.new.names) ≡ count) }
-        ensures maximum { IfOk result (λ count. count ≤ MAX_NUMBER) }
     {
         let count = self.setting(b"SHIFT_TYPES", 1, MAX_SHIFTS)?;
         self.shift_rows(alloc, count, rows)?;
@@ -71,7 +70,6 @@ impl<'a> Cursor<'a> {
         count: u16,
         rows: &mut SuccessionRows,
     ) -> Result<(), Stop>
-        requires maximum { count ≤ MAX_NUMBER }
         requires count { length (bytes_of names.now) ≡ count }
         ensures { Reads (λ _. successions_of rows.new) result self.new (read_layout (succession_row (bytes_of names.now) (successions_of rows.old)) self.old) }
     {
@@ -90,7 +88,6 @@ impl<'a> Cursor<'a> {
         count: u16,
         rows: &mut SuccessionRows,
     ) -> Result<(), Stop>
-        requires maximum { count ≤ MAX_NUMBER }
         requires count { length (bytes_of names.now) ≡ count }
         ensures { Reads (λ _. successions_of rows.new) result self.new (read_layout (repeat count (succession_row (bytes_of names.now)) (successions_of rows.old)) self.old) }
     {
@@ -108,7 +105,6 @@ impl<'a> Cursor<'a> {
         count: u16,
         table: &mut Vec<bool>,
     ) -> Result<(), Stop>
-        requires maximum { count ≤ MAX_NUMBER }
         requires count { length (bytes_of names.now) ≡ count }
         requires none { table.old.items ≡ [] }
         ensures { Reads (λ _. table.new.items) result self.new (read_layout (successions_part (bytes_of names.now)) self.old) }
