@@ -7,7 +7,7 @@ A contract cites definitions, and these rest on others: a list has the files tha
 specs/. The first list begins with the meaning of a model and the text of one, each other list with the definitions that
 its contracts cite. A file is in one list only, and comes after the files that it rests on. No other file defines a name
 of the lists. The page gives the lines of each file, and those of its definitions: without imports, comments and blank
-lines. In all lists but the last each definition has a comment above it. With --fix the counts on the page are put right.
+lines. Each definition has a comment above it. With --fix the counts on the page are put right.
 """
 
 import argparse
@@ -34,15 +34,14 @@ class FileList(NamedTuple):
     files: List[str]
     calls: List[Tuple[str, str]]
     stops: Set[Path]
-    has_comments: bool
 
 
 LISTS = [
-    FileList("The meaning of a model", ["rota_pb/specs/Meaning.antt", "opb_text/specs/ModelText.antt"], [], set(), True),
-    FileList("The files and the run", [], [ENCODE], {EXACT}, True),
-    FileList("The exact text", [], [ENCODE], set(), True),
-    FileList("Decode and extend", [], [DECODE, EXTEND], set(), True),
-    FileList("The whole program", [], [PERFORM, PROGRAM], set(), False),
+    FileList("The meaning of a model", ["rota_pb/specs/Meaning.antt", "opb_text/specs/ModelText.antt"], [], set()),
+    FileList("The files and the run", [], [ENCODE], {EXACT}),
+    FileList("The exact text", [], [ENCODE], set()),
+    FileList("Decode and extend", [], [DECODE, EXTEND], set()),
+    FileList("The whole program", [], [PERFORM, PROGRAM], set()),
 ]
 USE = re.compile(r"(?m)^ *(?:pub )?(?:ghost )?use Rattle\.(\w+)\.specs\.([\w.]+?)(?:\.\{([^}]*)\})?(?: as \w+)?;?$")
 ROW = re.compile(r"(?m)^\| `([\w/]+\.antt)` \| (\d+) \| (\d+) \|")
@@ -180,8 +179,7 @@ def main() -> int:
         if fix:
             page = fixed(page, one.heading, wanted)
         wrong += compare(page, one.heading, wanted, before)
-        if one.has_comments:
-            wrong += [line for file in wanted for line in uncommented(file)]
+        wrong += [line for file in wanted for line in uncommented(file)]
         before += wanted
     wrong += defined_twice(before)
     if fix:

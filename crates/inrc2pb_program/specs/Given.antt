@@ -12,6 +12,7 @@ use Rattle.inrc2pb_program.specs.declared.stop.Stop.{Stop}
 abbrev pub Given : Type 0 → Type 0 → Type 0
 Given X Z = Result (IntoIter (String X) Z) Error
 
+-- the words, each as its bytes
 abbrev pub texts_in : {X Z : Type 0} → IntoIter (String X) Z → List Text
 texts_in words = map string_bytes (into_iter_items words)
 
