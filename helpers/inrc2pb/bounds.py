@@ -10,7 +10,7 @@ from typing import Callable, List, Optional, Sequence
 from .faults import ProgramFault
 from .plan import WEEK_DAYS
 from .pricing import Prices
-from .program import FAULT, WeekFiles, find_program, run_program
+from .program import WeekFiles, find_program, run_program
 from .records import Place, Scenario
 from .writing import write_text
 
@@ -42,10 +42,11 @@ class Bound:
 
 
 class Bounds:
-    """The bounds of a week. `target` is the file that gets the prices of the last one, if any."""
+    """The bounds of a week. `target` is the file that gets the prices of the last one, if any. After a fault of `inrc2pb-bound`, which
+    `warn` gets, bounds are computed in plain Python."""
 
-    def __init__(self, files: WeekFiles, scenario: Scenario, places: Sequence[Place], target: Optional[Path]) -> None:
-        self._files, self._scenario, self._places, self._target = files, scenario, places, target
+    def __init__(self, files: WeekFiles, scenario: Scenario, places: Sequence[Place], target: Optional[Path], warn: Callable[[str], None]) -> None:
+        self._files, self._scenario, self._places, self._target, self._warn = files, scenario, places, target, warn
         self._prover = find_prover()
         self._seen: Optional[Prices] = None
         self._best: Optional[Bound] = None
@@ -54,7 +55,8 @@ class Bounds:
         """The bound of these prices; `plain` computes it in plain Python."""
         if prices is not self._seen or self._best is None:
             self._seen = prices
-            found = Bound(_points(self._prove(prices)), PROVER) if self._prover else Bound(plain(), PLAIN)
+            proved = re.match("lower bound ([0-9]+)\n", self._prove(prices) or "")
+            found = Bound(int(proved[1]), PROVER) if proved else Bound(plain(), PLAIN)
             if self._target:
                 write_text(self._target, prices_text(self._scenario, self._places, prices))
             if self._best is None or found.points > self._best.points:
@@ -66,20 +68,21 @@ class Bounds:
         self._places = places
         if self._target:
             write_text(self._target, prices_text(self._scenario, places, prices))
-        if not self._prover:
+        answer = self._prove(prices, "--minimums")
+        if answer is None:
             return PLAIN
-        return PROVER if self._prove(prices, "--minimums").startswith("no roster exists") else None
+        return PROVER if answer.startswith("no roster exists") else None
 
-    def _prove(self, prices: Prices, *words: str) -> str:
+    def _prove(self, prices: Prices, *words: str) -> Optional[str]:
+        """What `inrc2pb-bound` prints; None without it."""
+        if not self._prover:
+            return None
         with tempfile.TemporaryDirectory() as folder:
             path = Path(folder, "prices.txt")
             write_text(path, prices_text(self._scenario, self._places, prices))
-            return run_program(*self._files.options(), "--prices", str(path), *words, program=self._prover)
-
-
-def _points(answer: str) -> int:
-    """The bound in an answer of `inrc2pb-bound`."""
-    found = re.match("lower bound ([0-9]+)\n", answer)
-    if not found:
-        raise ProgramFault(FAULT, f"{PROVER}: its answer cannot be read: {answer[:60]}")
-    return int(found[1])
+            try:
+                return run_program(*self._files.options(), "--prices", str(path), *words, program=self._prover)
+            except ProgramFault as fault:
+                self._prover = None
+                self._warn(f"{PROVER} failed, so bounds are computed in {PLAIN}: {fault}")
+                return None

@@ -50,7 +50,7 @@ class WeekSearch:
         Rows keep all absences, unless no roster can.
         """
         plan = Plan.of(self._week.scenario, self._week.history, [self._week.data], self._files.early, self._held)
-        bounds = Bounds(self._files, plan.scenario, list(plan.demand), prices)
+        bounds = Bounds(self._files, plan.scenario, list(plan.demand), prices, self._progress.warn)
         names = installed()
         if not names:
             self._progress.warn(f"there is no cbc, clp or glpsol, so this is only a first roster: {INSTALL}")

@@ -96,6 +96,10 @@ class Searches(HelperTest):
             self.script(prover.name, f"echo lower bound {bound}\n")
             ran = run("improve", *WEEK_OPTIONS, "--sol", self.target, "--time", 5, environment={"INRC2PB": str(self.folder / "inrc2pb")})
             self.assertTrue(ran[1].endswith(f"{says}\n"), ran)
+        self.script(prover.name, "echo inrc2pb-bound: out of memory >&2\nexit 4\n")
+        ran = run("improve", *WEEK_OPTIONS, "--sol", self.target, environment={"INRC2PB": str(self.folder / "inrc2pb")})
+        self.assertIn(f"\nlower bound 20 ({PLAIN})\nno roster costs less\n", ran[1])
+        self.assertEqual(ran[2].count(f"{PROVER} failed, so bounds are computed in {PLAIN}: inrc2pb-bound: out of memory\n"), 1)
 
 
 class BadInput(HelperTest):
