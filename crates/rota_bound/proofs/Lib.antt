@@ -12,3 +12,4 @@ pub mod Sums
 pub mod Tables
 pub mod WeekCosts
 pub mod WeekSearch
+pub mod WeekRosters

@@ -10,3 +10,4 @@ pub mod NurseBounds
 pub mod Optimality
 pub mod PlaceBounds
 pub mod ShiftCharges
+pub mod WeekRosters

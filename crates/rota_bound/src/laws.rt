@@ -8,6 +8,8 @@ ghost use Rattle.rota_items.specs.Penalty.{penalty};
 ghost use Rattle.rota_bound.specs.CheapestWeeks.{IsLeastOverWeeks};
 ghost use Rattle.rota_bound.specs.LowerBound.{BoundIsSound, lower_bound, minimums_bound};
 ghost use Rattle.rota_bound.specs.Optimality.{IsOptimal};
+ghost use Rattle.rota_bound.specs.CheapestWeeks.{Duties};
+ghost use Rattle.rota_bound.specs.WeekRosters.{CostsByRules};
 
 /// Whatever the prices and the value of a point, the bound is at most the penalty of each roster that keeps the
 /// hard rules.
@@ -50,4 +52,9 @@ pub fn nurse_bound_is_the_least_over_her_weeks()
     ensures { (unit : ℕ) (problem : Problem) (prices : Prices) (n : ℕ) →
         ArePrices prices →
         IsLeastOverWeeks unit problem prices n }
+{}
+
+/// The cost of a nurse's week is her cost in the roster of the week, by the rules S2 to S7.
+pub fn weeks_cost_what_the_rules_charge()
+    ensures { (problem : Problem) (n : ℕ) (duties : Duties) → CostsByRules problem n duties }
 {}
