@@ -53,7 +53,7 @@ def read_book(path: Path) -> Book:
     except _DAMAGED as fault:
         if isinstance(fault, OSError) and fault.errno != errno.EINVAL:
             raise
-        raise FileFault(path, 0, "the spreadsheet is damaged: open it in its program, and save it again") from fault
+        raise FileFault(path, 0, "the spreadsheet is damaged or has a password: open it in its program, and save it again without one") from fault
 
 
 def _read_archive(path: Path, archive: zipfile.ZipFile) -> Book:

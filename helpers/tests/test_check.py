@@ -51,7 +51,7 @@ MISTAKES = [
     (WEEK, "Chen Any Sat", "Chen Any Sat # ill", "--week", 11, "'#' looks like a comment: the files have none, so remove it"),
     (WEEK, "Chen Any Sat", "Chen Any", "--week", 12, "; a request has a nurse, a shift type and a day, and the line has 2 words"),
     (ROSTER, "Amara Mon Day Charge", "Amara Mon Day", "--roster", 6, "; a row has a nurse, a day, a shift type and a skill, and the line has 3 words"),
-    (ROSTER, "SOLUTION", "PK\x03\x04\0\1", "--roster", 1, ": this is no text file: save it as plain text"),
+    (ROSTER, "SOLUTION", "PK\x03\x04\0\1", "--roster", 1, ": this is no text file: save it as plain text, or give a spreadsheet to inrc2pb-ward"),
     (ROSTER, "SOLUTION", "{\\rtf1 SOLUTION", "--roster", 1, ": this is no text file: save it as plain text"),
 ]
 

@@ -172,12 +172,12 @@ class Formats(HelperTest):
         for name, data, said in (
             ("old.xls", b"\xd0\xcf\x11\xe0" + bytes(600), "this is an old Excel file, or one with a password: save it without one as .xlsx or .ods"),
             ("text.ods", b"nurse;contract\n", "this is no spreadsheet: give an .ods or .xlsx file, or a folder of .csv files"),
-            ("cut.ods", good[:3000], "the spreadsheet is damaged: open it in its program, and save it again"),
-            ("flipped.ods", flipped, "the spreadsheet is damaged: open it in its program, and save it again"),
+            ("cut.ods", good[:3000], "the spreadsheet is damaged or has a password: open it in its program, and save it again without one"),
+            ("flipped.ods", flipped, "the spreadsheet is damaged or has a password: open it in its program, and save it again without one"),
             ("other.zip", {"a.txt": "a"}, "this file has no sheets: give an .ods or .xlsx file, or a folder of .csv files"),
             ("bomb.ods", {"content.xml": bomb}, "the spreadsheet has a document type, which no program writes: save it again with LibreOffice or Excel"),
             ("bomb16.ods", {"content.xml": bomb.encode("utf-16")}, "the spreadsheet has a document type, which no program writes: save it again with LibreOffice or Excel"),
-            ("wrong.ods", {"content.xml": "<x>"}, "the spreadsheet is damaged: open it in its program, and save it again"),
+            ("wrong.ods", {"content.xml": "<x>"}, "the spreadsheet is damaged or has a password: open it in its program, and save it again without one"),
             ("large.ods", {"content.xml": "<x>" + " " * 33_554_432 + "</x>"}, "the spreadsheet has more than 33554432 bytes of XML: delete what is no part of the ward"),
         ):
             path = self.folder / name
