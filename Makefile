@@ -17,7 +17,7 @@ all: build who_fits
 build:
 	./build.sh
 
-# Lists the nurses who could fill each place of a week: docs/your_ward.md shows its use.
+# Lists the nurses who could fill each place of a week.
 who_fits:
 	cd crates/who_fits && rt run -- data/scenario.txt data/history.txt data/week.txt > /dev/null
 	mkdir -p out

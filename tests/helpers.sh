@@ -77,6 +77,8 @@ explains_each_fault() {
 
 run_tests
 checks_types
+begins_case 'the readers find the same faults in changed files'
+tests/changed_tokens.py > "$room/out" || complain "$(cat "$room/out")"
 manual_has_each_option
 explains_each_fault
 finish

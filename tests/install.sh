@@ -92,6 +92,9 @@ runs_commands() {
     runs inrc2pb-next "$ward/ward.txt" "$ward/history-0.txt" "$ward/roster-0.txt" --out history-1.txt
     cmp -s "$room/elsewhere/history-1.txt" "$ward/history-1.txt" || complain 'another history'
     runs inrc2pb-keep --keep Mon,Tue "$ward/roster-0.txt" --out kept.txt
+    runs inrc2pb-wish --sce "$ward/ward.txt" --week "$ward/week-0.txt" --away Chen=Fri --out away.txt
+    runs inrc2pb-ward --template ward.ods
+    runs inrc2pb-ward ward.ods --out ward
     runs inrc2pb-lp model week.opb --lp week.lp
     converts_result "${week[@]}" "$ward/roster-0.txt"
     begins_case 'the installed library'

@@ -141,7 +141,7 @@ README.md 900
 CONTRIBUTING.md 800
 examples/README.md 320
 bench/README.md 650
-docs/DECISIONS.md 1050
+docs/DECISIONS.md 1250
 docs/answers.md 1550
 docs/changing.md 900
 docs/embedding.md 1850
@@ -156,7 +156,7 @@ docs/rules.md 1450
 docs/solvers.md 2950
 docs/tested.md 800
 docs/trusted.md 850
-docs/your_ward.md 3200
+docs/your_ward.md 2650
 END
     begins_case 'that each page has a limit'
     for page in README.md docs/*.md; do

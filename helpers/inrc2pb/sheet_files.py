@@ -6,8 +6,10 @@ can name entities that need all memory.
 
 import csv
 import datetime
+import errno
 import io
 import zipfile
+import zlib
 from pathlib import Path
 from typing import Dict, List, NamedTuple, Sequence
 from xml.etree import ElementTree
@@ -20,6 +22,10 @@ MAX_ROWS, MAX_COLUMNS = 5000, 1000
 _SEPARATORS = (";", ",", "\t")
 # The first bytes of an Excel file before 2007, and of a zip file.
 _OLD_EXCEL, _ZIP = b"\xd0\xcf\x11\xe0", b"PK"
+# What the library raises for wrong bytes. OSError is for a place before the file's begin.
+_DAMAGED = (
+    zipfile.BadZipFile, zlib.error, ElementTree.ParseError, expat.ExpatError, LookupError, ValueError, EOFError, NotImplementedError, OSError,
+)  # fmt: skip
 Rows = List[List[str]]
 
 
@@ -44,7 +50,9 @@ def read_book(path: Path) -> Book:
     try:
         with zipfile.ZipFile(path) as archive:
             return _read_archive(path, archive)
-    except (zipfile.BadZipFile, ElementTree.ParseError, expat.ExpatError, KeyError, ValueError, IndexError, NotImplementedError) as fault:
+    except _DAMAGED as fault:
+        if isinstance(fault, OSError) and fault.errno != errno.EINVAL:
+            raise
         raise FileFault(path, 0, "the spreadsheet is damaged: open it in its program, and save it again") from fault
 
 

@@ -2,7 +2,7 @@
 
 import zipfile
 from pathlib import Path
-from typing import Dict, Sequence
+from typing import Dict, List, Sequence
 from xml.sax.saxutils import escape, quoteattr
 
 from .faults import Misuse
@@ -10,8 +10,14 @@ from .records import DAYS
 from .targets import check_target
 
 Rows = Sequence[Sequence[object]]
-_PERIOD = [f"{day} {week}" for week in (0, 1) for day in DAYS]
-_EMPTY = [""] * 7
+
+
+def _days(*weeks: str) -> List[str]:
+    """The cells of some weeks, each given as `leave on Mon, wish on Sat`."""
+    given = [{part[-3:]: part[: -len(" on Mon")] for part in week.split(", ")} for week in weeks]
+    return [cells.get(day, "") for cells in given for day in DAYS]
+
+
 EXAMPLE: Dict[str, Rows] = {
     "shifts": [
         ("shift", "min in a row", "max in a row", "not followed by"),
@@ -21,19 +27,18 @@ EXAMPLE: Dict[str, Rows] = {
     ],
     "contracts": [
         ("contract", "shifts min", "shifts max", "work min", "work max", "off min", "off max", "weekends", "complete weekends"),
-        ("Full", 8, 11, 3, 5, 2, 3, 1, "yes"),
-        ("Half", 4, 6, 2, 3, 2, 5, 1, "no"),
+        ("Full", 17, 21, 3, 5, 2, 3, 2, "yes"),
+        ("Half", 8, 11, 2, 3, 2, 5, 2, "no"),
     ],
     "nurses": [
         ("nurse", "contract", "skills", "never", "always off", "worked", "worked weekends", "last shift", "days on it", "days of work", "days off"),
-        ("Amara Koch", "Full", "Charge, Nurse", "", "", 0, 0, "Day", 2, 2, 0),
+        ("Amara", "Full", "Charge, Nurse", "", "", 0, 0, "Day", 2, 2, 0),
         ("Bruno", "Full", "Charge, Nurse", "", "", 0, 0, "", 0, 0, 2),
-        ("Chen", "Full", "Nurse", "", "", 0, 0, "Late", 1, 3, 0),
-        ("Dilek", "Full", "Nurse", "", "", 0, 0, "Night", 3, 3, 0),
-        ("Ewa", "Half", "Charge, Nurse", "Night", "", 0, 0, "", 0, 0, 3),
-        ("Finn", "Half", "Nurse", "", "Wed", 0, 0, "", 0, 0, 1),
+        ("Chen", "Full", "Nurse", "", "", 0, 0, "", 0, 0, 1),
+        ("Dilek", "Full", "Nurse", "", "", 0, 0, "Night", 2, 2, 0),
+        ("Ewa", "Half", "Charge, Nurse", "", "", 0, 0, "", 0, 0, 3),
+        ("Finn", "Half", "Nurse", "Night", "", 0, 0, "Late", 1, 1, 0),
         ("Grace", "Full", "Nurse", "", "", 0, 0, "", 0, 0, 2),
-        ("Hana", "Full", "Charge, Nurse", "", "", 0, 0, "Day", 1, 4, 0),
     ],
     "needs": [
         ("week", "shift", "skill", *DAYS),
@@ -41,18 +46,16 @@ EXAMPLE: Dict[str, Rows] = {
         ("", "Day", "Nurse", *["1+1"] * 5, "0+1", "0+1"),
         ("", "Late", "Nurse", *[1] * 7),
         ("", "Night", "Nurse", *[1] * 7),
-        (1, "Day", "Nurse", "0+1", *["1+1"] * 4, "0+1", "0+1"),
     ],
     "plan": [
-        ("nurse", *_PERIOD),
-        ("Amara Koch", *_EMPTY, "leave", "leave", *[""] * 5),
-        ("Bruno", *_EMPTY, *_EMPTY),
-        ("Chen", "", "", "", "", "", "wish", "", *_EMPTY),
-        ("Dilek", "", "", "", "", "wish", "", "", *_EMPTY),
-        ("Ewa", "", "", "", "", "", "", "wish", *_EMPTY),
-        ("Finn", "", "", "no Late", "", "", "", "", *_EMPTY),
-        ("Grace", "", "no Night", "", "", "", "", "", "Day", *[""] * 6),
-        ("Hana", *_EMPTY, *_EMPTY),
+        ("nurse", *(f"{day} {week}" for week in range(4) for day in DAYS)),
+        ("Amara", *_days("", "wish on Wed", "", "")),
+        ("Bruno", *_days("", "", "", "Day/Charge on Mon")),
+        ("Chen", *_days("wish on Sat", "", "leave on Mon, leave on Tue, leave on Wed", "")),
+        ("Dilek", *_days("wish on Fri", "", "", "")),
+        ("Ewa", *_days("wish on Sun", "", "", "")),
+        ("Finn", *_days("no Late on Wed", "", "", "training on Thu")),
+        ("Grace", *_days("no Night on Tue", "", "", "")),
     ],
 }
 _TYPE = "application/vnd.oasis.opendocument.spreadsheet"

@@ -118,6 +118,32 @@ class Mistakes(HelperTest):
             _, printed, _ = run("check", "--sce", self.changed(SCENARIO, "Chen", "#Chen"), option, path)
             self.assertIn("'Chen' is no nurse of NURSES: did you mean '#Chen'?; '#Chen' looks like a comment: the files have none, so remove it", printed)
 
+    def test_signs_of_spreadsheets_and_other_keyboards(self):
+        for path, old, new, said in (
+            (SCENARIO, "Chen Full 1 Nurse", "Chen;Full;1;Nurse", "write blanks for the semicolons; inrc2pb-ward reads spreadsheets"),
+            (SCENARIO, "Chen Full 1 Nurse", "Chen,Full,1,Nurse", "write blanks for the commas; inrc2pb-ward reads spreadsheets"),
+            (SCENARIO, "SCENARIO = ward", "SCENARIO;=;ward", "write blanks for the semicolons; inrc2pb-ward reads spreadsheets"),
+            (SCENARIO, "(17,21)", '"(17,21)"', "remove the quotation marks"),
+            (SCENARIO, "Day (2,5)", "Day [2,5]", "write ( and ) for other brackets"),
+            (SCENARIO, "Chen Full", "Chen\u00a0Full", "it has a blank of another kind, such as a no-break space: type the blanks again, or _ in a name"),
+            (HISTORY, "Chen 0", "Chen O", "write the digit 0 for the letter O"),
+            (HISTORY, "Chen 0", "Chen l", "write the digit 1 for the letter l"),
+        ):
+            with self.subTest(new):
+                words = ("--his", self.changed(path, old, new)) if path == HISTORY else ()
+                status, printed, _ = run("check", "--sce", SCENARIO if words else self.changed(path, old, new), *words)
+                self.assertEqual((status, printed.splitlines()[0].endswith(f"; {said}") or printed.splitlines()[0].endswith(f": {said}")), (1, True), printed)
+
+    def test_files_that_are_swapped(self):
+        status, printed, _ = run("check", "--sce", SCENARIO, "--his", WEEK, "--week", HISTORY)
+        history, week = f"{WEEK} line 1: 'WEEK_DATA' where 'HISTORY' should be", f"{HISTORY} line 1: 'HISTORY' where 'WEEK_DATA' should be"
+        self.assertEqual((status, printed), (1, f"{history}: this is a week's file: give it with --week\n{week}: this is a history: give it with --his\n"))
+
+    def test_letters_that_are_composed_otherwise(self):
+        ward, past = (self.changed(path, "Chen", name, f"new-{path.name}") for path, name in ((SCENARIO, "G\u00fcl"), (HISTORY, "Gu\u0308l")))
+        _, printed, _ = run("check", "--sce", ward, "--his", past)
+        self.assertIn("it looks like 'G\u00fcl', and has other letters: copy that name", printed)
+
     def test_a_pipe_is_no_file(self):
         pipe = self.folder / "pipe"
         os.mkfifo(pipe)

@@ -56,7 +56,7 @@ class Twice(HelperTest):
             (("check", *WEEK_OPTIONS, "--week", WEEK), "--week"),
             (("check", *WEEK_OPTIONS, f"--sce={SCENARIO}"), "--sce"),
             (("check", *WEEK_OPTIONS, "--early", "--early"), "--early"),
-            (("improve", *WEEK_OPTIONS, "--sol", "a", "--seed", 1, "--seed", 1), "--seed"),
+            (("improve", *WEEK_OPTIONS, "--sol", "a", "--time", 1, "--time", 1), "--time"),
             (("improve", *WEEK_OPTIONS, "--sol", "a", "--from", ROSTER, "--from", ROSTER), "--from"),
             (("keep", "--keep", "Mon", "--keep", "Tue", ROSTER), "--keep"),
             (("lp", "model", "--lp", "a", "--lp", "b"), "--lp"),

@@ -19,10 +19,53 @@ from inrc2pb.plan_sheets import read_days
 from inrc2pb.records import DAYS, Place, Requirement
 from inrc2pb.sheet_files import Book, read_book
 from inrc2pb.sheet_rows import letters_of
-from inrc2pb.ward_template import EXAMPLE
 
 DATA = Path(__file__).parent / "data"
-SHEETS = {name: [[str(cell) for cell in row] for row in rows] for name, rows in EXAMPLE.items()}
+_EMPTY = [""] * 7
+_ROWS = {
+    "shifts": [
+        ("shift", "min in a row", "max in a row", "not followed by"),
+        ("Day", 2, 5, ""),
+        ("Late", 2, 4, "Day"),
+        ("Night", 2, 4, "Day, Late"),
+    ],
+    "contracts": [
+        ("contract", "shifts min", "shifts max", "work min", "work max", "off min", "off max", "weekends", "complete weekends"),
+        ("Full", 8, 11, 3, 5, 2, 3, 1, "yes"),
+        ("Half", 4, 6, 2, 3, 2, 5, 1, "no"),
+    ],
+    "nurses": [
+        ("nurse", "contract", "skills", "never", "always off", "worked", "worked weekends", "last shift", "days on it", "days of work", "days off"),
+        ("Amara Koch", "Full", "Charge, Nurse", "", "", 0, 0, "Day", 2, 2, 0),
+        ("Bruno", "Full", "Charge, Nurse", "", "", 0, 0, "", 0, 0, 2),
+        ("Chen", "Full", "Nurse", "", "", 0, 0, "Late", 1, 3, 0),
+        ("Dilek", "Full", "Nurse", "", "", 0, 0, "Night", 3, 3, 0),
+        ("Ewa", "Half", "Charge, Nurse", "Night", "", 0, 0, "", 0, 0, 3),
+        ("Finn", "Half", "Nurse", "", "Wed", 0, 0, "", 0, 0, 1),
+        ("Grace", "Full", "Nurse", "", "", 0, 0, "", 0, 0, 2),
+        ("Hana", "Full", "Charge, Nurse", "", "", 0, 0, "Day", 1, 4, 0),
+    ],
+    "needs": [
+        ("week", "shift", "skill", *DAYS),
+        ("", "Day", "Charge", *[1] * 7),
+        ("", "Day", "Nurse", *["1+1"] * 5, "0+1", "0+1"),
+        ("", "Late", "Nurse", *[1] * 7),
+        ("", "Night", "Nurse", *[1] * 7),
+        (1, "Day", "Nurse", "0+1", *["1+1"] * 4, "0+1", "0+1"),
+    ],
+    "plan": [
+        ("nurse", *(f"{day} {week}" for week in (0, 1) for day in DAYS)),
+        ("Amara Koch", *_EMPTY, "leave", "leave", *[""] * 5),
+        ("Bruno", *_EMPTY, *_EMPTY),
+        ("Chen", "", "", "", "", "", "wish", "", *_EMPTY),
+        ("Dilek", "", "", "", "", "wish", "", "", *_EMPTY),
+        ("Ewa", "", "", "", "", "", "", "wish", *_EMPTY),
+        ("Finn", "", "", "no Late", "", "", "", "", *_EMPTY),
+        ("Grace", "", "no Night", "", "", "", "", "", "Day", *[""] * 6),
+        ("Hana", *_EMPTY, *_EMPTY),
+    ],
+}
+SHEETS = {name: [[str(cell) for cell in row] for row in rows] for name, rows in _ROWS.items()}
 MONDAY = datetime.date(2026, 11, 30)
 NAMES = ["ward.txt", "history-0.txt", "week-0.txt", "fix-0.txt", "week-1.txt", "fix-1.txt"]
 
@@ -121,11 +164,16 @@ class Formats(HelperTest):
         self.assertIn("Amära_Koch Full 2 Charge Nurse\n", texts(sheets)["ward.txt"])
 
     def test_files_that_are_no_spreadsheets(self):
+        good = (DATA / "libreoffice.ods").read_bytes()
+        with zipfile.ZipFile(DATA / "libreoffice.ods") as archive:
+            at = archive.getinfo("content.xml").header_offset + 60
+        flipped = good[:at] + bytes(200) + good[at + 200 :]
         bomb = '<!DOCTYPE x [<!ENTITY a "aaaaaaaaaa"><!ENTITY b "&a;&a;&a;&a;">]><x>&b;</x>'
         for name, data, said in (
             ("old.xls", b"\xd0\xcf\x11\xe0" + bytes(600), "this is an old Excel file, or one with a password: save it without one as .xlsx or .ods"),
             ("text.ods", b"nurse;contract\n", "this is no spreadsheet: give an .ods or .xlsx file, or a folder of .csv files"),
-            ("cut.ods", (DATA / "libreoffice.ods").read_bytes()[:3000], "the spreadsheet is damaged: open it in its program, and save it again"),
+            ("cut.ods", good[:3000], "the spreadsheet is damaged: open it in its program, and save it again"),
+            ("flipped.ods", flipped, "the spreadsheet is damaged: open it in its program, and save it again"),
             ("other.zip", {"a.txt": "a"}, "this file has no sheets: give an .ods or .xlsx file, or a folder of .csv files"),
             ("bomb.ods", {"content.xml": bomb}, "the spreadsheet has a document type, which no program writes: save it again with LibreOffice or Excel"),
             ("bomb16.ods", {"content.xml": bomb.encode("utf-16")}, "the spreadsheet has a document type, which no program writes: save it again with LibreOffice or Excel"),
@@ -271,7 +319,8 @@ class Command(HelperTest):
         self.assertEqual((status, said, "change its rows" in printed), (0, "", True))
         status, printed, said = run("ward", book, "--out", out, "--credit", "leave")
         self.assertEqual((status, said), (0, ""))
-        self.assertEqual(printed, f"{out}: {', '.join(NAMES)}\nAmara Koch: 2 days count as work\n")
+        names = [*NAMES, "week-2.txt", "fix-2.txt", "week-3.txt", "fix-3.txt"]
+        self.assertEqual(printed, f"{out}: {', '.join(names)}\nChen: 3 days count as work\n")
         words = ("--sce", out / "ward.txt", "--his", out / "history-0.txt", "--week", out / "week-0.txt", "--fix", out / "fix-0.txt")
         status, printed, _ = run("check", *words)
         self.assertEqual((status, printed.splitlines()[-1]), (0, "No mistake found."))

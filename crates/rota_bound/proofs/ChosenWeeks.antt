@@ -8,7 +8,7 @@ use Rattle.rota_core.specs.Limits.{DAYS}
 use Rattle.rota_core.specs.Prices.{Prices, ArePrices}
 use Rattle.rota_core.specs.Problem.{Problem}
 use Rattle.rota_core.specs.declared.values.Past.{Past}
-use Rattle.rota_bound.specs.CheapestWeeks.{ComesNoLater, Duties, IsCheapestWeek, cost_of, paid_for, price_of, shift_of}
+use Rattle.rota_bound.specs.CheapestWeeks.{ComesNoLater, Duties, IsCheapestWeek, IsLeastOverWeeks, cost_of, paid_for, price_of, shift_of}
 use Rattle.rota_bound.specs.ChosenDuties.{best_choice, best_duties, best_duty, first_below, or_this}
 use Rattle.rota_bound.specs.ChosenWeeks.{IsChosenWeek}
 use Rattle.rota_bound.specs.DayCharges.{day_charge, end_charge, past_after}
@@ -164,13 +164,23 @@ module _ (unit : ℕ) (problem : Problem) (prices : Prices) (n : ℕ) where
       let start = problem.past n in
       let all : IsLeastWeek unit problem prices n within DAYS start week.duties.items =
       subst (IsLeastWeek unit problem prices n within DAYS start) (sym chosen.duties) (week-chosen unit problem prices n within DAYS start small) in
+      let cost_is = ap (λ (c : ℕ). unit * c) chosen.cost in
       record {
         is_week = all.is_week;
         cost = chosen.cost;
         paid = chosen.paid;
-        bound = omega (arith, all.least_is, chosen.paid, ap (λ (c : ℕ). unit * c) chosen.cost);
-        least = λ other is. week-bounded unit problem prices n within DAYS start other (omega arith) is;
+        bound = omega (arith, all.least_is, chosen.paid, cost_is);
+        least = λ other is. omega (arith, all.least_is, chosen.paid, cost_is, week-bounded unit problem prices n within DAYS start other (omega arith) is);
         first = λ other is same.
             subst (λ (ds : Duties). ComesNoLater ds other) (sym chosen.duties)
-            (week-first unit problem prices n within DAYS start other (omega arith) small is same);
+            (week-first unit problem prices n within DAYS start other (omega arith) small is (omega (arith, all.least_is, chosen.paid, cost_is, same)));
       }
+
+  -- the bound is the least over her weeks
+  pub bound-least : ArePrices prices → IsLeastOverWeeks unit problem prices n
+  bound-least within = record {
+    least = λ duties is. week-bounded unit problem prices n within DAYS (problem.past n) duties (omega arith) is;
+    reached = λ small.
+        let chosen = week-chosen unit problem prices n within DAYS (problem.past n) small in
+        (best_duties unit problem prices n DAYS (problem.past n), chosen.is_week, chosen.least_is);
+  }

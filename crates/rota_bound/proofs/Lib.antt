@@ -1,4 +1,3 @@
-pub mod BrokenRules
 pub mod Choices
 pub mod ChosenWeeks
 pub mod DaySteps
@@ -11,4 +10,6 @@ pub mod ShiftRuns
 pub mod Soundness
 pub mod Sums
 pub mod Tables
+pub mod WeekCosts
 pub mod WeekSearch
+pub mod WeekRosters

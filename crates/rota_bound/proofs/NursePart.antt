@@ -73,7 +73,7 @@ module _ (problem : Problem) (prices : Prices) (roster : Roster) (n : ℕ) where
   unfolding sum_below
   weekends-are = omega arith
 
-  days-cost : sum_below DAYS (charge_on problem prices roster n) ≡
+  pub days-cost : sum_below DAYS (charge_on problem prices roster n) ≡
       consecutive_assignment_cost_of problem roster n + consecutive_day_off_cost_of problem roster n +
       request_weight * sum_below DAYS (requested_on problem prices roster n) + complete_weekend_cost_of problem roster n
   days-cost =
@@ -95,7 +95,7 @@ module _ (problem : Problem) (prices : Prices) (roster : Roster) (n : ℕ) where
     unfolding sum_below
     weekend-counted = omega arith
 
-    end-is : end_charge problem n past ≡ assignment_cost_of problem roster n + worked_weekend_cost_of problem roster n
+    pub end-is : end_charge problem n past ≡ assignment_cost_of problem roster n + worked_weekend_cost_of problem roster n
     end-is =
         let added : past.assignments - start.assignments ≡ assignments_of problem roster n = omega (arith, follows.assignments) in
         let worked : past.weekends - start.weekends ≡ cond (works problem roster n 5 || works problem roster n 6) 1 0 =

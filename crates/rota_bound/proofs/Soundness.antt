@@ -14,7 +14,8 @@ use Rattle.rota_items.specs.rules.OptimalCoverage.Cost.{optimum_cost}
 use Rattle.rota_items.specs.rules.ShiftOffRequests.Cost.{request_weight}
 use Rattle.rota_items.specs.rules.TotalAssignments.Cost.{above_max_total, assignment_cost_of, below_min_total}
 use Rattle.rota_items.specs.rules.WorkedWeekends.Cost.{above_max_weekends, worked_weekend_cost_of}
-use Rattle.rota_bound.specs.LowerBound.{lower_bound, minimums_bound, BoundIsSound, IsOptimal, thousandths}
+use Rattle.rota_bound.specs.LowerBound.{lower_bound, minimums_bound, BoundIsSound, thousandths}
+use Rattle.rota_bound.specs.Optimality.{IsOptimal}
 use Rattle.rota_bound.specs.NurseBounds.{nurse_bound}
 use Rattle.rota_core.specs.Prices.{Prices, ArePrices, max_price}
 use Rattle.rota_bound.proofs.DaySteps.{requested_on}
@@ -45,7 +46,7 @@ module _ (problem : Problem) (prices : Prices) (roster : Roster) where
       omega (arith, parts, requests)
 
   -- the penalty as a multiple of 5
-  abbrev fifths_of : ℕ → ℕ
+  abbrev pub fifths_of : ℕ → ℕ
   fifths_of n =
       3 * sum_below problem.shifts (λ s. run_cost (is_on problem roster n s) (history_on problem n s) (problem.limits s)) +
       6 * run_cost (works problem roster n) (problem.past n).work_run (problem.contract n).work +
@@ -58,12 +59,12 @@ module _ (problem : Problem) (prices : Prices) (roster : Roster) where
   fifths-are n =
       omega (arith, weekend-fifth ((problem.contract n).complete && exactly_one (works problem roster n 5) (works problem roster n 6)))
 
-  abbrev fifths : ℕ
+  abbrev pub fifths : ℕ
   fifths =
       6 * sum_below DAYS (λ d. sum_below problem.shifts (λ s. sum_below problem.skills (λ k.
       (problem.demand d s k).optimal - nurses_at problem roster d s k))) + sum_below problem.nurses fifths_of
 
-  penalty-fifths : penalty problem roster ≡ 5 * fifths
+  pub penalty-fifths : penalty problem roster ≡ 5 * fifths
   penalty-fifths =
       omega (
         arith,
@@ -102,3 +103,7 @@ bound-proves problem prices roster within keeps same = record {
   keeps = keeps;
   least = λ other keeps_too. rw same (lower_bound-sound problem prices other within keeps_too);
 }
+
+-- the penalty is five times a number
+pub multiple-of-5 : (problem : Problem) (roster : Roster) → (fifths_is : ℕ) × (penalty problem roster ≡ 5 * fifths_is)
+multiple-of-5 problem roster = (fifths problem (λ d s k. 0) roster, penalty-fifths problem (λ d s k. 0) roster)

@@ -44,7 +44,7 @@ module _ (unit : ℕ) (problem : Problem) (prices : Prices) (n : ℕ) (within : 
 
     -- ---- no duty is cheaper
 
-    rebate-within : (duty : Option Duty) → MayHaveDuty problem n d past duty →
+    pub rebate-within : (duty : Option Duty) → MayHaveDuty problem n d past duty →
         day_rebate problem prices n d (shift_of duty) + price_of prices d duty ≤ max_price
     rebate-within None may = omega (arith, cond-true (may_be_off problem n d) max_price not_allowed may)
     rebate-within (Some duty) may =

@@ -5,6 +5,7 @@ use Rattle.rota_core.specs.Prices.{Prices, max_price}
 use Rattle.rota_core.specs.Problem.{Problem}
 use Rattle.rota_core.specs.declared.values.Past.{Past}
 use Rattle.rota_bound.specs.DayCharges.{day_charge, end_charge, past_after}
+use Rattle.rota_bound.specs.Minimums.{not_allowed}
 use Rattle.rota_bound.specs.NurseBounds.{is_barred, may_be_off, may_have, nurse_bound}
 use Rattle.rota_bound.specs.LowerBound.{thousandths}
 use Rattle.rota_bound.specs.declared.weeks.Charging.{Charging}
@@ -74,19 +75,27 @@ ComesNoLater [] others = ⊤
 ComesNoLater (duty ∷ duties) [] = ⊥
 ComesNoLater (duty ∷ duties) (other ∷ others) = ComesBefore duty other ⊎ ((duty ≡ other) × ComesNoLater duties others)
 
--- the cost of the week in units of a price, with the maximum price added for each day
-abbrev pub added_cost : ℕ → Problem → ℕ → Duties → ℕ
-added_cost unit problem n duties = unit * cost_of problem n DAYS (problem.past n) duties + DAYS * max_price
-
--- the week is one of the nurse's weeks; its cost and its prices are these, and give her bound; each other week of hers gives as much or more,
--- and comes later if it gives as much
+-- the week is one of the nurse's weeks, with its cost and the sum of its prices; in thousandths its cost less its prices is her bound; no other
+-- week of hers gives less, and each that gives as much comes later
 pub record IsCheapestWeek (unit : ℕ) (problem : Problem) (prices : Prices) (n : ℕ) (week : CheapestWeek) : Type 0 where
   pub is_week : IsWeekOf problem n DAYS (problem.past n) week.duties.items
   pub cost : week.cost ≡ cost_of problem n DAYS (problem.past n) week.duties.items
   pub paid : week.paid ≡ paid_for prices DAYS week.duties.items
   pub bound : nurse_bound unit problem prices n + week.paid ≡ unit * week.cost + DAYS * max_price
   pub least : (other : Duties) → IsWeekOf problem n DAYS (problem.past n) other →
-      nurse_bound unit problem prices n + paid_for prices DAYS other ≤ added_cost unit problem n other
+      unit * week.cost + paid_for prices DAYS other ≤ unit * cost_of problem n DAYS (problem.past n) other + week.paid
   pub first : (other : Duties) → IsWeekOf problem n DAYS (problem.past n) other →
-      nurse_bound unit problem prices n + paid_for prices DAYS other ≡ added_cost unit problem n other →
+      unit * week.cost + paid_for prices DAYS other ≡ unit * cost_of problem n DAYS (problem.past n) other + week.paid →
       ComesNoLater week.duties.items other
+
+-- the nurse has no week: her held cells or the successions leave none
+abbrev pub HasNoWeek : Problem → ℕ → Type 0
+HasNoWeek problem n = (duties : Duties) → IsWeekOf problem n DAYS (problem.past n) duties → ⊥
+
+-- no week of the nurse gives less than her bound, and one gives it, if the bound is below `not_allowed`
+pub record IsLeastOverWeeks (unit : ℕ) (problem : Problem) (prices : Prices) (n : ℕ) : Type 0 where
+  pub least : (duties : Duties) → IsWeekOf problem n DAYS (problem.past n) duties →
+      nurse_bound unit problem prices n + paid_for prices DAYS duties ≤ unit * cost_of problem n DAYS (problem.past n) duties + DAYS * max_price
+  pub reached : nurse_bound unit problem prices n < not_allowed →
+      (duties : Duties) × IsWeekOf problem n DAYS (problem.past n) duties ×
+      (nurse_bound unit problem prices n + paid_for prices DAYS duties ≡ unit * cost_of problem n DAYS (problem.past n) duties + DAYS * max_price)

@@ -7,5 +7,7 @@ pub mod LowerBound
 pub mod Minimums
 pub mod Nearness
 pub mod NurseBounds
+pub mod Optimality
 pub mod PlaceBounds
 pub mod ShiftCharges
+pub mod WeekRosters

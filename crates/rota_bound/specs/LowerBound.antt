@@ -1,5 +1,5 @@
 -- A lower bound of the penalty of every roster of a week, from prices. Whoever looks for a bound may choose the prices: each choice gives one.
-use Rattle.std.specs.Prelude.{◌≡◌, ℕ, ◌+◌, ◌-◌, ◌*◌, ◌/◌, ◌≤◌}
+use Rattle.std.specs.Prelude.{ℕ, ◌+◌, ◌-◌, ◌*◌, ◌/◌, ◌≤◌}
 use Rattle.rota_core.specs.Limits.{DAYS}
 use Rattle.rota_core.specs.SumsBelow.{sum_below}
 use Rattle.rota_core.specs.HardRules.{KeepsHardRules}
@@ -7,6 +7,7 @@ use Rattle.rota_core.specs.Prices.{Prices, ArePrices, max_price}
 use Rattle.rota_core.specs.Roster.{Roster}
 use Rattle.rota_core.specs.Problem.{Problem}
 use Rattle.rota_items.specs.Penalty.{penalty}
+pub use Rattle.rota_bound.specs.Optimality.{IsOptimal}
 use Rattle.rota_bound.specs.PlaceBounds.{place_bounds}
 use Rattle.rota_bound.specs.NurseBounds.{nurse_bound}
 
@@ -39,13 +40,3 @@ lower_bound problem prices = rounded_up (bound thousandths problem prices)
 -- the bound with the soft rules left out: no roster keeps the hard rules if it is above 0
 abbrev pub minimums_bound : Problem → Prices → ℕ
 minimums_bound problem prices = bound 0 problem prices
-
--- no roster that keeps the hard rules has a smaller penalty than this one, which keeps them
-pub record IsOptimal (problem : Problem) (roster : Roster) : Type 0 where
-  pub keeps : KeepsHardRules problem roster
-  pub least : (other : Roster) → KeepsHardRules problem other → penalty problem roster ≤ penalty problem other
-
--- the roster keeps the hard rules, and the number is its penalty
-pub record IsPenaltyOf (problem : Problem) (roster : Roster) (number : ℕ) : Type 0 where
-  pub keeps : KeepsHardRules problem roster
-  pub number_is : number ≡ penalty problem roster

@@ -6,7 +6,8 @@ ghost use Rattle.rota_core.specs.InstanceTables.{problem_of};
 ghost use Rattle.rota_core.specs.PriceTables.{IsForWeek, prices_of};
 ghost use Rattle.rota_core.specs.Roster.{Roster};
 ghost use Rattle.rota_items.specs.Penalty.{penalty};
-ghost use Rattle.rota_bound.specs.LowerBound.{IsOptimal, bound, lower_bound, minimums_bound, thousandths};
+ghost use Rattle.rota_bound.specs.LowerBound.{bound, lower_bound, minimums_bound, thousandths};
+ghost use Rattle.rota_bound.specs.Optimality.{IsOptimal};
 
 use crate::known::Known;
 use crate::nurses::nurse_bound;

@@ -1,11 +1,15 @@
 //! The laws of the bound. Each law holds for all weeks, prices and rosters, and does nothing when it runs.
-ghost use Rattle.std.specs.Prelude.{◌≡◌, ℕ, ◌≤◌, ◌<◌};
+ghost use Rattle.std.specs.Prelude.{◌≡◌, ℕ, ◌*◌, ◌≤◌, ◌<◌};
 ghost use Rattle.rota_core.specs.HardRules.{KeepsHardRules};
 ghost use Rattle.rota_core.specs.Prices.{ArePrices, Prices};
 ghost use Rattle.rota_core.specs.Problem.{Problem};
 ghost use Rattle.rota_core.specs.Roster.{Roster};
 ghost use Rattle.rota_items.specs.Penalty.{penalty};
-ghost use Rattle.rota_bound.specs.LowerBound.{BoundIsSound, IsOptimal, lower_bound, minimums_bound};
+ghost use Rattle.rota_bound.specs.CheapestWeeks.{IsLeastOverWeeks};
+ghost use Rattle.rota_bound.specs.LowerBound.{BoundIsSound, lower_bound, minimums_bound};
+ghost use Rattle.rota_bound.specs.Optimality.{IsOptimal};
+ghost use Rattle.rota_bound.specs.CheapestWeeks.{Duties};
+ghost use Rattle.rota_bound.specs.WeekRosters.{CostsByRules};
 
 /// Whatever the prices and the value of a point, the bound is at most the penalty of each roster that keeps the
 /// hard rules.
@@ -36,4 +40,21 @@ pub fn minimums_prove_that_no_roster_exists()
         ArePrices prices →
         0 < minimums_bound problem prices →
         KeepsHardRules problem roster → ⊥ }
+{}
+
+/// Every penalty is a multiple of 5.
+pub fn each_penalty_is_a_multiple_of_5()
+    ensures { (problem : Problem) (roster : Roster) → (fifths : ℕ) × (penalty problem roster ≡ 5 * fifths) }
+{}
+
+/// The bound of a nurse is the least that a week of hers gives.
+pub fn nurse_bound_is_the_least_over_her_weeks()
+    ensures { (unit : ℕ) (problem : Problem) (prices : Prices) (n : ℕ) →
+        ArePrices prices →
+        IsLeastOverWeeks unit problem prices n }
+{}
+
+/// The cost of a nurse's week is her cost in the roster of the week, by the rules S2 to S7.
+pub fn weeks_cost_what_the_rules_charge()
+    ensures { (problem : Problem) (n : ℕ) (duties : Duties) → CostsByRules problem n duties }
 {}

@@ -16,14 +16,12 @@ mod places;
 // The cheapest week of a nurse.
 mod weeks;
 
-// The bound, and what follows from it.
+// The bound.
 mod bound;
-mod rosters;
 
 /// The laws of the bound.
 pub mod laws;
 
 pub use bound::{lower_bound, no_roster_exists};
 pub use known::Known;
-pub use rosters::{is_proved_optimal, penalty_of};
 pub use weeks::{Charging, CheapestWeek, Duty, cheapest_week};

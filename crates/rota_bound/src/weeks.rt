@@ -4,7 +4,7 @@ ghost use Rattle.std.specs.Prelude.{◌≡◌, ℕ, ◌+◌, ◌-◌, ◌≤◌,
 ghost use Rattle.rota_core.specs.InstanceTables.{problem_of};
 ghost use Rattle.rota_core.specs.Limits.{DAYS};
 ghost use Rattle.rota_core.specs.PriceTables.{IsForWeek, prices_of};
-ghost use Rattle.rota_bound.specs.CheapestWeeks.{IsCheapestWeek, cost_of, paid_for, price_of, shift_of, unit_of};
+ghost use Rattle.rota_bound.specs.CheapestWeeks.{HasNoWeek, IsCheapestWeek, cost_of, paid_for, price_of, shift_of, unit_of};
 ghost use Rattle.rota_bound.specs.ChosenDuties.{best_choice, best_duties, best_duty, best_skill, first_below};
 ghost use Rattle.rota_bound.specs.ChosenWeeks.{IsChosenWeek};
 ghost use Rattle.rota_bound.specs.KnownCosts.{AreRight};
@@ -18,6 +18,7 @@ use crate::known::Known;
 use crate::nurses::{choice_value, least_choice, nurse_bound};
 use crate::rebates::{NOT_ALLOWED, day_rebate, may_be_off, rebate};
 use rota_core::{Cell, DAYS, Instance, Past, Prices};
+use rota_items::laws::instances_are_within_limits;
 use std::alloc::{AllocError, Global};
 
 /// What a nurse's week is charged, besides its prices.
@@ -233,10 +234,12 @@ pub fn cheapest_week(
     ensures week { let problem = problem_of instance.now in
         IfOk result (λ week. IfSome week (IsCheapestWeek (unit_of charging) problem (prices_of prices.now) nurse)) }
     ensures none { let problem = problem_of instance.now in
-        IfOk result (λ week. week ≡ None → not_allowed ≤ nurse_bound (unit_of charging) problem (prices_of prices.now) nurse) }
+        IfOk result (λ week. week ≡ None → HasNoWeek problem nurse) }
     ensures right { AreRight (unit_of charging) (problem_of instance.now) (prices_of prices.now) known.new }
 {
     let _shifts = prices.shifts();
+    let _nurses = instance.nurses();
+    instances_are_within_limits();
     let unit = unit_of(charging);
     if nurse_bound(instance, prices, unit, known, nurse) >= NOT_ALLOWED {
         return Ok(None);

@@ -54,6 +54,33 @@ Ann Early Mon
     ],
 };
 
+/// The greatest numbers of shift types and skills.
+const SIXTEEN: Base = Base {
+    kind: jobs::Kind::Extend,
+    early: false,
+    inputs: [
+        b"SCENARIO = s1
+WEEKS = 2
+SKILLS = 16
+a b c d e f g h i j k l m n o p
+SHIFT_TYPES = 16
+A (1,9) B (1,9) C (1,9) D (1,9) E (1,9) F (1,9) G (1,9) H (1,9)
+I (1,9) J (1,9) K (1,9) L (1,9) M (1,9) N (1,9) O (1,9) P (1,9)
+FORBIDDEN_SHIFT_TYPES_SUCCESSIONS
+A 16 A B C D E F G H I J K L M N O P
+B 0 C 0 D 0 E 0 F 0 G 0 H 0 I 0 J 0 K 0 L 0 M 0 N 0 O 0 P 0
+CONTRACTS = 1
+Full (1,9) (1,9) (1,9) 9 0
+NURSES = 1
+Ann Full 16 a b c d e f g h i j k l m n o p
+",
+        HISTORY,
+        WEEK,
+        NOBODY,
+        NOBODY,
+    ],
+};
+
 /// A file, its change, and the kind and line of its fault.
 type Faulty = (File, Edit<'static>, Kind, u32);
 
@@ -135,6 +162,22 @@ const FAULTS_OF_TWO: &[Faulty] = faults! {
     Week Ends(7, b"Ann Any") => Ended 7;
 };
 
+// The last name of a list is an earlier one.
+const FAULTS_OF_SIXTEEN: &[Faulty] = faults! {
+    Sce Line(4, b"a b c d e f g h i j k l m n o\na") => Repeated 5;
+    Sce Line(7, b"I (1,9) J (1,9) K (1,9) L (1,9) M (1,9) N (1,9) O (1,9)\nH (1,9)") => Repeated 8;
+    Sce Line(9, b"A 16 A B C D E F G H I J K L M N O\nO") => Repeated 10;
+    Sce Line(9, b"A 16 A B C D E F G H\nA I J K L M N O P") => Repeated 10;
+    Sce Line(10, b"B 0 C 0 D 0 E 0 F 0 G 0 H 0 I 0 J 0 K 0 L 0 M 0 N 0 O 0\nA 0") => Repeated 11;
+    Sce Line(14, b"Ann Full 16 a b c d e f g h i j k l m n o\na") => Repeated 15;
+    Sce Line(14, b"Ann Full 9 a b c d e f g h\nh") => Repeated 15;
+    Sce Line(15, b"=") => Trailing 15;
+    His Line(5, b"=") => Trailing 5;
+    Week Line(5, b",") => Trailing 5;
+    Fix Line(5, b"(") => Trailing 5;
+    Last Line(5, b")") => Trailing 5;
+};
+
 // The rows of a solution file, from its second line on. Held cells have the same faults, with their own file
 // name.
 const SOLUTIONS: &[Faulty] = faults! {
@@ -199,6 +242,9 @@ fn faults_of_files(rt: HostRuntime) -> Result<(), Fail> {
     }
     for faulty in FAULTS_OF_TWO {
         check_fault(&rt, rt.alloc(), &TWO_NURSES, *faulty)?;
+    }
+    for faulty in FAULTS_OF_SIXTEEN {
+        check_fault(&rt, rt.alloc(), &SIXTEEN, *faulty)?;
     }
     Ok(())
 }

@@ -2,6 +2,8 @@
 #![tactic(auto)]
 
 #[cfg(test)]
+mod changed_tokens;
+#[cfg(test)]
 mod changes;
 #[cfg(test)]
 mod charges;
