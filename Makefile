@@ -3,6 +3,7 @@
 PREFIX ?= /usr/local
 PROGRAM ?= out/inrc2pb
 WHO_FITS ?= out/who_fits
+BOUND ?= out/inrc2pb-bound
 SHARE = $(DESTDIR)$(PREFIX)/share
 
 # rt lets one command at a time into a crate, and build.sh already runs two.
@@ -12,7 +13,7 @@ SHARE = $(DESTDIR)$(PREFIX)/share
 
 all: build who_fits
 
-# Proves the crates in the order of crates.txt, then the program. build.sh gives the schedule, its reason and its gain.
+# Proves the crates in the order of crates.txt, then the programs. build.sh gives the schedule, its reason and its gain.
 build:
 	./build.sh
 
@@ -47,6 +48,8 @@ test:
 programs: all
 	cd crates/inrc2pb && rt run --backend rattle -- --version && mv out/inrc2pb out/inrc2pb.by-rattle
 	cp out/inrc2pb crates/inrc2pb/out/inrc2pb
+	cd crates/inrc2pb_bound && rt run --backend rattle -- --version && mv out/inrc2pb_bound out/inrc2pb_bound.by-rattle
+	cp out/inrc2pb-bound crates/inrc2pb_bound/out/inrc2pb_bound
 	cd crates/week_report && rt run -- data/scenario.txt data/history.txt data/week.txt > /dev/null
 	cd crates/rota_tests && rt test
 	cd crates/part_tests && rt test
@@ -84,14 +87,16 @@ install:
 	@test -x "$(PROGRAM)" || { echo "There is no $(PROGRAM) yet: 'make' proves and builds it."; exit 1; }
 	mkdir -p "$(BIN)" "$(SHARE)/man/man1" "$(PAGES)/docs" "$(PAGES)/bench" $(COMPLETIONS)
 	install -m 755 "$(PROGRAM)" "$(BIN)/inrc2pb"
+	test ! -x "$(BOUND)" || install -m 755 "$(BOUND)" "$(BIN)/inrc2pb-bound"
 	test ! -x "$(WHO_FITS)" || install -m 755 "$(WHO_FITS)" "$(BIN)/who_fits"
 	$(if $(HELPERS),install -m 755 $(HELPERS) "$(BIN)")
 	$(if $(MODULES),mkdir -p "$(SHARE)/inrc2pb/inrc2pb" && install -m 644 $(MODULES) "$(SHARE)/inrc2pb/inrc2pb")
 	install -m 644 docs/*.1 "$(SHARE)/man/man1"
 	for helper in $(notdir $(HELPERS)); do echo '.so man1/inrc2pb-helpers.1' > "$(SHARE)/man/man1/$$helper.1"; done
 	install -m 644 docs/completions/inrc2pb.bash "$(SHARE)/bash-completion/completions/inrc2pb"
-	install -m 644 docs/completions/_inrc2pb "$(ZSH)/_inrc2pb"
-	install -m 644 docs/completions/inrc2pb.fish "$(SHARE)/fish/vendor_completions.d/inrc2pb.fish"
+	install -m 644 docs/completions/inrc2pb-bound.bash "$(SHARE)/bash-completion/completions/inrc2pb-bound"
+	install -m 644 docs/completions/_inrc2pb docs/completions/_inrc2pb-bound "$(ZSH)"
+	install -m 644 docs/completions/*.fish "$(SHARE)/fish/vendor_completions.d"
 	install -m 644 $(TOP_PAGES) "$(PAGES)"
 	install -m 644 docs/*.md docs/*.svg "$(PAGES)/docs"
 	sed -E -i 's|\[[^]]*\]\(\.\./(crates/[^)]*)\)|`\1`|g' "$(PAGES)"/docs/*.md
@@ -102,8 +107,9 @@ install:
 
 # Removes the files of `install`, with the same PREFIX, and what Python made of the library; then its own folders, if they are empty.
 uninstall:
-	rm -f "$(BIN)/inrc2pb" "$(BIN)/who_fits" $(patsubst docs/%,"$(SHARE)/man/man1/%",$(wildcard docs/*.1)) \
-	    "$(SHARE)/bash-completion/completions/inrc2pb" "$(ZSH)/_inrc2pb" "$(SHARE)/fish/vendor_completions.d/inrc2pb.fish"
+	rm -f "$(BIN)/inrc2pb" "$(BIN)/inrc2pb-bound" "$(BIN)/who_fits" $(patsubst docs/%,"$(SHARE)/man/man1/%",$(wildcard docs/*.1)) \
+	    $(foreach name,inrc2pb inrc2pb-bound,"$(SHARE)/bash-completion/completions/$(name)" "$(ZSH)/_$(name)" \
+	    "$(SHARE)/fish/vendor_completions.d/$(name).fish")
 	rm -f $(patsubst helpers/%,"$(BIN)/%",$(HELPERS)) $(patsubst helpers/%,"$(SHARE)/man/man1/%.1",$(HELPERS))
 	for page in $(TOP_PAGES) docs/*.md docs/*.svg bench/README.md bench/*.svg; do rm -f "$(PAGES)/$$page"; done
 	find examples -type f ! -name '*.sh' -exec rm -f "$(PAGES)/{}" \;

@@ -1,9 +1,9 @@
 #!/usr/bin/env bash
-# Proves the crates below the program, each before those that use it, and the program, and leaves it at out/inrc2pb.
+# Proves the crates below the two programs, each before those that use it, and leaves the programs at out/inrc2pb and out/inrc2pb-bound.
 #
 #   ./build.sh
 #
-# The plain way to the same program is `cd crates/inrc2pb && rt run`: `rt` proves the crates in the order of crates.txt and
+# The plain way to the same programs is `rt run` in crates/inrc2pb and crates/inrc2pb_bound: `rt` proves the crates in the order of crates.txt and
 # chooses the number of jobs of each. From nothing, on four processors, this schedule took 905 s in November 2026. Before
 # `inrc2pb_program` was split from `inrc2pb` it took 924 s, and the plain way 1,174 s:
 #
@@ -50,14 +50,18 @@ prove solver_text 2
 wait $other
 take_readers_back
 
-prove inrc2pb_command 1 &
+{ prove inrc2pb_command 1 && prove rota_bound 1; } &
 other=$!
 prove rota_pb 3
 prove inrc2pb_job 1
 wait $other
 prove inrc2pb_program 2
+prove bound_run 2
+prove bound_program 2
 
-# `rt run` leaves the program in its crate.
+# `rt run` leaves a program in its crate.
 (cd crates/inrc2pb && rt run --jobs 2 -- --version)
+(cd crates/inrc2pb_bound && rt run --jobs 2 -- --version)
 mkdir -p out
 cp crates/inrc2pb/out/inrc2pb out
+cp crates/inrc2pb_bound/out/inrc2pb_bound out/inrc2pb-bound

@@ -8,12 +8,13 @@
 # search for rosters are not tried.
 . "$(dirname "$0")/kit.sh"
 needs crates/who_fits/out/who_fits
+needs_bound
 clone=$PWD
 installed=$room/installed/usr
 
 # make_target TARGET WORD..: as a user runs make, with the programs that are tested.
 make_target() {
-    make -s -C "$clone" "$@" PROGRAM="$program" WHO_FITS="$clone/crates/who_fits/out/who_fits" > "$out" 2>&1
+    make -s -C "$clone" "$@" PROGRAM="$program" BOUND="$bound" WHO_FITS="$clone/crates/who_fits/out/who_fits" > "$out" 2>&1
 }
 
 # The pages and files that an installed page names are installed too, with the headings that it names.
@@ -78,6 +79,8 @@ runs_commands() {
     for command in "$installed"/bin/*; do
         runs "${command##*/}" --help
     done
+    runs inrc2pb-bound --version
+    has_line "$(sed -n 's/^## /inrc2pb-bound /p' "$clone/CHANGELOG.md" | head -n 1)"
     runs who_fits --help
     has_line 'Usage: who_fits SCENARIO HISTORY WEEK'
     runs who_fits "$ward/ward.txt" "$ward/history-0.txt" "$ward/week-0.txt"

@@ -36,6 +36,8 @@ checked=0
 failed=0
 what='the files'
 in=/dev/null
+# The name of the program in its faults.
+name=inrc2pb
 out=$room/out
 err=$room/err
 
@@ -163,7 +165,7 @@ run() {
 
 # refuses WHAT STATUS FAULT WORD..: the program ends so, with this fault as its one line, and makes no file `unmade`.
 refuses() {
-    line fault "inrc2pb: $3"
+    line fault "$name: $3"
     run "$1" "$2" nothing fault "${@:4}"
     is_missing unmade
 }
@@ -188,6 +190,15 @@ is_missing() {
 
 # has_line LINE: the last run printed it.
 has_line() { grep -qxF -- "$1" "$room/out" || complain "no line '$1'"; }
+
+# ---- The program `inrc2pb-bound`, built by the same compiler if there is such a build.
+
+needs_bound() {
+    bound=${BOUND:-crates/inrc2pb_bound/out/inrc2pb_bound}
+    [ ! -x "$bound$ending" ] || bound=$bound$ending
+    needs "$bound"
+    bound=$(realpath "$bound")
+}
 
 # ---- The values of public calls: runs of `week_report`, built by the same compiler if there is such a build.
 

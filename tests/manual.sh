@@ -8,6 +8,9 @@
 . "$(dirname "$0")/kit.sh"
 # shellcheck source=docs/completions/inrc2pb.bash
 . docs/completions/inrc2pb.bash
+# shellcheck source=docs/completions/inrc2pb-bound.bash
+. docs/completions/inrc2pb-bound.bash
+needs_bound
 
 # The options that the lines on standard input name, in one line.
 options() { grep -oE '(^| |\[)--?[a-z]+' | grep -oE -- '--[a-z]+' | sort -u | tr '\n' ' '; }
@@ -93,11 +96,12 @@ completions_are_written() {
     local file offered
     begins_case 'the completions'
     docs/completions/write.py "$room"
-    for file in inrc2pb.bash _inrc2pb inrc2pb.fish; do
+    for file in inrc2pb.bash _inrc2pb inrc2pb.fish inrc2pb-bound.bash _inrc2pb-bound inrc2pb-bound.fish; do
         cmp -s "$room/$file" "docs/completions/$file" || complain "$file is not as write.py writes it"
     done
     if command -v zsh > /dev/null; then
         zsh -n docs/completions/_inrc2pb || complain 'zsh does not read its completion'
+        zsh -n docs/completions/_inrc2pb-bound || complain 'zsh does not read that of inrc2pb-bound'
     fi
     if command -v fish > /dev/null; then
         for file in encode decode extend; do
@@ -105,6 +109,22 @@ completions_are_written() {
             is "fish's completion of $file" "$offered" "$(complete_words inrc2pb $file --)"
         done
     fi
+}
+
+# The same of `inrc2pb-bound`: its synopsis, its options explained, its completion and its help.
+names_the_same_of_bound() {
+    local program=$bound shown page=docs/inrc2pb-bound.1
+    shown=$("$bound" --help | grep '^ *-' | options)
+    is 'synopsis of inrc2pb-bound' "$(sed -n '/^\.Sh SYNOPSIS/,/^\.Sh DESC/s/^\.\(Op \)\{0,1\}Fl -/--/p' $page | options)" \
+        "$(sed 's/--help //; s/--version //' <<< "$shown")"
+    is 'options explained of inrc2pb-bound' \
+        "$(sed -n '/^\.Sh OPTIONS/,/^\.Sh FILES/s/^\.It Fl \(. , Fl \)\{0,1\}-/--/p' $page | options)" "$shown"
+    COMP_WORDS=(inrc2pb-bound --)
+    COMP_CWORD=1
+    _inrc2pb_bound
+    is 'completion of inrc2pb-bound' "$(printf '%s\n' "${COMPREPLY[@]}" | sort | tr '\n' ' ')" "$shown"
+    is 'words of the completion of inrc2pb-bound' \
+        "$(sed -nE "s/^ *'--([a-z]+)\[(.*)\](:.*)?'.*/\1 \2/p" docs/completions/_inrc2pb-bound | sort)" "$(texts_of_help)"
 }
 
 # is_manual PAGE: mandoc and man read it.
@@ -120,6 +140,7 @@ is_manual() {
 }
 
 names_the_same
+names_the_same_of_bound
 completes
 completions_are_written
 for page in docs/*.1; do

@@ -9,10 +9,11 @@
 # bash, the usual tools of a shell, make and Python 3.8.
 . "$(dirname "$0")/kit.sh"
 needs crates/who_fits/out/who_fits
+needs_bound
 . tests/stand_ins.sh
 stand_in_for_clasp
 
-export PROGRAM=$program
+export PROGRAM=$program BOUND=$bound
 WHO_FITS=$(realpath crates/who_fits/out/who_fits)
 export WHO_FITS
 version=$("$program" --version)
@@ -70,7 +71,7 @@ gates_are_told_apart() {
     local commit kit sum not='have not passed on this commit on the machine that built this'
     commit=$(package/proved.sh | sed -n 's/^commit: //p')
     kit=$(package/proved.sh | sed -n 's/^kit: //p')
-    sum=$(cat "$PROGRAM" "$WHO_FITS" | sha256sum)
+    sum=$(cat "$PROGRAM" "$BOUND" "$WHO_FITS" | sha256sum)
     sum=${sum%% *}
     case $commit in
         unknown | *-dirty) says_of_gate 'a gate of other files' "$commit" '9 passed, 0 failed' "$kit" "$sum" "$not" ;;

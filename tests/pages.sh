@@ -9,6 +9,7 @@
 # bash, the usual tools of a shell, make and Python 3.8.
 . "$(dirname "$0")/kit.sh"
 needs crates/who_fits/out/who_fits
+needs_bound
 . tests/stand_ins.sh
 
 mkdir -p "$room/home" "$room/copy"
@@ -17,8 +18,10 @@ mkdir -p "$room/copy/out" "$room/copy/crates/inrc2pb/out"
 cp "$program" "$room/copy/out/inrc2pb"
 cp "$program" "$room/copy/crates/inrc2pb/out/inrc2pb"
 cp crates/who_fits/out/who_fits "$room/copy/out/who_fits"
+cp "$bound" "$room/copy/out/inrc2pb-bound"
 cp "$program" "$room/bin/inrc2pb"
 cp crates/who_fits/out/who_fits "$room/bin/who_fits"
+cp "$bound" "$room/bin/inrc2pb-bound"
 
 # `rt run` has nothing to do in the copy; `rt try` runs the program in a folder with the files that it is given.
 stand_in rt << 'END'

@@ -25,6 +25,10 @@ DECODE = ("rota_pb/src/decoding.rt", "run_decode")
 EXTEND = ("rota_pb/src/extending.rt", "run_extend")
 PERFORM = ("inrc2pb_job/src/job_run.rt", "perform")
 PROGRAM = ("inrc2pb_program/src/run.rt", "program")
+EXACT_ANSWERS = CRATES / "bound_run/specs/ExactAnswers.antt"
+BOUND = ("bound_run/src/run.rt", "run_bound")
+BOUND_PERFORM = ("bound_program/src/job_run.rt", "perform")
+BOUND_PROGRAM = ("bound_program/src/run.rt", "program")
 
 
 class FileList(NamedTuple):
@@ -42,6 +46,8 @@ LISTS = [
     FileList("The exact text", [], [ENCODE], set()),
     FileList("Decode and extend", [], [DECODE, EXTEND], set()),
     FileList("The whole program", [], [PERFORM, PROGRAM], set()),
+    FileList("A proved bound", [], [BOUND, BOUND_PERFORM, BOUND_PROGRAM], {EXACT_ANSWERS}),
+    FileList("The exact bound", [], [BOUND], set()),
 ]
 USE = re.compile(r"(?m)^ *(?:pub )?(?:ghost )?use Rattle\.(\w+)\.specs\.([\w.]+?)(?:\.\{([^}]*)\})?(?: as \w+)?;?$")
 ROW = re.compile(r"(?m)^\| `([\w/]+\.antt)` \| (\d+) \| (\d+) \|")

@@ -12,6 +12,7 @@
 # Also runs the tests of `rota_tests` and `part_tests`, as LLVM builds them. Needs bash, the usual tools of a shell,
 # and a C compiler: $CC, else cc, else the clang of Rattle's kit.
 . "$(dirname "$0")/kit.sh"
+needs_bound
 whole_runs=crates/rota_tests/out/rota_tests_tests
 tables=crates/part_tests/out/part_tests_tests
 if [ -z "$ending" ]; then
@@ -163,6 +164,15 @@ sweep_program 'a scenario that is missing' 2 3 nothing nothing encode --sce miss
 sweep_program 'an output in no folder' 2 3 nothing nothing encode "${week[@]}" --opb missing/made
 
 sweep_program 'an empty answer' some 1 nothing nothing decode "${five[@]}" --answer nothing --sol made
+
+encoder=$program
+program=$bound
+line out_of_memory 'inrc2pb-bound: out of memory'
+sweep_program 'a bound, and a roster' 2 0 text nothing "${five[@]}" --prices prices.txt --roster roster
+sweep_program 'the minimums of held cells' 2 0 text nothing "${week[@]}" --fix wednesday --minimums
+sweep_program 'prices with text after their end' 2 1 nothing nothing "${five[@]}" --prices more_week.txt
+program=$encoder
+line out_of_memory 'inrc2pb: out of memory'
 
 begins_case 'an answer of one long line makes no more allocations than an empty one'
 (printf c; head -c 10000000 /dev/zero | tr '\0' x) > "$room/long_answer"

@@ -1,5 +1,5 @@
 #!/usr/bin/env python3
-"""Writes the completions for bash, zsh and fish from one description of the commands and options.
+"""Writes the completions of both programs for bash, zsh and fish from one description of the commands and options.
 
 tests/manual.sh compares the files with the output of this script, and their words with those of the program's help and of the
 manual page. Needs Python 3.8 or later.
@@ -33,6 +33,13 @@ COMMANDS: Dict[str, Tuple[str, Options]] = {
     "encode": ("Writes the week as a pseudo-Boolean model", {**WEEK, **OPB, **HELP}),
     "decode": ("Turns a solver's answer into a solution file, and reports its costs", {**WEEK, **SOL, **ANSWER, **HELP}),
     "extend": ("Turns a roster into a solver's answer", {**WEEK, **FROM, **HELP}),
+}
+BOUND: Options = {
+    **WEEK,
+    "--prices": ("file", "The price of each place, in thousandths of a point"),
+    "--roster": ("file", "A roster to judge, as a solution file"),
+    "--minimums": ("", "Leave out the soft rules, to prove that no roster exists"),
+    **ANY,
 }
 FILES = list(dict.fromkeys(name for _, options in COMMANDS.values() for name, (kind, _) in options.items() if kind == "file"))
 
@@ -70,6 +77,29 @@ _inrc2pb() {
     mapfile -t COMPREPLY < <(compgen -W "$choices" -- "$word")
 }
 complete -F _inrc2pb inrc2pb
+"""
+
+BOUND_BASH = """\
+# shellcheck shell=bash
+# Completion of inrc2pb-bound's options and file names, for bash. Written by write.py beside it.
+_inrc2pb_bound() {
+    local word=${COMP_WORDS[COMP_CWORD]} before=${COMP_WORDS[COMP_CWORD - 1]} given choices='%(options)s'
+    COMPREPLY=()
+    case $before in
+        %(files)s)
+            compopt -o filenames 2> /dev/null
+            mapfile -t COMPREPLY < <(compgen -f -- "$word")
+            return
+            ;;
+    esac
+    # An option that was given already is not offered again.
+    for given in "${COMP_WORDS[@]:1:COMP_CWORD-1}"; do
+        choices=" $choices "
+        choices=${choices/ "$given" / }
+    done
+    mapfile -t COMPREPLY < <(compgen -W "$choices" -- "$word")
+}
+complete -F _inrc2pb_bound inrc2pb-bound
 """
 
 ZSH = """\
@@ -113,12 +143,29 @@ def bash() -> str:
     }
 
 
+def bound_bash() -> str:
+    """The completion of inrc2pb-bound for bash."""
+    files = [name for name, (kind, _) in BOUND.items() if kind == "file"]
+    return BOUND_BASH % {"files": " | ".join(files), "options": " ".join(BOUND)}
+
+
+def argument(name: str, kind: str, about: str) -> str:
+    """An option, as the completion for zsh describes it."""
+    return quoted(f"{name}[{about}]" + (":file:_files" if kind else ""))
+
+
+def bound_zsh() -> str:
+    """The completion of inrc2pb-bound for zsh."""
+    arguments = " \\\n".join(f"    {argument(name, *what)}" for name, what in BOUND.items())
+    return f"""#compdef inrc2pb-bound
+# Completion of inrc2pb-bound's options and file names, for zsh. Written by write.py beside it.
+_arguments \\
+{arguments}
+"""
+
+
 def zsh() -> str:
     """The completion for zsh."""
-
-    def argument(name: str, kind: str, about: str) -> str:
-        return quoted(f"{name}[{about}]" + (":file:_files" if kind else ""))
-
     cases = []
     for name, (_, options) in COMMANDS.items():
         arguments = " \\\n".join(" " * 24 + argument(option, *what) for option, what in options.items())
@@ -143,14 +190,25 @@ def fish() -> Iterator[str]:
             yield f"complete -c inrc2pb -n {seen} -l {option[2:]}{' -r -F' if kind else ''} -d {quoted(meaning)}"
 
 
+def bound_fish() -> Iterator[str]:
+    """The lines of the completion of inrc2pb-bound for fish."""
+    yield "# Completion of inrc2pb-bound's options and file names, for fish. Written by write.py beside it."
+    yield "complete -c inrc2pb-bound -f"
+    for name, (kind, about) in BOUND.items():
+        yield f"complete -c inrc2pb-bound -l {name[2:]}{' -r -F' if kind else ''} -d {quoted(about)}"
+
+
 def main() -> None:
-    """Writes the three files."""
+    """Writes the six files."""
     parser = argparse.ArgumentParser(description="Writes the completions for bash, zsh and fish.")
     parser.add_argument("folder", nargs="?", type=Path, default=Path(__file__).resolve().parent, help="where the files go [default: beside this script]")
     folder = parser.parse_args().folder
     (folder / "inrc2pb.bash").write_text(bash())
     (folder / "_inrc2pb").write_text(zsh())
     (folder / "inrc2pb.fish").write_text("\n".join(fish()) + "\n")
+    (folder / "inrc2pb-bound.bash").write_text(bound_bash())
+    (folder / "_inrc2pb-bound").write_text(bound_zsh())
+    (folder / "inrc2pb-bound.fish").write_text("\n".join(bound_fish()) + "\n")
 
 
 if __name__ == "__main__":

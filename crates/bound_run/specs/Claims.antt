@@ -5,7 +5,7 @@ use Rattle.rota_core.specs.Problem.{Problem}
 use Rattle.rota_core.specs.Roster.{Roster}
 use Rattle.rota_core.specs.RosterTables.{set_of}
 use Rattle.rota_items.specs.Penalty.{penalty}
-use Rattle.rota_bound.specs.LowerBound.{IsOptimal}
+use Rattle.rota_bound.specs.Optimality.{IsOptimal}
 use Rattle.bound_run.specs.declared.answer.Answer.{Answer}
 use Rattle.bound_run.specs.declared.answer.Claim.{Claim}
 use Rattle.bound_run.specs.declared.answer.Claim.TheVariants.{AtLeast, NoRoster, Unknown}

@@ -6,8 +6,8 @@ ghost use Rattle.inrc2pb_job.specs.OpenCalls.{OpensAll, StopsOpening};
 ghost use Rattle.inrc2pb_job.specs.Paths.{IsNew};
 ghost use Rattle.rota_pb.specs.declared.fault.Fault.TheVariants.{Read as ReadFailed};
 
-use crate::optional_file::OptionalFile;
 use crate::job::Inputs;
+use crate::optional_file::OptionalFile;
 use crate::paths::Opens;
 use rota_pb::{Choice, Fault};
 
@@ -77,7 +77,10 @@ pub fn open<O: Opens>(files: &mut O, path: &str) -> Result<O::File, Fault>
 ///
 /// # Errors
 /// `Read` if the input does not open.
-pub fn open_optional<O: Opens>(files: &mut O, path: &Option<String>) -> Result<OptionalFile<O::File>, Fault>
+pub fn open_optional<O: Opens>(
+    files: &mut O,
+    path: &Option<String>,
+) -> Result<OptionalFile<O::File>, Fault>
     ensures open { IfOk result (IsOptionalOpen O.File.Source (O.at files.old)
         (option_map string_bytes path.now)) }
     ensures all { IfOk result (λ _. OpensAll (O.at files.old)

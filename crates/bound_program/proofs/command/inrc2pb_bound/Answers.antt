@@ -1,0 +1,19 @@
+use Rattle.std.proofs.Common.{codes, fold}
+use Rattle.clap.specs.Words.{with_rule}
+use Rattle.inrc2pb_command.specs.CommandLine.{file_rule, flag_rule, input_rules}
+use Rattle.inrc2pb_command.proofs.CommandSteps.{adds_arg, ends_with_arg}
+use Rattle.bound_program.specs.CommandLine.{bare_bound_app}
+use Rattle.bound_program.proofs.command.inrc2pb_bound.Goals as goal
+
+pub returns : goal.returns
+returns c =
+    let with_inputs = fold with_rule bare_bound_app input_rules in
+    let with_prices = with_rule with_inputs (file_rule (codes "prices")) in
+    let with_roster = with_rule with_prices (file_rule (codes "roster")) in
+    let inputs = c.in_ok-with_inputs.ensures bare_bound_app c.in_ok-command.ensures in
+    let prices = adds_arg with_inputs (file_rule (codes "prices")) c.in_ok-with_inputs.field-0 c.file_option.result c.in_ok-arg.field-0 inputs
+    c.file_option.ensures.rule c.file_option.ensures.local c.in_ok-arg.ensures in
+    let roster = adds_arg with_prices (file_rule (codes "roster")) c.in_ok-arg.field-0 c.file_option-2.result c.in_ok-arg-2.field-0 prices
+    c.file_option-2.ensures.rule c.file_option-2.ensures.local c.in_ok-arg-2.ensures in
+    ends_with_arg with_roster (flag_rule (codes "minimums")) c.in_ok-arg-2.field-0 c.flag.result c.arg-3.result roster
+    c.flag.ensures.rule c.flag.ensures.local c.arg-3.ensures

@@ -1,0 +1,34 @@
+-- The job that the options spell.
+use Rattle.std.specs.Prelude.{◌≡◌, ◌⊎◌, true, false, List, [], ◌++◌, is_some, codes, option_map, string_bytes}
+use Rattle.clap.specs.Words.{Row, Text, fault_of, first_of, matches_of}
+use Rattle.inrc2pb_job.specs.Jobs.{paths_of, week_paths}
+use Rattle.inrc2pb_job.specs.Paths.{Path}
+use Rattle.inrc2pb_program.specs.Jobs.{HasFlag, HasInputs, LacksInput}
+use Rattle.bound_program.specs.CommandLine.{bound_app}
+use Rattle.bound_program.specs.declared.job.BoundJob.{BoundJob}
+
+-- the paths and flags of the job are those of the options, unchanged; no roster is judged by the minimums
+pub record IsBoundJobOf (options : List Row) (job : BoundJob) : Type 0 where
+  pub inputs : HasInputs options job.inputs
+  pub prices : first_of (codes "prices") options ≡ option_map string_bytes job.prices
+  pub roster : first_of (codes "roster") options ≡ option_map string_bytes job.roster
+  pub minimums : HasFlag (codes "minimums") options job.minimums
+  pub apart : job.minimums ≡ true → is_some job.roster ≡ false
+
+-- the minimums are asked for, and a roster is to be judged
+pub record AsksForBoth (options : List Row) : Type 0 where
+  pub minimums : HasFlag (codes "minimums") options true
+  pub roster : is_some (first_of (codes "roster") options) ≡ true
+
+-- a required path is missing, or two options exclude each other
+abbrev pub IsMisused : List Row → Type 0
+IsMisused options = LacksInput options ⊎ AsksForBoth options
+
+-- the job of the words, if nothing is wrong with them
+pub record IsBoundJobFor (words : List Text) (job : BoundJob) : Type 0 where
+  pub taken : fault_of bound_app words ≡ []
+  pub spelled : IsBoundJobOf (matches_of bound_app words) job
+
+-- the paths of the files that the job reads, in the order in which they are checked
+abbrev pub bound_paths : BoundJob → List Path
+bound_paths job = week_paths job.inputs ++ paths_of (option_map string_bytes job.prices) ++ paths_of (option_map string_bytes job.roster)

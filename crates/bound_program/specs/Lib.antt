@@ -1,0 +1,3 @@
+pub mod BoundJobs
+pub mod BoundPrograms
+pub mod CommandLine

@@ -1,0 +1,25 @@
+//! The job of the program.
+use inrc2pb_job::Inputs;
+
+/// What is asked about a week, with the paths as they were given.
+pub struct BoundJob {
+    /// The files of the week.
+    pub inputs: Inputs,
+    /// The prices. Without a file each price is 0.
+    pub prices: Option<String>,
+    /// A roster to judge.
+    pub roster: Option<String>,
+    /// Only the hard rules count: whether no roster keeps them.
+    pub minimums: bool,
+}
+
+impl Drop for BoundJob {
+    fn drop(self) {
+        let BoundJob {
+            inputs: _,
+            prices: _,
+            roster: _,
+            minimums: _,
+        } = self;
+    }
+}

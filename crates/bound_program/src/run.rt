@@ -1,0 +1,49 @@
+//! A run of the program, from its words to its status.
+ghost use Rattle.std.specs.Prelude.{◌≡◌, false};
+ghost use Rattle.std.specs.Process.{exit_status as code_of};
+ghost use Rattle.inrc2pb_job.specs.JobOutcomes.{opener_of};
+ghost use Rattle.inrc2pb_program.specs.Exits.{printer_state};
+ghost use Rattle.rota_pb.specs.RunPorts.{writer_of};
+ghost use Rattle.bound_program.specs.BoundPrograms.{BoundProgramOutcome, BoundRunOutcome};
+
+use crate::command_line::job_of_args;
+use crate::job_run::perform;
+use inrc2pb_job::Opens;
+use inrc2pb_program::{Printer, Stop, ended, exit_code};
+use rota_core::Target;
+use std::alloc::Global;
+use std::env::Args;
+use std::io;
+use std::process::ExitCode;
+
+/// Answers what the words ask about a week, over any files and any output. Returns the exit code of the process.
+pub fn program<O: Opens, W: Target, H: Printer, E: Printer>(
+    alloc: Global,
+    words: io::Result<Args>,
+    files: &mut O,
+    output: &mut W,
+    help: &mut H,
+    errors: &mut E,
+) -> ExitCode
+    requires help { H.has_failed help.old ≡ false }
+    requires errors { E.has_failed errors.old ≡ false }
+    ensures { BoundProgramOutcome (opener_of O.File.Source (O.at files.old) (O.log files.old) (O.log files.new)) words
+        (writer_of W.Target output.old output.new)
+        (printer_state H.Printer help.old help.new) (printer_state E.Printer errors.old errors.new) (code_of result) }
+{
+    exit_code(&run(alloc, words, files, output), help, errors)
+}
+
+/// Answers what the words ask about a week. An `Err` says why it was not done.
+pub fn run<O: Opens, W: Target>(
+    alloc: Global,
+    words: io::Result<Args>,
+    files: &mut O,
+    output: &mut W,
+) -> Result<(), Stop>
+    ensures { BoundRunOutcome (opener_of O.File.Source (O.at files.old) (O.log files.old) (O.log files.new)) words
+        (writer_of W.Target output.old output.new) result }
+{
+    let job = job_of_args(alloc, words)?;
+    ended(perform(alloc, &job, files, output))
+}

@@ -1,0 +1,20 @@
+# shellcheck shell=bash
+# Completion of inrc2pb-bound's options and file names, for bash. Written by write.py beside it.
+_inrc2pb_bound() {
+    local word=${COMP_WORDS[COMP_CWORD]} before=${COMP_WORDS[COMP_CWORD - 1]} given choices='--sce --his --week --fix --early --prices --roster --minimums --help --version'
+    COMPREPLY=()
+    case $before in
+        --sce | --his | --week | --fix | --prices | --roster)
+            compopt -o filenames 2> /dev/null
+            mapfile -t COMPREPLY < <(compgen -f -- "$word")
+            return
+            ;;
+    esac
+    # An option that was given already is not offered again.
+    for given in "${COMP_WORDS[@]:1:COMP_CWORD-1}"; do
+        choices=" $choices "
+        choices=${choices/ "$given" / }
+    done
+    mapfile -t COMPREPLY < <(compgen -W "$choices" -- "$word")
+}
+complete -F _inrc2pb_bound inrc2pb-bound

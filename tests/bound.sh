@@ -1,0 +1,132 @@
+#!/usr/bin/env bash
+# Runs `inrc2pb-bound`, and checks its exit status and its output: bounds of weeks whose optimum solvers proved, faults in
+# the order of the checks, its words, and each allocation refused in turn. Then compares it with a plain program on small weeks.
+#
+#   tests/bound.sh [llvm | rattle | PROGRAM]
+#
+# Needs bash, the usual tools of a shell, a C compiler and Python 3.8.
+. "$(dirname "$0")/kit.sh"
+encoder=$program
+needs_bound
+program=$bound
+name=inrc2pb-bound
+
+examples=$PWD/examples
+five=(--sce "$examples/n005w4/Sc-n005w4.txt" --his "$examples/n005w4/H0-n005w4-0.txt" --week "$examples/n005w4/WD-n005w4-0.txt")
+thirty=(--sce "$examples/thirty/Sc-thirty.txt" --his "$examples/thirty/H0-thirty-3.txt" --week "$examples/thirty/WD-thirty-3.txt")
+eight=(--sce "$examples/eight/Sc-eight.txt" --his "$examples/eight/H0-eight-1.txt" --week "$examples/eight/WD-eight-1.txt")
+prices=(--prices "$examples/n005w4/prices.txt")
+
+# prices NAME [ROW..]: a prices' file of the base's week.
+prices() {
+    {
+        printf 'PRICES\ns1\n\nROWS = %s\n' $(($# - 1))
+        [ $# = 1 ] || printf '%s\n' "${@:2}"
+    } > "$room/$1"
+}
+
+# says WHAT LINES WORD..: the program prints these lines.
+says() {
+    printf '%b' "$2" > "$room/wanted"
+    run "$1" 0 wanted nothing "${@:3}"
+}
+
+# The optima are those of docs/solvers.md.
+proves_optima() {
+    "$encoder" decode "${five[@]}" --answer "$examples/n005w4/answers/clasp.txt" --sol "$room/five" > "$room/report" || complain 'no roster'
+    grep -v 'Sara Mon' "$room/five" | sed 's/^ASSIGNMENTS = .*/ASSIGNMENTS = '"$(($(grep -c 'Nurse$' "$room/five") - 1))"'/' > "$room/worse"
+    says 'five nurses' 'lower bound 320\npenalty 320\noptimal\n' "${five[@]}" "${prices[@]}" --roster five
+    says 'five nurses without prices' 'lower bound 40\npenalty 320\n' "${five[@]}" --roster five
+    says 'thirty nurses' 'lower bound 605\n' "${thirty[@]}" --prices "$examples/thirty/prices.txt"
+    for week in last60:460 last120:1005; do
+        local folder=$examples/${week%:*}
+        says "${week%:*}, where prices of 0 suffice" "lower bound ${week#*:}\n" \
+            --sce "$folder/ward.txt" --his "$folder/history-3.txt" --week "$folder/week-3.txt"
+    done
+    says 'eight nurses' 'no roster exists\n' "${eight[@]}" --minimums --prices "$examples/eight/prices.txt"
+    says 'eight nurses without prices' 'no proof that no roster exists\n' "${eight[@]}" --minimums
+    says 'five nurses, the minimums' 'no proof that no roster exists\n' "${five[@]}" "${prices[@]}" --minimums
+}
+
+# The base: one nurse, who works at least one day in a row.
+bounds_the_base() {
+    prices twos 'Day Nurse 2000 2000 2000 2000 2000 2000 2000'
+    prices none
+    says 'a roster of nobody' 'lower bound 0\npenalty 0\noptimal\n' "${week[@]}" --roster nobody
+    says 'prices that are too high' 'lower bound 0\n' "${week[@]}" --prices twos
+    says 'no row' 'lower bound 0\n' "${week[@]}" --prices none
+    says 'a held Wednesday' 'lower bound 0\npenalty 0\noptimal\n' "${week[@]}" --fix wednesday --roster wednesday
+    says 'a shift type that nobody should work' 'lower bound 15\npenalty 15\noptimal\n' \
+        --sce closed.txt --his history.txt --week week.txt --fix monday --roster monday
+    says 'a cell that may not be had' 'no roster exists\n' --sce two_shifts.txt --his history.txt --week nothing_asked.txt --fix both --minimums
+}
+
+refuses_files() {
+    prices twice 'Day Nurse 1 1 1 1 1 1 1' 'Day Nurse 1 1 1 1 1 1 1'
+    prices high 'Day Nurse 1 1 1 1 1 1 1000000000'
+    prices six 'Day Nurse 1 1 1 1 1 1'
+    prices unknown 'Day Cook 1 1 1 1 1 1 1'
+    cp "$room/none" "$room/more"
+    echo more >> "$room/more"
+    { cat "$room/none"; head -c 4194304 /dev/zero | tr '\0' ' '; } > "$room/long"
+    refuses 'a row twice' 1 'prices line 6: repeated' "${week[@]}" --prices twice
+    refuses 'a price beyond the limit' 1 'prices line 5: out of limits' "${week[@]}" --prices high
+    refuses 'six prices' 1 'prices line 5: end of file' "${week[@]}" --prices six
+    refuses 'an unknown skill' 1 'prices line 5: unknown name' "${week[@]}" --prices unknown
+    refuses 'text after the end' 1 'prices line 5: text after the end' "${week[@]}" --prices more
+    refuses 'a file that is too long' 1 'prices: out of limits' "${week[@]}" --prices long
+    refuses 'an empty file' 1 'prices line 1: end of file' "${week[@]}" --prices nothing
+    refuses 'no such prices' 3 'read failed' "${week[@]}" --prices missing
+    refuses 'no such roster' 3 'read failed' "${week[@]}" --roster missing
+    refuses 'a folder as prices' 3 'read failed' "${week[@]}" --prices .
+    refuses 'two shift types on a day' 6 'roster breaks H1' --sce two_shifts.txt --his history.txt --week week.txt --roster both_shifts
+    refuses 'a roster without a held cell' 6 'roster breaks H5' "${week[@]}" --fix wednesday --roster nobody
+    out=/dev/full refuses 'a full standard output' 3 'write failed' "${week[@]}"
+}
+
+# Each file has a fault from some place on; the first one in the order of the checks is reported.
+checks_in_order() {
+    local files=(--sce twice --his twice --week twice --fix twice --prices twice --roster twice)
+    refuses 'the scenario first' 1 'scenario line 1: another word expected' "${files[@]}"
+    files[1]=scenario.txt
+    refuses 'then the history' 1 'history line 1: another word expected' "${files[@]}"
+    files[3]=late.txt
+    refuses 'then the week' 1 'week line 1: another word expected' "${files[@]}"
+    files[5]=week.txt
+    refuses 'then its number' 1 'history: week not below WEEKS' "${files[@]}"
+    files[3]=history.txt
+    refuses 'then the held cells' 1 'fix line 1: another word expected' "${files[@]}"
+    files[7]=nobody
+    refuses 'then the prices' 1 'prices line 6: repeated' "${files[@]}"
+    files[9]=none
+    refuses 'then the roster' 1 'solution line 1: another word expected' "${files[@]}"
+}
+
+checks_words() {
+    line version "inrc2pb-bound $(sed -n 's/^## //p' CHANGELOG.md | head -n 1)"
+    run 'the version' 0 version nothing --version
+    run 'help' 0 text nothing --help
+    grep -q '^Usage: inrc2pb-bound ' "$room/out" || complain 'another usage'
+    run 'no words' 2 nothing text
+    misused 'no week' "$lacking" --sce scenario.txt --his history.txt
+    misused 'an unknown option' "unexpected argument '--sol' found" "${week[@]}" --sol x
+    misused 'a command' "unexpected argument 'encode' found" encode "${week[@]}"
+    misused 'prices twice' "the argument '--prices <FILE>' cannot be used multiple times" "${week[@]}" --prices none --prices none
+    misused 'the minimums and a roster' '--minimums excludes --roster' "${week[@]}" --minimums --roster nobody
+    out=/dev/full
+    line fault 'inrc2pb-bound: write failed'
+    run 'help on a full device' 3 nothing fault --help
+    out=$room/out
+}
+
+solution both_shifts 'Ann Mon Early Nurse' 'Ann Mon Late Nurse'
+cp "$room/both_shifts" "$room/both"
+cp "$room/week.txt" "$room/nothing_asked.txt"
+proves_optima
+bounds_the_base
+refuses_files
+checks_in_order
+checks_words
+begins_case 'small weeks against a plain program'
+tests/every_week.py "$program" || complain 'tests/every_week.py fails'
+finish
