@@ -38,7 +38,7 @@ Early Head 0 999999999 0 0 0 0 1
 
 // No row names the other four pairs.
 fn has_values(prices: &Prices) -> bool {
-    if sum_of(prices) != Some(1000005257) {
+    if prices.shifts() != 3 || prices.skills() != 2 {
         return false;
     }
     let of_late = (
@@ -47,7 +47,7 @@ fn has_values(prices: &Prices) -> bool {
         prices.price(6, 1, 1),
     );
     let of_early = (prices.price(1, 0, 0), prices.price(6, 0, 0));
-    of_late == (2250, 3000, 7) && of_early == (MAX_PRICE, 1)
+    of_late == (2250, 3000, 7) && of_early == (MAX_PRICE, 1) && sum_of(prices) == Some(1000005257)
 }
 
 #[test]

@@ -2,7 +2,7 @@
 //! memory ran out. `tests/refused_memory.sh` refuses each allocation in turn and compares the lines.
 use crate::answers::of_pieces;
 use crate::week_files::{instance_of, one_nurse_one_shift};
-use rota_core::{Bits, FileFault, Instance, Roster, Scenario};
+use rota_core::{Bits, FileFault, Instance, Prices, Roster, Scenario};
 use rota_read::{read_history, read_prices, read_scenario, read_solution, read_week};
 use solver_text::Answer;
 use std::alloc::Global;
@@ -49,11 +49,17 @@ fn demands_of_week(alloc: Global, scenario: &Scenario) -> Result<usize, FileFaul
 
 const PRICES: &[u8] = b"PRICES s1 ROWS = 1 Day Nurse 0 0 0 0 0 0 22500";
 
+fn sunday_price(prices: &Prices) -> u32 {
+    if prices.shifts() != 1 || prices.skills() != 1 {
+        return 0;
+    }
+    prices.price(6, 0, 0)
+}
+
 // The price of Sunday.
 fn last_price(alloc: Global, scenario: &Scenario) -> Result<u32, FileFault> {
     match read_prices(alloc, scenario, PRICES) {
-        Ok(prices) if prices.shifts() == 1 && prices.skills() == 1 => Ok(prices.price(6, 0, 0)),
-        Ok(_) => Ok(0),
+        Ok(prices) => Ok(sunday_price(&prices)),
         Err(fault) => Err(fault),
     }
 }
