@@ -11,7 +11,7 @@ from .linear_solvers import INSTALL, LinearSolver, LinearSolvers, installed
 from .next_history import next_history
 from .plan import WEEK_DAYS, Plan
 from .planned_weeks import PlannedWeeks
-from .pricing import Row
+from .pricing import Row, plain_bound
 from .processes import Processes
 from .program import BROKEN_RULE, NO_ROSTER, penalty_of
 from .progress import Progress, gap_share
@@ -41,6 +41,7 @@ class PeriodSearch:
         self._processes = Processes()
         self.penalty: Optional[int] = None
         self.bound: Optional[int] = None
+        self._cells: Sequence[Assignment] = ()
 
     def interrupt(self) -> None:
         """Ends the search now: the best plan was kept."""
@@ -48,7 +49,10 @@ class PeriodSearch:
         self._processes.stop()
 
     def run(self) -> None:
-        """Searches until the time is over or the best plan is found. Without a plan it is a ProgramFault that says why."""
+        """Searches until the time is over or the best plan is found. Without a plan it is a ProgramFault that says why.
+
+        Plans keep all absences, unless none can.
+        """
         with tempfile.TemporaryDirectory(prefix="inrc2pb-period-") as folder:
             try:
                 self._run(Path(folder))
@@ -61,8 +65,19 @@ class PeriodSearch:
             self._progress.warn(f"there is no cbc, clp or glpsol, so this is only a first plan: {INSTALL}")
         elif numpy is None and len(plan.nurses) * plan.days >= LARGE:
             self._progress.warn(INSTALL_NUMPY)
-        trial = folder / "trial"
-        trial.mkdir()
+        (folder / "trial").mkdir()
+        solver = LinearSolvers(names, self._processes, folder, self._progress.warn) if names else None
+        run = self._over_rows(plan, solver, folder / "trial")
+        if plan.away and self.penalty is None:
+            run = self._over_rows(plan.without_absences(), solver, folder / "trial")
+        if self.penalty is None:
+            raise ProgramFault(NO_ROSTER, self._why_none(run))
+        self._progress.finish()
+        for warning in self._weeks.broken_absences(self._cells):
+            self._progress.warn(warning)
+
+    def _over_rows(self, plan: Plan, solver: Optional[LinearSolver], trial: Path) -> RowRun:
+        """One search over the rows of the plan."""
 
         def offer(rows: List[Row], finder: str) -> Optional[int]:
             cells = staffed(plan, run.crews, rows).cells
@@ -70,22 +85,23 @@ class PeriodSearch:
             if penalty is None:
                 return None
             self._keep(cells)
+            self._cells = cells
             self.penalty = run.search.value_of(rows) if self._weeks.later() and run.search else penalty
             self._progress.improved(penalty, "week after week" if finder == GIVEN else finder)
             # Before the search, the cost of the weeks that are not known is not known either.
             return self.penalty if run.search or not self._weeks.later() else None
 
         def heard() -> None:
-            assert run.search is not None
-            self.bound = run.search.lower_bound
-            if self.bound is not None and not self._weeks.later():
+            # With absences it is a bound of the plans that keep them.
+            if run.search and run.search.lower_bound is not None and not self._weeks.later() and not plan.away:
+                self.bound = run.search.lower_bound
                 self._progress.bound_rose(self.bound)
 
-        solver = LinearSolvers(names, self._processes, folder, self._progress.warn) if names else None
         run = RowRun(plan, solver, self._clock, offer, heard, self._week_after_week(plan, solver))
         run.run()
-        if self.penalty is None:
-            raise ProgramFault(NO_ROSTER, self._why_none(run))
+        if plan.away and run.search and not self._weeks.later() and not self._clock.stopped:
+            self.bound = plain_bound(run.search.pricing.without_absences(), run.search.prices)
+        return run
 
     def _week_after_week(self, plan: Plan, solver: Optional[LinearSolver]) -> Optional[List[Row]]:
         """Rows of all weeks, each planned before the next one and with what it may charge early; None if a week has no roster."""
@@ -99,7 +115,7 @@ class PeriodSearch:
                 found.append(better)
                 return run.search.value_of(better) if run.search else None
 
-            week = Plan.of(plan.scenario, history, [data], True, held)
+            week = Plan.of(plan.scenario, history, [data], True, held, keeps=bool(plan.away))
             run = RowRun(week, solver, self._clock.part(seconds), offer, lambda: None)
             run.run()
             if not found:

@@ -4,6 +4,7 @@ from dataclasses import dataclass, field, replace
 from pathlib import Path
 from typing import Dict, List, NamedTuple, Optional, Sequence, Tuple
 
+from .absences import absences_of, in_words, working_while_away
 from .faults import Misuse
 from .files import Assignment, History, Scenario, Solution, WeekData
 from .files import check_week_number, read_history, read_scenario, read_week, write_history, write_solution
@@ -83,11 +84,20 @@ class PlannedWeeks:
         path = self.files.weeks[number - self.numbers[0]]
         return WeekFiles(self.files.scenario, history or self.files.history, path, self.files.fixes.get(number), self.files.early)
 
+    def broken_absences(self, cells: Sequence[Assignment]) -> List[str]:
+        """The weeks in which these assignments break an absence, and who works then."""
+        broken = []
+        for at, (number, data) in enumerate(zip(self.numbers, self.data)):
+            working = working_while_away(absences_of(data), _rows_of(at, cells))
+            if working:
+                broken.append(f"week {number}: no roster was found that keeps every absence: {in_words(working)}")
+        return broken
+
     def write(self, cells: Sequence[Assignment], folder: Path) -> List[WrittenWeek]:
         """Writes the weeks' rosters, of assignments whose days count from the first week, and the history after each week."""
         history, path, written = self.history, self.files.history, []
         for at, number in enumerate(self.numbers):
-            rows = tuple(cell._replace(day=cell.day % WEEK_DAYS) for cell in cells if cell.day // WEEK_DAYS == at)
+            rows = _rows_of(at, cells)
             roster = folder / roster_name(number)
             write_solution(roster, Solution(number, self.scenario.name, rows))
             written.append(WrittenWeek(self.week_files(number, path), roster))
@@ -96,6 +106,11 @@ class PlannedWeeks:
                 path = folder / history_name(number + 1)
                 write_history(path, history)
         return written
+
+
+def _rows_of(at: int, cells: Sequence[Assignment]) -> Tuple[Assignment, ...]:
+    """The assignments of the week at this index, with days from its Monday."""
+    return tuple(cell._replace(day=cell.day % WEEK_DAYS) for cell in cells if cell.day // WEEK_DAYS == at)
 
 
 def roster_name(number: int) -> str:

@@ -1,5 +1,6 @@
 """Rows and bounds at prices: what nurses of places earn, each nurse's cheapest row, and what no roster can cost less than."""
 
+import copy
 from typing import Dict, List, NamedTuple, Optional, Sequence, Tuple, Union
 
 from .plan import NEVER, POINT, STEP, Plan
@@ -103,6 +104,14 @@ class Pricing:
         part.base, part.wishes = [self.base[number] for number in numbers], [self.wishes[number] for number in numbers]
         return part
 
+    def without_absences(self) -> "Pricing":
+        """The same for a plan in which absences may be broken."""
+        free = copy.copy(self)
+        free.plan = self.plan.without_absences()
+        requests = free.plan.requests()
+        free.wishes = [free.plan.wishes(nurse, requests.get(nurse, ())) for nurse in free.plan.nurses]
+        return free
+
     def _pay(self, nurse: int, gains: Gains) -> _Pay:
         """What each choice costs the nurse beside the costs of her row: her wishes less what she earns."""
         pay: _Pay = [[-gains[crew] for crew in crews] for crews in self.crews.of[nurse]]
@@ -137,11 +146,10 @@ class Pricing:
         return sum(least * price + (best - least) * min(most, price) for least, best, price in asked)
 
 
-def plain_bound(plan: Plan, prices: Prices) -> int:
+def plain_bound(pricing: Pricing, prices: Prices) -> int:
     """What no roster of the plan costs less than by these prices, in points: no program has proved it."""
-    pricing = Pricing(plan, Crews(plan), lambda: None)
     gains = pricing.crews.gains(prices)
-    found = (pricing.cheapest(nurse, gains) for nurse in range(len(plan.nurses)))
+    found = (pricing.cheapest(nurse, gains) for nurse in range(len(pricing.plan.nurses)))
     return max(0, in_steps(pricing.places_cost(prices) + sum(priced.value for priced in found if priced)))
 
 

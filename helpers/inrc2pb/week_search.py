@@ -93,8 +93,8 @@ class WeekSearch:
         """Takes the bound of the best prices. It holds for rosters that break absences, too."""
         search = run.search
         if search and search.lower_bound is not None:
-            lower, prices, plan = search.lower_bound, search.prices, search.plan
-            bound = bounds.of(prices, lambda: plain_bound(plan.without_absences(), prices) if plan.away else lower)
+            lower, prices, pricing = search.lower_bound, search.prices, search.pricing
+            bound = bounds.of(prices, lambda: plain_bound(pricing.without_absences(), prices) if pricing.plan.away else lower)
             if self.bound is None or bound.points > self.bound.points:
                 self.bound = bound
                 self._progress.bound_rose(bound.points)

@@ -86,6 +86,20 @@ class Together(PeriodTest):
         self.assertEqual((status, printed), (5, ""))
         self.assertRegex(said.splitlines()[-1], "^inrc2pb-period: no rosters keep the hard rules of these weeks together, by plain Python: ")
 
+    def test_absences(self):
+        week = self.folder / "away.txt"
+        for away, says in (
+            (("Chen=Fri",), "^$"),
+            (("Amara=Fri", "Bruno=Fri", "Ewa=Fri"), "^inrc2pb-period: week 1: no roster was found that keeps every absence: (Amara|Bruno|Ewa) works Day on Fri$"),
+        ):
+            words = [word for one in away for word in ("--away", one)]
+            self.assertEqual(run("wish", "--sce", SCENARIO, "--week", WARD / "week-1.txt", *words, "--out", week)[0], 0)
+            options = (*WEEK_OPTIONS, "--week", week)
+            status, printed, said = run("period", *options, "--out", self.folder / "out", "--time", 5)
+            self.assertEqual(status, 0, said)
+            self.assertRegex("".join(line for line in said.splitlines() if "absence" in line), says)
+            self.assertRegex(printed.splitlines()[-1], "^lower bound [0-9]+ of the sum ")
+
     def test_a_stop_keeps_the_best_plan(self):
         words = (*MONTH_OPTIONS, *MONTH_WEEKS, "--out", self.folder, "--time", 60)
         with subprocess.Popen([sys.executable, str(HELPERS / "inrc2pb-period"), *map(str, words)], stdout=subprocess.PIPE, stderr=subprocess.PIPE) as period:
