@@ -13,7 +13,7 @@ use Rattle.rota_core.specs.declared.values.Past.{Past}
 use Rattle.rota_items.specs.HardRows.{is_forbidden_after}
 use Rattle.rota_bound.specs.CheapestWeeks.{Duties, IsWeekOf, MayHaveDuty, cost_of, shift_of}
 use Rattle.rota_bound.specs.DayCharges.{day_charge, past_after}
-use Rattle.rota_bound.specs.WeekRosters.{CostsByRules, is_duty, nurse_cost, roster_of}
+use Rattle.rota_bound.specs.WeekRosters.{CostsByRules, is_duty, nurse_cost, roster_of_week}
 use Rattle.rota_bound.specs.declared.weeks.Duty.{Duty}
 use Rattle.rota_bound.proofs.Days.{HasOne, IsFree, free-on, free-works, free-total, one-on, one-works, one-total}
 use Rattle.rota_bound.proofs.DaySteps.{Chooses, Follows, assigned_on, charge_on, weekends_on, charged-same, follows-off, follows-on}
@@ -166,12 +166,12 @@ start-costs : (problem : Problem) (roster : Roster) (n cost : ℕ) →
 unfolding sum_below
 start-costs problem roster n cost all = omega (arith, all)
 
-roster-has : (n : ℕ) (duties : Duties) (d s k : ℕ) → roster_of n duties (cell n d s k) ≡ is_duty (slice_index_or duties d None) s k
+roster-has : (n : ℕ) (duties : Duties) (d s k : ℕ) → roster_of_week n duties (cell n d s k) ≡ is_duty (slice_index_or duties d None) s k
 roster-has n duties d s k = ap (λ (b : Bool). b && is_duty (slice_index_or duties d None) s k) (eq-eqb n n refl)
 
 pub costs-by-rules : (problem : Problem) (n : ℕ) (duties : Duties) → CostsByRules problem n duties
 costs-by-rules problem n duties is_week =
-    let roster = roster_of n duties in
+    let roster = roster_of_week n duties in
     let has_all : HasDuties problem roster n 0 duties = λ i s k.
     let e : 0 + i ≡ i = omega arith in
     ap (λ (day : ℕ). roster (cell n day s k)) e ∙ roster-has n duties i s k in

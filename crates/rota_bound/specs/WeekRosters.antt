@@ -19,8 +19,8 @@ is_duty None s k = false
 is_duty (Some duty) s k = duty.shift == s && duty.skill == k
 
 -- the roster with exactly these duties of the nurse, from Monday on
-abbrev pub roster_of : ℕ → Duties → Roster
-roster_of n duties = λ one. one.nurse == n && is_duty (slice_index_or duties one.day None) one.shift one.skill
+abbrev pub roster_of_week : ℕ → Duties → Roster
+roster_of_week n duties = λ one. one.nurse == n && is_duty (slice_index_or duties one.day None) one.shift one.skill
 
 -- the number of pairs of a cell of the nurse and a request row that asks to leave it free
 abbrev pub requests_of : Problem → Roster → ℕ → ℕ
@@ -37,4 +37,4 @@ nurse_cost problem roster n =
 -- the cost of the nurse's week is her cost in its roster, by the rules S2 to S7
 abbrev pub CostsByRules : Problem → ℕ → Duties → Type 0
 CostsByRules problem n duties =
-    IsWeekOf problem n DAYS (problem.past n) duties → cost_of problem n DAYS (problem.past n) duties ≡ nurse_cost problem (roster_of n duties) n
+    IsWeekOf problem n DAYS (problem.past n) duties → cost_of problem n DAYS (problem.past n) duties ≡ nurse_cost problem (roster_of_week n duties) n

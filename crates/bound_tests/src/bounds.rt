@@ -1,0 +1,77 @@
+//! Bounds and cheapest weeks of small weeks. The values are those of a program that tries every week of a nurse.
+ghost use Rattle.std.specs.Prelude.{◌≤◌, IfOk};
+ghost use Rattle.rota_core.specs.InstanceTables.{problem_of};
+ghost use Rattle.rota_core.specs.PriceTables.{IsForWeek};
+
+use crate::small_weeks::{WeekFiles, instance_of, nobody_for_monday, run_in_the_history};
+use rota_bound::{Charging, CheapestWeek, Known, cheapest_week, lower_bound, no_roster_exists};
+use rota_core::{Instance, Prices};
+use std::alloc::{AllocError, Global};
+use std::test::Fail;
+
+// Prices of 0, except for this one on Monday for the first shift type and the first skill.
+fn monday_price(alloc: Global, instance: &Instance, price: u32) -> Result<Prices, AllocError>
+    requires { price ≤ 999999999 }
+    ensures { IfOk result (λ prices. IsForWeek (problem_of instance.now) prices) }
+{
+    let (shifts, skills) = (instance.shifts(), instance.skills());
+    let mut prices = Prices::new(alloc, shifts, skills)?;
+    if shifts > 0 && skills > 0 {
+        prices.set(0, 0, 0, price);
+    }
+    Ok(prices)
+}
+
+// The bound of the week, and whether it has no roster.
+fn bounds_of(alloc: Global, files: &WeekFiles, price: u32) -> Result<(u64, bool), Fail>
+    requires { price ≤ 999999999 }
+{
+    let instance = instance_of(alloc, files)?;
+    let prices = monday_price(alloc, &instance, price)?;
+    let bound = lower_bound(alloc, &instance, &prices)?;
+    Ok((bound, no_roster_exists(alloc, &instance, &prices)?))
+}
+
+// The only nurse's cheapest week with this price on Monday.
+fn anns_week(alloc: Global, instance: &Instance, price: u32) -> Result<Option<CheapestWeek>, Fail>
+    requires { price ≤ 999999999 }
+{
+    if instance.nurses() == 0 {
+        return Ok(None);
+    }
+    let prices = monday_price(alloc, instance, price)?;
+    let mut known = Known::none(alloc)?;
+    Ok(cheapest_week(alloc, instance, &prices, Charging::Penalty, &mut known, 0)?)
+}
+
+// Her cost, the price that she is paid, and whether she works on Monday.
+fn parts_of(week: Option<CheapestWeek>) -> (u64, u64, bool) {
+    match week {
+        None => (0, 0, false),
+        Some(week) => (
+            week.cost,
+            week.paid,
+            matches!(week.duties.get(0), Some(Some(_))),
+        ),
+    }
+}
+
+// Nobody may have the cell on Monday that one nurse is wanted for. A bound is rounded up to a multiple of 5.
+#[test]
+fn prices_prove_bounds(rt: HostRuntime) -> Result<(), Fail> {
+    let files = nobody_for_monday();
+    assert!(rt; bounds_of(rt.alloc(), &files, 0)? == (0, false));
+    assert!(rt; bounds_of(rt.alloc(), &files, 1)? == (5, true));
+    assert!(rt; bounds_of(rt.alloc(), &files, 40_000)? == (40, true));
+    assert!(rt; bounds_of(rt.alloc(), &files, 999_999_999)? == (1_000_000, true));
+    Ok(())
+}
+
+// A third day of work in a row costs Ann 30 points. She works if she is paid more, not if she is paid as much.
+#[test]
+fn cheapest_weeks_pay(rt: HostRuntime) -> Result<(), Fail> {
+    let instance = instance_of(rt.alloc(), &run_in_the_history())?;
+    assert!(rt; parts_of(anns_week(rt.alloc(), &instance, 30_000)?) == (0, 0, false));
+    assert!(rt; parts_of(anns_week(rt.alloc(), &instance, 40_000)?) == (30, 40_000, true));
+    Ok(())
+}
