@@ -18,12 +18,14 @@ abbrev pub place_bound : ℕ → Demand → ℕ → ℕ
 place_bound unit demand price =
     place_cost unit demand price (if nat_lt price (unit * optimum_weight) then max demand.minimum demand.optimal else demand.minimum)
 
--- the sums of the bounds of places: of a day's shift type, of a day, and of the week
+-- the sum of the bounds of all skills of a day's shift type
 abbrev pub bounds_of_shift : ℕ → Problem → Prices → (day shift : ℕ) → ℕ
 bounds_of_shift unit problem prices d s = sum_below problem.skills (λ k. place_bound unit (problem.demand d s k) (prices d s k))
 
+-- the sum of the bounds of all places of a day
 abbrev pub bounds_of_day : ℕ → Problem → Prices → ℕ → ℕ
 bounds_of_day unit problem prices d = sum_below problem.shifts (bounds_of_shift unit problem prices d)
 
+-- the sum of the bounds of all places of the week
 abbrev pub place_bounds : ℕ → Problem → Prices → ℕ
 place_bounds unit problem prices = sum_below DAYS (bounds_of_day unit problem prices)
