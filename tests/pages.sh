@@ -137,7 +137,7 @@ lengths_hold() {
         words=$(wc -w < "$page")
         [ "$words" -le "$most" ] || complain "$words words, at most $most"
     done << END
-README.md 900
+README.md 700
 CONTRIBUTING.md 800
 examples/README.md 320
 bench/README.md 650
@@ -146,12 +146,12 @@ docs/answers.md 1550
 docs/changing.md 900
 docs/embedding.md 1850
 docs/formats.md 1150
-docs/helpers.md 1500
-docs/layers.md 500
+docs/helpers.md 1100
+docs/layers.md 550
 docs/model.md 1750
-docs/promises.md 650
-docs/proved.md 1750
-docs/reading.md 3000
+docs/promises.md 700
+docs/proved.md 1800
+docs/reading.md 3250
 docs/rules.md 1450
 docs/solvers.md 1450
 docs/tested.md 800
