@@ -25,7 +25,7 @@ from .week_search import WeekSearch
 SECONDS = 120.0
 
 
-class Outcome:
+class SearchResult:
     """The result of a search: the report of the best roster, and the lower bound or None, with what proved or computed it.
 
     `proved` says whether no roster costs less, `stopped` whether the user stopped the search; `fault` is the fault that ended it.
@@ -55,7 +55,7 @@ class Outcome:
 
 def improve(
     files: WeekFiles, solution: Path, *, start: Optional[Path] = None, seconds: float = SECONDS, solver: Optional[str] = None, prices: Optional[Path] = None
-) -> Outcome:
+) -> SearchResult:
     """Searches for these seconds, writes the best roster to `solution`, and returns its report and lower bound.
 
     `start` is the roster to begin with, `solver` a command that solves the whole week in place of the search over rows, and
@@ -72,7 +72,7 @@ def improve(
 
 def search(
     files: WeekFiles, solution: Path, start: Optional[Path], seconds: float, solver: Optional[str], prices: Optional[Path], progress: Progress
-) -> Outcome:
+) -> SearchResult:
     """As `improve`, with its progress printed. A fault is raised only if there is no roster; a signal is no fault."""
     clock = Clock(seconds)
     inputs = (files.scenario, files.history, files.week, files.fix)
@@ -103,13 +103,13 @@ def search(
         finally:
             progress.finish()
             shutil.rmtree(folder, ignore_errors=True)
-        outcome = _outcome(best, running, bool(signals.caught), fault, seconds)
+        outcome = _result(best, running, bool(signals.caught), fault, seconds)
         if best.breaks():
             progress.warn(f"no roster was found that keeps every absence: {in_words(best.breaks())}")
         return outcome
 
 
-def _outcome(best: BestRoster, running: WeekSearch, stopped: bool, fault: Optional[BaseException], seconds: float) -> Outcome:
+def _result(best: BestRoster, running: WeekSearch, stopped: bool, fault: Optional[BaseException], seconds: float) -> SearchResult:
     """The result of a search that has ended. Without a roster it is a ProgramFault that says why."""
     bound = running.bound
     best.proved = best.penalty is not None and (bool(running.claimed_by) or (bound is not None and best.penalty <= bound.points))
@@ -121,7 +121,7 @@ def _outcome(best: BestRoster, running: WeekSearch, stopped: bool, fault: Option
         if stopped and not (isinstance(fault, OSError) or isinstance(fault, ProgramFault)):
             raise ProgramFault(NO_ROSTER, "stopped before the first roster")
         raise fault or ProgramFault(NO_ROSTER, f"no roster was found in {round(seconds, 1):g} s: give it more time")
-    return Outcome(report, running, best.proved, stopped, fault)
+    return SearchResult(report, running, best.proved, stopped, fault)
 
 
 def held_rows(fix: Path, week: Week, progress: Progress) -> Sequence[Assignment]:
