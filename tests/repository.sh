@@ -22,7 +22,8 @@ weeks_are_made() {
     examples/make_weeks.py "$room/weeks"
     for folder in "$room"/weeks/*/; do
         name=$(basename "$folder")
-        diff -r "$folder" "examples/$name" > "$room/diff" || complain "examples/$name: $(head -n 5 "$room/diff")"
+        # The prices of a week come from a search, and tests/bound.sh checks what they prove.
+        diff -r -x prices.txt "$folder" "examples/$name" > "$room/diff" || complain "examples/$name: $(head -n 5 "$room/diff")"
     done
     for name in second60 second120; do
         bench/weeks.py period "${name#second}" "$room/$name"
