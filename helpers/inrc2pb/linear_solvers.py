@@ -188,12 +188,6 @@ def installed() -> List[str]:
     return [name for name in ("cbc", "clp", "glpsol") if shutil.which(name)]
 
 
-def find_linear_solver(processes: Processes, folder: Path) -> Optional[LinearSolver]:
-    """The first one that is installed."""
-    names = installed()
-    return LinearSolvers(names, processes, folder, lambda warning: None) if names else None
-
-
 class LinearSolvers(LinearSolver):
     """Several solvers: after some faults in a row the next one is used. The faults of the last one are raised."""
 
