@@ -120,7 +120,9 @@ def _result(best: BestRoster, running: WeekSearch, stopped: bool, fault: Optiona
     if not report:
         if stopped and not (isinstance(fault, OSError) or isinstance(fault, ProgramFault)):
             raise ProgramFault(NO_ROSTER, "stopped before the first roster")
-        raise fault or ProgramFault(NO_ROSTER, f"no roster was found in {round(seconds, 1):g} s: give it more time")
+        late = f"no roster was found in {round(seconds, 1):g} s: give it more time"
+        ended = "no roster was found, and no proof that none exists: try --solver clasp"
+        raise fault or ProgramFault(NO_ROSTER, ended if running.has_time else late)
     return SearchResult(report, running, best.proved, stopped, fault)
 
 
