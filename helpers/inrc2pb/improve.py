@@ -1,6 +1,7 @@
 """Finds the best roster for a week, or improves one, and says how much better one could be."""
 
 import argparse
+import os
 import shutil
 import sys
 import tempfile
@@ -12,7 +13,7 @@ from .best_roster import BestRoster
 from .bounds import PROVER
 from .clock import Clock
 from .command import add_solver_option, add_week_options, check_seconds, number_of_seconds, parser, week_files
-from .faults import ProgramFault
+from .faults import Misuse, ProgramFault
 from .files import Assignment, Week, read_files
 from .interrupts import interrupts
 from .misfits import read_held
@@ -86,6 +87,8 @@ def search(
             check_no_pipe_is_written(target)
             check_target(target)
             check_inputs_stay(inputs, target, what)
+    if prices and os.path.realpath(solution) == os.path.realpath(prices) != os.devnull:
+        raise Misuse(f"{prices} gets the roster, so the prices cannot be written to it: choose another file")
     best = BestRoster(files, week, solution, progress.improved)
     running = WeekSearch(files, week, held, best, clock, progress)
     fault: Optional[BaseException] = None
