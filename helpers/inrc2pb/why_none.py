@@ -13,7 +13,7 @@ from .absences import absences_of, in_words, wishes_of, working_while_away
 from .faults import Misuse, ProgramFault
 from .demand import hindrance
 from .files import DAYS, Assignment, Limits, Place, Requirement, Scenario, Week, WeekData, read_solution, scenario_text, week_text, write_text
-from .improve import Outcome, improve
+from .improve import SearchResult, improve
 from .program import NO_ROSTER, WeekFiles
 from .rules import numbers
 
@@ -52,7 +52,7 @@ def why_none(files: WeekFiles, week: Week) -> Iterator[str]:
         yield f"{in_words(working)}, though away: no roster keeps every absence, even without minimum numbers; look at --fix"
 
 
-def _solve(files: WeekFiles, roster: Path) -> Outcome:
+def _solve(files: WeekFiles, roster: Path) -> SearchResult:
     """Writes a roster that lowers few numbers; if it is proved, none lowers fewer."""
     try:
         return improve(files, roster, seconds=SECONDS)
@@ -62,7 +62,7 @@ def _solve(files: WeekFiles, roster: Path) -> Outcome:
         raise
 
 
-def _missing(week: Week, rows: Sequence[Assignment], found: Outcome) -> Iterator[str]:
+def _missing(week: Week, rows: Sequence[Assignment], found: SearchResult) -> Iterator[str]:
     number = numbers(rows)
     short = {place: asked.minimum - number[place] for place, asked in week.data.requirements.items() if number[place] < asked.minimum}
     away = absences_of(week.data)
