@@ -88,7 +88,11 @@ def run_line(line: str) -> Result:
 
 def _setting(line: str) -> str:
     """A line without its seed and the names of files that other lines share with it or that it writes."""
-    words = shlex.split(line)
+    try:
+        words = shlex.split(line)
+    except ValueError:
+        # Its quotes are wrong, so the shell did not run it either.
+        return line
     kept = [word for before, word in zip(["", *words], words) if word not in HIDDEN and before not in HIDDEN]
     return " ".join(kept)
 

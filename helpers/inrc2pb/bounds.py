@@ -42,7 +42,7 @@ class Bound:
 
 
 class Bounds:
-    """The bounds of a week. `target` is the file that gets the prices of the last one, if any. After a fault of `inrc2pb-bound`, which
+    """The bounds of a week. `target` is the file that gets the prices of the best one, if any. After a fault of `inrc2pb-bound`, which
     `warn` gets, bounds are computed in plain Python."""
 
     def __init__(self, files: WeekFiles, scenario: Scenario, places: Sequence[Place], target: Optional[Path], warn: Callable[[str], None]) -> None:
@@ -57,21 +57,23 @@ class Bounds:
             self._seen = prices
             proved = re.match("lower bound ([0-9]+)\n", self._prove(prices) or "")
             found = Bound(int(proved[1]), PROVER) if proved else Bound(plain(), PLAIN)
-            if self._target:
-                write_text(self._target, prices_text(self._scenario, self._places, prices))
             if self._best is None or found.points > self._best.points:
                 self._best = found
+                self._write(prices)
         return self._best
 
     def no_roster(self, places: Sequence[Place], prices: Prices) -> Optional[str]:
         """What proved by these prices that no roster keeps the minimums; None if they do not prove it."""
         self._places = places
-        if self._target:
-            write_text(self._target, prices_text(self._scenario, places, prices))
+        self._write(prices)
         answer = self._prove(prices, "--minimums")
         if answer is None:
             return PLAIN
         return PROVER if answer.startswith("no roster exists") else None
+
+    def _write(self, prices: Prices) -> None:
+        if self._target:
+            write_text(self._target, prices_text(self._scenario, self._places, prices))
 
     def _prove(self, prices: Prices, *words: str) -> Optional[str]:
         """What `inrc2pb-bound` prints; None without it."""

@@ -1,6 +1,7 @@
 """Finds the best roster for a week, or improves one, and says how much better one could be."""
 
 import argparse
+import os
 import shutil
 import sys
 import tempfile
@@ -12,7 +13,7 @@ from .best_roster import BestRoster
 from .bounds import PROVER
 from .clock import Clock
 from .command import add_solver_option, add_week_options, check_seconds, number_of_seconds, parser, week_files
-from .faults import ProgramFault
+from .faults import Misuse, ProgramFault
 from .files import Assignment, Week, read_files
 from .interrupts import interrupts
 from .misfits import read_held
@@ -86,6 +87,8 @@ def search(
             check_no_pipe_is_written(target)
             check_target(target)
             check_inputs_stay(inputs, target, what)
+    if prices and os.path.realpath(solution) == os.path.realpath(prices) != os.devnull:
+        raise Misuse(f"{prices} gets the roster, so the prices cannot be written to it: choose another file")
     best = BestRoster(files, week, solution, progress.improved)
     running = WeekSearch(files, week, held, best, clock, progress)
     fault: Optional[BaseException] = None
@@ -103,13 +106,13 @@ def search(
         finally:
             progress.finish()
             shutil.rmtree(folder, ignore_errors=True)
-        outcome = _result(best, running, bool(signals.caught), fault, seconds)
+        outcome = _result(best, running, bool(signals.caught), fault, clock)
         if best.breaks():
             progress.warn(f"no roster was found that keeps every absence: {in_words(best.breaks())}")
         return outcome
 
 
-def _result(best: BestRoster, running: WeekSearch, stopped: bool, fault: Optional[BaseException], seconds: float) -> SearchResult:
+def _result(best: BestRoster, running: WeekSearch, stopped: bool, fault: Optional[BaseException], clock: Clock) -> SearchResult:
     """The result of a search that has ended. Without a roster it is a ProgramFault that says why."""
     bound = running.bound
     best.proved = best.penalty is not None and (bool(running.claimed_by) or (bound is not None and best.penalty <= bound.points))
@@ -120,7 +123,9 @@ def _result(best: BestRoster, running: WeekSearch, stopped: bool, fault: Optiona
     if not report:
         if stopped and not (isinstance(fault, OSError) or isinstance(fault, ProgramFault)):
             raise ProgramFault(NO_ROSTER, "stopped before the first roster")
-        raise fault or ProgramFault(NO_ROSTER, f"no roster was found in {round(seconds, 1):g} s: give it more time")
+        if clock.left():
+            raise fault or ProgramFault(NO_ROSTER, "the search ended with no roster, and with no proof that there is none: try another solver, as --solver clasp")
+        raise fault or ProgramFault(NO_ROSTER, f"no roster was found in {round(clock.limit - clock.began, 1):g} s: give it more time")
     return SearchResult(report, running, best.proved, stopped, fault)
 
 

@@ -6,10 +6,9 @@ from typing import Callable, Dict, Iterable, Optional
 from .command import parser
 from .faults import Misuse
 from .files import Assignment, History, NurseHistory, Scenario, history_text, read_history, read_scenario, read_solution, write_text
+from .rules import SATURDAY, SUNDAY
 from .slots import MAX_NUMBER
 from .targets import check_inputs_stay
-
-SATURDAY, SUNDAY = 5, 6
 
 
 def _length_on_sunday(has: Callable[[int], bool], before: int) -> int:

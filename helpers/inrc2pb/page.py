@@ -5,7 +5,7 @@ from typing import Dict, Iterator, List, Optional
 from .charge_words import costs_text, in_words
 from .dates import date_text
 from .hints import plural
-from .markup import Markup, element, escaped, joined
+from .markup import Markup, element, joined
 from .page_tables import Content, RosterTable, changes_table, coverage_tables, plain, totals_table, wishes_table
 from .roster_text import COLORS, ink_on
 from .rules import Charge, cost_by_rule

@@ -4,7 +4,7 @@ import datetime
 import re
 from typing import Collection, Dict, Iterator, List, NamedTuple, Optional, Tuple
 
-from .absences import Absence, readable
+from .absences import Absence, is_broken_by, readable
 from .hints import plural
 from .records import DAYS, Assignment, Place, Request, Requirement, Scenario
 from .sheet_files import Book
@@ -60,7 +60,7 @@ def read_days(book: Book) -> Days:
     for at, (cell, date) in enumerate(zip(columns, dates)):
         if cell.column != columns[0].column + at:
             cell.fault("an empty head is before this column: delete the empty column")
-        if date and monday and date != monday + datetime.timedelta(days=at):
+        if date and monday and (date - monday).days != at:
             cell.fault(f"{date} does not follow the day before: write one column for each day")
         if bool(date) != bool(monday):
             cell.fault(f"'{cell.text}' has {'a date' if date else 'no date'}, unlike the first day: write dates for all days or for none")
@@ -178,13 +178,9 @@ def check_held(ward: Ward, weeks: List[WeekSheet]) -> None:
             before, on = last[nurse]
             if before is not None and on == day - 1 and shift in ward.scenario.shift_types[before].forbidden_next:
                 held.cell.fault(f"{readable(nurse)} may not work {readable(shift)} on the day after {readable(before)}: change one of the two")
-            if _is_away(week.absences, held.row):
+            if is_broken_by(week.absences, held.row):
                 held.cell.fault(f"{readable(nurse)} never works this shift or is always off on this day, by the sheet nurses: change one of the two")
             last[nurse] = (shift, day)
-
-
-def _is_away(absences: Collection[Absence], row: Assignment) -> bool:
-    return any(one.nurse == row.nurse and one.day == row.day and one.shift in (None, row.shift) for one in absences)
 
 
 def days_away(weeks: List[WeekSheet], reasons: Collection[str]) -> Iterator[Tuple[str, int]]:

@@ -21,11 +21,6 @@ LONGEST_RUN = 600.0
 _READ_OPTIONS = ("--sce", "--his", "--week", "--fix", "--from")
 
 
-def is_file_fault(fault: BaseException) -> bool:
-    """Whether the fault is that a file could not be read or written."""
-    return isinstance(fault, OSError) or (isinstance(fault, ProgramFault) and fault.status == READ_OR_WRITE)
-
-
 @dataclass(frozen=True)
 class WeekFiles:
     """The files of a week, and the options that each command needs alike."""

@@ -8,6 +8,7 @@ import csv
 import datetime
 import errno
 import io
+import struct
 import zipfile
 import zlib
 from pathlib import Path
@@ -22,9 +23,10 @@ MAX_ROWS, MAX_COLUMNS = 5000, 1000
 _SEPARATORS = (";", ",", "\t")
 # The first bytes of an Excel file before 2007, and of a zip file.
 _OLD_EXCEL, _ZIP = b"\xd0\xcf\x11\xe0", b"PK"
-# What the library raises for wrong bytes. OSError is for a place before the file's begin.
+# What the library raises for wrong bytes, and for elements that are nested too deep. OSError is for a place before the file's begin.
 _DAMAGED = (
-    zipfile.BadZipFile, zlib.error, ElementTree.ParseError, expat.ExpatError, LookupError, ValueError, EOFError, NotImplementedError, OSError,
+    zipfile.BadZipFile, zlib.error, struct.error, ElementTree.ParseError, expat.ExpatError, LookupError, ValueError, EOFError, NotImplementedError,
+    RecursionError, OSError,
 )  # fmt: skip
 Rows = List[List[str]]
 
@@ -81,8 +83,11 @@ class Parts:
 
     def read(self, name: str) -> ElementTree.Element:
         """The root of a part."""
-        if self._archive.getinfo(name).flag_bits & 1:
+        info = self._archive.getinfo(name)
+        if info.flag_bits & 1:
             raise FileFault(self._path, 0, "the spreadsheet has a password: save it without one")
+        if info.compress_type not in (zipfile.ZIP_STORED, zipfile.ZIP_DEFLATED):
+            raise zipfile.BadZipFile("no program compresses a spreadsheet like this")
         with self._archive.open(name) as part:
             data = part.read(MAX_BYTES + 1)
         if len(data) > MAX_BYTES:
@@ -138,7 +143,7 @@ def _read_csv(path: Path) -> Rows:
         separator = max(_SEPARATORS, key=lambda sign: next(filter(str.strip, text.split("\n")), "").count(sign))
     try:
         rows = list(csv.reader(io.StringIO(text, newline=""), delimiter=separator))
-    except csv.Error as fault:
+    except (csv.Error, ValueError) as fault:
         raise FileFault(path, 0, f"this is no CSV file ({fault}): save the sheet again as CSV") from fault
     if len(rows) > MAX_ROWS or any(len(row) > MAX_COLUMNS for row in rows):
         raise FileFault(path, 0, f"the file has more than {MAX_ROWS} rows or {MAX_COLUMNS} columns: delete those that are no part of the ward")

@@ -38,17 +38,24 @@ def search_seconds(timeout: float, used: float) -> float:
     return max(LEAST_SECONDS, timeout - max(END_SECONDS, END_SHARE * timeout) - used)
 
 
-def plan_ahead(weeks: PlannedWeeks, solution: Path, seconds: float) -> Report:
-    """Plans the week, which is the first of all weeks that are left, and writes its roster."""
+def plan_ahead(weeks: PlannedWeeks, solution: Path, seconds: float) -> Tuple[Report, Optional[BaseException]]:
+    """Plans the week, which is the first of all weeks that are left, and writes its roster. Also returns the fault that ended the search
+    after the roster was found."""
     week = weeks.history.week
 
     def keep(cells: Sequence[Assignment]) -> None:
         write_solution(solution, Solution(week, weeks.scenario.name, tuple(cell for cell in cells if cell.day < 7)))
 
     running = PeriodSearch(weeks, keep, Clock(seconds), Progress(None))
+    fault: Optional[BaseException] = None
     with interrupts() as signals, signals.calling(running.interrupt):
-        running.run()
-    return extend(weeks.week_files(week), solution)[1]
+        try:
+            running.run()
+        except Exception as found:
+            if running.penalty is None:
+                raise
+            fault = found
+    return extend(weeks.week_files(week), solution)[1], fault
 
 
 def _planned(given: argparse.Namespace, weeks: PlannedWeeks, seconds: float) -> Tuple[Report, Optional[BaseException]]:
@@ -56,7 +63,7 @@ def _planned(given: argparse.Namespace, weeks: PlannedWeeks, seconds: float) -> 
     if weeks.later() and not given.solver:
         check_target(given.sol.absolute())
         check_inputs_stay(weeks.files.all(), given.sol, "the roster")
-        return plan_ahead(weeks, given.sol, seconds), None
+        return plan_ahead(weeks, given.sol, seconds)
     files = WeekFiles(given.sce, given.his, given.week, early=bool(given.solver))
     outcome = search(files, given.sol, None, seconds, given.solver, None, Progress(None))
     return outcome.report, outcome.fault

@@ -13,7 +13,7 @@ from .absences import absences_of, in_words, wishes_of, working_while_away
 from .faults import Misuse, ProgramFault
 from .demand import hindrance
 from .files import DAYS, Assignment, Limits, Place, Requirement, Scenario, Week, WeekData, read_solution, scenario_text, week_text, write_text
-from .improve import improve
+from .improve import SearchResult, improve
 from .program import NO_ROSTER, WeekFiles
 from .rules import numbers
 
@@ -44,34 +44,36 @@ def why_none(files: WeekFiles, week: Week) -> Iterator[str]:
         scenario, data, roster = (folder / part for part in ("scenario.txt", "week.txt", "roster.txt"))
         write_text(scenario, scenario_text(easy.scenario))
         write_text(data, week_text(easy.data))
-        proved = _solve(replace(files, scenario=scenario, week=data, early=False), roster)
+        found = _solve(replace(files, scenario=scenario, week=data, early=False), roster)
         rows = read_solution(roster).assignments
-    yield from _missing(week, rows, proved)
+    yield from _missing(week, rows, found)
     working = working_while_away(absences_of(week.data), rows)
     if working:
         yield f"{in_words(working)}, though away: no roster keeps every absence, even without minimum numbers; look at --fix"
 
 
-def _solve(files: WeekFiles, roster: Path) -> bool:
-    """Writes a roster that lowers few numbers; returns whether none lowers fewer."""
+def _solve(files: WeekFiles, roster: Path) -> SearchResult:
+    """Writes a roster that lowers few numbers; if it is proved, none lowers fewer."""
     try:
-        return improve(files, roster, seconds=SECONDS).proved
+        return improve(files, roster, seconds=SECONDS)
     except ProgramFault as fault:
         if fault.status == NO_ROSTER and fault.message.startswith("no roster keeps"):
             raise Misuse("even without minimum numbers there is no roster: the cause is a shift that --fix holds, so look at its file") from fault
         raise
 
 
-def _missing(week: Week, rows: Sequence[Assignment], proved: bool) -> Iterator[str]:
+def _missing(week: Week, rows: Sequence[Assignment], found: SearchResult) -> Iterator[str]:
     number = numbers(rows)
     short = {place: asked.minimum - number[place] for place, asked in week.data.requirements.items() if number[place] < asked.minimum}
-    kept = ", and keeps every absence" if absences_of(week.data) else ""
+    away = absences_of(week.data)
+    kept = ", and keeps every absence" if away and not working_while_away(away, rows) else ""
     if not short:
         yield f"A roster exists that meets all minimum numbers{kept}."
         return
     lowered = sum(short.values())
-    if proved:
-        yield f"No roster meets all minimum numbers{kept}. Lower these by {lowered} in all; no roster can do with less:"
+    if found.proved:
+        says = f", says {found.claimed_by}" if found.claimed_by else ""
+        yield f"No roster meets all minimum numbers{kept}. Lower these by {lowered} in all; no roster can do with less{says}:"
     else:
         yield f"These minimum numbers, lowered by {lowered} in all, have a roster{kept}; fewer may be enough:"
     for place in short:

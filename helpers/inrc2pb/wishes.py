@@ -5,6 +5,7 @@ import re
 from typing import Collection, Iterator, List, NamedTuple, NoReturn, Optional, Sequence, Tuple
 
 from .absences import Absence
+from .dates import read_monday
 from .faults import Misuse
 from .hints import quoted
 from .records import DAYS, Scenario
@@ -26,9 +27,7 @@ class Wording:
     def __init__(self, scenario: Scenario, weeks: int, monday: Optional[str]) -> None:
         self.scenario = scenario
         self.weeks = weeks
-        self.monday = None if monday is None else _date(f"--monday {monday}", monday)
-        if self.monday and self.monday.weekday():
-            raise Misuse(f"--monday {monday} is a {_long_name(self.monday)}: give the date of the first week's Monday")
+        self.monday = None if monday is None else read_monday(monday, weeks)
 
     def away(self, text: str) -> Iterator[Dated]:
         """`NURSE`, or `NURSE=DAYS`: away on these days or dates, or in all weeks."""
@@ -97,10 +96,6 @@ def _date(where: str, text: str) -> datetime.date:
         return datetime.date.fromisoformat(text)
     except ValueError:
         raise Misuse(f"{where}: '{text}' is no date: write year, month and day, such as 2026-11-30") from None
-
-
-def _long_name(day: datetime.date) -> str:
-    return ("Monday", "Tuesday", "Wednesday", "Thursday", "Friday", "Saturday", "Sunday")[day.weekday()]
 
 
 def _unknown(where: str, word: str, kind: str, names: Collection[str]) -> NoReturn:

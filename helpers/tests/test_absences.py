@@ -138,8 +138,8 @@ class Wish(HelperTest):
             (("--away", "Chan=Fri"), "--away Chan=Fri: 'Chan' is no nurse: did you mean Chen?"),
             (("--away", "Chen=Friday"), "--away Chen=Friday: 'Friday' is no day: did you mean Fri?"),
             (("--away", "Chen=2026-12-04"), "--away Chen=2026-12-04: a date needs --monday, the date of the first week's Monday"),
-            (("--monday", "2026-12-01", "--away", "Chen"), "--monday 2026-12-01 is a Tuesday: give the date of the first week's Monday"),
-            (("--monday", "30.11.", "--away", "Chen"), "--monday 30.11.: '30.11.' is no date: write year, month and day, such as 2026-11-30"),
+            (("--monday", "2026-12-01", "--away", "Chen"), "--monday 2026-12-01: this is a Tuesday: give a Monday, such as 2026-11-30"),
+            (("--monday", "30.11.", "--away", "Chen"), "--monday 30.11.: this is no date: give year, month and day, such as 2026-11-30"),
             (
                 ("--monday", "2026-11-30", "--away", "Chen=2026-12-09"),
                 "--away Chen=2026-12-09: 2026-12-09 is not in the week from 2026-11-30 to 2026-12-06",

@@ -9,12 +9,15 @@ import sys
 import threading
 import time
 import unittest
+from unittest import mock
 
-from ward import EARLY_ANSWER, HAS_CBC, HELPERS, ROOT, ROSTER, SCENARIO, THIRTY_FILES, WEEK, WEEK_FILES, WEEK_OPTIONS
-from ward import HelperTest, program, run
+from ward import EARLY_ANSWER, HAS_CBC, HELPERS, HISTORY, ROOT, ROSTER, SCENARIO, THIRTY_FILES, WEEK, WEEK_FILES, WEEK_OPTIONS
+from ward import HelperTest, files, program, run
 
+from inrc2pb import bounds
 from inrc2pb.bounds import PLAIN, PROVER
 from inrc2pb.improve import improve, search
+from inrc2pb.plan import Plan
 from inrc2pb.progress import Progress
 
 
@@ -46,6 +49,16 @@ class Searches(HelperTest):
         self.assertIn("penalty 20", progress)
         self.assertEqual(program.penalty_of(WEEK_FILES, self.target), 20)
         self.assertTrue(prices.read_text().startswith("PRICES\nward\n\nROWS = "))
+
+    def test_the_file_of_prices_has_those_of_the_best_bound(self):
+        week, target = files.read_files(SCENARIO, HISTORY, WEEK), self.folder / "prices.txt"
+        plan = Plan.of(week.scenario, week.history, [week.data])
+        with mock.patch.object(bounds, "find_prover", lambda: None):
+            found = bounds.Bounds(WEEK_FILES, plan.scenario, list(plan.demand), target, self.fail)
+        for price, points in ((7, 20), (8, 10)):
+            self.assertEqual(found.of([price] * len(plan.demand), lambda: points).points, 20)
+        self.assertIn(" 7 7 ", target.read_text())
+        self.assertNotIn(" 8 8 ", target.read_text())
 
     @unittest.skipUnless(HAS_CBC, "needs cbc")
     def test_it_finds_the_best_roster_from_a_worse_one(self):
@@ -118,6 +131,9 @@ class BadInput(HelperTest):
         self.assert_refused(3, "no_folder", *WEEK_OPTIONS, "--sol", self.folder / "no_folder" / "best.txt")
         kept = shutil.copy(ROSTER, self.folder / "kept.txt")
         self.assert_refused(1, f"{kept} is read, so the roster cannot be written to it", *WEEK_OPTIONS, "--sol", kept, "--fix", kept)
+        self.assert_refused(1, "gets the roster, so the prices cannot be written to it", *WEEK_OPTIONS, *target, "--prices", self.folder / "best.txt")
+        says = "the search ended with no roster, and with no proof that there is none: try another solver, as --solver clasp"
+        self.assert_refused(5, says, *WEEK_OPTIONS, *target, "--solver", "sh -c 'echo s UNKNOWN'")
         for seconds in ("nan", "inf", 0, "1e12"):
             line = "inrc2pb-improve: --time has to be a number of seconds above 0, and at most 10000000\n"
             self.assert_refused(1, line, *WEEK_OPTIONS, *target, "--time", seconds)

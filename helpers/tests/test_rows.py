@@ -3,13 +3,15 @@
 import itertools
 import random
 import unittest
+from dataclasses import replace
 
 from ward import ROOT, files
 
+from inrc2pb.absences import MARK
 from inrc2pb.clock import Clock, TimeIsOver
 from inrc2pb.next_history import next_history
 from inrc2pb.plan import Plan
-from inrc2pb.pricing import Crews, Pricing
+from inrc2pb.pricing import Crews, Pricing, plain_bound
 from inrc2pb.rules import broken, costs, first_broken, nurse_costs
 from inrc2pb.skills import staffed
 
@@ -109,6 +111,18 @@ class Rows(unittest.TestCase):
                     total = sum(costs(week, roster.cells, plan.early).values())
                     self.assertLessEqual(bound, total * POINT)
                     self.assertEqual(total, sum(pricing.cost(at, row) for at, row in enumerate(rows)) + 30 * roster.missing)
+
+    def test_a_bound_counts_rosters_that_break_absences(self):
+        for seed in range(10):
+            plan, chance = random_plan(seed)
+            away = files.Request(chance.choice(plan.nurses), None, chance.randrange(7))
+            data = [replace(plan.weeks[0], requests=(away,) * MARK)]
+            keeping, free = (Plan.of(plan.scenario, plan.history, data, plan.early, keeps=keeps) for keeps in (True, False))
+            self.assertTrue(keeping.is_away(away.nurse, away.day, next(iter(plan.scenario.shift_types))))
+            pricing = pricing_of(keeping)
+            prices = [chance.choice([0, 30, 900]) * POINT for _ in pricing.crews.places]
+            self.assertEqual(plain_bound(pricing.without_absences(), prices), plain_bound(pricing_of(free), prices))
+            self.assertLessEqual(plain_bound(pricing.without_absences(), prices), plain_bound(pricing, prices))
 
     def test_skills_fill_as_many_places_as_they_can(self):
         for seed in range(200):

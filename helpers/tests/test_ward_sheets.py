@@ -117,6 +117,13 @@ def excel(path, sheets, dates=False):
         for name, text in parts.items():
             archive.writestr(name, f'<?xml version="1.0" encoding="UTF-8"?>\n{text}')
 
+# A sheet with text in elements that are nested too deep.
+DEEP = (
+    '<x xmlns:table="urn:oasis:names:tc:opendocument:xmlns:table:1.0" xmlns:text="urn:oasis:names:tc:opendocument:xmlns:text:1.0">'
+    f"<table:table><table:table-row><table:table-cell><text:p>{'<text:span>' * 3000}{'</text:span>' * 3000}</text:p>"
+    "</table:table-cell></table:table-row></table:table></x>"
+)
+
 
 class Formats(HelperTest):
     def setUp(self):
@@ -178,6 +185,7 @@ class Formats(HelperTest):
             ("bomb.ods", {"content.xml": bomb}, "the spreadsheet has a document type, which no program writes: save it again with LibreOffice or Excel"),
             ("bomb16.ods", {"content.xml": bomb.encode("utf-16")}, "the spreadsheet has a document type, which no program writes: save it again with LibreOffice or Excel"),
             ("wrong.ods", {"content.xml": "<x>"}, "the spreadsheet is damaged or has a password: open it in its program, and save it again without one"),
+            ("deep.ods", {"content.xml": DEEP}, "the spreadsheet is damaged or has a password: open it in its program, and save it again without one"),
             ("large.ods", {"content.xml": "<x>" + " " * 33_554_432 + "</x>"}, "the spreadsheet has more than 33554432 bytes of XML: delete what is no part of the ward"),
         ):
             path = self.folder / name
