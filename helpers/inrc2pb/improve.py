@@ -106,13 +106,13 @@ def search(
         finally:
             progress.finish()
             shutil.rmtree(folder, ignore_errors=True)
-        outcome = _result(best, running, bool(signals.caught), fault, clock)
+        outcome = _result(best, running, bool(signals.caught), fault, seconds)
         if best.breaks():
             progress.warn(f"no roster was found that keeps every absence: {in_words(best.breaks())}")
         return outcome
 
 
-def _result(best: BestRoster, running: WeekSearch, stopped: bool, fault: Optional[BaseException], clock: Clock) -> SearchResult:
+def _result(best: BestRoster, running: WeekSearch, stopped: bool, fault: Optional[BaseException], seconds: float) -> SearchResult:
     """The result of a search that has ended. Without a roster it is a ProgramFault that says why."""
     bound = running.bound
     best.proved = best.penalty is not None and (bool(running.claimed_by) or (bound is not None and best.penalty <= bound.points))
@@ -123,9 +123,9 @@ def _result(best: BestRoster, running: WeekSearch, stopped: bool, fault: Optiona
     if not report:
         if stopped and not (isinstance(fault, OSError) or isinstance(fault, ProgramFault)):
             raise ProgramFault(NO_ROSTER, "stopped before the first roster")
-        if clock.left():
-            raise fault or ProgramFault(NO_ROSTER, "the search ended with no roster, and with no proof that there is none: try another solver, as --solver clasp")
-        raise fault or ProgramFault(NO_ROSTER, f"no roster was found in {round(clock.limit - clock.began, 1):g} s: give it more time")
+        late = f"no roster was found in {round(seconds, 1):g} s: give it more time"
+        ended = "no roster was found, and no proof that none exists: try --solver clasp"
+        raise fault or ProgramFault(NO_ROSTER, ended if running.has_time else late)
     return SearchResult(report, running, best.proved, stopped, fault)
 
 

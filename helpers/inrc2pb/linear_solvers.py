@@ -15,6 +15,8 @@ INSTALL = "install one (Debian: apt-get install coinor-cbc)"
 MAX_FAULTS = 3
 # An answer beyond it is none.
 _MAX_VALUE = 1e15
+# With more rows of places and crews than this, cbc's simplex is faster after its "idiot" crash: nine times with 1800 of them.
+LARGE, LARGE_WORDS = 400, ("-idiot", "30", "-primalSimplex")
 # Seconds that cbc has beyond its own limit to write its answer.
 _WRITING = 1.0
 
@@ -99,7 +101,8 @@ class Coin(LinearSolver):
         self.name, self.chooses = name, name == "cbc"
 
     def relax(self, model: str, clock: Clock) -> Relaxed:
-        words = [self._model.name, "-initialSolve" if self.name == "cbc" else "-dualsimplex"]
+        large = model.count("\n G  ") > LARGE
+        words = [self._model.name, *(LARGE_WORDS if large else ["-initialSolve" if self.name == "cbc" else "-dualsimplex"])]
         ended = self._run(model, [*words, "-printingOptions", "all", "-solution", self._answer.name], clock, clock.left())
         clock.check()
         head, *lines = self._lines(ended)
@@ -183,12 +186,6 @@ def _names(model: str) -> "tuple[List[str], List[str]]":
 def installed() -> List[str]:
     """The names of those that are installed, in the order of use."""
     return [name for name in ("cbc", "clp", "glpsol") if shutil.which(name)]
-
-
-def find_linear_solver(processes: Processes, folder: Path) -> Optional[LinearSolver]:
-    """The first one that is installed."""
-    names = installed()
-    return LinearSolvers(names, processes, folder, lambda warning: None) if names else None
 
 
 class LinearSolvers(LinearSolver):

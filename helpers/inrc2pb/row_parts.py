@@ -90,8 +90,7 @@ class RowParts:
         part = RowSearch(whole.pricing.part(plan), solver, clock, offer, lambda: None)
         part.rows = [rows[nurse] for nurse in nurses]
         part.penalty = part.value_of(part.rows)
-        for nurse, row in enumerate(part.rows):
-            part.add_row(nurse, row)
+        part.add_roster(part.rows)
         part.generate(clock)
         if not part.is_proved:
             part.choose(part.known_within(), clock, f"{len(nurses)} nurses")

@@ -1,6 +1,6 @@
 """The program that chooses one known row for each nurse, as a linear or integer program in the MPS format."""
 
-from typing import Dict, Iterable, List, NamedTuple, Optional, Set, Tuple
+from typing import Dict, Iterable, List, NamedTuple, Optional, Sequence, Set, Tuple
 
 from .linear_solvers import Relaxed, SolverFault
 from .plan import POINT, Plan
@@ -48,12 +48,12 @@ class RowProgram:
         # Whether a column names the places of its row. Then the columns of a row have some of its places, and not all.
         self.names_places = sum(len(places) > 1 for places in crews.members) > MOST_LINKS
 
-    def add(self, nurse: int, row: Row, cost: int, prices: Prices) -> bool:
-        """Adds a row, if it is new. If columns name places, they are those of the highest prices."""
+    def add(self, nurse: int, row: Row, cost: int, prices: Prices, at: Sequence[Optional[int]] = ()) -> bool:
+        """Adds a row, if it is new. If columns name places, they are these on each day, or else those of the highest prices."""
         of = self._crews.of[nurse]
         crews = [of[day][choice] for day, choice in enumerate(row)]
         named = [self._crews.members[crew] for crew in crews]
-        places = tuple(self._crews.best_place(crew, prices) for crew in crews) if self.names_places else ()
+        places = tuple(at or (self._crews.best_place(crew, prices) for crew in crews)) if self.names_places else ()
         used = places if self.names_places else tuple(places[0] if len(places) == 1 else None for places in named)
         key = (nurse, row, tuple(-1 if place is None else place for place in places))
         if key in self._known:

@@ -13,11 +13,11 @@ from .row_parts import RowParts
 from .row_search import GIVEN, NoRow, Offer, RowSearch
 from .skills import staffed
 
-# The shares of the time that is left: for new rows before a dive, for the dive, for an integer program over the known rows, and over
-# all rows.
-ROWS_SHARE, DIVE_SHARE, KNOWN_SHARE, LISTED_SHARE = 0.5, 0.5, 0.1, 0.5
+# The shares of the time that is left: for new rows before a dive, for the dive, for one when no row is missing, for an integer program
+# over the known rows, and for one over all rows.
+ROWS_SHARE, DIVE_SHARE, LAST_DIVE_SHARE, KNOWN_SHARE, LISTED_SHARE = 0.5, 0.5, 0.8, 0.1, 0.5
 # The most rows of an integer program.
-MOST_LISTED = 40_000
+MOST_LISTED = 20_000
 Found = TypeVar("Found")
 
 
@@ -57,7 +57,7 @@ class RowRun:
             self._try(search.generate, ROWS_SHARE)
             if search.complete and search.misses_minimums and self._no_roster():
                 return
-            rows = self._try(search.dive, DIVE_SHARE)
+            rows = self._try(search.dive, LAST_DIVE_SHARE if search.complete else DIVE_SHARE)
             if rows:
                 search.keep(rows, "fixing rows")
         self._close_gap(search, self._solver)

@@ -13,6 +13,7 @@ from .first_rows import Descent
 from .linear_solvers import LinearSolver
 from .plan import POINT, STEP
 from .pricing import Priced, Prices, Pricing, Row, in_steps
+from .records import Place
 from .row_program import MOST_BELOW, RowProgram, Solved
 from .skills import staffed
 
@@ -100,8 +101,19 @@ class RowSearch:
                     break
         finally:
             self.keep(descent.rows, "one nurse after another")
-            for nurse, row in enumerate(descent.rows):
-                self.add_row(nurse, row)
+            self.add_roster(descent.rows)
+
+    def add_roster(self, rows: Sequence[Row]) -> None:
+        """Adds the rows of a roster, with the places at which its nurses are."""
+        crews = self.pricing.crews
+        numbers, names = {place: at for at, place in enumerate(crews.places)}, {nurse: at for at, nurse in enumerate(self.plan.nurses)}
+        places: List[List[Optional[int]]] = [[None] * self.plan.days for _ in rows]
+        for nurse, day, shift, skill in staffed(self.plan, crews, rows).cells:
+            places[names[nurse]][day] = numbers.get(Place(day, shift, skill))
+        for nurse_number, row in enumerate(rows):
+            cost = self.pricing.cost(nurse_number, row)
+            if cost is not None:
+                self.program.add(nurse_number, row, cost, self.prices, places[nurse_number])
 
     def add_row(self, nurse: int, row: Row) -> None:
         """Adds a row to the program, if no hard rule forbids it."""
@@ -257,6 +269,7 @@ class RowSearch:
             if len(found) > most:
                 return None
         for nurse, row in found:
+            clock.check()
             self.add_row(nurse, row)
         wanted = set(found)
         return [at for at, column in enumerate(self.program.columns) if (column.nurse, column.row) in wanted]

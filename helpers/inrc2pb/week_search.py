@@ -42,6 +42,11 @@ class WeekSearch:
         else:
             self._processes.stop()
 
+    @property
+    def has_time(self) -> bool:
+        """Whether time is left."""
+        return self._clock.left() > 0
+
     # ---- over rows
 
     def over_rows(self, folder: Path, start: Optional[Sequence[Assignment]], prices: Optional[Path]) -> None:
@@ -110,8 +115,6 @@ class WeekSearch:
         by = bounds.no_roster(*run.minimums) if run.minimums else None
         if by:
             raise ProgramFault(NO_ROSTER, f"no roster keeps the hard rules{held} ({by}): {why}")
-        if run.claimed:
-            raise ProgramFault(NO_ROSTER, f"no roster keeps the hard rules{held}, says {self.claimed_by}: {why}")
 
     # ---- by a user's own solver
 

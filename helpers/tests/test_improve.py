@@ -132,7 +132,7 @@ class BadInput(HelperTest):
         kept = shutil.copy(ROSTER, self.folder / "kept.txt")
         self.assert_refused(1, f"{kept} is read, so the roster cannot be written to it", *WEEK_OPTIONS, "--sol", kept, "--fix", kept)
         self.assert_refused(1, "gets the roster, so the prices cannot be written to it", *WEEK_OPTIONS, *target, "--prices", self.folder / "best.txt")
-        says = "the search ended with no roster, and with no proof that there is none: try another solver, as --solver clasp"
+        says = "no roster was found, and no proof that none exists: try --solver clasp"
         self.assert_refused(5, says, *WEEK_OPTIONS, *target, "--solver", "sh -c 'echo s UNKNOWN'")
         for seconds in ("nan", "inf", 0, "1e12"):
             line = "inrc2pb-improve: --time has to be a number of seconds above 0, and at most 10000000\n"
