@@ -38,9 +38,10 @@ proves_optima() {
     says 'five nurses' 'lower bound 320\npenalty 320\noptimal\n' "${five[@]}" "${prices[@]}" --roster five
     says 'five nurses without prices' 'lower bound 40\npenalty 320\n' "${five[@]}" --roster five
     says 'thirty nurses' 'lower bound 605\n' "${thirty[@]}" --prices "$examples/thirty/prices.txt"
-    for week in last60:460 last120:1005; do
-        local folder=$examples/${week%:*}
-        says "${week%:*}, where prices of 0 suffice" "lower bound ${week#*:}\n" \
+    local ward folder
+    for ward in last60:460 last120:1005; do
+        folder=$examples/${ward%:*}
+        says "${ward%:*}, where prices of 0 suffice" "lower bound ${ward#*:}\n" \
             --sce "$folder/ward.txt" --his "$folder/history-3.txt" --week "$folder/week-3.txt"
     done
     says 'eight nurses' 'no roster exists\n' "${eight[@]}" --minimums --prices "$examples/eight/prices.txt"
@@ -58,7 +59,8 @@ bounds_the_base() {
     says 'a held Wednesday' 'lower bound 0\npenalty 0\noptimal\n' "${week[@]}" --fix wednesday --roster wednesday
     says 'a shift type that nobody should work' 'lower bound 15\npenalty 15\noptimal\n' \
         --sce closed.txt --his history.txt --week week.txt --fix monday --roster monday
-    says 'a cell that may not be had' 'no roster exists\n' --sce two_shifts.txt --his history.txt --week nothing_asked.txt --fix both --minimums
+    says 'two held days, of which the second may not follow' 'no roster exists\n' \
+        --sce no_two.txt --his history.txt --week week.txt --fix two_days --minimums
 }
 
 refuses_files() {
@@ -120,8 +122,8 @@ checks_words() {
 }
 
 solution both_shifts 'Ann Mon Early Nurse' 'Ann Mon Late Nurse'
-cp "$room/both_shifts" "$room/both"
-cp "$room/week.txt" "$room/nothing_asked.txt"
+solution two_days "${all_days[@]:0:2}"
+changed scenario.txt no_two.txt 8 'Day 1 Day'
 proves_optima
 bounds_the_base
 refuses_files

@@ -86,10 +86,10 @@ def small_case(chance, number):
 
 
 def choices(week, nurse, day, held):
-    """Her cells of a day: none, or each that she may have."""
+    """Her cells of a day: none, or each that she may have. If two cells of a day are held, she may have either of them."""
     cells = [None, *((nurse, day, shift, skill) for shift in week.shifts for skill in week.nurses[nurse].skills)]
     fixed = {cell for cell in held if cell[:2] == (nurse, day)}
-    return [cell for cell in cells if fixed <= {cell}]
+    return [cell for cell in cells if cell in fixed] if fixed else cells
 
 
 def is_allowed(week, nurse, days):
@@ -108,8 +108,8 @@ def weeks_of(week, value, nurse, held, early):
         cells = [cell for cell in days if cell]
         shifts = tuple(cell and cell[2] for cell in days)
         if shifts not in costs:
-            counts = rules.nurse_counts(value, rules.shifts_by_day(rows(cells)), requests, nurse, early)
-            costs[shifts] = sum(count.times * count.weight for count in counts)
+            charges = rules.nurse_charges(value, rules.shifts_by_day(rows(cells)), requests, nurse, early)
+            costs[shifts] = sum(rules.cost_by_rule(charges).values())
         yield cells, costs[shifts]
 
 

@@ -142,7 +142,7 @@ CONTRIBUTING.md 800
 examples/README.md 320
 bench/README.md 650
 docs/DECISIONS.md 1250
-docs/answers.md 1550
+docs/answers.md 1570
 docs/changing.md 900
 docs/embedding.md 1850
 docs/formats.md 1150
