@@ -7,7 +7,7 @@ broken costs more than any roster that keeps them all. `savings` has the reason.
 
 import collections
 from dataclasses import replace
-from typing import Collection, Dict, FrozenSet, Iterable, List, NamedTuple, Optional, Sequence, Tuple
+from typing import Collection, Dict, FrozenSet, Iterable, List, NamedTuple, Optional, Tuple
 
 from .hints import plural
 from .records import DAYS, Assignment, Request, Scenario, WeekData

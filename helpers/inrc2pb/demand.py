@@ -20,7 +20,7 @@ def demand_warnings(scenario: Scenario, history: Optional[History], data: WeekDa
         yield f"{joined(days)}: {text}"
     asked, supplied = asked_shifts(data), supplied_shifts(scenario, history)
     if asked[0] > supplied[1]:
-        yield f"it asks for at least {asked[0]} shifts, and the contracts supply at most {supplied[1]} a week: each shift above costs points"
+        yield f"it asks for at least {asked[0]} shifts, and the contracts supply at most {supplied[1]} a week: if all weeks ask for so many, each shift above costs points"
 
 
 def asked_shifts(data: WeekData) -> Tuple[int, int]:

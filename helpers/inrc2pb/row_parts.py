@@ -9,7 +9,7 @@ from typing import Dict, List, Optional, Sequence
 
 from .clock import Clock, TimeIsOver
 from .linear_solvers import LinearSolver
-from .plan import POINT, WEEK_DAYS
+from .plan import WEEK_DAYS
 from .pricing import Row
 from .records import Place, Requirement
 from .row_search import RowSearch

@@ -8,7 +8,7 @@ all rows that a better roster can have.
 import math
 from typing import Callable, Dict, List, Optional, Sequence, Tuple
 
-from .clock import Clock, TimeIsOver
+from .clock import Clock
 from .first_rows import Descent
 from .linear_solvers import LinearSolver
 from .plan import POINT, STEP

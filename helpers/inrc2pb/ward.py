@@ -19,7 +19,7 @@ from .plan_sheets import AWAY, Days, WeekSheet, check_held, days_away, read_days
 from .sheet_files import Book, read_book
 from .sheet_rows import tidy
 from .targets import check_target
-from .ward_sheets import Ward, read_ward
+from .ward_sheets import read_ward
 from .ward_template import write_template
 from .wish import credited
 

@@ -61,7 +61,7 @@ class Demand(unittest.TestCase):
         # Day Charge 7, Day Nurse 5 and 10+2, Late 7, Night 7; five Full (17,21) and two Half (8,11) in four weeks.
         self.assertEqual((asked_shifts(DATA), supplied_shifts(WARD, PAST)), ((26, 33), (25, 32)))
         many = replace(DATA, requirements={place: Requirement(1, 1) for place in (Place(d, s, k) for d in range(7) for s in WARD.shift_types for k in WARD.skills)})
-        self.assertIn("it asks for at least 42 shifts, and the contracts supply at most 32 a week: each shift above costs points", list(demand_warnings(WARD, PAST, many)))
+        self.assertIn("it asks for at least 42 shifts, and the contracts supply at most 32 a week: if all weeks ask for so many, each shift above costs points", list(demand_warnings(WARD, PAST, many)))
 
 
 class Telling(HelperTest):
