@@ -23,6 +23,8 @@ SMOOTHING = 0.7
 WORTH = 1
 # The share of the nurses whose rows are fixed at once: at first, at least, and at most.
 FIRST_SHARE, LEAST_SHARE, MOST_SHARE = 0.06, 0.02, 0.5
+# How many times the part of the time that a step takes is fixed in it, if the time is short.
+HURRY = 1.5
 # Rounds of new rows between two fixings.
 DIVE_ROUNDS = 3
 MOST_SWEEPS = 4
@@ -188,13 +190,16 @@ class RowSearch:
         columns, chosen = self.program.columns, dict.fromkeys(range(0), 0)
         share, last = FIRST_SHARE, -math.inf
         while len(chosen) < len(self.plan.nurses):
+            before = clock.left()
             now, use = self._relaxed_beside(chosen, clock)
             if self.penalty is not None and now.value > self.penalty - STEP + _EXACT:
                 return None
             share = min(MOST_SHARE, share * 1.5) if now.value <= last + _EXACT else max(LEAST_SHARE, share * 0.7)
             last = now.value
             free = len(self.plan.nurses) - len(chosen)
-            most = max(1, int(share * free))
+            # So many at once that the time is enough.
+            hurry = HURRY * (before - clock.left()) / max(_EXACT, clock.left())
+            most = max(1, int(max(share, hurry) * free))
             fixed = 0
             for at in sorted((at for at in now.shares if columns[at].nurse not in chosen), key=lambda at: -now.shares[at]):
                 if columns[at].nurse not in chosen and (fixed < most or now.shares[at] > 0.999):
