@@ -17,8 +17,8 @@ PAGE = TOP / 'docs' / 'proved.md'
 HEAD = '| law | statement |\n|---|---|\n'
 
 # The laws of these files are on the page: the meaning of the model, of the rules' charges and of a lower bound.
-ON_THE_PAGE = ('model_laws', 'rule_laws', 'extension_laws', 'bound_laws')
-CRATES_OF_TESTS = ('part_tests', 'rota_tests', 'week_report', 'who_fits')
+ON_THE_PAGE = ('rota_items/src/laws/model_laws.rt', 'rota_items/src/laws/rule_laws.rt', 'rota_items/src/laws/extension_laws.rt', 'rota_bound/src/laws.rt')
+CRATES_OF_TESTS = ('bound_tests', 'part_tests', 'rota_tests', 'week_report', 'who_fits')
 
 LAW = re.compile(r'((?:^///.*\n)+)(?:^#\[.*\n)*^pub fn (\w+)\(\)\n', re.MULTILINE)
 
@@ -53,7 +53,7 @@ def table(chosen: List[Law]) -> str:
 
 def main(words: List[str]) -> int:
     every = laws()
-    on_page = table([law for law in every if law.file.stem in ON_THE_PAGE])
+    on_page = table([law for law in every if str(law.file.relative_to(TOP / 'crates')) in ON_THE_PAGE])
     if words == ['compare']:
         if on_page not in PAGE.read_text():
             print(f'{PAGE.relative_to(TOP)}: the table of laws is not the one that tests/laws.py prints')
