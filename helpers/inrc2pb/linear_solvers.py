@@ -16,7 +16,7 @@ MAX_FAULTS = 3
 # An answer beyond it is none.
 _MAX_VALUE = 1e15
 # With more rows of places and crews than this, cbc's simplex is faster after its "idiot" crash: nine times with 1800 of them.
-LARGE, LARGE_WORDS = 400, ("-idiot", "30", "-primalSimplex")
+LARGE, LARGE_WORDS = 1500, ("-idiot", "30", "-primalSimplex")
 # Seconds that cbc has beyond its own limit to write its answer.
 _WRITING = 1.0
 

@@ -17,7 +17,7 @@ from .skills import staffed
 # over the known rows, and for one over all rows.
 ROWS_SHARE, DIVE_SHARE, LAST_DIVE_SHARE, KNOWN_SHARE, LISTED_SHARE = 0.5, 0.5, 0.8, 0.1, 0.5
 # The most rows of an integer program.
-MOST_LISTED = 20_000
+MOST_LISTED = 6_000
 Found = TypeVar("Found")
 
 
