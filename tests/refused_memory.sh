@@ -174,7 +174,7 @@ encoder=$program
 program=$bound
 line out_of_memory 'inrc2pb-bound: out of memory'
 sweep_program 'a bound, and a roster' 2 0 text nothing "${five[@]}" --prices prices.txt --roster roster
-sweep_program 'the minimums of held cells' 2 0 text nothing "${week[@]}" --fix wednesday --minimums
+sweep_program 'the minimums of held cells, and rows' 2 0 text nothing "${week[@]}" --fix wednesday --minimums --rows
 sweep_program 'prices with text after their end' 2 1 nothing nothing "${five[@]}" --prices more_week.txt
 program=$encoder
 line out_of_memory 'inrc2pb: out of memory'
