@@ -55,12 +55,25 @@ bounds_the_base() {
     prices none
     says 'a roster of nobody' 'lower bound 0\npenalty 0\noptimal\n' "${week[@]}" --roster nobody
     says 'prices that are too high' 'lower bound 0\n' "${week[@]}" --prices twos
-    says 'no row' 'lower bound 0\n' "${week[@]}" --prices none
+    says 'prices without a row' 'lower bound 0\n' "${week[@]}" --prices none
     says 'a held Wednesday' 'lower bound 0\npenalty 0\noptimal\n' "${week[@]}" --fix wednesday --roster wednesday
     says 'a shift type that nobody should work' 'lower bound 15\npenalty 15\noptimal\n' \
         --sce closed.txt --his history.txt --week week.txt --fix monday --roster monday
     says 'two held days, of which the second may not follow' 'no roster exists\n' \
         --sce no_two.txt --his history.txt --week week.txt --fix two_days --minimums
+}
+
+# Each nurse's cheapest week; of weeks that are equally cheap the first: a day off comes before a shift.
+prints_rows() {
+    prices days 'Day Nurse 0 40000 0 0 0 0 0'
+    says 'a row without prices' 'lower bound 0\nAnn 0 0 None None None None None None None\n' "${week[@]}" --rows
+    says 'a row with a price that pays' 'lower bound 0\nAnn 0 40000 None Day Nurse None None None None None\n' \
+        "${week[@]}" --rows --prices days
+    says 'a row that is charged' 'lower bound 15\nAnn 15 0 Day Nurse None None None None None None\n' \
+        --sce closed.txt --his history.txt --week week.txt --fix monday --rows
+    says 'a row of the minimums' 'no proof that no roster exists\nAnn 0 0 Day Nurse None None None None None None\n' \
+        --sce closed.txt --his history.txt --week week.txt --fix monday --rows --minimums
+    says 'no row' 'no roster exists\nAnn none\n' --sce no_two.txt --his history.txt --week week.txt --fix two_days --minimums --rows
 }
 
 refuses_files() {
@@ -115,6 +128,7 @@ checks_words() {
     misused 'a command' "unexpected argument 'encode' found" encode "${week[@]}"
     misused 'prices twice' "the argument '--prices <FILE>' cannot be used multiple times" "${week[@]}" --prices none --prices none
     misused 'the minimums and a roster' '--minimums excludes --roster' "${week[@]}" --minimums --roster nobody
+    misused 'the rows and a roster' '--rows excludes --roster' "${week[@]}" --rows --roster nobody
     out=/dev/full
     line fault 'inrc2pb-bound: write failed'
     run 'help on a full device' 3 nothing fault --help
@@ -126,6 +140,7 @@ solution two_days "${all_days[@]:0:2}"
 changed scenario.txt no_two.txt 8 'Day 1 Day'
 proves_optima
 bounds_the_base
+prints_rows
 refuses_files
 checks_in_order
 checks_words

@@ -5,8 +5,8 @@ usage: every_week.py PROGRAM [--weeks N] [--seed N]
 
 The costs and the hard rules are those of helpers/inrc2pb/rules.py. Here a nurse has a shift type or none on each day, with
 each of her skills. The bound is the sum of what each place costs at least over all numbers of nurses, and of what each
-nurse's week costs at least, less the prices of its cells. No roster that keeps the hard rules may have a smaller penalty,
-and none may exist if the program says so.
+nurse's week costs at least, less the prices of its cells; the rows are the first weeks that cost so little. No roster that
+keeps the hard rules may have a smaller penalty, and none may exist if the program says so.
 """
 
 import argparse
@@ -136,6 +136,29 @@ def bound_of(week, prices, held, early, point):
     return total + sum(min(point * cost - paid(cells, prices) for cells, cost in of) for of in weeks.values()), weeks
 
 
+def row_of(week, nurse, weeks, prices, point):
+    """The line of the first of her cheapest weeks: a day off comes before a shift, lower numbers come first."""
+    shifts, skills = list(week.shifts), list(week.skills)
+
+    def duties(cells):
+        on = {cell[1]: cell[2:] for cell in cells}
+        return [on.get(day) for day in range(7)]
+
+    def rank(of):
+        order = [(0,) if duty is None else (1, shifts.index(duty[0]), skills.index(duty[1])) for duty in duties(of[0])]
+        return point * of[1] - paid(of[0], prices), order
+
+    if not weeks:
+        return f"{nurse} none\n"
+    cells, cost = min(weeks, key=rank)
+    words = ["None" if duty is None else " ".join(duty) for duty in duties(cells)]
+    return " ".join([nurse, str(cost if point else 0), str(paid(cells, prices)), *words]) + "\n"
+
+
+def rows_text(week, weeks, prices, point):
+    return "".join(row_of(week, nurse, of, prices, point) for nurse, of in weeks.items())
+
+
 # ---- one week
 
 
@@ -211,14 +234,14 @@ def try_week(runs, chance, week, prices, held):
     broken = check_broken(chance, week, held, runs)
     bound, weeks = bound_of(week, prices, held, early, POINT)
     if bound is None:
-        runs.expect("minimums", ["--minimums"], (0, "no roster exists\n", ""))
+        runs.expect("minimums", ["--minimums", "--rows"], (0, "no roster exists\n" + rows_text(week, weeks, prices, 0), ""))
         status, text, _ = runs.run()
         if status or int(text.split()[-1]) < 10**9:
             raise Wrong("bound", f"{text!r} of a week in which a nurse has none")
         return True, True, True, False, broken
     minimums, _ = bound_of(week, prices, held, early, 0)
-    runs.expect("bound", [], (0, claim(bound, False), ""))
-    runs.expect("minimums", ["--minimums"], (0, claim(minimums, True), ""))
+    runs.expect("bound", ["--rows"], (0, claim(bound, False) + rows_text(week, weeks, prices, POINT), ""))
+    runs.expect("minimums", ["--minimums", "--rows"], (0, claim(minimums, True) + rows_text(week, weeks, prices, 0), ""))
     number = int(claim(bound, False).split()[-1])
     least, all_tried = check_rosters(week, weeks, held, runs, number)
     if minimums > 0 and least is not None:

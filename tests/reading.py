@@ -26,6 +26,7 @@ EXTEND = ("rota_pb/src/extending.rt", "run_extend")
 PERFORM = ("inrc2pb_job/src/job_run.rt", "perform")
 PROGRAM = ("inrc2pb_program/src/run.rt", "program")
 EXACT_ANSWERS = CRATES / "bound_run/specs/ExactAnswers.antt"
+ROWS = CRATES / "bound_run/specs/Rows.antt"
 BOUND = ("bound_run/src/run.rt", "run_bound")
 BOUND_PERFORM = ("bound_program/src/job_run.rt", "perform")
 BOUND_PROGRAM = ("bound_program/src/run.rt", "program")
@@ -46,7 +47,7 @@ LISTS = [
     FileList("The exact text", [], [ENCODE], set()),
     FileList("Decode and extend", [], [DECODE, EXTEND], set()),
     FileList("The whole program", [], [PERFORM, PROGRAM], set()),
-    FileList("A proved bound", [], [BOUND, BOUND_PERFORM, BOUND_PROGRAM], {EXACT_ANSWERS}),
+    FileList("A proved bound", [], [BOUND, BOUND_PERFORM, BOUND_PROGRAM], {EXACT_ANSWERS, ROWS}),
     FileList("The exact bound", [], [BOUND], set()),
 ]
 USE = re.compile(r"(?m)^ *(?:pub )?(?:ghost )?use Rattle\.(\w+)\.specs\.([\w.]+?)(?:\.\{([^}]*)\})?(?: as \w+)?;?$")

@@ -165,19 +165,19 @@ sweep_program 'an output in no folder' 2 3 nothing nothing encode "${week[@]}" -
 
 sweep_program 'an empty answer' some 1 nothing nothing decode "${five[@]}" --answer nothing --sol made
 
-encoder=$program
-program=$bound
-line out_of_memory 'inrc2pb-bound: out of memory'
-sweep_program 'a bound, and a roster' 2 0 text nothing "${five[@]}" --prices prices.txt --roster roster
-sweep_program 'the minimums of held cells' 2 0 text nothing "${week[@]}" --fix wednesday --minimums
-sweep_program 'prices with text after their end' 2 1 nothing nothing "${five[@]}" --prices more_week.txt
-program=$encoder
-line out_of_memory 'inrc2pb: out of memory'
-
 begins_case 'an answer of one long line makes no more allocations than an empty one'
 (printf c; head -c 10000000 /dev/zero | tr '\0' x) > "$room/long_answer"
 refuse $number "$program" decode "${five[@]}" --answer long_answer --sol made
 [ ! -s "$room/refused" ] || complain 'it makes more'
+
+encoder=$program
+program=$bound
+line out_of_memory 'inrc2pb-bound: out of memory'
+sweep_program 'a bound, and a roster' 2 0 text nothing "${five[@]}" --prices prices.txt --roster roster
+sweep_program 'the minimums of held cells, and rows' 2 0 text nothing "${week[@]}" --fix wednesday --minimums --rows
+sweep_program 'prices with text after their end' 2 1 nothing nothing "${five[@]}" --prices more_week.txt
+program=$encoder
+line out_of_memory 'inrc2pb: out of memory'
 
 if [ -z "$ending" ]; then
     swept=0

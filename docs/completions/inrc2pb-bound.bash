@@ -1,7 +1,7 @@
 # shellcheck shell=bash
 # Completion of inrc2pb-bound's options and file names, for bash. Written by write.py beside it.
 _inrc2pb_bound() {
-    local word=${COMP_WORDS[COMP_CWORD]} before=${COMP_WORDS[COMP_CWORD - 1]} given choices='--sce --his --week --fix --early --prices --roster --minimums --help --version'
+    local word=${COMP_WORDS[COMP_CWORD]} before=${COMP_WORDS[COMP_CWORD - 1]} given choices='--sce --his --week --fix --early --prices --roster --minimums --rows --help --version'
     COMPREPLY=()
     case $before in
         --sce | --his | --week | --fix | --prices | --roster)

@@ -8,5 +8,6 @@ complete -c inrc2pb-bound -l early -d 'Charge excess assignments and weekends as
 complete -c inrc2pb-bound -l prices -r -F -d 'The price of each place, in thousandths of a point'
 complete -c inrc2pb-bound -l roster -r -F -d 'A roster to judge, as a solution file'
 complete -c inrc2pb-bound -l minimums -d 'Leave out the soft rules, to prove that no roster exists'
+complete -c inrc2pb-bound -l rows -d 'Print the cheapest week of each nurse, too'
 complete -c inrc2pb-bound -l help -d 'Print help'
 complete -c inrc2pb-bound -l version -d 'Print version'

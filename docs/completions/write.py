@@ -39,6 +39,7 @@ BOUND: Options = {
     "--prices": ("file", "The price of each place, in thousandths of a point"),
     "--roster": ("file", "A roster to judge, as a solution file"),
     "--minimums": ("", "Leave out the soft rules, to prove that no roster exists"),
+    "--rows": ("", "Print the cheapest week of each nurse, too"),
     **ANY,
 }
 FILES = list(dict.fromkeys(name for _, options in COMMANDS.values() for name, (kind, _) in options.items() if kind == "file"))

@@ -7,22 +7,24 @@ use Rattle.inrc2pb_program.specs.Jobs.{HasFlag, HasInputs, LacksInput}
 use Rattle.bound_program.specs.CommandLine.{bound_app}
 use Rattle.bound_program.specs.declared.job.BoundJob.{BoundJob}
 
--- the paths and flags of the job are those of the options, unchanged; no roster is judged by the minimums
+-- the paths and flags of the job are those of the options, unchanged; no roster is judged together with the minimums or rows
 pub record IsBoundJobOf (options : List Row) (job : BoundJob) : Type 0 where
   pub inputs : HasInputs options job.inputs
   pub prices : first_of (codes "prices") options ≡ option_map string_bytes job.prices
   pub roster : first_of (codes "roster") options ≡ option_map string_bytes job.roster
   pub minimums : HasFlag (codes "minimums") options job.minimums
+  pub rows : HasFlag (codes "rows") options job.rows
   pub apart : job.minimums ≡ true → is_some job.roster ≡ false
+  pub apart_rows : job.rows ≡ true → is_some job.roster ≡ false
 
--- the minimums are asked for, and a roster is to be judged
-pub record AsksForBoth (options : List Row) : Type 0 where
-  pub minimums : HasFlag (codes "minimums") options true
+-- this flag is set, and a roster is to be judged
+pub record AreExclusive (options : List Row) (id : Text) : Type 0 where
+  pub flag : HasFlag id options true
   pub roster : is_some (first_of (codes "roster") options) ≡ true
 
 -- a required path is missing, or two options exclude each other
 abbrev pub IsMisused : List Row → Type 0
-IsMisused options = LacksInput options ⊎ AsksForBoth options
+IsMisused options = LacksInput options ⊎ (AreExclusive options (codes "minimums") ⊎ AreExclusive options (codes "rows"))
 
 -- the job of the words, if nothing is wrong with them
 pub record IsBoundJobFor (words : List Text) (job : BoundJob) : Type 0 where

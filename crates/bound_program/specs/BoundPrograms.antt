@@ -30,6 +30,7 @@ pub record IsQuestionOf {F : Type 0} (job : BoundJob) (opened : OpenFiles F) (qu
   pub priced : question.priced ≡ is_some job.prices
   pub judging : question.judging ≡ is_some job.roster
   pub minimums : question.minimums ≡ job.minimums
+  pub rows : question.rows ≡ job.rows
 
 -- each file of the job is open at its own path
 pub record AreJobOpen {F : Type 0} (port : Ghosts F) (at : Path → FileAt) (job : BoundJob) (opened : OpenFiles F) : Type 0 where

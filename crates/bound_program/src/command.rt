@@ -23,7 +23,8 @@ pub fn inrc2pb_bound<'a>(alloc: Global) -> Result<Command<'a>, AllocError>
             alloc,
             "minimums",
             "Leave out the soft rules, to prove that no roster exists",
-        ))
+        ))?
+        .arg(flag(alloc, "rows", "Print the cheapest week of each nurse, too"))
 }
 
 fn bare<'a>(alloc: Global) -> Result<Command<'a>, AllocError>

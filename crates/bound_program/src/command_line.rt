@@ -47,9 +47,13 @@ fn job_of(alloc: Global, options: &ArgMatches<'_>) -> Result<BoundJob, Stop>
         prices: optional_path(alloc, options, "prices")?,
         roster: optional_path(alloc, options, "roster")?,
         minimums: flag(options, "minimums"),
+        rows: flag(options, "rows"),
     };
     if job.minimums && job.roster.is_some() {
         return Err(Stop::Usage("--minimums excludes --roster"));
+    }
+    if job.rows && job.roster.is_some() {
+        return Err(Stop::Usage("--rows excludes --roster"));
     }
     Ok(job)
 }

@@ -11,6 +11,8 @@ pub struct BoundJob {
     pub roster: Option<String>,
     /// Only the hard rules count: whether no roster keeps them.
     pub minimums: bool,
+    /// The cheapest week of each nurse is asked for.
+    pub rows: bool,
 }
 
 impl Drop for BoundJob {
@@ -20,6 +22,7 @@ impl Drop for BoundJob {
             prices: _,
             roster: _,
             minimums: _,
+            rows: _,
         } = self;
     }
 }

@@ -56,6 +56,7 @@ fn question_of<F>(job: &BoundJob, opened: &OpenFiles<F>) -> Question
         priced: job.prices.is_some(),
         judging: job.roster.is_some(),
         minimums: job.minimums,
+        rows: job.rows,
     }
 }
 

@@ -1,13 +1,17 @@
 -- The answer for some prices: it is true, and it is exact.
-use Rattle.std.specs.Prelude.{Bool, Option}
+use Rattle.std.specs.Prelude.{Option}
 use Rattle.rota_core.specs.Prices.{Prices}
-use Rattle.rota_core.specs.Problem.{Problem}
+use Rattle.rota_core.specs.InstanceTables.{InstanceTables, problem_of}
 use Rattle.bound_run.specs.Claims.{IsTrue}
 use Rattle.bound_run.specs.ExactAnswers.{IsExactAnswer}
+use Rattle.bound_run.specs.Rows.{HasRows}
 use Rattle.bound_run.specs.declared.answer.Answer.{Answer}
 use Rattle.bound_run.specs.declared.judged.Judged.{Judged}
+use Rattle.bound_run.specs.declared.question.Question.{Question}
 
--- the answer is true, and exact for these prices
-pub record IsAnswer (minimums : Bool) (problem : Problem) (prices : Prices) (judged : Option Judged) (answer : Answer) : Type 0 where
-  pub is_true : IsTrue problem judged answer
-  pub exact : IsExactAnswer minimums problem prices judged answer
+-- the answer is true, and exact for these prices, and has the lines that are asked for
+pub record IsAnswer (question : Question) (tables : InstanceTables) (prices : Prices) (judged : Option Judged) (answer : Answer) :
+    Type 0 where
+  pub is_true : IsTrue (problem_of tables) judged answer
+  pub exact : IsExactAnswer question.minimums (problem_of tables) prices judged answer
+  pub rows : HasRows question tables prices answer.rows.items

@@ -22,4 +22,4 @@ optimal_line optimal = (if optimal then codes "optimal\n" else [])
 
 -- the whole text
 abbrev pub bound_text : Answer → List ℕ
-bound_text answer = claim_line answer.claim ++ penalty_line answer.penalty ++ optimal_line answer.optimal
+bound_text answer = claim_line answer.claim ++ penalty_line answer.penalty ++ optimal_line answer.optimal ++ answer.rows.items

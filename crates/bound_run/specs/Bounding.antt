@@ -51,5 +51,5 @@ bound_run question readers prices_file roster_file out = do
   tables ← read_week question.choice readers
   table ← prices_of_week question.priced tables prices_file
   judged ← judge_roster question.judging tables roster_file
-  answer ← check (IsAnswer question.minimums (problem_of tables) (prices_of table) judged) (λ fault. fault ≡ Memory)
+  answer ← check (IsAnswer question tables (prices_of table) judged) (λ fault. fault ≡ Memory)
   send out (bound_text answer)

@@ -3,3 +3,4 @@ pub mod Claims
 pub mod BoundText
 pub mod ExactAnswers
 pub mod Bounding
+pub mod Rows

@@ -9,6 +9,8 @@ ghost use Rattle.bound_run.specs.ExactAnswers.{claim_of, is_at_bound};
 ghost use Rattle.bound_run.specs.Claims.{Holds, IsJudged};
 
 use crate::judged::Judged;
+use crate::question::Question;
+use crate::rows::rows_asked_for;
 use rota_bound::{lower_bound, no_roster_exists};
 use rota_core::{Instance, Prices};
 use rota_pb::Fault;
@@ -26,7 +28,7 @@ pub enum Claim {
 }
 
 /// The answer to what was asked about a week.
-#[derive(Clone, Copy)]
+#[derive(Drop)]
 pub struct Answer {
     /// What the prices prove.
     pub claim: Claim,
@@ -34,6 +36,8 @@ pub struct Answer {
     pub penalty: Option<u64>,
     /// The given roster has the least penalty of all rosters that keep H1 to H5.
     pub optimal: bool,
+    /// The lines of the nurses' cheapest weeks, if they are asked for.
+    pub rows: Vec<u8>,
 }
 
 // What the prices prove: with `minimums`, by the hard rules alone.
@@ -80,17 +84,19 @@ pub(crate) fn answer_for(
     alloc: Global,
     instance: &Instance,
     prices: &Prices,
-    minimums: bool,
+    question: Question,
     judged: &Option<Judged>,
 ) -> Result<Answer, Fault>
     requires shape { IsForWeek (problem_of instance.now) prices.now }
     requires judged { IfSome judged.now (IsJudged (problem_of instance.now)) }
-    ensures { (check (IsAnswer minimums (problem_of instance.now) (prices_of prices.now) judged.now) (λ fault. fault ≡ Memory)).ends result }
+    ensures { (check (IsAnswer question instance.now (prices_of prices.now) judged.now) (λ fault. fault ≡ Memory)).ends result }
 {
-    let claim = claim_of(alloc, instance, prices, minimums)?;
+    let claim = claim_of(alloc, instance, prices, question.minimums)?;
+    let rows = rows_asked_for(alloc, instance, prices, question)?;
     Ok(Answer {
         claim,
         penalty: penalty_in(judged),
         optimal: is_at_bound(claim, judged),
+        rows,
     })
 }

@@ -59,7 +59,8 @@ fn put_answer<W: Target>(sink: &mut Sink<W>, answer: &Answer) -> Result<(), Port
 {
     put_claim_line(sink, answer.claim)?;
     put_penalty_line(sink, answer.penalty)?;
-    put_optimal_line(sink, answer.optimal)
+    put_optimal_line(sink, answer.optimal)?;
+    sink.put(&answer.rows)
 }
 
 /// Writes the text of the answer, a line for each fact. `Ok` means that the whole text is sent and flushed. The

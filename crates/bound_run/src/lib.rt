@@ -6,6 +6,7 @@ mod bound_text;
 mod judged;
 mod prices_file;
 mod question;
+mod rows;
 mod run;
 
 pub use answer::{Answer, Claim};

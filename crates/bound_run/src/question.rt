@@ -12,4 +12,6 @@ pub struct Question {
     pub judging: bool,
     /// Only the hard rules count: whether no roster keeps them.
     pub minimums: bool,
+    /// The cheapest week of each nurse follows.
+    pub rows: bool,
 }

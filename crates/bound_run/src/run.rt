@@ -47,6 +47,6 @@ pub fn run_bound<S: Source, H: Source, K: Source, F: Source, P: Source, G: Sourc
     let instance = read_instance(alloc, question.choice, sce, his, week, fix_file)?;
     let prices = prices_of_week(alloc, &instance, question.priced, prices_file)?;
     let judged = judge_roster(alloc, &instance, question.judging, roster_file)?;
-    let answer = answer_for(alloc, &instance, &prices, question.minimums, &judged)?;
+    let answer = answer_for(alloc, &instance, &prices, question, &judged)?;
     write_answer(&answer, out)
 }

@@ -6,10 +6,18 @@ pub returns-in_err-put_claim_line-clause-takes : goal.returns-in_err-put_claim_l
 returns-in_err-put_claim_line-clause-takes g c =
     let answer = c.args.answer.now in
     puts_exit _ c.from_residual.ensures.0
-    (puts_stop (optimal_line answer.optimal) (puts_stop (penalty_line answer.penalty) c.in_err-put_claim_line.ensures.takes))
+    (puts_stop answer.rows.items (puts_stop (optimal_line answer.optimal) (puts_stop (penalty_line answer.penalty)
+    c.in_err-put_claim_line.ensures.takes)))
 
 pub returns-in_err-put_penalty_line-clause-takes : goal.returns-in_err-put_penalty_line-clause-takes
 returns-in_err-put_penalty_line-clause-takes g c =
+    let answer = c.args.answer.now in
     puts_exit _ c.from_residual-in_err-put_penalty_line.ensures.0
-    (puts_stop (optimal_line c.args.answer.now.optimal)
-    (puts_then c.in_ok-put_claim_line.ensures.takes c.in_err-put_penalty_line.ensures))
+    (puts_stop answer.rows.items (puts_stop (optimal_line answer.optimal)
+    (puts_then c.in_ok-put_claim_line.ensures.takes c.in_err-put_penalty_line.ensures)))
+
+pub returns-in_err-put_optimal_line-clause-takes : goal.returns-in_err-put_optimal_line-clause-takes
+returns-in_err-put_optimal_line-clause-takes g c =
+    puts_exit _ c.from_residual-in_err-put_optimal_line.ensures.0
+    (puts_stop c.args.answer.now.rows.items
+    (puts_then (puts_then c.in_ok-put_claim_line.ensures.takes c.in_ok-put_penalty_line.ensures) c.in_err-put_optimal_line.ensures))
