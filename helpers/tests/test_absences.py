@@ -159,7 +159,8 @@ class Wish(HelperTest):
             (("--wish", "Chen"), "--wish Chen: give the nurse and the days, such as Chen=Sat or Chen=Sat:Day"),
             (("--credit", "h.txt", "--away", "Chen"), "--credit needs --his and --away: give the history with which the first week begins, and who is away"),
             (("--fix", ROSTER, "--away", "Chen"), "--fix needs --his: give the history with which the first week begins"),
-            (("--his", HISTORY, "--fix", ROSTER, "--away", "Chen=Wed"), "Chen is away on Wed, and --fix holds Late: leave out one of the two"),
+            (("--his", HISTORY, "--fix", ROSTER, "--away", "Chen=Wed"),
+             "Chen is away on Wed, and --fix holds Late: leave out one of the two; inrc2pb-keep --nurses Chen --keep Wed --others FILE leaves out the shift"),
         ):
             with self.subTest(words):
                 self.assert_fault(self.wish(*words), f"inrc2pb-wish: {said}")
