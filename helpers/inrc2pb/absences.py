@@ -61,6 +61,19 @@ def in_words(rows: Iterable[Assignment]) -> str:
     return ", ".join(f"{readable(nurse)} works {readable(shift)} on {joined(DAYS[day] for day in sorted(on))}" for (nurse, shift), on in days.items())
 
 
+def way_out(scenario: Scenario, held: Iterable[Assignment], broken: Collection[Assignment]) -> str:
+    """What to do if these rows break absences: the held shifts of nurses who could work them instead, or how to find the cause."""
+    wanted = {(row.day, row.shift, row.skill) for row in broken}
+    able = [
+        row for row in held if (row.day, row.shift, row.skill) not in wanted
+        and any(row.day == day and skill in scenario.nurses[row.nurse].skills for day, _, skill in wanted)
+    ]  # fmt: skip
+    if not able:
+        return "type inrc2pb-check with the same files and --why-none: it says which minimum numbers to lower"
+    some = ", ".join(f"{readable(row.nurse)} {DAYS[row.day]} {readable(row.shift)}" for row in able[:6])
+    return f"hold fewer shifts with --fix; these nurses have the skill: {some}{', and more' * (len(able) > 6)}"
+
+
 def readable(name: str) -> str:
     """A name as it was in a spreadsheet, with blanks."""
     return name.replace("_", " ")
@@ -87,7 +100,7 @@ class Written(NamedTuple):
         if self.requests >= self.certain:
             return ""
         room = f"the file has room for {self.requests} requests for each absence, and {self.certain} would be certain for each solver"
-        return f"{room}: plan with inrc2pb-improve or inrc2pb-period, which keep absences like hard rules"
+        return f"{room}: nothing to do if you plan with inrc2pb-improve or inrc2pb-period, which keep absences like hard rules"
 
 
 class TooMany(Exception):

@@ -18,7 +18,7 @@ from .odd_values import IMPOSSIBLE, history_warnings, scenario_warnings, week_wa
 from .program import BROKEN_RULE, FAULT, NO_PROGRAM, answer_with, encode
 from .rules import first_broken
 from .targets import check_no_pipes
-from .telling import history_sentences, scenario_sentences, week_sentences
+from .telling import held_sentences, history_sentences, scenario_sentences, week_sentences
 from .why_none import why_none
 
 Contents = TypeVar("Contents")
@@ -107,17 +107,18 @@ class Check:
             for row in working_while_away(absences_of(data), held):
                 self.mistake(f"{given.fix}: {row.nurse} is away on {DAYS[row.day]}, and {row.shift} is held: remove one of the two")
         if given.tell and not self.mistakes:
-            self.tell(scenario, history, data)
+            self.tell(scenario, history, data, held)
         for roster in given.roster:
             self.roster(roster, scenario, history)
         week = Week(scenario, history, data) if history and data else None
         return week, held
 
-    def tell(self, scenario: Scenario, history: Optional[History], data: Optional[WeekData]) -> None:
+    def tell(self, scenario: Scenario, history: Optional[History], data: Optional[WeekData], held: List[Assignment]) -> None:
         """Prints the files in sentences."""
         lines = [*scenario_sentences(scenario), ""]
         lines += [*history_sentences(history), ""] if history else []
         lines += [*week_sentences(scenario, history, data), ""] if data else []
+        lines += [*held_sentences(held), ""] if held else []
         print(readable("\n".join(lines)))
 
     def model(self, week: Week, held: List[Assignment]) -> None:

@@ -8,7 +8,7 @@ import tempfile
 from pathlib import Path
 from typing import List, Optional, Sequence
 
-from .absences import in_words
+from .absences import in_words, way_out
 from .best_roster import BestRoster
 from .bounds import PROVER
 from .clock import Clock
@@ -29,15 +29,17 @@ SECONDS = 120.0
 class SearchResult:
     """The result of a search: the report of the best roster, and the lower bound or None, with what proved or computed it.
 
-    `proved` says whether no roster costs less, `stopped` whether the user stopped the search; `fault` is the fault that ended it.
+    `proved` says whether no roster costs less, `breaks` whether this one breaks an absence, `stopped` whether the user stopped the search;
+    `fault` is the fault that ended it.
     """
 
-    def __init__(self, report: Report, search: WeekSearch, proved: bool, stopped: bool, fault: Optional[BaseException]) -> None:
+    def __init__(self, report: Report, search: WeekSearch, best: BestRoster, stopped: bool, fault: Optional[BaseException]) -> None:
         self.report = report
+        self.breaks = bool(best.breaks())
         self.bound = search.bound.points if search.bound else None
         self.bound_by = search.bound.by if search.bound else ""
         self.claimed_by = search.claimed_by
-        self.proved = proved
+        self.proved = best.proved
         self.stopped = stopped
         self.fault = fault
 
@@ -46,8 +48,11 @@ class SearchResult:
         if self.bound is None:
             return ["no lower bound"]
         line = f"lower bound {self.bound} ({self.bound_by})"
+        if self.proved and self.breaks:
+            return [line, "no roster costs less, but this one breaks an absence"]
         if self.proved and self.claimed_by:
-            return [line, f"no roster costs less, says {self.claimed_by}"]
+            only = f"; without {self.claimed_by} only the lower bound is known" if self.bound < self.report.penalty else ""
+            return [line, f"no roster costs less, says {self.claimed_by}{only}"]
         if self.proved:
             return [line, "no roster costs less" + (", proved" if self.bound_by == PROVER else "")]
         gap = self.report.penalty - self.bound
@@ -109,6 +114,7 @@ def search(
         outcome = _result(best, running, bool(signals.caught), fault, seconds)
         if best.breaks():
             progress.warn(f"no roster was found that keeps every absence: {in_words(best.breaks())}")
+            progress.warn(way_out(week.scenario, held, best.breaks()))
         return outcome
 
 
@@ -126,7 +132,7 @@ def _result(best: BestRoster, running: WeekSearch, stopped: bool, fault: Optiona
         late = f"no roster was found in {round(seconds, 1):g} s: give it more time"
         ended = "no roster was found, and no proof that none exists: try --solver clasp"
         raise fault or ProgramFault(NO_ROSTER, ended if running.has_time else late)
-    return SearchResult(report, running, best.proved, stopped, fault)
+    return SearchResult(report, running, best, stopped, fault)
 
 
 def held_rows(fix: Path, week: Week, progress: Progress) -> Sequence[Assignment]:

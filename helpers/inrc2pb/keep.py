@@ -3,7 +3,7 @@
 import argparse
 import sys
 from pathlib import Path
-from typing import Iterable, Iterator, List, Optional, Sequence
+from typing import Collection, Iterable, Iterator, List, Optional, Sequence
 
 from .absences import Absence, TooMany, with_absences
 from .command import parser
@@ -15,10 +15,12 @@ from .slots import closest
 from .targets import check_inputs_stay
 
 
-def kept(rows: Iterable[Assignment], days: Iterable[int] = (), nurses: Iterable[str] = (), others: bool = False) -> List[Assignment]:
-    """The rows of these days and nurses (no days or nurses: of all); with `others` all rows but these."""
+def kept(
+    rows: Iterable[Assignment], days: Iterable[int] = (), nurses: Iterable[str] = (), others: bool = False, promised: Collection[Assignment] = ()
+) -> List[Assignment]:
+    """The rows of these days and nurses (no days or nurses: of all); with `others` all rows but these. Promised rows are always kept."""
     on, who = set(days) or set(range(7)), set(nurses)
-    return [row for row in rows if (row.day in on and (not who or row.nurse in who)) != others]
+    return [row for row in rows if row in promised or (row.day in on and (not who or row.nurse in who)) != others]
 
 
 def days_off(nurses: Iterable[str], days: Iterable[int], rows: Iterable[Assignment]) -> List[Absence]:
@@ -55,6 +57,7 @@ def _options() -> argparse.ArgumentParser:
     options.add_argument("--keep", metavar="DAYS", help="the rows of these days, such as Mon,Tue,Wed")
     options.add_argument("--nurses", metavar="NAMES", help="the rows of these nurses, such as Amara,Bruno")
     options.add_argument("--others", action="store_true", help="keep all rows but these")
+    options.add_argument("--fix", metavar="FILE", type=Path, help="promised shifts: those that the roster has are kept too")
     options.add_argument("--sce", metavar="FILE", type=Path, help="the scenario: names are checked against it")
     options.add_argument("--off-in", metavar="WEEK", type=Path, help="keep days off, not rows, in a copy of this week's file; needs --sce")
     options.add_argument("--out", metavar="FILE", type=Path, help="write to this file, not to standard output")
@@ -77,10 +80,10 @@ def main() -> Optional[int]:
     given = _options().parse_args()
     if given.keep is None and given.nurses is None:
         raise Misuse("nothing says which rows to keep: give --keep Mon,Tue or --nurses NAME,NAME")
-    if given.off_in and (given.others or not given.sce):
-        raise Misuse("--off-in needs --sce, and has no --others: give the scenario, and the days and nurses themselves")
+    if given.off_in and (given.others or given.fix or not given.sce):
+        raise Misuse("--off-in needs --sce, and has no --others and no --fix: give the scenario, and the days and nurses themselves")
     if given.out:
-        check_inputs_stay((given.roster, given.sce, given.off_in), given.out, "the kept rows")
+        check_inputs_stay((given.roster, given.sce, given.off_in, given.fix), given.out, "the kept rows")
     scenario = read_scenario(given.sce) if given.sce else None
     solution = read_solution(given.roster, scenario)
     days = list(dict.fromkeys(_days(given.keep))) if given.keep is not None else []
@@ -89,7 +92,8 @@ def main() -> Optional[int]:
     if given.off_in and scenario:
         text = _week_text(given.off_in, scenario, nurses, days, solution.assignments)
     else:
-        rows = kept(solution.assignments, days, nurses, given.others)
+        promised = read_solution(given.fix, scenario).assignments if given.fix else ()
+        rows = kept(solution.assignments, days, nurses, given.others, promised)
         text = solution_text(Solution(solution.week, solution.scenario, tuple(rows)))
     if given.out:
         write_text(given.out, text)

@@ -70,7 +70,7 @@ def _totals(past: NurseHistory, week: int) -> Iterator[str]:
     """Warnings of totals that the weeks before this one cannot have, or that contradict the days in a row."""
     over = f"{plural(week, 'week')} of the period {'is' if week == 1 else 'are'} over"
     if past.assignments > 7 * week:
-        yield f"{past.nurse} has {plural(past.assignments, 'assignment')}, and {over}: right only if leave counts as work"
+        yield f"{past.nurse} has {plural(past.assignments, 'assignment')}, and {over} (leave with credit?)"
     if past.weekends > week:
         yield f"{past.nurse} has {plural(past.weekends, 'weekend')}, and {over}"
     if past.assignments < min(past.working_days, 7 * week):

@@ -86,8 +86,8 @@ def _summary(page: Content) -> Iterator[str]:
     """Sentences below the title."""
     view = page.view
     count = sum(len(week.rows) for week in view.weeks)
-    cost = f", penalty {view.penalty}" if view.penalty is not None else ""
-    old = page.old.penalty if page.old else None
+    cost = f", penalty {view.penalty}" if view.penalty is not None and not page.only_table else ""
+    old = page.old.penalty if page.old and not page.old.breaks_absences else None
     before = f", before {old}" if cost and old is not None else ""
     named = f"{view.weeks_text}: " if page.monday else ""
     yield f"{named}{plural(len(view.nurses), 'nurse')}, {plural(count, 'shift')}{cost}{before}"
@@ -142,20 +142,25 @@ def charges_section(page: Content) -> Markup:
     return section(f"Cost: {view.penalty} points" if view.penalty is not None else "Cost", *lines, element("div", *folds, class_="folds"))
 
 
-def page_text(page: Content) -> str:
-    """The page: well-formed XML, and HTML."""
-    changed, counted, wished = changes_table(page), totals_table(page), wishes_table(page)
-    parts = [_roster(page)]
+def _details(page: Content) -> List[Markup]:
+    """The sections below the roster. In print the first of them begins a page."""
+    changed, counted, wished, parts = changes_table(page), totals_table(page), wishes_table(page), []
     if page.old:
         nothing = element("p", "Nothing is changed since the older roster.")
-        parts.append(section("Changes", changed or nothing, class_="changes"))
+        parts.append(section("Changes", changed or nothing, class_="changes sheet"))
     if counted:
-        parts.append(section("Totals", counted, wished or "", class_="sheet"))
+        parts.append(section("Totals", counted, wished or "", class_=None if page.old else "sheet"))
     covered = list(coverage_tables(page))
     if covered:
         parts.append(section("Coverage", *covered))
     if page.view.has_costs:
         parts.append(charges_section(page))
+    return parts
+
+
+def page_text(page: Content) -> str:
+    """The page: well-formed XML, and HTML."""
+    parts = [_roster(page), *([] if page.only_table else _details(page))]
     head = element(
         "head", element("meta", charset="utf-8"), element("meta", name="viewport", content="width=device-width"),
         element("title", title(page)), element("style", _style(page)),

@@ -10,7 +10,7 @@ from .coverage import Covered, coverage
 from .dates import Times, day_names
 from .markup import Markup, element, hidden, joined, shown
 from .roster_text import COLORS, cuts
-from .roster_view import MEANINGS, Cell, RosterView
+from .roster_view import AWAY, MEANINGS, Cell, RosterView
 from .totals import Totals, Wish, totals
 
 # Weeks next to one another in a table of the roster and of the coverage, so that it fits a page.
@@ -26,16 +26,31 @@ def plain(name: str) -> str:
 
 @dataclass(frozen=True)
 class Content:
-    """What a page shows: the roster, an older one, the date of the first Monday, and the times of shift types, as far as they are known."""
+    """What a page shows: the roster, an older one, the date of the first Monday, and the times of shift types, as far as they are known.
+
+    `only_table` is for a wall: nothing on what the roster costs, nor on wishes and held shifts.
+    """
 
     view: RosterView
     old: Optional[RosterView] = None
     monday: Optional[datetime.date] = None
     times: Mapping[str, Times] = field(default_factory=dict)
+    only_table: bool = False
 
     def days(self, week: int) -> Sequence[str]:
         """The names of a week's days."""
         return day_names(self.monday, week)
+
+    def marks(self, marks: str) -> str:
+        """Those marks of a cell that the page shows."""
+        return "".join(mark for mark in marks if mark == AWAY or not self.only_table)
+
+    def is_away(self, week: int, nurse: str, day: int) -> bool:
+        """Whether a nurse without a shift is away by the plan. If some work, and all others are away, the day was kept: nobody is named."""
+        away = self.view.weeks[week].absences
+        off = [one for one in self.view.nurses if not self.view.cells(week, one, day)]
+        is_kept = 1 < len(off) < len(self.view.nurses) and all(Absence(one, day, None) in away for one in off)
+        return Absence(nurse, day, None) in away and not is_kept
 
     @property
     def changes(self) -> List[Change]:
@@ -112,8 +127,10 @@ class RosterTable:
         cells = self.view.cells(week, nurse, day)
         change = self.changed.get((week, nurse, day))
         parts = [self._shift(cell) for cell in cells]
-        if not cells and Absence(nurse, day, None) in self.view.weeks[week].absences:
+        if not cells and self.page.is_away(week, nurse, day):
             parts.append(element("span", "away", class_="away"))
+        elif not cells and change:
+            parts.append(element("span", "off", class_="away"))
         if change:
             parts.append(joined(shown(CHANGED, class_="mark"), hidden(f" {CHANGED_MEANING}, before: {plain(cells_text(change.before))}")))
         number = self.view.shifts.index(cells[0].shift) % len(COLORS) if cells else None
@@ -122,7 +139,7 @@ class RosterTable:
 
     def _shift(self, cell: Cell) -> Markup:
         shift, skill = plain(cell.shift), plain(cell.skill)
-        marks = [joined(shown(mark, class_="mark"), hidden(f", {MEANINGS[mark]}")) for mark in cell.marks]
+        marks = [joined(shown(mark, class_="mark"), hidden(f", {MEANINGS[mark]}")) for mark in self.page.marks(cell.marks)]
         if self.single:
             return joined(element("b", shift), " ", element("small", skill), *marks)
         short = joined(element("b", self.short[cell.shift]), *[element("small", self.skills[cell.skill])] * (len(self.skills) > 1))
@@ -137,7 +154,7 @@ class RosterTable:
             lines += [f"{short}{plain(shift)}{times}"] * bool(short or times)
         if not self.single and len(self.skills) > 1:
             lines += [f"{short} = {plain(skill)}" for skill, short in self.skills.items() if short != skill]
-        marks = {mark for week in self.view.weeks for row in week.rows for mark in week.marks(row)}
+        marks = {mark for week in self.view.weeks for row in week.rows for mark in self.page.marks(week.marks(row))}
         meanings = {**MEANINGS, CHANGED: CHANGED_MEANING}
         return lines + [f"{mark} = {meaning}" for mark, meaning in meanings.items() if mark in marks or mark == CHANGED and self.changed]
 

@@ -158,7 +158,7 @@ def _read_day(cell: Cell, nurse: str, at: int, scenario: Scenario, weeks: List[W
 def _held(cell: Cell, nurse: str, day: int, week: WeekSheet, scenario: Scenario) -> Held:
     """A shift, or a shift and a skill."""
     named, _, with_skill = (part.strip() for part in cell.text.partition("/"))
-    others = f", or one of wish, {', '.join(AWAY)}, or no and a shift type"
+    others = ("wish", *AWAY, f"no {readable(next(iter(scenario.shift_types)))}")
     shift = cell._replace(text=named).known("shift type", scenario.shift_types, others)
     own = scenario.nurses[nurse].skills
     if with_skill:

@@ -4,7 +4,7 @@ from dataclasses import dataclass, field, replace
 from pathlib import Path
 from typing import Dict, List, NamedTuple, Optional, Sequence, Tuple
 
-from .absences import absences_of, in_words, working_while_away
+from .absences import absences_of, in_words, way_out, working_while_away
 from .faults import Misuse
 from .files import Assignment, History, Scenario, Solution, WeekData
 from .files import check_week_number, read_history, read_scenario, read_week, write_history, write_solution
@@ -85,12 +85,13 @@ class PlannedWeeks:
         return WeekFiles(self.files.scenario, history or self.files.history, path, self.files.fixes.get(number), self.files.early)
 
     def broken_absences(self, cells: Sequence[Assignment]) -> List[str]:
-        """The weeks in which these assignments break an absence, and who works then."""
+        """The weeks in which these assignments break an absence, who works then, and what to do."""
         broken = []
         for at, (number, data) in enumerate(zip(self.numbers, self.data)):
             working = working_while_away(absences_of(data), _rows_of(at, cells))
             if working:
                 broken.append(f"week {number}: no roster was found that keeps every absence: {in_words(working)}")
+                broken.append(f"week {number}: {way_out(self.scenario, _rows_of(at, self.held), working)}")
         return broken
 
     def write(self, cells: Sequence[Assignment], folder: Path) -> List[WrittenWeek]:

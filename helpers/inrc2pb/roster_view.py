@@ -149,6 +149,11 @@ class RosterView:
         return [*meanings, *self._with_week(lambda week: week.notes), *self._sum()]
 
     @property
+    def breaks_absences(self) -> bool:
+        """Whether someone works while she is away."""
+        return any(AWAY in week.marks(row) for week in self.weeks for row in week.rows)
+
+    @property
     def penalty(self) -> Optional[int]:
         """The penalty of all weeks together, if each has one."""
         penalties = [week.penalty for week in self.weeks if week.penalty is not None]

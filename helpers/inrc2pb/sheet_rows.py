@@ -69,14 +69,14 @@ class Cell(NamedTuple):
             self.fault(f"the {kind} '{self.text}' is there already: use another name")
         return name
 
-    def known(self, kind: str, names: Collection[str], others: str = "") -> str:
-        """The name that the cell has, in whatever letters."""
+    def known(self, kind: str, names: Collection[str], others: Sequence[str] = ()) -> str:
+        """The name that the cell has, in whatever letters. A fault names the other words that may be in its place too."""
         wanted = self.text.replace(" ", "_").casefold()
         found = next((name for name in names if name.casefold() == wanted), None)
         if found is None:
-            meant = closest(self.text.replace(" ", "_"), names)
-            advice = f"did you mean {readable(meant)}?" if meant else f"write one of {quoted(map(readable, names))}"
-            self.fault(f"'{self.text}' is no {kind}: {advice}{others}" if self.text else f"the cell is empty: write a {kind}")
+            meant = closest(self.text.replace(" ", "_"), [*names, *others])
+            advice = f"did you mean {readable(meant)}?" if meant else f"write one of {quoted([*map(readable, names), *others])}"
+            self.fault(f"'{self.text}' is no {kind}: {advice}" if self.text else f"the cell is empty: write a {kind}")
         return found
 
 

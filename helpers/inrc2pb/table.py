@@ -46,6 +46,7 @@ def _options() -> argparse.ArgumentParser:
     options.add_argument("--times", metavar="SHIFT=TIMES", action="append", default=[],
                        help="when shifts of a type begin and end, such as Early=06:00-14:15; for --html and --ics")  # fmt: skip
     options.add_argument("--ics", metavar="FOLDER", type=Path, help="also write a calendar for each nurse; needs --monday")
+    options.add_argument("--only-table", action="store_true", help="with --html: no costs, totals and wishes, for a page on the wall")
     options.add_argument("--out", metavar="FILE", type=Path, help="write to this file, not to standard output")
     form = options.add_mutually_exclusive_group()
     form.add_argument("--why", action="store_true", help="write each charge: its cost, its rule, who and when")
@@ -85,6 +86,8 @@ def _check_options(given: argparse.Namespace) -> None:
         raise Misuse("--swap and --old are two changes: give one of them")
     if given.old and (given.svg or given.csv):
         raise Misuse("--old is for the table, --why and --html: leave it out")
+    if given.only_table and not given.html:
+        raise Misuse("--only-table is for --html: give both")
     if given.ics and not given.monday:
         raise Misuse("--ics needs --monday: give the date of the first Monday, such as 2026-11-30")
     for name, value in (("--monday", given.monday), ("--times", given.times)):
@@ -122,7 +125,7 @@ def main() -> Optional[int]:
     files = RosterFiles(given.roster, given.sce, given.his, given.week, _fixes(given.fix, len(given.roster)), given.early)
     view = read_view(files)
     old = read_old(files, given.old) if given.old else None
-    content = Content(view, old, monday, read_times(given.times, view.shifts))
+    content = Content(view, old, monday, read_times(given.times, view.shifts), given.only_table)
     for warning in view.warnings:
         print(f"{os.path.basename(sys.argv[0])}: {warning}", file=sys.stderr)
     status = 0

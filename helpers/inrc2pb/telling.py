@@ -1,11 +1,11 @@
 """The files of a week in sentences, to be read by whoever knows the ward."""
 
-from typing import Collection, Dict, Iterator, List, Optional, Tuple
+from typing import Collection, Dict, Iterable, Iterator, List, Optional, Tuple
 
 from .absences import absences_of, joined, wishes_of
 from .demand import asked_shifts, supplied_shifts
 from .hints import plural
-from .records import DAYS, Contract, History, Limits, Place, Request, Requirement, Scenario, WeekData
+from .records import DAYS, Assignment, Contract, History, Limits, Place, Request, Requirement, Scenario, WeekData
 
 _WEEK = len(DAYS)
 
@@ -113,6 +113,15 @@ def _away(nurse: str, shift: Optional[str], days: Collection[int]) -> Iterator[s
         yield f"{nurse} is away on {_days(days)}."
     else:
         yield f"{nurse} never works {shift}" + ("." if len(days) == _WEEK else f" on {_days(days)}.")
+
+
+def held_sentences(held: Iterable[Assignment]) -> Iterator[str]:
+    """Held shifts, those of a nurse, a shift type and a skill together."""
+    found: Dict[Tuple[str, str, str], List[int]] = {}
+    for row in held:
+        found.setdefault((row.nurse, row.shift, row.skill), []).append(row.day)
+    for (nurse, shift, skill), days in found.items():
+        yield f"{nurse} has the shift {shift} {skill} for certain on {_days(set(days))}."
 
 
 def _wishes(wishes: Collection[Request]) -> Iterator[str]:

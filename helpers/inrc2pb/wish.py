@@ -56,7 +56,8 @@ def _options() -> argparse.ArgumentParser:
 def _known_cost(week: Week, added: Sequence[Absence], held: Sequence[Assignment]) -> Optional[int]:
     """The cost of a roster that keeps these absences, those of the week, and the held rows; None if none is found."""
     for row in working_while_away({*absences_of(week.data), *added}, held):
-        raise Misuse(f"{row.nurse} is away on {DAYS[row.day]}, and --fix holds {row.shift}: leave out one of the two")
+        without = f"inrc2pb-keep --nurses {row.nurse} --keep {DAYS[row.day]} --others FILE"
+        raise Misuse(f"{row.nurse} is away on {DAYS[row.day]}, and --fix holds {row.shift}: leave out one of the two; {without} leaves out the shift")
     return first_cost(replace(week, data=with_absences(week.scenario, week.data, added, 0).data), held)
 
 

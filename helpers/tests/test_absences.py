@@ -7,7 +7,7 @@ from dataclasses import replace
 from ward import HAS_CBC, HAS_CLASP, HISTORY, ROSTER, SCENARIO, WEEK, WEEK_FILES, WEEK_OPTIONS, HelperTest, files, run
 
 from inrc2pb import rules
-from inrc2pb.absences import MARK, ROWS, Absence, absences_of, in_words, wishes_of, with_absences, working_while_away
+from inrc2pb.absences import MARK, ROWS, Absence, absences_of, in_words, way_out, wishes_of, with_absences, working_while_away
 from inrc2pb.best_roster import BestRoster
 from inrc2pb.program import penalty_of
 from inrc2pb.records import Assignment, Contract, History, Limits, Nurse, NurseHistory, Place, Request, Requirement, Scenario, ShiftType, Week, WeekData
@@ -89,6 +89,12 @@ class Writing(unittest.TestCase):
         self.assertEqual(working_while_away(away, rows), [rows[0], rows[2]])
         self.assertEqual(in_words(rows), "Chen works Late on Thu and Fri, Ewa works Day on Mon")
 
+    def test_the_way_out(self):
+        broken = [Assignment("Chen", 4, "Day", "Charge")]
+        held = [Assignment("Amara", 4, "Late", "Nurse"), Assignment("Grace", 4, "Late", "Nurse"), Assignment("Bruno", 3, "Day", "Charge")]
+        self.assertEqual(way_out(WARD, held, broken), "hold fewer shifts with --fix; these nurses have the skill: Amara Fri Late")
+        self.assertIn("type inrc2pb-check with the same files and --why-none: ", way_out(WARD, held[1:], broken))
+
 
 class Wish(HelperTest):
     def wish(self, *words, week=WEEK):
@@ -153,7 +159,8 @@ class Wish(HelperTest):
             (("--wish", "Chen"), "--wish Chen: give the nurse and the days, such as Chen=Sat or Chen=Sat:Day"),
             (("--credit", "h.txt", "--away", "Chen"), "--credit needs --his and --away: give the history with which the first week begins, and who is away"),
             (("--fix", ROSTER, "--away", "Chen"), "--fix needs --his: give the history with which the first week begins"),
-            (("--his", HISTORY, "--fix", ROSTER, "--away", "Chen=Wed"), "Chen is away on Wed, and --fix holds Late: leave out one of the two"),
+            (("--his", HISTORY, "--fix", ROSTER, "--away", "Chen=Wed"),
+             "Chen is away on Wed, and --fix holds Late: leave out one of the two; inrc2pb-keep --nurses Chen --keep Wed --others FILE leaves out the shift"),
         ):
             with self.subTest(words):
                 self.assert_fault(self.wish(*words), f"inrc2pb-wish: {said}")
@@ -186,6 +193,7 @@ class Kept(HelperTest):
             self.assertEqual(working_while_away(away, files.read_solution(target).assignments) == [], kept)
             self.assertEqual("no roster was found that keeps every absence: " in said, not kept)
             self.assertIn("no roster costs less", report)
+            self.assertEqual(("--why-none" in said, report.endswith("no roster costs less, but this one breaks an absence\n")), (not kept, not kept))
 
     def test_a_roster_that_breaks_an_absence_is_a_mistake(self):
         self.assertEqual(run("wish", *WEEK_OPTIONS[:2], *WEEK_OPTIONS[4:], "--away", "Chen=Mon,Wed", "--out", self.folder / "away.txt")[0], 0)

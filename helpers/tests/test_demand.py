@@ -84,6 +84,12 @@ class Telling(HelperTest):
         ):  # fmt: skip
             self.assertIn(line, found)
 
+    def test_check_tells_held_shifts(self):
+        fix = self.solution("Grace Sat Day Nurse", "Chen Mon Late Nurse", "Grace Sun Day Nurse")
+        printed = run("check", *WEEK_OPTIONS, "--fix", fix, "--tell")[1]
+        self.assertIn("\nGrace has the shift Day Nurse for certain on Sat and Sun.\nChen has the shift Late Nurse for certain on Mon.\n", printed)
+        self.assertNotIn("for certain", run("check", *WEEK_OPTIONS, "--tell")[1])
+
     def test_check_tells(self):
         status, printed, said = run("check", *WEEK_OPTIONS, "--tell")
         self.assertEqual((status, said), (0, ""))

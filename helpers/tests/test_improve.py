@@ -9,14 +9,15 @@ import sys
 import threading
 import time
 import unittest
+from types import SimpleNamespace
 from unittest import mock
 
 from ward import EARLY_ANSWER, HAS_CBC, HELPERS, HISTORY, ROOT, ROSTER, SCENARIO, THIRTY_FILES, WEEK, WEEK_FILES, WEEK_OPTIONS
 from ward import HelperTest, files, program, run
 
 from inrc2pb import bounds
-from inrc2pb.bounds import PLAIN, PROVER
-from inrc2pb.improve import improve, search
+from inrc2pb.bounds import PLAIN, PROVER, Bound
+from inrc2pb.improve import SearchResult, improve, search
 from inrc2pb.plan import Plan
 from inrc2pb.progress import Progress
 
@@ -113,6 +114,17 @@ class Searches(HelperTest):
         ran = run("improve", *WEEK_OPTIONS, "--sol", self.target, environment={"INRC2PB": str(self.folder / "inrc2pb")})
         self.assertIn(f"\nlower bound 20 ({PLAIN})\nno roster costs less\n", ran[1])
         self.assertEqual(ran[2].count(f"{PROVER} failed, so bounds are computed in {PLAIN}: inrc2pb-bound: out of memory\n"), 1)
+
+
+class Lines(unittest.TestCase):
+    def test_a_claim_and_a_broken_absence(self):
+        for penalty, broken, says in (
+            (20, [], "no roster costs less, says cbc; without cbc only the lower bound is known"), (15, [], "no roster costs less, says cbc"),
+            (15, ["a row"], "no roster costs less, but this one breaks an absence"),
+        ):  # fmt: skip
+            found = SimpleNamespace(bound=Bound(15, PROVER), claimed_by="cbc")
+            best = SimpleNamespace(breaks=lambda broken=broken: broken, proved=True)
+            self.assertEqual(SearchResult(SimpleNamespace(penalty=penalty), found, best, False, None).lines(), ["lower bound 15 (inrc2pb-bound)", says])
 
 
 class BadInput(HelperTest):

@@ -17,13 +17,15 @@ WARNINGS = [
     (HISTORY, "Amara 0 0 Day 2 2 0", "Amara 0 0 Day 2 2 1", "--his", "Amara worked on Sunday (Day), but has 1 day off in a row"),
     (HISTORY, "Amara 0 0 Day 2 2 0", "Amara 0 0 Day 0 2 0", "--his", "Amara worked on Sunday (Day), but has 0 days in a row on this shift type"),
     (HISTORY, "Amara 0 0 Day 2 2 0", "Amara 0 0 Day 3 2 0", "--his", "Amara has 3 days in a row on Day, and only 2 with work"),
-    (HISTORY, "Bruno 0 0", "Bruno 3 0", "--his", "Bruno has 3 assignments, and 0 weeks of the period are over"),
+    (HISTORY, "Bruno 0 0", "Bruno 3 0", "--his", "Bruno has 3 assignments, and 0 weeks of the period are over (leave with credit?)"),
     (HISTORY, "Bruno 0 0", "Bruno 0 1", "--his", "Bruno has 1 weekend, and 0 weeks of the period are over"),
     (HISTORY, "Bruno 0 0 None 0 0 2", "Bruno 0 0 None 0 0 0", "--his", None),
     (WARD / "history-1.txt", "Amara 5 1 Day 2 2 0", "Amara 5 1 Day 2 6 0", "--his", "Amara has 6 working days in a row, and 5 assignments"),
-    (WARD / "history-1.txt", "Amara 5", "Amara 8", "--his", "Amara has 8 assignments, and 1 week of the period is over"),
+    (WARD / "history-1.txt", "Amara 5", "Amara 8", "--his", "Amara has 8 assignments, and 1 week of the period is over (leave with credit?)"),
     (WEEK, "Day Charge (1,1) (1,1)", "Day Charge (5,5) (5,5)", "--week",
-     "Day Charge on Mon, Tue: at least 5 are needed, and 3 nurses have the skill: no roster can meet it"),
+     "Day Charge on Mon, Tue: at least 5 are needed, and 3 nurses have the skill: no roster can meet it\n"
+     "Mon and Tue: 5 with Charge needed at once (Day 5), and 3 have it: no roster can meet it\n"
+     "it asks for at least 34 shifts, and the contracts supply at most 32 a week: if all weeks ask for so many, each shift above costs points"),
     (WEEK, "Day Charge (1,1) (1,1)", "Day Charge (1,1) (1,4)", "--week", "Day Charge on Tue: 4 are best, and 3 nurses have the skill"),
     (WEEK, "Day Charge (1,1)", "Day Charge (2,1)", "--week", "Day Charge on Mon: (2,1) has a minimum above the optimal number"),
     (WEEK, "Late Nurse", "Night Charge", "--week", "nobody is asked for Late on any day"),
@@ -38,12 +40,12 @@ class Warnings(HelperTest):
             status, printed, said = run("check", "--sce", ward)
             self.assertEqual((status, said, printed.count("warning: it is not saved as UTF-8")), (0, "", warnings))
 
-    def test_each_odd_value_has_one_warning(self):
+    def test_each_odd_value_has_its_warnings(self):
         for path, old, new, option, warning in WARNINGS:
             with self.subTest(new=new):
                 changed = self.changed(path, old, new)
                 words = {"--sce": SCENARIO, option: changed}
-                said = f"{changed}: warning: {warning}\n" if warning else ""
+                said = "".join(f"{changed}: warning: {line}\n" for line in (warning or "").splitlines())
                 end = "No mistake found, but see the warnings." if "no roster can meet it" in said else "No mistake found."
                 self.assertEqual(run("check", *(word for pair in words.items() for word in pair)), (0, f"{said}{end}\n", ""))
 

@@ -8,7 +8,7 @@ import xml.etree.ElementTree as ElementTree
 from collections import Counter
 
 from in_process import table
-from ward import HISTORY, ROSTER, SCENARIO, WARD, WEEK, WEEK_OPTIONS, HelperTest, files
+from ward import HISTORY, ROSTER, SCENARIO, WARD, WEEK, WEEK_OPTIONS, HelperTest, files, run
 
 from inrc2pb.calendars import file_names
 from inrc2pb.markup import element, hidden
@@ -110,8 +110,25 @@ class Page(PageTest):
         page = self.page(*MONDAY, "--old", ROSTER, other)
         self.assertEqual(self.caption(page, "2 changes")[1:], [["Chen", "Mon 30 Nov", "off", "Late Nurse"], ["Grace", "Mon 30 Nov", "Day Nurse", "off"]])
         grace = next(row for row in self.caption(page, "Shifts") if row[0] == "Grace")
-        self.assertEqual(grace[1], "\u0394 changed since the older roster, before: Day Nurse")
+        self.assertEqual(grace[1], "off\u0394 changed since the older roster, before: Day Nurse")
         self.assertIn("Nothing is changed since the older roster.", [words(part) for part in self.page("--old", ROSTER, ROSTER).iter("p")])
+
+    def test_only_the_table(self):
+        page = self.page(*WEEK_OPTIONS, "--fix", ROSTER, "--only-table", "--old", self.changed(ROSTER, "Grace Mon", "Chen Mon"), ROSTER)
+        self.assertEqual([words(one) for one in page.iter("caption")], ["Shifts of each nurse"])
+        self.assertEqual([words(one) for one in page.iter("p")], ["7 nurses, 33 shifts"])
+        self.assertEqual([words(one) for one in page.iter("li")], ["\u0394 = changed since the older roster"])
+
+    def test_a_kept_day_names_nobody_as_away(self):
+        kept, ill, old = (self.folder / name for name in ("kept.txt", "ill.txt", "old.txt"))
+        self.assertEqual(run("keep", "--sce", SCENARIO, "--keep", "Mon,Tue", "--off-in", WEEK, ROSTER, "--out", kept)[0], 0)
+        self.assertEqual(run("wish", "--sce", SCENARIO, "--week", kept, "--away", "Amara=Thu", "--out", ill)[0], 0)
+        old.write_text(ROSTER.read_text().replace("Bruno Thu", "Amara Thu"))
+        page = self.page("--sce", SCENARIO, "--his", HISTORY, "--week", ill, "--old", old, ROSTER)
+        rows = {row[0]: row for row in self.caption(page, "Shifts")}
+        self.assertEqual((rows["Chen"][1:3], rows["Amara"][4][:4], rows["Amara"][5]), (["", ""], "away", ""))
+        # The older roster breaks the absence, so its penalty is left out.
+        self.assertEqual(words(next(page.iter("p"))), "7 nurses, 33 shifts, penalty 20")
 
     def test_several_weeks(self):
         later = self.changed(ROSTER, "0 ward", "1 ward", "later.txt")
@@ -151,6 +168,7 @@ class Page(PageTest):
             (MONDAY, "--monday is for --html and --ics: give one of them"),
             (("--times", "Day=06:00-14:00"), "--times is for --html and --ics: give one of them"),
             (("--ics", self.folder), "--ics needs --monday: give the date of the first Monday, such as 2026-11-30"),
+            (("--only-table",), "--only-table is for --html: give both"),
             (("--html", "--times", "Day"), "--times Day: give a shift type, its start and its end, such as Early=06:00-14:15"),
             (("--html", "--times", "Day=6-14"), "--times Day=6-14: give a shift type, its start and its end, such as Early=06:00-14:15"),
             (("--html", "--times", "Day=06:00-24:30"), "--times Day=06:00-24:30: 24:30 is no time of a day: give hours from 0 to 24 and minutes from 00 to 59"),

@@ -31,6 +31,14 @@ class Keep(HelperTest):
         self.assertEqual(self.rows("--nurses", "Chen", "--keep", "Wed"), both)
         self.assertEqual(self.rows("--nurses", "Chen", "--keep", "Wed", "--others"), every - both)
 
+    def test_promised_shifts_are_kept_too(self):
+        every = set(files.read_solution(ROSTER).assignments)
+        monday = {row for row in every if row.day == 0}
+        promised = next(row for row in every if row.day == 5)
+        fix = self.solution(promised.row(), "Chen Sun Day Nurse")
+        self.assertEqual(self.rows("--keep", "Mon", "--fix", fix), monday | {promised})
+        self.assertEqual(self.rows("--keep", "Mon", "--others", "--fix", fix), every - monday)
+
     def test_the_rows_fit_the_program(self):
         kept = self.folder / "kept.txt"
         self.assertEqual(run("keep", "--keep", "Mon", ROSTER, "--out", kept), (0, "", ""))
@@ -63,7 +71,7 @@ class Keep(HelperTest):
         self.assertEqual(said, f"inrc2pb-keep: {week}: {line}\n")
 
     def test_faults(self):
-        line = "inrc2pb-keep: --off-in needs --sce, and has no --others: give the scenario, and the days and nurses themselves"
+        line = "inrc2pb-keep: --off-in needs --sce, and has no --others and no --fix: give the scenario, and the days and nurses themselves"
         self.assert_fault(run("keep", "--keep", "Mon", "--off-in", WEEK, ROSTER), line)
         self.assert_fault(run("keep", "--keep", "Mon", "--sce", SCENARIO, "--off-in", WEEK, "--others", ROSTER), line)
         self.assert_fault(run("keep", "--keep", "Mon,Tues", ROSTER), "inrc2pb-keep: --keep Mon,Tues: 'Tues' is no day: did you mean Tue?")
