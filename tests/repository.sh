@@ -33,6 +33,13 @@ weeks_are_made() {
     done
 }
 
+# Each command of the helpers is a copy of their launcher.
+helpers_are_launchers() {
+    local file
+    begins_case 'the commands of the helpers'
+    for file in helpers/inrc2pb-*; do cmp -s helpers/launcher "$file" || complain "$file is no copy of helpers/launcher"; done
+}
+
 # The kit at hand is the one that README.md names or a later one, with the logic that README.md and docs/trusted.md name.
 kit_is_named() {
     local kit named sum
@@ -112,6 +119,7 @@ scripts_are_executable() {
 
 version_is_in_preparation
 weeks_are_made
+helpers_are_launchers
 kit_is_named
 examples_are_tests
 takes_contracts
