@@ -9,7 +9,7 @@
 encoder=$program
 needs_bound
 program=$bound
-name=inrc2pb-bound
+program_name=inrc2pb-bound
 
 examples=$PWD/examples
 five=(--sce "$examples/n005w4/Sc-n005w4.txt" --his "$examples/n005w4/H0-n005w4-0.txt" --week "$examples/n005w4/WD-n005w4-0.txt")

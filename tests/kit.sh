@@ -37,7 +37,7 @@ failed=0
 what='the files'
 in=/dev/null
 # The name of the program in its faults.
-name=inrc2pb
+program_name=inrc2pb
 out=$room/out
 err=$room/err
 
@@ -165,7 +165,7 @@ run() {
 
 # refuses WHAT STATUS FAULT WORD..: the program ends so, with this fault as its one line, and makes no file `unmade`.
 refuses() {
-    line fault "$name: $3"
+    line fault "$program_name: $3"
     run "$1" "$2" nothing fault "${@:4}"
     is_missing unmade
 }
