@@ -5,7 +5,7 @@
 #   bench/many.sh LIST RESULTS [WORD..]
 #
 # The words go to parallel: -j 2 (lines at once on a machine; default 1), -S 2/one,2/two (machines by ssh, which have this clone at
-# the same path), --dry-run. bench/many.py says what a line is.
+# the same path), --dry-run. bench/many.py describes a line.
 set -u
 [ $# -ge 2 ] || { echo 'usage: bench/many.sh LIST RESULTS [WORD..]'; exit 2; }
 list=$(realpath "$1") results=$(realpath -m "$2")

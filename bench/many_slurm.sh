@@ -5,7 +5,7 @@
 #   bench/many_slurm.sh LIST RESULTS [WORD..]
 #
 # The words go to sbatch, such as --time=10 --cpus-per-task=4 --wait. This clone and RESULTS are on a file system that all nodes
-# share. bench/many.py says what a line is.
+# share. bench/many.py describes a line.
 set -u
 [ $# -ge 2 ] || { echo 'usage: bench/many_slurm.sh LIST RESULTS [WORD..]'; exit 2; }
 list=$(realpath "$1") results=$(realpath -m "$2")

@@ -31,7 +31,7 @@ says() {
     run "$1" 0 wanted nothing "${@:3}"
 }
 
-# The optima are those of docs/solvers.md.
+# The optima are in docs/solvers.md.
 proves_optima() {
     "$encoder" decode "${five[@]}" --answer "$examples/n005w4/answers/clasp.txt" --sol "$room/five" > "$room/report" || complain 'no roster'
     grep -v 'Sara Mon' "$room/five" | sed 's/^ASSIGNMENTS = .*/ASSIGNMENTS = '"$(($(grep -c 'Nurse$' "$room/five") - 1))"'/' > "$room/worse"

@@ -141,7 +141,7 @@ README.md 700
 CONTRIBUTING.md 800
 examples/README.md 320
 bench/README.md 650
-docs/DECISIONS.md 1300
+docs/DECISIONS.md 1320
 docs/answers.md 1570
 docs/changing.md 900
 docs/embedding.md 1850

@@ -107,7 +107,7 @@ class TooMany(Exception):
     """More absences than the requests of a week's file allow."""
 
 
-# What to do then.
+# The cure.
 NO_SKILL = "give someone who is away for the whole week no skill, in a copy of the ward"
 
 

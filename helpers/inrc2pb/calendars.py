@@ -11,7 +11,7 @@ from .markup import allowed
 from .roster_view import Cell, RosterView
 from .writing import write_text
 
-# A line has at most so many bytes.
+# The maximum number of bytes of a line.
 _LINE = 75
 
 

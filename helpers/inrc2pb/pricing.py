@@ -12,7 +12,7 @@ MAX_PRICE = 999_999_999
 Row = bytes
 # A price in thousandths for each place of a plan, in its order.
 Prices = List[int]
-# What a nurse of each crew earns, in thousandths.
+# The price of a nurse of each crew, in thousandths.
 Gains = Union[Sequence[int], Dict[int, int]]
 _Pay = List[List[int]]
 

@@ -6,7 +6,7 @@ from .linear_solvers import Relaxed, SolverFault
 from .plan import POINT, Plan
 from .pricing import MAX_PRICE, Crews, Prices, Row
 
-# What a nurse below a minimum costs at first, in points, and at most.
+# The cost of a nurse below a minimum at first, in points, and the maximum cost.
 BELOW_MINIMUM, MOST_BELOW = 3000, 900_000
 # With more crews of several places a column names the places of its row.
 MOST_LINKS = 6000

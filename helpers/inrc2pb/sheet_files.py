@@ -23,7 +23,7 @@ MAX_ROWS, MAX_COLUMNS = 5000, 1000
 _SEPARATORS = (";", ",", "\t")
 # The first bytes of an Excel file before 2007, and of a zip file.
 _OLD_EXCEL, _ZIP = b"\xd0\xcf\x11\xe0", b"PK"
-# What the library raises for wrong bytes, and for elements that are nested too deep. OSError is for a place before the file's begin.
+# The errors of the library for wrong bytes, and for elements that are nested too deep. OSError is for a place before the file's begin.
 _DAMAGED = (
     zipfile.BadZipFile, zlib.error, struct.error, ElementTree.ParseError, expat.ExpatError, LookupError, ValueError, EOFError, NotImplementedError,
     RecursionError, OSError,

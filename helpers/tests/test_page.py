@@ -69,7 +69,7 @@ class Page(PageTest):
             self.assertTrue(all(row[0].get("scope") == "row" for row in one.find("tbody")))
         self.assertEqual([part.tag for part in page.iter() if part.get("src") or part.get("href") or part.tag in ("script", "link", "img")], [])
         self.assertNotIn("url(", page.find("head/style").text)
-        # A mark for eyes has its words beside it.
+        # A mark for eyes has its words next to it.
         marks = [part for part in page.iter("td") if any(inner.get("class") == "mark" for inner in part)]
         self.assertGreater(len(marks), 3)
         self.assertTrue(all(any(inner.get("class") == "hidden" for inner in part) for part in marks))

@@ -7,7 +7,7 @@ use Rattle.inrc2pb_program.specs.Jobs.{HasFlag, HasInputs, LacksInput}
 use Rattle.bound_program.specs.CommandLine.{bound_app}
 use Rattle.bound_program.specs.declared.job.BoundJob.{BoundJob}
 
--- the paths and flags of the job are those of the options, unchanged; no roster is judged together with the minimums or rows
+-- the paths and flags of the job come from the options, unchanged; no roster is judged together with the minimums or rows
 pub record IsBoundJobOf (options : List Row) (job : BoundJob) : Type 0 where
   pub inputs : HasInputs options job.inputs
   pub prices : first_of (codes "prices") options ≡ option_map string_bytes job.prices

@@ -1,7 +1,7 @@
 //! The job of the program.
 use inrc2pb_job::Inputs;
 
-/// What is asked about a week, with the paths as they were given.
+/// The question about a week, with the paths as they were given.
 pub struct BoundJob {
     /// The files of the week.
     pub inputs: Inputs,

@@ -1,4 +1,4 @@
--- The meaning of an answer: what it says about all rosters of the week, and about the roster that is judged.
+-- The meaning of an answer: its claim about all rosters of the week, and about the roster that is judged.
 use Rattle.std.specs.Prelude.{◌≡◌, ◌≤◌, true, Option, option_map, IsSomeAnd}
 use Rattle.rota_core.specs.HardRules.{KeepsHardRules}
 use Rattle.rota_core.specs.Problem.{Problem}
@@ -11,7 +11,7 @@ use Rattle.bound_run.specs.declared.answer.Claim.{Claim}
 use Rattle.bound_run.specs.declared.answer.Claim.TheVariants.{AtLeast, NoRoster, Unknown}
 use Rattle.bound_run.specs.declared.judged.Judged.{Judged}
 
--- what the claim says about the rosters of the week
+-- the meaning of the claim for the rosters of the week
 abbrev pub Holds : Problem → Claim → Type 0
 Holds problem (AtLeast bound) = (roster : Roster) → KeepsHardRules problem roster → bound ≤ penalty problem roster
 Holds problem NoRoster = (roster : Roster) → KeepsHardRules problem roster → ⊥

@@ -55,7 +55,7 @@ pub data AreRows (charging : Charging) (tables : InstanceTables) (prices : Price
       (row : Option CheapestWeek) → IsRow (unit_of charging) (problem_of tables) prices n row →
       AreRows charging tables prices (n + 1) (text ++ row_line charging tables.scenario n row)
 
--- what a week is charged for a question
+-- the charges of a week for a question
 abbrev pub charging_of : Question → Charging
 charging_of question = (if question.minimums then Minimums else Penalty)
 

@@ -1,4 +1,4 @@
-//! The answer to what was asked about a week.
+//! The answer to the question about a week.
 ghost use Rattle.std.specs.Prelude.{◌≡◌, IfOk, IfSome, option_map};
 ghost use Rattle.rota_core.specs.InstanceTables.{problem_of};
 ghost use Rattle.rota_core.specs.PriceTables.{IsForWeek, prices_of};
@@ -16,7 +16,7 @@ use rota_core::{Instance, Prices};
 use rota_pb::Fault;
 use std::alloc::{AllocError, Global};
 
-/// What the prices prove about all rosters of a week.
+/// The claim that the prices prove about all rosters of a week.
 #[derive(Clone, Copy)]
 pub enum Claim {
     /// Each roster that keeps H1 to H5 has at least this penalty.
@@ -27,20 +27,20 @@ pub enum Claim {
     Unknown,
 }
 
-/// The answer to what was asked about a week.
+/// The answer to the question about a week.
 #[derive(Drop)]
 pub struct Answer {
-    /// What the prices prove.
+    /// The claim that the prices prove.
     pub claim: Claim,
     /// The penalty of the given roster.
     pub penalty: Option<u64>,
-    /// The given roster has the least penalty of all rosters that keep H1 to H5.
+    /// The given roster has the minimum penalty of all rosters that keep H1 to H5.
     pub optimal: bool,
     /// The lines of the nurses' cheapest weeks, if they are asked for.
     pub rows: Vec<u8>,
 }
 
-// What the prices prove: with `minimums`, by the hard rules alone.
+// The proved claim: with `minimums`, by the hard rules alone.
 fn claim_of(
     alloc: Global,
     instance: &Instance,

@@ -1,7 +1,7 @@
-//! What is asked about a week.
+//! The question about a week.
 use rota_pb::Choice;
 
-/// What is asked about a week, in addition to its files.
+/// The question about a week, in addition to its files.
 #[derive(Clone, Copy)]
 pub struct Question {
     /// The choices for the week's files.

@@ -110,7 +110,7 @@ fn rows_of_week(
     Ok(text)
 }
 
-// What a week is charged for the question.
+// The charges of a week for the question.
 fn charging_of(question: Question) -> Charging
     ensures { result ≡ charging_of question }
 {

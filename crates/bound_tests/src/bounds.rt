@@ -1,4 +1,4 @@
-//! Bounds and cheapest weeks of small weeks. The values are those of a program that tries every week of a nurse.
+//! Bounds and cheapest weeks of small weeks. The values come from a program that tries every week of a nurse.
 ghost use Rattle.std.specs.Prelude.{◌≤◌, IfOk};
 ghost use Rattle.rota_core.specs.InstanceTables.{problem_of};
 ghost use Rattle.rota_core.specs.PriceTables.{IsForWeek};

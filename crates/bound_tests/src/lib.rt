@@ -1,4 +1,4 @@
-//! Tests of bounds from prices, and of nurses' cheapest weeks. The values are those of a program that tries every week
+//! Tests of bounds from prices, and of nurses' cheapest weeks. The values come from a program that tries every week
 //! of a nurse.
 #![tactic(auto)]
 

@@ -86,7 +86,7 @@ module _ (unit : ℕ) (problem : Problem) (prices : Prices) (roster : Roster) (n
         omega (arith, least, here, within d s k, one-total problem.shifts problem.skills (has d) s k one (prices d));
   }
 
-  -- ---- the least is at most what the roster's choice gives
+  -- ---- the minimum is at most the value of the roster's choice
 
   least-allowed : (d : ℕ) (past : Past) (rest : Past → ℕ) (choice : Option ℕ) → IsOpen problem prices roster n d choice →
       is_barred problem past choice ≡ false →

@@ -1,4 +1,4 @@
--- The week of the best duties, as the code finds it: the first choice with the least value, and the days one after another.
+-- The week of the best duties, as the code finds it: the first choice with the minimum value, and the days one after another.
 use Rattle.std.proofs.Common.{◌≡◌, ℕ, suc, ◌+◌, ◌-◌, ◌*◌, ◌<◌, ◌≤◌, ◌==◌, Bool, true, false, ap, sym, ◌∙◌, arith, subst, append_assoc}
 use Rattle.std.proofs.Common.{[], ◌∷◌, ◌++◌}
 use Rattle.std.specs.Prelude.{Option, Some, None}
@@ -176,7 +176,7 @@ module _ (unit : ℕ) (problem : Problem) (prices : Prices) (n : ℕ) where
             (week-first unit problem prices n within DAYS start other (omega arith) small is (omega (arith, all.least_is, chosen.paid, cost_is, same)));
       }
 
-  -- the bound is the least over her weeks
+  -- the bound is the minimum over her weeks
   pub bound-least : ArePrices prices → IsLeastOverWeeks unit problem prices n
   bound-least within = record {
     least = λ duties is. week-bounded unit problem prices n within DAYS (problem.past n) duties (omega arith) is;

@@ -80,7 +80,7 @@ module _ (problem : Problem) (prices : Prices) (roster : Roster) (n : ℕ) where
   abbrev pub off_run_before : ℕ → ℕ
   off_run_before d = run_length_before (is_off problem roster n) start.off_run d
 
-  -- what the rules S2 to S5 charge for a day of the roster
+  -- the charges of the rules S2 to S5 for a day of the roster
   abbrev pub charge_on : ℕ → ℕ
   charge_on d =
       shift_run_weight * sum_below problem.shifts (λ s. run_charge (shift_run_before d s) (is_on problem roster n s d) (problem.limits s)) +
@@ -104,7 +104,7 @@ module _ (problem : Problem) (prices : Prices) (roster : Roster) (n : ℕ) where
   IsOpen d None = may_be_off problem n d ≡ true
   IsOpen d (Some s) = s < problem.shifts
 
-  -- the choice is that of the roster
+  -- the choice is the roster's
   pub record Chooses (d : ℕ) (choice : Option ℕ) : Type 0 where
     pub opened : IsOpen d choice
     pub on : (s : ℕ) → s < problem.shifts → is_on problem roster n s d ≡ is_shift choice s

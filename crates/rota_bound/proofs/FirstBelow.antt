@@ -14,7 +14,7 @@ first-more n test = rw add-one refl
 
 pub ruleset searching = (first-empty, first-more)
 
--- what the number found says about the test
+-- the meaning of the found number for the test
 abbrev pub FirstIs : ℕ → (ℕ → Bool) → Option ℕ → Type 0
 FirstIs n test None = (i : ℕ) → i < n → test i ≡ false
 FirstIs n test (Some i) = (i < n) × (test i ≡ true) × ((j : ℕ) → j < i → test j ≡ false)

@@ -28,13 +28,13 @@ use Rattle.rota_bound.proofs.LeastCosts.{least_cost-end, least_cost-step}
 use Rattle.rota_bound.proofs.Sums.{sum-same, sum-swap}
 use Rattle.rota_bound.specs.DayCharges.{weekend_charge}
 
--- ---- the costs of the week are those of its days
+-- ---- the costs of the week are the costs of its days
 
 by_day : (has : ℕ → Bool) (history : ℕ) (limits : Span) → run_cost has history limits ≡ sum_below DAYS (day_cost has history limits)
 unfolding run_over run_under sum_below
 by_day has history limits = omega arith
 
--- the cost of the runs is what the days charge for them
+-- the cost of the runs is the sum of the charges of the days
 run_cost-is : (has : ℕ → Bool) (history : ℕ) (limits : Span) →
     run_cost has history limits ≡ sum_below DAYS (λ d. run_charge (run_length_before has history d) (has d) limits)
 run_cost-is has history limits =
@@ -104,7 +104,7 @@ module _ (problem : Problem) (prices : Prices) (roster : Roster) (n : ℕ) where
 
   -- ---- the bound, day by day
 
-  -- before the day, with so many days left: the bound is at most the charges so far and the least of the rest, less the prices so far
+  -- before the day, with this number of days left: the bound is at most the charges so far and the minimum of the rest, less the prices so far
   record Reached (unit d left : ℕ) : Type 0 where
     pub past : Past
     pub follows : Follows problem prices roster n d past

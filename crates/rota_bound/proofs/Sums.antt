@@ -46,7 +46,7 @@ sum-swap (suc m) n f = omega (arith, sum-swap m n f, sum-plus n (λ j. sum_below
 pub last_or_before : (i n : ℕ) → i < suc n → (i ≡ n) ⊎ (i < n)
 last_or_before i n below = grind arith
 
--- a sum of which only one term is not 0
+-- a sum with only one term that is not 0
 pub sum-at : (n i : ℕ) (f : ℕ → ℕ) → i < n → ((j : ℕ) → j < n → j ≢ i → f j ≡ 0) → sum_below n f ≡ f i
 unfolding sum_below
 sum-at zero i f below none = absurd (omega arith)
@@ -58,7 +58,7 @@ sum-at (suc n) i f below none =
       | inr before ↦ omega (arith, sum-at n i f before (λ j j_below other. none j (omega arith) other), none n (omega arith) (λ same. omega arith))
     ]
 
--- a sum of which only two terms are not 0
+-- a sum with only two terms that are not 0
 pub sum-two : (n i j : ℕ) (f : ℕ → ℕ) → i < n → j < n → i ≢ j → ((m : ℕ) → m < n → m ≢ i → m ≢ j → f m ≡ 0) → sum_below n f ≡ f i + f j
 unfolding sum_below
 sum-two zero i j f i_in j_in differ none = absurd (omega arith)
@@ -118,7 +118,7 @@ module _ (D S K : ℕ) where
 
 -- ---- loops
 
--- what the loops that sum, test or take a minimum need
+-- facts for the loops that sum, test or take a minimum
 pub sum-none : (f : ℕ → ℕ) → sum_below 0 f ≡ 0
 unfolding sum_below
 sum-none f = refl

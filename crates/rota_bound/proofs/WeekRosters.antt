@@ -90,7 +90,7 @@ module _ (problem : Problem) (roster : Roster) (n : ℕ) where
       let same : duty.shift ≡ t = eqb-true duty.shift t (sym ((chooses-duty d past (Some duty) may is).on t t_in) ∙ on) in
       ap (λ (s : ℕ). is_forbidden_after problem past.last s) (sym same) ∙ may.3
 
-  -- the duties of these days are those of the roster, from the day on
+  -- the duties of these days are the roster's, from the day on
   abbrev HasDuties : ℕ → Duties → Type 0
   HasDuties d duties = (i s k : ℕ) → has (d + i) s k ≡ is_duty (slice_index_or duties i None) s k
 

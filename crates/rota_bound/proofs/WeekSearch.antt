@@ -137,7 +137,7 @@ module _ (unit : ℕ) (problem : Problem) (prices : Prices) (n : ℕ) (within : 
 
     -- ---- the best duty
 
-    -- the nurse may have the duty, and it gives the least value
+    -- the nurse may have the duty, and it gives the minimum value
     record IsChosen (duty : Option Duty) : Type 0 where
       pub may : MayHaveDuty problem n d past duty
       pub least_is : least + price_of prices d duty ≡
@@ -267,7 +267,7 @@ module _ (unit : ℕ) (problem : Problem) (prices : Prices) (n : ℕ) (within : 
       let rest = week-bounded left (past_after d past (shift_of duty)) duties (omega arith) is.1 in
       omega (arith, step, rest)
 
-  -- the chosen week is hers, and its cost less its prices is the least
+  -- the chosen week is hers, and its cost less its prices is the minimum
   pub record IsLeastWeek (left : ℕ) (past : Past) (duties : Duties) : Type 0 where
     pub is_week : IsWeekOf problem n left past duties
     pub least_is : least_cost unit problem prices n left past + paid_for prices left duties ≡

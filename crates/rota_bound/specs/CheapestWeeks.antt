@@ -1,4 +1,4 @@
--- A nurse's cheapest week for the prices: of all her weeks, the first with the least cost less the prices of her cells.
+-- A nurse's cheapest week for the prices: of all her weeks, the first with the minimum cost less the prices of her cells.
 use Rattle.std.specs.Prelude.{◌≡◌, ℕ, zero, suc, ◌+◌, ◌-◌, ◌*◌, ◌≤◌, ◌<◌, true, false, ⊤, ◌⊎◌, Option, Some, None, List, [], ◌∷◌}
 use Rattle.rota_core.specs.Limits.{DAYS}
 use Rattle.rota_core.specs.Prices.{Prices, max_price}

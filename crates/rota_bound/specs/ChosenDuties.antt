@@ -19,7 +19,7 @@ unfoldable pub first_below : ℕ → (ℕ → Bool) → Option ℕ
 first_below zero test = None
 first_below (suc n) test = or_this (first_below n test) n (test n)
 
--- the first choice whose value is the least
+-- the first choice whose value is the minimum
 abbrev pub best_choice : ℕ → Problem → Prices → (nurse day : ℕ) → Past → (rest : Past → ℕ) → Option ℕ
 best_choice unit problem prices n d past rest =
     (if choice_value unit problem prices n d past rest None == least_choice unit problem prices n d past rest
@@ -31,7 +31,7 @@ abbrev pub or_zero : Option ℕ → ℕ
 or_zero None = 0
 or_zero (Some i) = i
 
--- the first skill with the least rebate
+-- the first skill with the minimum rebate
 abbrev pub best_skill : Problem → Prices → (nurse day shift : ℕ) → ℕ
 best_skill problem prices n d s = or_zero (first_below problem.skills (λ k. rebate problem prices n d s k == day_rebate problem prices n d (Some s)))
 

@@ -14,12 +14,12 @@ cost_places = 16384
 abbrev pub rebate_places : ℕ
 rebate_places = 128
 
--- there are so many places
+-- the number of places
 pub record HasPlaces (known : Known) : Type 0 where
   pub costs : length known.costs.items ≡ cost_places
   pub rebates : length known.rebates.items ≡ rebate_places
 
--- the cost is the least cost of the nurse's last days after the past
+-- the cost is the minimum cost of the nurse's last days after the past
 abbrev pub IsRightCost : ℕ → Problem → Prices → KnownCost → Type 0
 IsRightCost unit problem prices known = known.cost ≡ least_cost unit problem prices known.nurse known.left known.past
 

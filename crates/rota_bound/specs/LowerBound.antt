@@ -15,7 +15,7 @@ use Rattle.rota_bound.specs.NurseBounds.{nurse_bound}
 abbrev pub thousandths : ℕ
 thousandths = 1000
 
--- what is added to the bounds of all nurses: the maximum price for each nurse and day
+-- the sum that is added to the bounds of all nurses: the maximum price for each nurse and day
 abbrev pub added_prices : Problem → ℕ
 added_prices problem = problem.nurses * (DAYS * max_price)
 
@@ -29,7 +29,7 @@ abbrev pub BoundIsSound : ℕ → Problem → Prices → Roster → Type 0
 BoundIsSound unit problem prices roster =
     ArePrices prices → KeepsHardRules problem roster → bound unit problem prices ≤ unit * penalty problem roster
 
--- the least multiple of 5 points that is not below so many thousandths: each penalty is a multiple of 5
+-- the minimum multiple of 5 points that is not below this number of thousandths: each penalty is a multiple of 5
 abbrev pub rounded_up : ℕ → ℕ
 rounded_up sum = (sum + 4999) / 5000 * 5
 

@@ -1,4 +1,4 @@
--- The least that a nurse's week can cost, less the prices of her cells. To keep the numbers from becoming negative, each day adds the maximum
+-- The minimum cost of a nurse's week, less the prices of her cells. To keep the numbers from becoming negative, each day adds the maximum
 -- price. `unit` is the value of a point, in the unit of the prices: 1000, or 0 if the soft rules are left out.
 use Rattle.std.specs.Prelude.{ℕ, zero, suc, ◌+◌, ◌-◌, ◌*◌, ◌&&◌, ◌||◌, Bool, false, min, if◌then◌else◌, Option, Some, None}
 use Rattle.rota_core.specs.Limits.{DAYS}
@@ -23,7 +23,7 @@ may_have problem n d s k = problem.has_skill n k && (may_be_off problem n d || p
 abbrev pub rebate : Problem → Prices → (nurse day shift skill : ℕ) → ℕ
 rebate problem prices n d s k = (if may_have problem n d s k then max_price - prices d s k else not_allowed)
 
--- the rebate of the day: the maximum price on a day off, if she may be off; on a shift type, the least rebate over her skills
+-- the rebate of the day: the maximum price on a day off, if she may be off; on a shift type, the minimum rebate over her skills
 abbrev pub day_rebate : Problem → Prices → (nurse day : ℕ) → Option ℕ → ℕ
 day_rebate problem prices n d None = (if may_be_off problem n d then max_price else not_allowed)
 day_rebate problem prices n d (Some s) = least_below problem.skills not_allowed (rebate problem prices n d s)
@@ -33,7 +33,7 @@ abbrev pub is_barred : Problem → Past → Option ℕ → Bool
 is_barred problem past None = false
 is_barred problem past (Some s) = is_forbidden_after problem past.last s
 
--- the value of a choice for the day: what the day costs, its rebate, and the least cost of the rest of the week, which depends on her past
+-- the value of a choice for the day: the cost of the day, its rebate, and the minimum cost of the rest of the week, which depends on her past
 -- after the day
 abbrev pub choice_value : ℕ → Problem → Prices → (nurse day : ℕ) → Past → (rest : Past → ℕ) → Option ℕ → ℕ
 choice_value unit problem prices n d past rest choice =
@@ -41,18 +41,18 @@ choice_value unit problem prices n d past rest choice =
     then not_allowed
     else unit * day_charge problem n d past choice + day_rebate problem prices n d choice + rest (past_after d past choice))
 
--- the least of these values over her choices for the day
+-- the minimum of these values over her choices for the day
 abbrev pub least_choice : ℕ → Problem → Prices → (nurse day : ℕ) → Past → (rest : Past → ℕ) → ℕ
 least_choice unit problem prices n d past rest =
     min (choice_value unit problem prices n d past rest None)
     (least_below problem.shifts not_allowed (λ s. choice_value unit problem prices n d past rest (Some s)))
 
--- the least cost of the last days of the week and of the totals; `left` is the number of these days, and `past` the past before them
+-- the minimum cost of the last days of the week and of the totals; `left` is the number of these days, and `past` the past before them
 unfoldable pub least_cost : ℕ → Problem → Prices → (nurse left : ℕ) → Past → ℕ
 least_cost unit problem prices n zero past = unit * end_charge problem n past
 least_cost unit problem prices n (suc left) past =
     least_choice unit problem prices n (DAYS - suc left) past (least_cost unit problem prices n left)
 
--- the least for the whole week, from the history on
+-- the minimum for the whole week, from the history on
 abbrev pub nurse_bound : ℕ → Problem → Prices → ℕ → ℕ
 nurse_bound unit problem prices n = least_cost unit problem prices n DAYS (problem.past n)

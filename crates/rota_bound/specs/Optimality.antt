@@ -1,4 +1,4 @@
--- A roster of the least penalty.
+-- A roster of the minimum penalty.
 use Rattle.std.specs.Prelude.{◌≤◌}
 use Rattle.rota_core.specs.HardRules.{KeepsHardRules}
 use Rattle.rota_core.specs.Problem.{Problem}

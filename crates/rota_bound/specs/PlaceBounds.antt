@@ -1,4 +1,4 @@
--- The least that a place can cost, with the price of each nurse at the place added to the cost of the missing nurses. A place is a day, a
+-- The minimum cost of a place, with the price of each nurse at the place added to the cost of the missing nurses. A place is a day, a
 -- shift type and a skill. `unit` is the value of a point, in the unit of the prices: 1000, or 0 if the soft rules are left out.
 use Rattle.std.specs.Prelude.{ℕ, ◌+◌, ◌-◌, ◌*◌, max, nat_lt, if◌then◌else◌}
 use Rattle.rota_core.specs.Limits.{DAYS}
@@ -12,7 +12,7 @@ use Rattle.rota_items.specs.rules.OptimalCoverage.Cost.{optimum_weight}
 abbrev pub place_cost : ℕ → Demand → (price nurses : ℕ) → ℕ
 place_cost unit demand price nurses = unit * optimum_weight * (demand.optimal - nurses) + price * nurses
 
--- the least of these numbers, over all numbers of nurses that are not below the minimum: with a price below the weight it is best to have
+-- the minimum of these numbers, over all numbers of nurses that are not below the minimum: with a price below the weight it is best to have
 -- the optimal number of nurses, with another price it is best to have no more than the minimum
 abbrev pub place_bound : ℕ → Demand → ℕ → ℕ
 place_bound unit demand price =

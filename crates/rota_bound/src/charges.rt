@@ -96,7 +96,7 @@ fn weekend_charge(instance: &Instance, nurse: u16, day: u8, saturday: bool, sund
     }
 }
 
-/// What the day costs the nurse with this past.
+/// The cost of the day for the nurse with this past.
 pub fn day_charge(instance: &Instance, nurse: u16, day: u8, past: Past, choice: Option<u8>) -> u64
     requires nurse_in { nurse < (problem_of instance.now).nurses }
     requires day_in { day < DAYS }
@@ -202,7 +202,7 @@ fn charged_excess(instance: &Instance, maximum: u16, before: u16, now: u16) -> u
     }
 }
 
-/// What the totals cost the nurse at the end of the week.
+/// The cost of the totals for the nurse at the end of the week.
 pub fn end_charge(instance: &Instance, nurse: u16, past: Past) -> u64
     requires nurse_in { nurse < (problem_of instance.now).nurses }
     ensures charge { result ≡ end_charge (problem_of instance.now) nurse past }

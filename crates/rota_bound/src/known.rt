@@ -1,4 +1,4 @@
-//! The costs and rebates that were computed before. Each is kept at a place that follows from what it belongs to. A
+//! The costs and rebates that were computed before. Each is kept at a place that follows from its nurse, day and past. A
 //! later one with the same place replaces it: a lost one is computed again.
 
 ghost use Rattle.std.specs.Prelude.{◌≡◌, ℕ, ◌<◌, All, IfOk, IfSome, None, length};
@@ -10,7 +10,7 @@ ghost use Rattle.rota_bound.specs.NurseBounds.{day_rebate, least_cost};
 use rota_core::Past;
 use std::alloc::{AllocError, Global};
 
-/// The least cost of the nurse's last `left` days after the past.
+/// The minimum cost of the nurse's last `left` days after the past.
 #[derive(Clone, Copy, Debug, PartialEq, Eq)]
 pub struct KnownCost {
     pub nurse: u16,

@@ -47,7 +47,7 @@ pub fn each_penalty_is_a_multiple_of_5()
     ensures { (problem : Problem) (roster : Roster) → (fifths : ℕ) × (penalty problem roster ≡ 5 * fifths) }
 {}
 
-/// The bound of a nurse is the least that a week of hers gives.
+/// The bound of a nurse is the minimum over her weeks.
 pub fn nurse_bound_is_the_least_over_her_weeks()
     ensures { (unit : ℕ) (problem : Problem) (prices : Prices) (n : ℕ) →
         ArePrices prices →

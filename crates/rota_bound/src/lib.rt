@@ -4,7 +4,7 @@
 //! skill. All prices give a bound: no roster that keeps the hard rules has a smaller penalty.
 #![tactic(auto, using(crate::proofs::Sums::looping))]
 
-// What a day costs a nurse, and her rebates.
+// The cost of a day for a nurse, and her rebates.
 mod charges;
 mod rebates;
 

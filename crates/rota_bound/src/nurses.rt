@@ -1,4 +1,4 @@
-//! The bounds of the nurses: the least cost of a nurse's week, less the prices of her cells. `unit` is the value of a
+//! The bounds of the nurses: the minimum cost of a nurse's week, less the prices of her cells. `unit` is the value of a
 //! point in units of a price.
 
 ghost use Rattle.std.specs.Prelude.{◌≡◌, ◌+◌, ◌-◌, ◌≤◌, ◌<◌, IfSome};
@@ -97,7 +97,7 @@ pub fn choice_value(
     times(unit, day_charge(instance, nurse, day, past, choice)) + rebate + rest
 }
 
-/// The least of the values of the choices for the day before the last `left` days of the week.
+/// The minimum of the values of the choices for the day before the last `left` days of the week.
 #[cycle(week)]
 pub fn least_choice(
     instance: &Instance,
@@ -138,7 +138,7 @@ pub fn least_choice(
     off.min(least)
 }
 
-// The least cost of the last `left` days of the week and of the totals.
+// The minimum cost of the last `left` days of the week and of the totals.
 #[cycle(week)]
 fn least_cost(
     instance: &Instance,
@@ -176,7 +176,7 @@ fn least_cost(
     cost
 }
 
-/// The least for the whole week, from the history on.
+/// The minimum for the whole week, from the history on.
 pub fn nurse_bound(
     instance: &Instance,
     prices: &Prices,

@@ -43,7 +43,7 @@ fn place_cost(unit: u64, demand: Demand, price: u32, nurses: u16) -> u64
     times(unit, 30 * u64::from(missing)) + price_of(price, nurses)
 }
 
-// The least that the place can cost with a number of nurses that is not below the minimum.
+// The minimum cost of the place with a number of nurses that is not below the minimum.
 fn place_bound(unit: u64, demand: Demand, price: u32) -> u64
     requires unit_in { unit ≤ thousandths }
     requires price_in { price ≤ max_price }

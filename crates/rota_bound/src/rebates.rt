@@ -63,7 +63,7 @@ pub fn rebate(instance: &Instance, prices: &Prices, free: bool, cell: Cell) -> u
     }
 }
 
-// The least rebate of the nurse's skills on the shift type.
+// The minimum rebate of the nurse's skills on the shift type.
 fn least_rebate(
     instance: &Instance,
     prices: &Prices,

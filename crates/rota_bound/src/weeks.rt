@@ -21,7 +21,7 @@ use rota_core::{Cell, DAYS, Instance, Past, Prices};
 use rota_items::laws::instances_are_within_limits;
 use std::alloc::{AllocError, Global};
 
-/// What a nurse's week is charged, besides its prices.
+/// The charges of a nurse's week, besides its prices.
 #[derive(Clone, Copy, Debug, PartialEq, Eq)]
 pub enum Charging {
     /// The penalty of the soft rules S2 to S7: a point is 1000 units of a price.
@@ -57,7 +57,7 @@ fn unit_of(charging: Charging) -> u64
     }
 }
 
-// The first choice with the least value for the day before the last `left` days.
+// The first choice with the minimum value for the day before the last `left` days.
 fn best_choice(
     instance: &Instance,
     prices: &Prices,
@@ -102,7 +102,7 @@ fn best_choice(
     None
 }
 
-// The first skill with the least rebate.
+// The first skill with the minimum rebate.
 fn best_skill(instance: &Instance, prices: &Prices, nurse: u16, day: u8, shift: u8) -> u8
     requires nurse_in { nurse < (problem_of instance.now).nurses }
     requires day_in { day < DAYS }
@@ -216,7 +216,7 @@ fn chosen_week(
     Ok(CheapestWeek { duties, cost, paid })
 }
 
-/// The nurse's cheapest week for the prices: of all her weeks, the first with the least cost less its prices. Weeks
+/// The nurse's cheapest week for the prices: of all her weeks, the first with the minimum cost less its prices. Weeks
 /// are in the order of their first days that differ: a day off, then the lower shift type, then the lower skill.
 /// Returns `None` if she has no week, because of held cells or successions. `known` has what is known for these prices
 /// and this charging; it begins with `Known::none`.
