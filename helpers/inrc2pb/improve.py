@@ -50,7 +50,8 @@ class SearchResult:
         line = f"lower bound {self.bound} ({self.bound_by})"
         if self.proved and self.breaks:
             return [line, "no roster costs less, but this one breaks an absence"]
-        if self.proved and self.claimed_by:
+        reached = self.bound_by != self.claimed_by and self.bound >= self.report.penalty
+        if self.proved and self.claimed_by and not reached:
             only = f"; without {self.claimed_by} only the lower bound is known" if self.bound < self.report.penalty else ""
             return [line, f"no roster costs less, says {self.claimed_by}{only}"]
         if self.proved:

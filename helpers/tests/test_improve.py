@@ -119,7 +119,7 @@ class Searches(HelperTest):
 class Lines(unittest.TestCase):
     def test_a_claim_and_a_broken_absence(self):
         for penalty, broken, says in (
-            (20, [], "no roster costs less, says cbc; without cbc only the lower bound is known"), (15, [], "no roster costs less, says cbc"),
+            (20, [], "no roster costs less, says cbc; without cbc only the lower bound is known"), (15, [], "no roster costs less, proved"),
             (15, ["a row"], "no roster costs less, but this one breaks an absence"),
         ):  # fmt: skip
             found = SimpleNamespace(bound=Bound(15, PROVER), claimed_by="cbc")
