@@ -4,7 +4,8 @@
 #   ./build.sh
 #
 # The plain way to the same programs is `rt run` in crates/inrc2pb and crates/inrc2pb_bound: `rt` proves the crates in the order of crates.txt and
-# chooses the number of jobs of each. From nothing, on four processors, this schedule took 905 s in November 2026. Before
+# chooses the number of jobs of each. From nothing, on four processors, this schedule took 905 s in November 2026, before the crates of
+# the bound were there; with them it was not measured. Before
 # `inrc2pb_program` was split from `inrc2pb` it took 924 s, and the plain way 1,174 s:
 #
 # - `rt` first reads the sources of all crates below the program. Here each crate loads those below it, already proved.
