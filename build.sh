@@ -4,9 +4,8 @@
 #   ./build.sh
 #
 # The plain way to the same programs is `rt run` in crates/inrc2pb and crates/inrc2pb_bound: `rt` proves the crates in the order of crates.txt and
-# chooses the number of jobs of each. From nothing, on four processors, this schedule took 905 s in November 2026, before the crates of
-# the bound were there; with them it was not measured. Before
-# `inrc2pb_program` was split from `inrc2pb` it took 924 s, and the plain way 1,174 s:
+# chooses the number of jobs of each. From nothing, on four processors, this schedule took 905 s and the plain way 1,174 s in November
+# 2026, before the crates of the bound and `text_sink` were there; with them it was not measured:
 #
 # - `rt` first reads the sources of all crates below the program. Here each crate loads those below it, already proved.
 # - The functions of a crate wait for one another, so more jobs cost more than they give. Each crate gets the jobs that pay.
@@ -41,6 +40,7 @@ take_readers_back() {
 trap 'wait; rm -rf $readers' EXIT
 
 prove rota_core 3
+prove text_sink 2
 
 copy_readers
 (cd $readers/crates/rota_read && rt lib --jobs 1) &

@@ -7,7 +7,7 @@ use Rattle.rota_pb.specs.declared.fault.Fault.{Fault}
 use Rattle.rota_pb.specs.declared.fault.Fault.TheVariants.{Read}
 use Rattle.bound_run.specs.Bounding.{bound_run}
 use Rattle.bound_run.specs.declared.question.Question.{Question}
-use Rattle.inrc2pb_job.specs.JobOutcomes.{FailsToOpen, Opener, OpensEach}
+use Rattle.inrc2pb_job.specs.OpenCalls.{FailsToOpen, Opener, OpensEach}
 use Rattle.inrc2pb_job.specs.Paths.{FileAt, Path}
 use Rattle.inrc2pb_job.specs.OpenInputs.{AreOpen, IsOptionalOpen, optional_port, readers_of}
 use Rattle.inrc2pb_program.specs.Exits.{IsExitOf, PrinterState}

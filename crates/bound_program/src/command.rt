@@ -40,7 +40,7 @@ also `penalty P`, and `optimal` if P is B: then no roster that keeps them has a 
 With --minimums instead `no roster exists` or `no proof that no roster exists`.
 
 Example:
-  inrc2pb-bound --sce Sc-n005w4.txt --his H0-n005w4-0.txt --week WD-n005w4-0.txt --prices n005w4.prices --roster roster.txt
+  inrc2pb-bound --sce ward.txt --his history-0.txt --week week-0.txt --prices n005w4.prices --roster roster.txt
 
 Any prices give a true bound; inrc2pb-improve --prices writes good ones. The files and the exit statuses: inrc2pb-bound(1).",
         )

@@ -1,9 +1,8 @@
 //! The job, performed over any files and any output.
-ghost use Rattle.std.specs.Prelude.{◌≡◌, IfErr, IfOk};
-ghost use Rattle.inrc2pb_job.specs.JobOutcomes.{opener_of};
-ghost use Rattle.inrc2pb_job.specs.OpenCalls.{OpensAll, StopsOpening};
+ghost use Rattle.std.specs.Prelude.{IfErr, IfOk};
+ghost use Rattle.inrc2pb_job.specs.OpenCalls.{opener_of};
+ghost use Rattle.inrc2pb_job.specs.Opening.{AllOpen, OneRefused};
 ghost use Rattle.rota_pb.specs.RunPorts.{writer_of};
-ghost use Rattle.rota_pb.specs.declared.fault.Fault.TheVariants.{Read as ReadFailed};
 ghost use Rattle.bound_program.specs.BoundJobs.{bound_paths};
 ghost use Rattle.bound_program.specs.BoundPrograms.{AreJobOpen, BoundOutcome, IsQuestionOf};
 
@@ -33,12 +32,10 @@ impl<F: Drop> Drop for OpenFiles<F> {
 
 // Opens the files, in the order in which they are checked. `Read` if one does not open.
 fn open_files<O: Opens>(files: &mut O, job: &BoundJob) -> Result<OpenFiles<O::File>, Fault>
-    ensures open { IfOk result (AreJobOpen O.File.Source (O.at files.old) job.now) }
-    ensures all { IfOk result (λ _. OpensAll (O.at files.old) (bound_paths job.now)
-        (O.log files.old) (O.log files.new)) }
-    ensures fault { IfErr result (λ fault. fault ≡ ReadFailed) }
-    ensures stops { IfErr result (λ _. StopsOpening (O.at files.old) (bound_paths job.now)
-        (O.log files.old) (O.log files.new)) }
+    ensures opened { IfOk result (AllOpen (opener_of O.File.Source (O.at files.old) (O.log files.old) (O.log files.new))
+        (bound_paths job.now) (AreJobOpen O.File.Source (O.at files.old) job.now)) }
+    ensures refused { IfErr result (OneRefused (opener_of O.File.Source (O.at files.old) (O.log files.old) (O.log files.new))
+        (bound_paths job.now)) }
 {
     Ok(OpenFiles {
         week: open_inputs(files, &job.inputs)?,

@@ -1,8 +1,7 @@
 //! A run of the program, from its words to its status.
-ghost use Rattle.std.specs.Prelude.{◌≡◌, false};
 ghost use Rattle.std.specs.Process.{exit_status as code_of};
-ghost use Rattle.inrc2pb_job.specs.JobOutcomes.{opener_of};
-ghost use Rattle.inrc2pb_program.specs.Exits.{printer_state};
+ghost use Rattle.inrc2pb_job.specs.OpenCalls.{opener_of};
+ghost use Rattle.inrc2pb_program.specs.Exits.{AreSound, printer_state};
 ghost use Rattle.rota_pb.specs.RunPorts.{writer_of};
 ghost use Rattle.bound_program.specs.BoundPrograms.{BoundProgramOutcome, BoundRunOutcome};
 
@@ -25,8 +24,7 @@ pub fn program<O: Opens, W: Target, H: Printer, E: Printer>(
     help: &mut H,
     errors: &mut E,
 ) -> ExitCode
-    requires help { H.has_failed help.old ≡ false }
-    requires errors { E.has_failed errors.old ≡ false }
+    requires { AreSound (H.has_failed help.old) (E.has_failed errors.old) }
     ensures { BoundProgramOutcome (opener_of O.File.Source (O.at files.old) (O.log files.old) (O.log files.new)) words
         (writer_of W.Target output.old output.new)
         (printer_state H.Printer help.old help.new) (printer_state E.Printer errors.old errors.new) (code_of result) }

@@ -1,14 +1,14 @@
 //! The text of an answer.
 ghost use Rattle.std.specs.Prelude.{◌≡◌, true, IsErr};
-ghost use Rattle.opb_text.specs.Sink.{PutsText, sink_failed};
+ghost use Rattle.text_sink.specs.Sink.{PutsText, sink_failed};
 ghost use Rattle.rota_pb.specs.RunPorts.{writer_of};
 ghost use Rattle.rota_pb.specs.Steps.{send};
 ghost use Rattle.bound_run.specs.BoundText.{bound_text, claim_line, optimal_line, penalty_line};
 
 use crate::answer::{Answer, Claim};
-use opb_text::{Piece, Sink};
 use rota_core::{PortFault, Target};
 use rota_pb::Fault;
+use text_sink::{Piece, Sink};
 
 // Writes the line of the claim.
 fn put_claim_line<W: Target>(sink: &mut Sink<W>, claim: Claim) -> Result<(), PortFault>

@@ -45,7 +45,7 @@ fn bare<'a>(alloc: Global) -> Result<Command<'a>, AllocError>
         .disable_help_subcommand(true)
         .after_help(
             "Example:
-  inrc2pb encode --sce Sc-n005w4.txt --his H0-n005w4-0.txt --week WD-n005w4-0.txt --opb week.opb
+  inrc2pb encode --sce ward.txt --his history-0.txt --week week-0.txt --opb week.opb
 
 The files, the faults and the exit statuses: inrc2pb(1), docs/formats.md, docs/answers.md.",
         )
@@ -60,7 +60,7 @@ fn encode<'a>(alloc: Global) -> Result<Command<'a>, AllocError>
         "encode",
         "Writes the week as a pseudo-Boolean model",
         "Example:
-  inrc2pb encode --sce Sc-n005w4.txt --his H0-n005w4-0.txt --week WD-n005w4-0.txt --opb week.opb
+  inrc2pb encode --sce ward.txt --his history-0.txt --week week-0.txt --opb week.opb
 
 The files of the week and the model: inrc2pb(1), docs/formats.md, docs/answers.md.",
     )?
@@ -79,7 +79,7 @@ fn decode<'a>(alloc: Global) -> Result<Command<'a>, AllocError>
         "decode",
         "Turns a solver's answer into a solution file, and reports its costs",
         "Example:
-  inrc2pb decode --sce Sc-n005w4.txt --his H0-n005w4-0.txt --week WD-n005w4-0.txt --answer answer.txt --sol roster.txt
+  inrc2pb decode --sce ward.txt --his history-0.txt --week week-0.txt --answer answer.txt --sol roster.txt
 
 The answer, the solution file and the report: inrc2pb(1), docs/answers.md.",
     )?
@@ -103,7 +103,7 @@ fn extend<'a>(alloc: Global) -> Result<Command<'a>, AllocError>
         "extend",
         "Turns a roster into a solver's answer",
         "Example:
-  inrc2pb extend --sce Sc-n005w4.txt --his H0-n005w4-0.txt --week WD-n005w4-0.txt --from roster.txt
+  inrc2pb extend --sce ward.txt --his history-0.txt --week week-0.txt --from roster.txt
 
 The roster and the answer: inrc2pb(1), docs/formats.md, docs/answers.md.",
     )?

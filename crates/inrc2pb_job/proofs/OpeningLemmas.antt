@@ -1,9 +1,12 @@
 -- The result of opening files one after the other.
-use Rattle.std.proofs.Common.{◌≡◌, ◌∙◌, ap, sym, refl, subst, List, [], ◌∷◌, ◌++◌, append_assoc, Some, None, arith, Result, Ok, Err, IfErr}
+use Rattle.std.proofs.Common.{◌≡◌, ◌∙◌, ap, sym, refl, subst, List, [], ◌∷◌, ◌++◌, append_assoc, Some, None, arith, Result, Err, IfErr}
 use Rattle.std.proofs.lemmas.List.Elements.{All-append}
 use Rattle.std.specs.List.{All}
-use Rattle.inrc2pb_job.specs.OpenCalls.{OpensAll, StopsOpening}
+use Rattle.inrc2pb_job.specs.OpenCalls.{FailsToOpen, Opener, OpensAll, StopsOpening}
+use Rattle.inrc2pb_job.specs.Opening.{OneRefused}
 use Rattle.rota_core.specs.declared.ports.Source.{Ghosts}
+use Rattle.rota_pb.specs.declared.fault.Fault.{Fault}
+use Rattle.rota_pb.specs.declared.fault.Fault.TheVariants.{Read}
 use Rattle.inrc2pb_job.specs.Paths.{PathLog, IsNew, MayOpen, MayRefuse, Path, FileAt, with_paths}
 
 log_both : (log : PathLog) (xs ys : List Path) → with_paths (with_paths log xs) ys ≡ with_paths log (xs ++ ys)
@@ -71,7 +74,7 @@ pub new_before : {F : Type 0} (port : Ghosts F) (at then : Path → FileAt) (pat
     → IsNew port (at path) file
 new_before port at then path file same new = subst (λ (t : Path → FileAt). IsNew port (t path) file) same new
 
--- a fact that holds for any error
-pub err_whatever : {T E P : Type 0} (r : Result T E) → P → IfErr r (λ _. P)
-err_whatever (Ok v) holds = tt
-err_whatever (Err e) holds = holds
+-- the result of a call that found no file at one of these paths
+pub one_refused : {F V : Type 0} (opener : Opener F) (paths : List Path) (r : Result V Fault) → r ≡ Err Read → FailsToOpen opener paths
+    → IfErr r (OneRefused opener paths)
+one_refused opener paths r is stops = rw is (record { stops = stops; is_read = refl })

@@ -1,7 +1,6 @@
 -- The effects of a job on the files that it opened, on its input and on its outputs.
-use Rattle.std.specs.Prelude.{◌≡◌, List, [], ◌∷◌, ◌++◌, Result, Err, Option, Some, None}
+use Rattle.std.specs.Prelude.{◌≡◌, [], ◌∷◌, ◌++◌, Result, Err, Option, Some, None}
 use Rattle.std.specs.Prelude.{MatchOption, option_map, string_bytes}
-use Rattle.rota_core.specs.declared.ports.Source.{Ghosts}
 use Rattle.rota_pb.specs.declared.fault.Fault.{Fault}
 use Rattle.rota_pb.specs.declared.fault.Fault.TheVariants.{Read}
 use Rattle.rota_pb.specs.Decoding.{decode_run}
@@ -10,31 +9,12 @@ use Rattle.rota_pb.specs.Extending.{extend_run}
 use Rattle.rota_pb.specs.RunPorts.{IsUntouched, Reader, reader_of, Writer}
 use Rattle.inrc2pb_job.specs.Jobs.{paths_of, week_paths}
 use Rattle.inrc2pb_job.specs.OpenInputs.{AreOpen, readers_of}
-use Rattle.inrc2pb_job.specs.OpenCalls.{OpensAll, StopsOpening}
-use Rattle.inrc2pb_job.specs.Paths.{PathLog, IsNew, Path, FileAt}
+use Rattle.inrc2pb_job.specs.OpenCalls.{FailsToOpen, Opener, OpensEach}
+use Rattle.inrc2pb_job.specs.Paths.{IsNew, Path}
 use Rattle.inrc2pb_job.specs.declared.job.Inputs.{Inputs}
 use Rattle.inrc2pb_job.specs.declared.job.Job.{Job}
 use Rattle.inrc2pb_job.specs.declared.job.Job.TheVariants.{Encode, Decode, Extend}
 use Rattle.inrc2pb_job.specs.declared.open_files.OpenInputs.{OpenInputs}
-
--- The file opener: the ports it returns, the file system it sees, and the paths opened before and after.
-pub record Opener (F : Type 0) : Type 1 where
-  pub port : Ghosts F
-  pub at : Path → FileAt
-  pub log_before : PathLog
-  pub log : PathLog
-
--- the opener with this log before and after the job
-abbrev pub opener_of : {F : Type 0} → Ghosts F → (Path → FileAt) → PathLog → PathLog → Opener F
-opener_of port at before after = record { port = port; at = at; log_before = before; log = after }
-
--- files were opened at all of these paths
-abbrev pub OpensEach : {F : Type 0} → Opener F → List Path → Type 0
-OpensEach opener paths = OpensAll opener.at paths opener.log_before opener.log
-
--- files were opened up to one of these paths, at which none opened
-abbrev pub FailsToOpen : {F : Type 0} → Opener F → List Path → Type 0
-FailsToOpen opener paths = StopsOpening opener.at paths opener.log_before opener.log
 
 -- A file did not open, and nothing was written; or the inputs were open at their paths, and the run encoded their contents: they are
 -- `opened` before the run, and `left` after it.

@@ -2,4 +2,5 @@ pub mod JobOutcomes
 pub mod Jobs
 pub mod OpenInputs
 pub mod OpenCalls
+pub mod Opening
 pub mod Paths

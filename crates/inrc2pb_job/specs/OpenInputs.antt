@@ -9,7 +9,7 @@ use Rattle.inrc2pb_job.specs.declared.optional_file.OptionalFile.TheVariants.{Na
 use Rattle.inrc2pb_job.specs.declared.job.Inputs.{Inputs}
 use Rattle.inrc2pb_job.specs.declared.open_files.OpenInputs.{OpenInputs}
 
--- the port of a file that may not be named: its own port if it is named, otherwise of a file without bytes, at its end
+-- the port of a file that a job names, or else of a file without bytes, at its end
 abbrev pub optional_port : {F : Type 0} → Ghosts F → Ghosts (OptionalFile F)
 optional_port port = record {
   left = elim [ Named file ↦ port.left file | Absent ↦ Some [] ];

@@ -30,7 +30,7 @@ HasContent port unknown file = ⊤
 HasContent port nothing file = ⊥
 HasContent port (file_of bytes) file = port.left file ≡ Some bytes
 
--- and nothing has been read from it
+-- the file has the contents of its path, and no read has failed or reported the end
 pub record IsNew {F : Type 0} (port : Ghosts F) (content : FileAt) (file : F) : Type 0 where
   pub given : HasContent port content file
   pub sound : port.has_failed file ≡ false

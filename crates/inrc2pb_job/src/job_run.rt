@@ -1,7 +1,8 @@
 //! A job, performed over any files, input and outputs.
 ghost use Rattle.std.specs.Prelude.{◌≡◌, None, option_map, string_bytes};
-ghost use Rattle.inrc2pb_job.specs.JobOutcomes.{Decodes, Encodes, EncodesTo, Extends, JobOutcome, opener_of};
+ghost use Rattle.inrc2pb_job.specs.JobOutcomes.{Decodes, Encodes, Extends, JobOutcome};
 ghost use Rattle.inrc2pb_job.specs.Jobs.{output_path_of};
+ghost use Rattle.inrc2pb_job.specs.OpenCalls.{opener_of};
 ghost use Rattle.inrc2pb_job.specs.OpenInputs.{readers_of};
 ghost use Rattle.rota_pb.specs.Decoding.{decode_run};
 ghost use Rattle.rota_pb.specs.RunPorts.{reader_of, writer_of};
@@ -45,7 +46,10 @@ pub fn perform<O: Opens, A: Source, F: Target + HasPath, W: Target + HasPath>(
         (writer_of F.Target file.old file.new) (writer_of W.Target output.old output.new) result }
 {
     match job {
-        Job::Encode { inputs, opb } => encode(alloc, files, inputs, opb, file, output),
+        Job::Encode { inputs, opb } => match opb {
+            Some(_) => encode(alloc, files, inputs, file),
+            None => encode(alloc, files, inputs, output),
+        },
         Job::Decode { inputs, answer, .. } => {
             decode(alloc, files, inputs, answer, input, file, output)
         }
@@ -53,25 +57,7 @@ pub fn perform<O: Opens, A: Source, F: Target + HasPath, W: Target + HasPath>(
     }
 }
 
-fn encode<O: Opens, F: Target, W: Target>(
-    alloc: Global,
-    files: &mut O,
-    inputs: &Inputs,
-    opb: &Option<String>,
-    file: &mut F,
-    output: &mut W,
-) -> Result<(), Fault>
-    ensures { EncodesTo (opener_of O.File.Source (O.at files.old) (O.log files.old) (O.log files.new))
-        inputs.now (option_map string_bytes opb.now)
-        (writer_of F.Target file.old file.new) (writer_of W.Target output.old output.new) result }
-{
-    match opb {
-        Some(_) => encode_to(alloc, files, inputs, file),
-        None => encode_to(alloc, files, inputs, output),
-    }
-}
-
-fn encode_to<O: Opens, W: Target>(
+fn encode<O: Opens, W: Target>(
     alloc: Global,
     files: &mut O,
     inputs: &Inputs,

@@ -2,9 +2,9 @@
 ghost use Rattle.std.specs.Prelude.{◌≡◌, [], ◌∷◌, IfErr, IfOk, option_map, string_bytes};
 ghost use Rattle.inrc2pb_job.specs.Jobs.{paths_of, week_paths};
 ghost use Rattle.inrc2pb_job.specs.OpenInputs.{AreOpen, IsOptionalOpen};
-ghost use Rattle.inrc2pb_job.specs.OpenCalls.{OpensAll, StopsOpening};
+ghost use Rattle.inrc2pb_job.specs.OpenCalls.{opener_of};
+ghost use Rattle.inrc2pb_job.specs.Opening.{AllOpen, OneRefused};
 ghost use Rattle.inrc2pb_job.specs.Paths.{IsNew};
-ghost use Rattle.rota_pb.specs.declared.fault.Fault.TheVariants.{Read as ReadFailed};
 
 use crate::job::Inputs;
 use crate::optional_file::OptionalFile;
@@ -37,12 +37,10 @@ impl<F: Drop> Drop for OpenInputs<F> {
 /// # Errors
 /// `Read` if an input does not open.
 pub fn open_inputs<O: Opens>(files: &mut O, inputs: &Inputs) -> Result<OpenInputs<O::File>, Fault>
-    ensures open { IfOk result (AreOpen O.File.Source (O.at files.old) inputs.now) }
-    ensures all { IfOk result (λ _. OpensAll (O.at files.old) (week_paths inputs.now)
-        (O.log files.old) (O.log files.new)) }
-    ensures fault { IfErr result (λ fault. fault ≡ ReadFailed) }
-    ensures stops { IfErr result (λ _. StopsOpening (O.at files.old) (week_paths inputs.now)
-        (O.log files.old) (O.log files.new)) }
+    ensures opened { IfOk result (AllOpen (opener_of O.File.Source (O.at files.old) (O.log files.old) (O.log files.new))
+        (week_paths inputs.now) (AreOpen O.File.Source (O.at files.old) inputs.now)) }
+    ensures refused { IfErr result (OneRefused (opener_of O.File.Source (O.at files.old) (O.log files.old) (O.log files.new))
+        (week_paths inputs.now)) }
     ensures same { O.at files.new ≡ O.at files.old }
 {
     Ok(OpenInputs {
@@ -59,12 +57,10 @@ pub fn open_inputs<O: Opens>(files: &mut O, inputs: &Inputs) -> Result<OpenInput
 /// # Errors
 /// `Read` if the input does not open.
 pub fn open<O: Opens>(files: &mut O, path: &str) -> Result<O::File, Fault>
-    ensures open { IfOk result (IsNew O.File.Source (O.at files.old path.now)) }
-    ensures all { IfOk result (λ _. OpensAll (O.at files.old) (path.now ∷ [])
-        (O.log files.old) (O.log files.new)) }
-    ensures fault { IfErr result (λ fault. fault ≡ ReadFailed) }
-    ensures stops { IfErr result (λ _. StopsOpening (O.at files.old) (path.now ∷ [])
-        (O.log files.old) (O.log files.new)) }
+    ensures opened { IfOk result (AllOpen (opener_of O.File.Source (O.at files.old) (O.log files.old) (O.log files.new))
+        (path.now ∷ []) (IsNew O.File.Source (O.at files.old path.now))) }
+    ensures refused { IfErr result (OneRefused (opener_of O.File.Source (O.at files.old) (O.log files.old) (O.log files.new))
+        (path.now ∷ [])) }
     ensures same { O.at files.new ≡ O.at files.old }
 {
     match files.open(path) {
@@ -81,13 +77,11 @@ pub fn open_optional<O: Opens>(
     files: &mut O,
     path: &Option<String>,
 ) -> Result<OptionalFile<O::File>, Fault>
-    ensures open { IfOk result (IsOptionalOpen O.File.Source (O.at files.old)
-        (option_map string_bytes path.now)) }
-    ensures all { IfOk result (λ _. OpensAll (O.at files.old)
-        (paths_of (option_map string_bytes path.now)) (O.log files.old) (O.log files.new)) }
-    ensures fault { IfErr result (λ fault. fault ≡ ReadFailed) }
-    ensures stops { IfErr result (λ _. StopsOpening (O.at files.old)
-        (paths_of (option_map string_bytes path.now)) (O.log files.old) (O.log files.new)) }
+    ensures opened { IfOk result (AllOpen (opener_of O.File.Source (O.at files.old) (O.log files.old) (O.log files.new))
+        (paths_of (option_map string_bytes path.now))
+        (IsOptionalOpen O.File.Source (O.at files.old) (option_map string_bytes path.now))) }
+    ensures refused { IfErr result (OneRefused (opener_of O.File.Source (O.at files.old) (O.log files.old) (O.log files.new))
+        (paths_of (option_map string_bytes path.now))) }
     ensures same { O.at files.new ≡ O.at files.old }
 {
     match path {

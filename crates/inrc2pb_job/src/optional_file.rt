@@ -1,4 +1,4 @@
-//! A file that may not be named.
+//! A file that a job names, or none.
 ghost use Rattle.std.specs.Prelude.{Some, [], false, true};
 ghost use Rattle.inrc2pb_job.specs.declared.optional_file.OptionalFile.TheVariants.{Absent, Named};
 

@@ -1,6 +1,7 @@
 //! Files that are opened by their paths, and outputs that have a path.
-ghost use Rattle.std.specs.Prelude.{◌≡◌, List, [], ◌∷◌, Option, None, IfErr, IfOk};
-ghost use Rattle.inrc2pb_job.specs.Paths.{PathLog, IsNew, MayRefuse, Path, FileAt, with_paths};
+ghost use Rattle.std.specs.Prelude.{Option, None, IfErr, IfOk};
+ghost use Rattle.inrc2pb_job.specs.Opening.{AsksFor};
+ghost use Rattle.inrc2pb_job.specs.Paths.{PathLog, IsNew, MayRefuse, Path, FileAt};
 
 use rota_core::{PortFault, Source, ToWrite};
 
@@ -18,8 +19,7 @@ pub trait Opens {
     fn open(&mut self, path: &str) -> Result<Self::File, PortFault>
         ensures opened { IfOk result (IsNew Self.File.Source (at self.old path.now)) }
         ensures refused { IfErr result (λ _. MayRefuse (at self.old path.now)) }
-        ensures log { log self.new ≡ with_paths (log self.old) (path.now ∷ []) }
-        ensures same { at self.new ≡ at self.old };
+        ensures asked { AsksFor path.now (at self.old) (at self.new) (log self.old) (log self.new) };
 }
 
 /// An output that knows its place: the path of its file, or `None` if it is a stream.

@@ -4,12 +4,11 @@ use Rattle.std.proofs.Common.{Option, Some, None, option_map, IsSomeAnd, Result,
 use Rattle.std.specs.List.{find}
 use Rattle.std.proofs.lemmas.Result.{IfErr-weaker, IfOk-weaker}
 use Rattle.clap.specs.Words.{App, HasKind, HasMatchesOf, Row, Shape, Text, built, fault_of, found_of, is_simple, is_simple_and_free}
-use Rattle.clap.specs.Words.{kind_of, rows_of, subcommand_of, subcommand_rows_of, takes}
+use Rattle.clap.specs.Words.{rows_of, subcommand_of, subcommand_rows_of}
 use Rattle.clap.specs.Matches.{subcommand_name_of}
 use Rattle.clap.specs.Simple.{argument_words, entered, label_of, names_of, rows_at}
 use Rattle.clap.specs.Walk.{answers_to, stop_after}
 use Rattle.clap.specs.declared.error.Error.{Error}
-use Rattle.clap.specs.declared.error.kind.ErrorKind.TheVariants.{OutOfMemory}
 use Rattle.clap.specs.declared.parser.matches.ArgMatches.{ArgMatches}
 use Rattle.clap.specs.declared.parser.matches.ArgMatches.TheViews.{out-ArgMatches}
 use Rattle.clap.proofs.OnLiterals.{clap_on_literals}

@@ -19,6 +19,11 @@ abbrev pub printer_state : {T : Type 0} → Ghosts T → T → T → PrinterStat
 printer_state port old new =
     record { before = port.messages old; messages = port.messages new; failed = port.has_failed new; untouched = new ≡ old }
 
+-- neither printer has failed
+pub record AreSound (output_failed errors_failed : Bool) : Type 0 where
+  pub output : output_failed ≡ false
+  pub errors : errors_failed ≡ false
+
 -- this message was printed, and no other; if it could not be printed, no message was added
 pub record IsPrinted (printer : PrinterState) (stop : Stop) : Type 0 where
   pub out : printer.failed ≡ false → printer.messages ≡ with_message printer.before stop

@@ -1,5 +1,5 @@
 -- The calls that the program's own ports pass on.
-use Rattle.std.specs.Prelude.{ℕ, ◌<◌, List, length, ⊤, Option, None, Some, Result, IsErr}
+use Rattle.std.specs.Prelude.{◌≡◌, ℕ, ◌<◌, Bool, false, List, length, Option, None, Some, Result, IsErr, IsOk}
 use Rattle.std.specs.Io.KnownBytes.{Keeps, WriteAppends}
 use Rattle.rota_core.specs.Ports.{KnownBytes}
 use Rattle.rota_core.specs.StdPorts.{inner_writer}
@@ -16,13 +16,19 @@ IsWritten {W} contents None (Some after) result piece =
     (made : W) × WriteAppends (contents made) (contents (inner_writer after)) result piece
 IsWritten contents None None result piece = 0 < length piece → IsErr result
 
--- a flush writes nothing, and creates no file
-abbrev pub IsFlushed : {W : Type 0} → (W → KnownBytes) → Option (ToWrite W) → Option (ToWrite W) → Type 0
-IsFlushed contents (Some before) (Some after) =
+-- a flush writes nothing, and creates no file; if there is no file, it is no error of a sound port
+abbrev pub IsFlushed : {W : Type 0} → (W → KnownBytes) → (failed : Bool) → Option (ToWrite W) → Option (ToWrite W) →
+    Result (Unit {0}) PortFault → Type 0
+IsFlushed contents failed (Some before) (Some after) result =
     Keeps (contents (inner_writer before)) (contents (inner_writer after))
-IsFlushed contents (Some before) None = ⊥
-IsFlushed contents None (Some after) = ⊥
-IsFlushed contents None None = ⊤
+IsFlushed contents failed (Some before) None result = ⊥
+IsFlushed contents failed None (Some after) result = ⊥
+IsFlushed contents failed None None result = failed ≡ false → IsOk result
+
+-- no call changes the path, and a call that is not passed on changes nothing
+pub record IsKept {S P : Type 0} (path_of : S → P) (unasked : Type 0) (old new : S) : Type 0 where
+  pub path : path_of new ≡ path_of old
+  pub whole : unasked → new ≡ old
 
 -- the rest of standard input, if it is in use and its bytes are known
 abbrev pub left_of : {R : Type 0} → (R → KnownBytes) → Option R → KnownBytes

@@ -1,12 +1,9 @@
 -- The job that the matches of a subcommand spell.
-use Rattle.std.specs.Prelude.{◌≡◌, ◌⊎◌, Bool, List, [], Some, None, true, false, codes, ⊤}
-use Rattle.std.specs.Prelude.{IsSomeAnd, map, option_map, string_bytes}
+use Rattle.std.specs.Prelude.{◌≡◌, ◌⊎◌, Bool, List, Some, None, true, false, codes}
+use Rattle.std.specs.Prelude.{map, option_map, string_bytes}
 use Rattle.std.specs.Borrow.{Bor}
-use Rattle.clap.specs.Words.{Row, Text, first_of, found_of, kind_of, one_of, rows_of}
-use Rattle.clap.specs.Words.{HasKind, fault_of, subcommand_of, takes}
-use Rattle.clap.specs.declared.error.kind.ErrorKind.TheVariants.{OutOfMemory}
+use Rattle.clap.specs.Words.{Row, Text, first_of, found_of, one_of, rows_of}
 use Rattle.clap.specs.declared.parser.matches.ArgMatches.{ArgMatches}
-use Rattle.inrc2pb_command.specs.CommandLine.{inrc2pb_app}
 use Rattle.inrc2pb_job.specs.declared.job.Inputs.{Inputs}
 use Rattle.inrc2pb_job.specs.declared.job.Job.{Job}
 use Rattle.inrc2pb_job.specs.declared.job.Job.TheVariants.{Encode, Decode, Extend}

@@ -3,6 +3,8 @@ pub mod FaultLines
 pub mod Files
 pub mod Given
 pub mod Jobs
-pub mod Programs
 pub mod Messages
+pub mod Placing
+pub mod Programs
 pub mod Stops
+pub mod TargetCalls

@@ -2,16 +2,18 @@
 use Rattle.std.specs.Prelude.{◌≡◌, ℕ, List, [], Option, Result, Ok, Err, IsSomeAnd}
 use Rattle.clap.specs.Words.{Text, fault_of, subcommand_of}
 use Rattle.inrc2pb_command.specs.CommandLine.{inrc2pb_app}
-use Rattle.inrc2pb_job.specs.JobOutcomes.{JobOutcome, Opener}
+use Rattle.inrc2pb_job.specs.JobOutcomes.{JobOutcome}
 use Rattle.inrc2pb_job.specs.Jobs.{output_path_of}
+use Rattle.inrc2pb_job.specs.OpenCalls.{Opener}
 use Rattle.inrc2pb_job.specs.Paths.{Path}
 use Rattle.inrc2pb_job.specs.declared.job.Job.{Job}
 use Rattle.rota_core.specs.declared.ports.Target.{Ghosts}
-use Rattle.rota_pb.specs.RunPorts.{IsUntouched, Reader, Writer, writer_of}
+use Rattle.rota_pb.specs.RunPorts.{IsUntouched, Reader, RunPort, Writer, writer_of}
 use Rattle.rota_pb.specs.declared.fault.Fault.{Fault}
 use Rattle.inrc2pb_program.specs.Exits.{IsExitOf, PrinterState}
 use Rattle.inrc2pb_program.specs.Given.{Given, IsJobGiven, IsStopGiven}
 use Rattle.inrc2pb_program.specs.Jobs.{IsJobOf}
+use Rattle.inrc2pb_program.specs.Placing.{FileGhosts, IsPlaced, file_ghosts}
 use Rattle.inrc2pb_program.specs.Stops.{IsStopFor}
 use Rattle.inrc2pb_program.specs.declared.stop.Stop.{Stop}
 use Rattle.inrc2pb_program.specs.declared.stop.Stop.TheVariants as stops
@@ -21,22 +23,13 @@ pub record IsJobFor (words : List Text) (job : Job) : Type 0 where
   pub taken : fault_of inrc2pb_app words ≡ []
   pub spelled : IsSomeAnd (subcommand_of inrc2pb_app words) (λ matched. IsJobOf matched job)
 
--- the file that a job may write: its port and its path, before the program and after it
-pub record JobFile (F : Type 0) : Type 1 where
-  pub port : Ghosts F
-  pub path : F → Option Path
-  pub old : F
-  pub new : F
+-- the file that a job may write
+abbrev pub JobFile : Type 1
+JobFile = RunPort FileGhosts
 
 -- the file that is `old` before the program and `new` after it
-abbrev pub file_of : {F : Type 0} → Ghosts F → (F → Option Path) → F → F → JobFile F
-file_of port path old new = record { port = port; path = path; old = old; new = new }
-
--- the file when it was placed: it has the job's own path, and the program has neither written to it nor made it fail
-pub record IsPlaced {F : Type 0} (file : JobFile F) (job : Job) (placed : F) : Type 0 where
-  pub path : file.path placed ≡ output_path_of job
-  pub sound : file.port.has_failed placed ≡ file.port.has_failed file.old
-  pub unwritten : file.port.sent placed ≡ file.port.sent file.old
+abbrev pub file_of : {F : Type 0} → Ghosts F → (F → Option Path) → F → F → JobFile
+file_of {F} target path old new = record { State = F; port = file_ghosts target path; old = old; new = new }
 
 -- a job ended with the outcome of its result
 abbrev pub IsEndOf : Result (Unit {0}) Fault → Result (Unit {0}) Stop → Type 0
@@ -45,17 +38,18 @@ IsEndOf (Err fault) ended = ended ≡ Err (stops.Job fault)
 
 -- The words gave no job, or memory ran out before the job began: no file was opened, and input, file and output were not touched. Or the
 -- words gave a job, and it was performed, with the file at its own path.
-pub data RunOutcome {F G X Z : Type 0} (opener : Opener F) (file : JobFile G) (words : Given X Z) (input : Reader) (output : Writer)
+pub data RunOutcome {F X Z : Type 0} (opener : Opener F) (file : JobFile) (words : Given X Z) (input : Reader) (output : Writer)
     (ended : Result (Unit {0}) Stop) : Type 0 where
   stopped : (stop : Stop) → ended ≡ Err stop → IsStopGiven IsStopFor words stop → opener.log ≡ opener.log_before →
-      IsUntouched input → file.new ≡ file.old → IsUntouched output → RunOutcome opener file words input output ended
-  performed : (job : Job) → IsJobGiven IsJobFor words job → (placed : G) → IsPlaced file job placed →
-      (result : Result (Unit {0}) Fault) → JobOutcome opener job input (writer_of file.port placed file.new) output result →
+      IsUntouched input → IsUntouched file → IsUntouched output → RunOutcome opener file words input output ended
+  performed : (job : Job) → IsJobGiven IsJobFor words job → (placed : file.State) →
+      IsPlaced file.port file.old (output_path_of job) placed →
+      (result : Result (Unit {0}) Fault) → JobOutcome opener job input (writer_of file.port.target placed file.new) output result →
       IsEndOf result ended → RunOutcome opener file words input output ended
 
 -- A run of the program, from its words to its status: its effects, its messages on the output and on the standard error, and its exit
 -- status.
-abbrev pub ProgramOutcome : {F G X Z : Type 0} → Opener F → JobFile G → Given X Z → Reader → Writer → PrinterState → PrinterState →
+abbrev pub ProgramOutcome : {F X Z : Type 0} → Opener F → JobFile → Given X Z → Reader → Writer → PrinterState → PrinterState →
     ℕ → Type 0
 ProgramOutcome opener file words input output help errors status =
     (ended : Result (Unit {0}) Stop) × RunOutcome opener file words input output ended × IsExitOf ended help errors status

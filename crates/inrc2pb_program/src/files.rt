@@ -1,10 +1,10 @@
 //! The ports of the program: files that the runtime opens, standard input, and the file that a job writes.
-ghost use Rattle.std.specs.Prelude.{◌≡◌, ◌<◌, ◌≤◌, ◌||◌, None, true, false, length, is_err, IfErr, IfOk, IsErr, IsOk, OnOk, option_map, string_bytes};
+ghost use Rattle.std.specs.Prelude.{◌≡◌, None, true, false, IfErr, IfOk, option_map, string_bytes};
 ghost use Rattle.std.specs.Fs.{new_options, with_create, with_truncate, with_write};
-ghost use Rattle.inrc2pb_program.specs.Files.{IsFlushed, IsWritten, left_of};
+ghost use Rattle.inrc2pb_program.specs.Files.{IsFlushed, IsKept, IsWritten, left_of};
+ghost use Rattle.inrc2pb_program.specs.Placing.{IsPlaced, file_ghosts};
+ghost use Rattle.inrc2pb_program.specs.TargetCalls.{CountsBytes, FlushesSent, WritesPiece};
 ghost use Rattle.inrc2pb_job.specs.Paths.{unknown};
-ghost use Rattle.rota_core.specs.PortCalls.{SendsOnWrite};
-ghost use Rattle.rota_core.specs.Ports.{KnownBytes, known_len};
 ghost use Rattle.rota_core.specs.StdPorts.{IsUnasked};
 
 use crate::output_file::OutputFile;
@@ -131,8 +131,7 @@ fn made_anew() -> OpenOptions
 impl<'a, R: Files> FileOnFirstWrite<'a, R> {
     // Writes to the file, and creates it first if necessary.
     fn write_made(&mut self, piece: &[u8]) -> Result<usize, PortFault>
-        ensures bound { IfOk result (λ n. n ≤ length piece.now) }
-        ensures progress { IfOk result (λ n. 0 < length piece.now → 0 < n) }
+        ensures count { CountsBytes piece.now result }
         ensures passed_on { IsWritten R.File.contents self.old.file self.new.file result piece.now }
         ensures path { self.new.path ≡ self.old.path }
     {
@@ -146,7 +145,7 @@ impl<'a, R: Files> FileOnFirstWrite<'a, R> {
     }
 }
 
-impl<R: Files> Target for FileOnFirstWrite<'_, R> {
+impl<'a, R: Files> Target for FileOnFirstWrite<'a, R> {
     ghost sent = { λ _. None };
 
     ghost flushed = { λ _. None };
@@ -155,16 +154,10 @@ impl<R: Files> Target for FileOnFirstWrite<'_, R> {
 
     /// Writes with the file's own write. If the file cannot be created, the write fails.
     fn write(&mut self, piece: &[u8]) -> Result<usize, PortFault>
-        ensures bound { IfOk result (λ n. n ≤ length piece.now) }
-        ensures progress { IfOk result (λ n. 0 < length piece.now → 0 < n) }
-        ensures silent { SendsOnWrite None result piece.now None }
-        ensures empty { length piece.now ≡ 0 → self.old.failed ≡ false → IsOk result }
-        ensures failure { self.new.failed ≡ (self.old.failed || is_err result) }
-        ensures for_good { self.old.failed ≡ true → IsErr result }
+        ensures target { WritesPiece ⟦<FileOnFirstWrite<'a, R> as Target>⟧ self.old self.new piece.now result }
         ensures passed_on { self.old.failed ≡ false →
             IsWritten R.File.contents self.old.file self.new.file result piece.now }
-        ensures unasked { IsUnasked self.old.failed piece.now → self.new ≡ self.old }
-        ensures path { self.new.path ≡ self.old.path }
+        ensures kept { IsKept (λ file. file.path) (IsUnasked self.old.failed piece.now) self.old self.new }
     {
         if self.failed {
             return Err(PortFault);
@@ -179,14 +172,9 @@ impl<R: Files> Target for FileOnFirstWrite<'_, R> {
 
     /// Flushes with the file's own flush. A file that is not created has nothing to flush.
     fn flush(&mut self) -> Result<(), PortFault>
-        ensures silent { OnOk result (None ≡ known_len None) }
-        ensures unflushed { IfErr result (λ _. known_len None ≡ None) }
-        ensures failure { self.new.failed ≡ (self.old.failed || is_err result) }
-        ensures for_good { self.old.failed ≡ true → IsErr result }
-        ensures passed_on { IsFlushed R.File.contents self.old.file self.new.file }
-        ensures unmade { self.old.file ≡ None → self.old.failed ≡ false → IsOk result }
-        ensures unasked { self.old.failed ≡ true → self.new ≡ self.old }
-        ensures path { self.new.path ≡ self.old.path }
+        ensures target { FlushesSent ⟦<FileOnFirstWrite<'a, R> as Target>⟧ self.old self.new result }
+        ensures passed_on { IsFlushed R.File.contents self.old.failed self.old.file self.new.file result }
+        ensures kept { IsKept (λ file. file.path) (self.old.failed ≡ true) self.old self.new }
     {
         if self.failed {
             return Err(PortFault);
@@ -204,11 +192,10 @@ impl<R: Files> HasPath for FileOnFirstWrite<'_, R> {
     ghost path = { λ file. option_map string_bytes file.path };
 }
 
-impl<R: Files + AllocGlobal> OutputFile for FileOnFirstWrite<'_, R> {
+impl<'a, R: Files + AllocGlobal> OutputFile for FileOnFirstWrite<'a, R> {
     fn place(&mut self, path: Option<&str>) -> Result<(), AllocError>
-        ensures path { IfOk result (λ _. option_map string_bytes self.new.path ≡ option_map (λ p. p.now) path.entry) }
-        ensures sound { IfOk result (λ _. self.new.failed ≡ self.old.failed) }
-        ensures unwritten { IfOk result (λ _. ◌≡◌ {A = KnownBytes} None None) }
+        ensures placed { IfOk result (λ _. IsPlaced (file_ghosts ⟦<FileOnFirstWrite<'a, R> as Target>⟧
+            ⟦<FileOnFirstWrite<'a, R> as HasPath>⟧.path) self.old (option_map (λ p. p.now) path.entry) self.new) }
         ensures uncreated { IfOk result (λ _. self.new.file ≡ self.old.file) }
         ensures unplaced { IfErr result (λ _. self.new ≡ self.old) }
     {

@@ -1,5 +1,6 @@
 //! The file that a job writes.
 ghost use Rattle.std.specs.Prelude.{◌≡◌, IfErr, IfOk, None, option_map};
+ghost use Rattle.inrc2pb_program.specs.Placing.{IsPlaced, file_ghosts};
 
 use inrc2pb_job::HasPath;
 use rota_core::Target;
@@ -11,8 +12,7 @@ pub trait OutputFile: Target + HasPath {
     /// fails. The call itself writes nothing, and fails only if memory runs out: then the file is as before.
     fn place(&mut self, path: Option<&str>) -> Result<(), AllocError>
         requires { Self.path self.old ≡ None }
-        ensures path { IfOk result (λ _. Self.path self.new ≡ option_map (λ p. p.now) path.entry) }
-        ensures sound { IfOk result (λ _. Self.has_failed self.new ≡ Self.has_failed self.old) }
-        ensures unwritten { IfOk result (λ _. Self.sent self.new ≡ Self.sent self.old) }
+        ensures placed { IfOk result (λ _.
+            IsPlaced (file_ghosts Self.Target Self.path) self.old (option_map (λ p. p.now) path.entry) self.new) }
         ensures unplaced { IfErr result (λ _. self.new ≡ self.old) };
 }

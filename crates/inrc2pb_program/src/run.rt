@@ -1,9 +1,9 @@
 //! A run of the program, from its words to its status.
-ghost use Rattle.std.specs.Prelude.{◌≡◌, None, false};
 ghost use Rattle.std.specs.Process.{exit_status as code_of};
-ghost use Rattle.inrc2pb_program.specs.Exits.{printer_state};
+ghost use Rattle.inrc2pb_program.specs.Exits.{AreSound, printer_state};
+ghost use Rattle.inrc2pb_program.specs.Placing.{HaveNoPath};
 ghost use Rattle.inrc2pb_program.specs.Programs.{IsEndOf, ProgramOutcome, RunOutcome, file_of};
-ghost use Rattle.inrc2pb_job.specs.JobOutcomes.{opener_of};
+ghost use Rattle.inrc2pb_job.specs.OpenCalls.{opener_of};
 ghost use Rattle.rota_pb.specs.RunPorts.{reader_of, writer_of};
 
 use crate::output_file::OutputFile;
@@ -30,10 +30,8 @@ pub fn program<O: Opens, A: Source, F: OutputFile, W: Target + HasPath, H: Print
     help: &mut H,
     errors: &mut E,
 ) -> ExitCode
-    requires file { F.path file.old ≡ None }
-    requires output { W.path output.old ≡ None }
-    requires help { H.has_failed help.old ≡ false }
-    requires errors { E.has_failed errors.old ≡ false }
+    requires paths { HaveNoPath (F.path file.old) (W.path output.old) }
+    requires printers { AreSound (H.has_failed help.old) (E.has_failed errors.old) }
     ensures { ProgramOutcome (opener_of O.File.Source (O.at files.old) (O.log files.old) (O.log files.new))
         (file_of F.Target F.path file.old file.new) words (reader_of A.Source input.old input.new)
         (writer_of W.Target output.old output.new)
@@ -51,8 +49,7 @@ pub fn run<O: Opens, A: Source, F: OutputFile, W: Target + HasPath>(
     file: &mut F,
     output: &mut W,
 ) -> Result<(), Stop>
-    requires file { F.path file.old ≡ None }
-    requires output { W.path output.old ≡ None }
+    requires { HaveNoPath (F.path file.old) (W.path output.old) }
     ensures { RunOutcome (opener_of O.File.Source (O.at files.old) (O.log files.old) (O.log files.new))
         (file_of F.Target F.path file.old file.new) words (reader_of A.Source input.old input.new)
         (writer_of W.Target output.old output.new) result }

@@ -1,7 +1,7 @@
 //! Why the program ends before its work is done, and its message then.
 ghost use Rattle.std.specs.Prelude.{◌≡◌, false};
 ghost use Rattle.std.specs.Process.{exit_status as code_of};
-ghost use Rattle.inrc2pb_program.specs.Exits.{IsExitOf, IsReported, IsShown, IsPrinted, printer_state};
+ghost use Rattle.inrc2pb_program.specs.Exits.{AreSound, IsExitOf, IsReported, IsShown, IsPrinted, printer_state};
 ghost use Rattle.inrc2pb_program.specs.FaultLines.{stop_text};
 ghost use Rattle.inrc2pb_program.specs.Stops.{IsStopForError, IsStopOf};
 ghost use Rattle.inrc2pb_program.specs.declared.stop.Stop.TheVariants.{Job};
@@ -32,8 +32,7 @@ impl Stop {
     /// Prints the reason: a requested text on the output, anything else on the standard error. Returns the
     /// exit status of the program. Neither printer has failed before.
     pub fn report<H: Printer, E: Printer>(&self, output: &mut H, errors: &mut E) -> u8
-        requires output { H.has_failed output.old ≡ false }
-        requires errors { E.has_failed errors.old ≡ false }
+        requires { AreSound (H.has_failed output.old) (E.has_failed errors.old) }
         ensures { IsReported self.now (printer_state H.Printer output.old output.new)
             (printer_state E.Printer errors.old errors.new) result }
     {
@@ -82,8 +81,7 @@ pub fn exit_code<H: Printer, E: Printer>(
     output: &mut H,
     errors: &mut E,
 ) -> ExitCode
-    requires output { H.has_failed output.old ≡ false }
-    requires errors { E.has_failed errors.old ≡ false }
+    requires { AreSound (H.has_failed output.old) (E.has_failed errors.old) }
     ensures { IsExitOf ended.now (printer_state H.Printer output.old output.new)
         (printer_state E.Printer errors.old errors.new) (code_of result) }
 {
@@ -95,8 +93,7 @@ pub fn exit_code<H: Printer, E: Printer>(
 
 // Prints a requested text. Returns the status after it.
 fn show<H: Printer, E: Printer>(stop: &Stop, output: &mut H, errors: &mut E) -> u8
-    requires output { H.has_failed output.old ≡ false }
-    requires errors { E.has_failed errors.old ≡ false }
+    requires { AreSound (H.has_failed output.old) (E.has_failed errors.old) }
     ensures { IsShown stop.now (printer_state H.Printer output.old output.new)
         (printer_state E.Printer errors.old errors.new) result }
 {

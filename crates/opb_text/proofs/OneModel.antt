@@ -4,7 +4,8 @@ use Rattle.std.proofs.Common.{List, [], ◌∷◌, ◌++◌, length}
 use Rattle.std.specs.Prelude.{codes}
 use Rattle.std.proofs.lemmas.List.{append_cancel_left}
 use Rattle.std.specs.List.{flat_map}
-use Rattle.rota_core.specs.Numeral.{decimal, numeral, signed_numeral}
+use Rattle.rota_core.specs.Numeral.{numeral, signed_numeral}
+use Rattle.rota_core.specs.Decimal.{decimal}
 use Rattle.opb_text.specs.ModelText.{coefficient_text, term_text, terms_text, constraint_line, objective_line, first_line, opb_text}
 use Rattle.opb_text.specs.OneModel.{EachTextSpellsOneModel}
 use Rattle.rota_items.specs.Linear.{Term, Constraint, Model}

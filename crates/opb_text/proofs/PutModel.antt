@@ -17,12 +17,12 @@ use Rattle.rota_items.specs.WeekModel.{model_of, objective_terms, rows_of}
 use Rattle.opb_text.specs.EventText.{events_text, is_objective, opb_texts, IsConstraint}
 use Rattle.opb_text.specs.ModelText.{first_line, opb_text}
 use Rattle.opb_text.specs.OpbTaker.{taker_sink, in_objective, opb_taker}
-use Rattle.opb_text.specs.Sink.{PutsText}
+use Rattle.text_sink.specs.Sink.{PutsText}
 use Rattle.opb_text.specs.declared.opb_taker.OpbTaker.{OpbTaker}
-use Rattle.opb_text.specs.declared.sink.Sink.{Sink}
+use Rattle.text_sink.specs.declared.sink.Sink.{Sink}
 use Rattle.opb_text.proofs.RowTexts.{events_spell_their_model}
 use Rattle.opb_text.proofs.TakenEvents.{took_events_put_text, refused_events_begin_text, events_put_text}
-use Rattle.opb_text.proofs.LogicWords.{puts_exit, puts_stop, puts_then}
+use Rattle.text_sink.proofs.LogicWords.{puts_exit, puts_stop, puts_then}
 
 abbrev objective_part : Problem → Bool → List ℕ
 objective_part problem b = events_text b (events (objective_rows (objective_terms problem)))

@@ -8,10 +8,10 @@ use Rattle.rota_core.specs.Ports.{KnownBytes, Begins}
 use Rattle.rota_core.specs.declared.ports.PortFault.{PortFault}
 use Rattle.rota_core.specs.declared.ports.Target.{Ghosts}
 use Rattle.rota_items.specs.Takes.{RefusedOne, TookAll, TakesAll}
-use Rattle.opb_text.specs.Sink.{PutsText, bytes_put, sent_by, sink_failed, target_of}
+use Rattle.text_sink.specs.Sink.{PutsText, bytes_put, sent_by, sink_failed, target_of}
 use Rattle.opb_text.specs.SinkTaker.{EventTexts, FailedAt, SinkState, joined_texts, with_event, sink_state}
-use Rattle.opb_text.specs.declared.sink.Sink.{Sink}
-use Rattle.opb_text.proofs.LogicWords.{Begins-longer, append_known-append, append_known-nil, or_false, or_true}
+use Rattle.text_sink.specs.declared.sink.Sink.{Sink}
+use Rattle.text_sink.proofs.LogicWords.{Begins-longer, append_known-append, append_known-nil, or_false, or_true}
 
 -- the target that a failed sink left
 left_there : {W : Type 0} (failed : Bool) (target old : W) → failed ≡ true →

@@ -6,7 +6,7 @@ use Rattle.rota_items.specs.Events.{Event}
 use Rattle.rota_items.specs.declared.takers.Taker.{Ghosts as TakerGhosts}
 use Rattle.opb_text.specs.EventText.{opb_texts}
 use Rattle.opb_text.specs.SinkTaker.{sink_taker}
-use Rattle.opb_text.specs.declared.sink.Sink.{Sink}
+use Rattle.text_sink.specs.declared.sink.Sink.{Sink}
 use Rattle.opb_text.specs.declared.opb_taker.OpbTaker.{OpbTaker}
 
 module _ {W : Type 0} {target : Ghosts W} where

@@ -6,8 +6,8 @@ use Rattle.rota_core.specs.declared.ports.PortFault.{PortFault}
 use Rattle.rota_core.specs.declared.ports.Target.{Ghosts}
 use Rattle.rota_items.specs.Events.{Event}
 use Rattle.rota_items.specs.declared.takers.Taker.{Ghosts as TakerGhosts}
-use Rattle.opb_text.specs.Sink.{bytes_put, sent_by, sink_failed, target_name, target_of}
-use Rattle.opb_text.specs.declared.sink.Sink.{Sink}
+use Rattle.text_sink.specs.Sink.{bytes_put, sent_by, sink_failed, target_name, target_of}
+use Rattle.text_sink.specs.declared.sink.Sink.{Sink}
 
 -- the text of each event, with a state that is kept from one event to the next
 pub record EventTexts (E Kept : Type 0) : Type 0 where

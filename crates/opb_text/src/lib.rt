@@ -1,4 +1,4 @@
-//! The text of a pseudo-Boolean model, written event by event, and the buffered sink that it goes through.
+//! The text of a pseudo-Boolean model, written event by event into a sink.
 //!
 //! Writes a model with one constraint: at most one of two variables is true:
 //!
@@ -19,15 +19,10 @@
 //! ```
 #![tactic(auto)]
 
-mod digits;
+pub mod laws;
 mod opb_taker;
-mod sink;
-mod term_prefix;
-mod text_buffer;
-mod text_laws;
 mod whole_model;
 
 pub use opb_taker::OpbTaker;
-pub use sink::{Piece, Sink};
-pub use text_laws::{each_text_spells_one_model, events_spell_their_model};
+pub use text_sink::{Piece, Sink};
 pub use whole_model::put_model;

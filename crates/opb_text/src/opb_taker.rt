@@ -2,9 +2,9 @@
 ghost use Rattle.std.specs.Prelude.{◌≡◌, [], true, false, IsErr};
 ghost use Rattle.opb_text.specs.ModelText.{first_line, term_text};
 
-use crate::sink::Sink;
 use rota_core::{PortFault, Target};
 use rota_items::{Counts, Part, Taker};
+use text_sink::Sink;
 
 /// Writes the text of each event of a row into a sink. If the first line with the number of the constraints,
 /// the objective's row if it has a term, and the constraints are written in this order, the text is the text
@@ -20,7 +20,7 @@ pub struct OpbTaker<'a, W: Target> {
 
 impl<'a, W: Target> OpbTaker<'a, W> {
     ghost use Rattle.opb_text.specs.OpbTaker.{in_objective, taker_sink};
-    ghost use Rattle.opb_text.specs.Sink.{sink_failed, FinishesSink, PutsText};
+    ghost use Rattle.text_sink.specs.Sink.{sink_failed, FinishesSink, PutsText};
 
     /// A taker whose text goes into the sink. No objective row is open.
     ///
@@ -89,7 +89,7 @@ impl<'a, W: Target> Taker for OpbTaker<'a, W> {
     ghost use Rattle.opb_text.specs.EventText.{opb_texts};
     ghost use Rattle.rota_items.specs.Events.{start_row, term, close_row};
     ghost use Rattle.opb_text.specs.OpbTaker.{TakesEvent, in_objective, taker_sink};
-    ghost use Rattle.opb_text.specs.Sink.{sink_failed};
+    ghost use Rattle.text_sink.specs.Sink.{sink_failed};
     ghost use Rattle.opb_text.specs.SinkTaker.{FailedAt, SinkState, with_event, sink_state};
 
     ghost Value = { SinkState W Bool };

@@ -4,7 +4,7 @@ ghost use Rattle.rota_core.specs.InstanceTables.{problem_of};
 ghost use Rattle.rota_items.specs.WeekModel.{model_of};
 ghost use Rattle.opb_text.specs.ModelText.{opb_text};
 ghost use Rattle.opb_text.specs.OpbTaker.{taker_sink};
-ghost use Rattle.opb_text.specs.Sink.{PutsText, sink_failed};
+ghost use Rattle.text_sink.specs.Sink.{PutsText, sink_failed};
 
 use crate::opb_taker::OpbTaker;
 use rota_core::{Instance, PortFault, Target};

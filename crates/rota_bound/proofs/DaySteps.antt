@@ -1,10 +1,10 @@
 -- A nurse's roster day by day: her past follows the roster, and each day costs what the rules charge for it.
 use Rattle.std.proofs.Common.{◌≡◌, ℕ, zero, suc, ◌+◌, ◌-◌, ◌*◌, ◌<◌, ◌≤◌, inl, inr, Bool, true, false, not, cond, refl, ap, sym, ◌∙◌, arith}
-use Rattle.std.proofs.Common.{◌==◌, ◌&&◌}
+use Rattle.std.proofs.Common.{◌==◌, ◌&&◌, add-one}
 use Rattle.std.specs.Prelude.{Option, Some, None, is_some, nat_lt, nat_le}
 use Rattle.std.proofs.lemmas.Bool.{cases_Bool, eqb-true}
 use Rattle.std.proofs.lemmas.Bool.Decides.{nat_tests}
-use Rattle.rota_core.specs.Limits.{DAYS}
+use Rattle.rota_core.specs.Sizes.{DAYS}
 use Rattle.rota_core.specs.SumsBelow.{sum_below}
 use Rattle.rota_core.specs.HardRules.{is_off, is_on, works}
 use Rattle.rota_core.specs.Roster.{Roster, cell}
@@ -13,7 +13,7 @@ use Rattle.rota_core.specs.declared.values.Past.{Past}
 use Rattle.rota_core.specs.declared.values.Span.{Span}
 use Rattle.rota_items.specs.HardRows.{is_forbidden_after}
 use Rattle.rota_items.specs.RunItemParts.{day_cost}
-use Rattle.rota_items.specs.Runs.{run_length_before}
+use Rattle.rota_items.specs.Runs.{run_length}
 use Rattle.rota_items.specs.rules.ConsecutiveAssignments.Cost.{history_on, shift_run_weight, work_run_weight}
 use Rattle.rota_items.specs.rules.ConsecutiveDaysOff.Cost.{off_run_weight}
 use Rattle.rota_items.specs.rules.ShiftOffRequests.Cost.{request_weight}
@@ -42,8 +42,8 @@ same_weekends d {saturday} {other} {sunday} {also} e f = ap (λ a. weekend_on d 
 
 -- the charge of a day is the charge after the run up to the day before
 pub day_cost-is : (has : ℕ → Bool) (history : ℕ) (limits : Span) (d : ℕ) →
-    day_cost has history limits d ≡ run_charge (run_length_before has history d) (has d) limits
-day_cost-is has history limits d = charged (has d) (run_length_before has history d) limits
+    day_cost has history limits d ≡ run_charge (run_length has history d) (has d) limits
+day_cost-is has history limits d = rw (add-one d) (charged (has d) (run_length has history d) limits)
 
 module _ (problem : Problem) (prices : Prices) (roster : Roster) (n : ℕ) where
   abbrev pub start : Past
@@ -72,13 +72,13 @@ module _ (problem : Problem) (prices : Prices) (roster : Roster) (n : ℕ) where
 
   -- the runs up to the day before
   abbrev pub shift_run_before : ℕ → ℕ → ℕ
-  shift_run_before d s = run_length_before (is_on problem roster n s) (history_on problem n s) d
+  shift_run_before d s = run_length (is_on problem roster n s) (history_on problem n s) d
 
   abbrev pub work_run_before : ℕ → ℕ
-  work_run_before d = run_length_before (works problem roster n) start.work_run d
+  work_run_before d = run_length (works problem roster n) start.work_run d
 
   abbrev pub off_run_before : ℕ → ℕ
-  off_run_before d = run_length_before (is_off problem roster n) start.off_run d
+  off_run_before d = run_length (is_off problem roster n) start.off_run d
 
   -- the charges of the rules S2 to S5 for a day of the roster
   abbrev pub charge_on : ℕ → ℕ

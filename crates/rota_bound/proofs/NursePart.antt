@@ -2,7 +2,7 @@
 use Rattle.std.proofs.Common.{◌≡◌, ℕ, zero, suc, ◌+◌, ◌-◌, ◌*◌, ◌<◌, ◌≤◌, Bool, true, false, cond, refl, ap, ◌∙◌, arith}
 use Rattle.std.proofs.Common.{◌||◌}
 use Rattle.std.specs.Prelude.{Option, Some, None}
-use Rattle.rota_core.specs.Limits.{DAYS}
+use Rattle.rota_core.specs.Sizes.{DAYS}
 use Rattle.rota_core.specs.SumsBelow.{sum_below}
 use Rattle.rota_core.specs.HardRules.{is_off, is_on, works, KeepsHardRules}
 use Rattle.rota_core.specs.Roster.{Roster}
@@ -11,7 +11,7 @@ use Rattle.rota_core.specs.declared.values.Past.{Past}
 use Rattle.rota_core.specs.declared.values.Span.{Span}
 use Rattle.rota_items.specs.HardRows.{is_forbidden_after}
 use Rattle.rota_items.specs.RunItemParts.{day_cost}
-use Rattle.rota_items.specs.Runs.{run_cost, run_over, run_under, run_length_before}
+use Rattle.rota_items.specs.Runs.{run_cost, run_over, run_under, run_length}
 use Rattle.rota_items.specs.rules.CompleteWeekends.Cost.{complete_weekend_cost_of}
 use Rattle.rota_items.specs.rules.ConsecutiveAssignments.Cost.{consecutive_assignment_cost_of, history_on, shift_run_weight, work_run_weight}
 use Rattle.rota_items.specs.rules.ConsecutiveDaysOff.Cost.{consecutive_day_off_cost_of, off_run_weight}
@@ -36,7 +36,7 @@ by_day has history limits = omega arith
 
 -- the cost of the runs is the sum of the charges of the days
 run_cost-is : (has : ℕ → Bool) (history : ℕ) (limits : Span) →
-    run_cost has history limits ≡ sum_below DAYS (λ d. run_charge (run_length_before has history d) (has d) limits)
+    run_cost has history limits ≡ sum_below DAYS (λ d. run_charge (run_length has history d) (has d) limits)
 run_cost-is has history limits =
     by_day has history limits ∙ sum-same DAYS (day_cost has history limits) _ (λ d _. day_cost-is has history limits d)
 

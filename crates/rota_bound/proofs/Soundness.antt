@@ -1,6 +1,6 @@
 -- The bound is at most the penalty: the prices that the places take are those that the nurses give.
 use Rattle.std.proofs.Common.{◌≡◌, ℕ, zero, suc, refl, ◌+◌, ◌-◌, ◌*◌, ◌&&◌, ◌<◌, ◌≤◌, ◌∙◌, ap, cond, Bool, true, false, arith}
-use Rattle.rota_core.specs.Limits.{DAYS}
+use Rattle.rota_core.specs.Sizes.{DAYS}
 use Rattle.rota_core.specs.SumsBelow.{sum_below}
 use Rattle.rota_core.specs.HardRules.{KeepsHardRules, is_off, is_on, nurses_at, works}
 use Rattle.rota_core.specs.Roster.{Roster}

@@ -2,9 +2,9 @@
 use Rattle.std.proofs.Common.{rules, ℕ, zero, suc, ◌<◌, ◌≤◌, List, [], ◌∷◌, arith, slice_index_or, subst}
 use Rattle.std.specs.List.{AllByRecursion}
 use Rattle.std.specs.Option.{ForSome}
-use Rattle.rota_core.specs.Limits.{Numbers}
+use Rattle.rota_core.specs.Sizes.{Numbers}
 use Rattle.rota_core.specs.InstanceTables.{InstanceTables, IsInstance, problem_of}
-use Rattle.rota_core.specs.Problem.{no_past}
+use Rattle.rota_core.specs.Defaults.{no_past}
 use Rattle.rota_core.specs.WeekTables.{IsPast}
 use Rattle.rota_bound.specs.Nearness.{IsNear}
 use Rattle.rota_core.specs.Prices.{ArePrices, max_price}

@@ -2,7 +2,8 @@
 use Rattle.std.proofs.Common.{ℕ, zero, suc, ◌+◌, ◌-◌, ◌*◌, ◌≤◌, Bool, true, false, not, cond, ◌==◌, ◌&&◌, ◌||◌, inl, inr, arith, mul-le-mul, [], ◌∷◌}
 use Rattle.std.specs.Prelude.{Option, Some, None, is_some}
 use Rattle.std.proofs.lemmas.Bool.{cases_Bool, cond-true, cond-false}
-use Rattle.rota_core.specs.Limits.{DAYS, max_number}
+use Rattle.rota_core.specs.Limits.{max_number}
+use Rattle.rota_core.specs.Sizes.{DAYS}
 use Rattle.rota_core.specs.Prices.{Prices, ArePrices}
 use Rattle.rota_core.specs.Problem.{Problem}
 use Rattle.rota_core.specs.declared.values.Past.{Past}

@@ -3,7 +3,7 @@ use Rattle.std.proofs.Common.{◌≡◌, ℕ, zero, suc, ◌+◌, ◌-◌, ◌<�
 use Rattle.std.proofs.Common.{[], ◌∷◌, slice_index_or, subst}
 use Rattle.std.specs.Prelude.{Option, Some, None}
 use Rattle.std.proofs.lemmas.Bool.{eq-eqb, eqb-true, and_from}
-use Rattle.rota_core.specs.Limits.{DAYS}
+use Rattle.rota_core.specs.Sizes.{DAYS}
 use Rattle.rota_core.specs.HardRules.{is_on}
 use Rattle.rota_core.specs.Prices.{Prices}
 use Rattle.rota_core.specs.Problem.{Problem}

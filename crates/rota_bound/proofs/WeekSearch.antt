@@ -3,7 +3,7 @@ use Rattle.std.proofs.Common.{◌≡◌, ◌≢◌, ℕ, zero, suc, ◌+◌, ◌
 use Rattle.std.proofs.Common.{[], ◌∷◌, subst}
 use Rattle.std.specs.Prelude.{⊤, Option, Some, None, IfSome}
 use Rattle.std.proofs.lemmas.Bool.{cases_Bool, cases_lt, cond-true, cond-false, eq-eqb, eqb-true, eqb-false}
-use Rattle.rota_core.specs.Limits.{DAYS}
+use Rattle.rota_core.specs.Sizes.{DAYS}
 use Rattle.rota_core.specs.Prices.{Prices, ArePrices, max_price}
 use Rattle.rota_core.specs.Problem.{Problem}
 use Rattle.rota_core.specs.declared.values.Past.{Past}

@@ -1,6 +1,6 @@
 -- A nurse's cheapest week for the prices: of all her weeks, the first with the minimum cost less the prices of her cells.
 use Rattle.std.specs.Prelude.{◌≡◌, ℕ, zero, suc, ◌+◌, ◌-◌, ◌*◌, ◌≤◌, ◌<◌, true, false, ⊤, ◌⊎◌, Option, Some, None, List, [], ◌∷◌}
-use Rattle.rota_core.specs.Limits.{DAYS}
+use Rattle.rota_core.specs.Sizes.{DAYS}
 use Rattle.rota_core.specs.Prices.{Prices, max_price}
 use Rattle.rota_core.specs.Problem.{Problem}
 use Rattle.rota_core.specs.declared.values.Past.{Past}
@@ -75,8 +75,8 @@ ComesNoLater [] others = ⊤
 ComesNoLater (duty ∷ duties) [] = ⊥
 ComesNoLater (duty ∷ duties) (other ∷ others) = ComesBefore duty other ⊎ ((duty ≡ other) × ComesNoLater duties others)
 
--- the week is one of the nurse's weeks, with its cost and the sum of its prices; in thousandths its cost less its prices is her bound; no other
--- week of hers gives less, and each that gives as much comes later
+-- the week is one of the nurse's weeks, with its cost and the sum of its prices; her bound, in parts of a point, is the cost less the
+-- prices, plus the maximum price for each day; no other week of hers gives less, and each that gives as much comes later
 pub record IsCheapestWeek (unit : ℕ) (problem : Problem) (prices : Prices) (n : ℕ) (week : CheapestWeek) : Type 0 where
   pub is_week : IsWeekOf problem n DAYS (problem.past n) week.duties.items
   pub cost : week.cost ≡ cost_of problem n DAYS (problem.past n) week.duties.items

@@ -1,6 +1,6 @@
 -- The week of the duties that the search chooses.
 use Rattle.std.specs.Prelude.{◌≡◌, ℕ}
-use Rattle.rota_core.specs.Limits.{DAYS}
+use Rattle.rota_core.specs.Sizes.{DAYS}
 use Rattle.rota_core.specs.Prices.{Prices}
 use Rattle.rota_core.specs.Problem.{Problem}
 use Rattle.rota_bound.specs.CheapestWeeks.{cost_of, paid_for}

@@ -1,6 +1,6 @@
 -- A lower bound of the penalty of every roster of a week, from prices. Whoever looks for a bound may choose the prices: each choice gives one.
 use Rattle.std.specs.Prelude.{ℕ, ◌+◌, ◌-◌, ◌*◌, ◌/◌, ◌≤◌}
-use Rattle.rota_core.specs.Limits.{DAYS}
+use Rattle.rota_core.specs.Sizes.{DAYS}
 use Rattle.rota_core.specs.SumsBelow.{sum_below}
 use Rattle.rota_core.specs.HardRules.{KeepsHardRules}
 use Rattle.rota_core.specs.Prices.{Prices, ArePrices, max_price}

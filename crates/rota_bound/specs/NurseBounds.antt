@@ -1,7 +1,7 @@
 -- The minimum cost of a nurse's week, less the prices of her cells. To keep the numbers from becoming negative, each day adds the maximum
 -- price. `unit` is the value of a point, in the unit of the prices: 1000, or 0 if the soft rules are left out.
 use Rattle.std.specs.Prelude.{ℕ, zero, suc, ◌+◌, ◌-◌, ◌*◌, ◌&&◌, ◌||◌, Bool, false, min, if◌then◌else◌, Option, Some, None}
-use Rattle.rota_core.specs.Limits.{DAYS}
+use Rattle.rota_core.specs.Sizes.{DAYS}
 use Rattle.rota_core.specs.HardRules.{is_off}
 use Rattle.rota_core.specs.Prices.{Prices, max_price}
 use Rattle.rota_core.specs.Roster.{cell}

@@ -1,7 +1,7 @@
 -- The minimum cost of a place, with the price of each nurse at the place added to the cost of the missing nurses. A place is a day, a
 -- shift type and a skill. `unit` is the value of a point, in the unit of the prices: 1000, or 0 if the soft rules are left out.
 use Rattle.std.specs.Prelude.{ℕ, ◌+◌, ◌-◌, ◌*◌, max, nat_lt, if◌then◌else◌}
-use Rattle.rota_core.specs.Limits.{DAYS}
+use Rattle.rota_core.specs.Sizes.{DAYS}
 use Rattle.rota_core.specs.Prices.{Prices}
 use Rattle.rota_core.specs.SumsBelow.{sum_below}
 use Rattle.rota_core.specs.declared.values.Demand.{Demand}

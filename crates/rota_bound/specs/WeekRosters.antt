@@ -1,6 +1,6 @@
 -- The roster of a nurse's week, and her cost in a roster by the rules S2 to S7.
 use Rattle.std.specs.Prelude.{◌≡◌, ℕ, ◌+◌, ◌*◌, ◌==◌, ◌&&◌, Bool, false, if◌then◌else◌, Option, Some, None, slice_index_or}
-use Rattle.rota_core.specs.Limits.{DAYS}
+use Rattle.rota_core.specs.Sizes.{DAYS}
 use Rattle.rota_core.specs.Problem.{Problem}
 use Rattle.rota_core.specs.Roster.{Roster, cell}
 use Rattle.rota_core.specs.SumsBelow.{sum_below}

@@ -11,13 +11,13 @@ ghost use Rattle.rota_bound.specs.Optimality.{IsOptimal};
 ghost use Rattle.rota_bound.specs.CheapestWeeks.{Duties};
 ghost use Rattle.rota_bound.specs.WeekRosters.{CostsByRules};
 
-/// Whatever the prices and the value of a point, the bound is at most the penalty of each roster that keeps the
-/// hard rules.
+/// For all prices up to 999,999,999 and any value of a point, the bound is at most this value times the penalty
+/// of each roster that keeps the hard rules.
 pub fn bound_is_sound()
     ensures { (unit : ℕ) (problem : Problem) (prices : Prices) (roster : Roster) → BoundIsSound unit problem prices roster }
 {}
 
-/// No roster that keeps the hard rules has a penalty below the lower bound, whatever the prices.
+/// For all prices up to 999,999,999, no roster that keeps the hard rules has a penalty below the lower bound.
 pub fn lower_bound_is_sound()
     ensures { (problem : Problem) (prices : Prices) (roster : Roster) →
         ArePrices prices →
@@ -47,7 +47,7 @@ pub fn each_penalty_is_a_multiple_of_5()
     ensures { (problem : Problem) (roster : Roster) → (fifths : ℕ) × (penalty problem roster ≡ 5 * fifths) }
 {}
 
-/// The bound of a nurse is the minimum over her weeks.
+/// The bound of a nurse is the minimum over her weeks of their cost less their prices.
 pub fn nurse_bound_is_the_least_over_her_weeks()
     ensures { (unit : ℕ) (problem : Problem) (prices : Prices) (n : ℕ) →
         ArePrices prices →

@@ -2,7 +2,7 @@
 
 ghost use Rattle.std.specs.Prelude.{◌≡◌, ℕ, ◌+◌, ◌-◌, ◌≤◌, ◌<◌, IfOk, IfSome, None};
 ghost use Rattle.rota_core.specs.InstanceTables.{problem_of};
-ghost use Rattle.rota_core.specs.Limits.{DAYS};
+ghost use Rattle.rota_core.specs.Sizes.{DAYS};
 ghost use Rattle.rota_core.specs.PriceTables.{IsForWeek, prices_of};
 ghost use Rattle.rota_bound.specs.CheapestWeeks.{HasNoWeek, IsCheapestWeek, cost_of, paid_for, price_of, shift_of, unit_of};
 ghost use Rattle.rota_bound.specs.ChosenDuties.{best_choice, best_duties, best_duty, best_skill, first_below};

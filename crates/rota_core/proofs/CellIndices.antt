@@ -4,7 +4,7 @@ use Rattle.std.proofs.lemmas.Nat.{div-mul-add, mod-mul-add, div-add-mod', mul-ad
 use Rattle.std.proofs.Math.Nat.{div-lt_iff_lt-mul, mod-lt}
 use Rattle.rota_core.specs.declared.values.Cell.{Cell}
 use Rattle.rota_core.specs.Roster.{InWeek, cell}
-use Rattle.rota_core.specs.RosterTables.{cell_index, cell_count}
+use Rattle.rota_core.specs.CellIndex.{cell_index, cell_count}
 use Rattle.rota_core.specs.RosterCells.{cell_at}
 use Rattle.rota_core.specs.Problem.{Problem}
 

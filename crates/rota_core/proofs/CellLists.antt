@@ -8,7 +8,7 @@ use Rattle.rota_core.specs.Lists.{singleton_if}
 use Rattle.rota_core.specs.Roster.{Roster, Has}
 use Rattle.rota_core.specs.RosterCells.{cells_of, cell_at}
 use Rattle.rota_core.specs.HardRules.{KeepsOneCell}
-use Rattle.rota_core.specs.RosterTables.{cell_index, cell_count}
+use Rattle.rota_core.specs.CellIndex.{cell_index, cell_count}
 use Rattle.rota_core.specs.Problem.{Problem}
 use Rattle.rota_core.proofs.CellIndices.{cell_at-in, cell_at-index, cell_index-lt, index-cell_at}
 use Rattle.rota_core.proofs.CellsByIndex.{cell_if_in, cells_of-by_index}

@@ -12,7 +12,8 @@ use Rattle.rota_core.specs.Roster.{Roster, cell}
 use Rattle.rota_core.specs.declared.values.Cell.{Cell}
 use Rattle.rota_core.specs.RosterCells.{cells_of, cell_at}
 use Rattle.rota_core.specs.RosterCalls.{cells_in, AreIndices, HoldsRoster}
-use Rattle.rota_core.specs.RosterTables.{RosterTables, HasShapeOf, cell_count, set_of}
+use Rattle.rota_core.specs.RosterTables.{RosterTables, HasShapeOf, set_of}
+use Rattle.rota_core.specs.CellIndex.{cell_count}
 use Rattle.rota_core.specs.Problem.{Problem}
 use Rattle.rota_core.proofs.CellIndices.{cell_at-index, index-cell_at}
 use Rattle.rota_core.proofs.LogicWords.{concat_below-grid, concat_below-same}

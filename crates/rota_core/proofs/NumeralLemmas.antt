@@ -7,7 +7,8 @@ use Rattle.std.proofs.lemmas.Bool.{cases_lt, le-leb}
 use Rattle.std.proofs.lemmas.Bool.Decides.{nat_tests}
 use Rattle.std.proofs.lemmas.Fmt.{AppendsLastDigit}
 use Rattle.std.proofs.lemmas.List.Sums.{fold-append}
-use Rattle.rota_core.specs.Numeral.{numeral, numeral_within, is_decimal, with_digit, decimal}
+use Rattle.rota_core.specs.Numeral.{numeral, numeral_within}
+use Rattle.rota_core.specs.Decimal.{is_decimal, with_digit, decimal}
 use Rattle.rota_core.specs.NumeralLaws.{AreDigits, ReadsBack}
 use Rattle.rota_core.specs.Words.{is_word_byte, IsWord}
 

@@ -8,7 +8,8 @@ use Rattle.std.proofs.lemmas.List.Folds.{fold-map}
 use Rattle.std.proofs.lemmas.List.FromFn.{fill_by_all, length-range_with_len}
 use Rattle.std.proofs.lemmas.List.Sums.{count_by-le-length, length-filter}
 use Rattle.rota_core.specs.Bits.{true_from}
-use Rattle.rota_core.specs.RosterTables.{RosterTables, HasShapeOf, IsRoster, set_of, cell_count}
+use Rattle.rota_core.specs.RosterTables.{RosterTables, HasShapeOf, IsRoster, set_of}
+use Rattle.rota_core.specs.CellIndex.{cell_count}
 use Rattle.rota_core.specs.RosterCells.{cell_at, cells_of}
 use Rattle.rota_core.specs.RosterCalls.{cells_in, count_of}
 use Rattle.rota_core.specs.Problem.{Problem}

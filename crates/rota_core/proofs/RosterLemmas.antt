@@ -2,7 +2,8 @@
 use Rattle.std.proofs.Common.{◌≡◌, ℕ, ◌<◌, Bool, true, false, List, length, get_or, set, sym, ap, ◌∙◌, subst, arith}
 use Rattle.std.proofs.lemmas.List.{get_or-take, get_or-set_same, get_or-set_other}
 use Rattle.rota_core.specs.declared.values.Cell.{Cell}
-use Rattle.rota_core.specs.RosterTables.{RosterTables, cell_index, cell_count, set_of}
+use Rattle.rota_core.specs.RosterTables.{RosterTables, set_of}
+use Rattle.rota_core.specs.CellIndex.{cell_index, cell_count}
 use Rattle.rota_core.specs.RosterCells.{cell_at}
 use Rattle.rota_core.specs.RosterCalls.{InShape, AddsCell, HoldsRoster, roster_tables}
 use Rattle.rota_core.proofs.CellIndices.{cell_at-index, cell_index-lt}

@@ -1,14 +1,15 @@
 -- How the list of a roster's cells describes the roster.
 use Rattle.std.specs.Prelude.{◌≡◌, ◌*◌, ◌≤◌, Bool, false, length}
 use Rattle.std.specs.List.{AllByRecursion, list_any}
-use Rattle.rota_core.specs.Limits.{DAYS}
+use Rattle.rota_core.specs.Sizes.{DAYS}
 use Rattle.rota_core.specs.declared.values.Cell.{Cell}
 use Rattle.rota_core.specs.HardRules.{KeepsOneCell}
 use Rattle.rota_core.specs.RisingLists.{RisesWithin}
 use Rattle.rota_core.specs.Roster.{Roster, Has}
 use Rattle.rota_core.specs.RosterCalls.{cells_in, count_of}
 use Rattle.rota_core.specs.RosterCells.{cells_of}
-use Rattle.rota_core.specs.RosterTables.{IsRoster, RosterTables, cell_index, cell_count, set_of}
+use Rattle.rota_core.specs.RosterTables.{IsRoster, RosterTables, set_of}
+use Rattle.rota_core.specs.CellIndex.{cell_index, cell_count}
 use Rattle.rota_core.specs.Problem.{Problem}
 
 -- the list contains exactly the roster's cells, by rising index; if the roster keeps H1, it has at most 7 * N cells for N nurses

@@ -1,7 +1,7 @@
 -- A nurse's days in a roster, and the hard rules that a roster must keep.
 use Rattle.std.specs.Prelude.{◌≡◌, ℕ, ◌+◌, ◌-◌, ◌<◌, ◌≤◌, Bool, true, false, not, Some}
 use Rattle.rota_core.specs.SumsBelow.{count_below, any_below}
-use Rattle.rota_core.specs.Limits.{DAYS}
+use Rattle.rota_core.specs.Sizes.{DAYS}
 use Rattle.rota_core.specs.declared.values.Cell.{Cell}
 use Rattle.rota_core.specs.Problem.{Problem}
 use Rattle.rota_core.specs.Roster.{Roster, Has, cell}
@@ -46,7 +46,7 @@ pub record KeepsSuccession (problem : Problem) (roster : Roster) : Type 0 where
 abbrev pub KeepsSkills : Problem → Roster → Type 0
 KeepsSkills problem roster = (one : Cell) → Has problem roster one → problem.has_skill one.nurse one.skill ≡ true
 
--- H5: each held cell of the week is in the roster
+-- H5: each held cell of the week, a cell of the roster `is_held`, is in the roster
 abbrev pub KeepsHeld : Problem → Roster → Type 0
 KeepsHeld problem roster = (one : Cell) → Has problem problem.is_held one → roster one ≡ true
 

@@ -1,10 +1,11 @@
 -- The contents of an instance, and the week that it describes.
 use Rattle.std.specs.Prelude.{◌≡◌, ◌+◌, ◌*◌, ◌<◌, Bool, false, ◌==◌, Option, Some, length, slice_index_or}
 use Rattle.std.specs.Option.{ForSome, option_map_or}
-use Rattle.rota_core.specs.Limits.{DAYS}
+use Rattle.rota_core.specs.Sizes.{DAYS}
 use Rattle.rota_core.specs.RosterTables.{RosterTables, IsRoster, set_of}
 use Rattle.rota_core.specs.ScenarioTables.{ScenarioTables, IsScenario, numbers_of}
-use Rattle.rota_core.specs.Problem.{Problem, no_contract, no_demand, no_past, no_span}
+use Rattle.rota_core.specs.Problem.{Problem}
+use Rattle.rota_core.specs.Defaults.{no_contract, no_demand, no_past, no_span}
 use Rattle.rota_core.specs.WeekTables.{HistoryTables, WeekTables, IsHistory, IsWeek}
 
 -- The tables of a scenario, of the history before the week, and of the week; whether excess is charged early; and the held cells, if any.

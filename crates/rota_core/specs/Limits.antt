@@ -1,13 +1,10 @@
 -- The limits of the numbers in files. The constants of `src/limits.rt` have the same values.
 use Rattle.std.specs.Prelude.{ℕ, ◌≤◌}
+use Rattle.rota_core.specs.Sizes.{Numbers}
 
 -- the number is from 1 to the maximum
 abbrev pub Within : ℕ → ℕ → Type 0
 Within maximum n = (1 ≤ n) × (n ≤ maximum)
-
--- the number of days in a week
-abbrev pub DAYS : ℕ
-DAYS = 7
 
 -- the maximum number of nurses in a scenario
 abbrev pub max_nurses : ℕ
@@ -40,12 +37,6 @@ max_price = 999999999
 -- the maximum number of bytes in a scenario, history, week, solution, fix or prices file
 abbrev pub max_file_len : ℕ
 max_file_len = 4194304
-
--- the numbers of nurses, shift types and skills
-pub record Numbers : Type 0 where
-  pub nurses : ℕ
-  pub shifts : ℕ
-  pub skills : ℕ
 
 -- each of these numbers is within its limit
 abbrev pub AreLimited : Numbers → Type 0

@@ -1,6 +1,7 @@
 -- The properties of a number's numeral.
 use Rattle.std.specs.Prelude.{◌≡◌, ℕ, suc, ◌^◌, ◌<◌, ◌≤◌, true, List, [], ◌∷◌, length}
-use Rattle.rota_core.specs.Numeral.{numeral, is_decimal, decimal}
+use Rattle.rota_core.specs.Numeral.{numeral}
+use Rattle.rota_core.specs.Decimal.{is_decimal, decimal}
 use Rattle.rota_core.specs.Words.{IsWord}
 
 -- the bytes are digits

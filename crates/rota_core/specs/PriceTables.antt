@@ -1,7 +1,8 @@
 -- Tables of prices.
 use Rattle.std.specs.Prelude.{◌≡◌, ℕ, ◌+◌, ◌*◌, ◌≤◌, ◌<◌, List, length, slice_index_or}
 use Rattle.std.specs.List.{AllByRecursion}
-use Rattle.rota_core.specs.Limits.{DAYS, max_price}
+use Rattle.rota_core.specs.Limits.{max_price}
+use Rattle.rota_core.specs.Sizes.{DAYS}
 use Rattle.rota_core.specs.Problem.{Problem}
 use Rattle.rota_core.specs.Prices.{Prices}
 

@@ -1,6 +1,6 @@
 -- The week as the rules see it. Nurses, shift types and skills are numbered from 0. Days are 0 (Monday) to 6 (Sunday).
-use Rattle.std.specs.Prelude.{ℕ, Bool, false, None}
-use Rattle.rota_core.specs.Limits.{Numbers}
+use Rattle.std.specs.Prelude.{ℕ, Bool}
+use Rattle.rota_core.specs.Sizes.{Numbers}
 use Rattle.rota_core.specs.declared.values.Span.{Span}
 use Rattle.rota_core.specs.declared.values.Cell.{Cell}
 use Rattle.rota_core.specs.declared.values.Contract.{Contract}
@@ -25,19 +25,3 @@ pub record Problem : Type 0 where
   pub requests : (nurse day shift : ℕ) → ℕ
   -- whether a cell is held: each roster must contain the held cells of the week
   pub is_held : Cell → Bool
-
--- a minimum and a maximum of 0
-abbrev pub no_span : Span
-no_span = record { min = 0; max = 0 }
-
--- a contract of zeros, without complete weekends
-abbrev pub no_contract : Contract
-no_contract = record { total = no_span; work = no_span; off = no_span; weekends = 0; complete = false }
-
--- a demand of zero nurses
-abbrev pub no_demand : Demand
-no_demand = record { minimum = 0; optimal = 0 }
-
--- a history of zeros, without a last shift type
-abbrev pub no_past : Past
-no_past = record { assignments = 0; weekends = 0; last = None; shift_run = 0; work_run = 0; off_run = 0 }

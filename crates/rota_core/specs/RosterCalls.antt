@@ -1,10 +1,12 @@
 -- The results of the calls on a roster.
 use Rattle.std.specs.Prelude.{◌≡◌, ◌≢◌, ℕ, ◌≤◌, ◌<◌, Bool, true, Option, Some, None, List, [], length, take}
 use Rattle.std.specs.List.{AllByRecursion, count_by}
-use Rattle.rota_core.specs.Limits.{DAYS, Within, max_nurses, max_shifts, max_skills}
+use Rattle.rota_core.specs.Limits.{Within, max_nurses, max_shifts, max_skills}
+use Rattle.rota_core.specs.Sizes.{DAYS}
 use Rattle.rota_core.specs.declared.values.Cell.{Cell}
 use Rattle.rota_core.specs.Roster.{cell}
-use Rattle.rota_core.specs.RosterTables.{RosterTables, cell_count, set_of}
+use Rattle.rota_core.specs.RosterTables.{RosterTables, set_of}
+use Rattle.rota_core.specs.CellIndex.{cell_count}
 use Rattle.rota_core.specs.Lists.{concat_below, singleton_if}
 
 -- the number of cells in the roster

@@ -1,6 +1,6 @@
 -- The cells of a roster, by rising index.
 use Rattle.std.specs.Prelude.{ℕ, ◌/◌, ◌%◌, List}
-use Rattle.rota_core.specs.Limits.{DAYS}
+use Rattle.rota_core.specs.Sizes.{DAYS}
 use Rattle.rota_core.specs.declared.values.Cell.{Cell}
 use Rattle.rota_core.specs.Lists.{concat_below, singleton_if}
 use Rattle.rota_core.specs.Roster.{Roster, cell}

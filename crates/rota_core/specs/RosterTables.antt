@@ -1,23 +1,16 @@
 -- A roster as a table of truth values: a set of cells of a week.
-use Rattle.std.specs.Prelude.{◌≡◌, ℕ, ◌+◌, ◌*◌, Bool, false, List, length, slice_index_or}
-use Rattle.rota_core.specs.Limits.{DAYS, Numbers, AreLimited}
-use Rattle.rota_core.specs.declared.values.Cell.{Cell}
+use Rattle.std.specs.Prelude.{◌≡◌, ◌*◌, Bool, false, List, length, slice_index_or}
+use Rattle.rota_core.specs.Limits.{AreLimited}
+use Rattle.rota_core.specs.Sizes.{Numbers}
 use Rattle.rota_core.specs.Roster.{Roster, cell}
 use Rattle.rota_core.specs.Problem.{Problem}
+use Rattle.rota_core.specs.CellIndex.{cell_index, cell_count}
 
 -- The numbers of nurses, shift types and skills, and for each index of a cell whether that cell is in the roster.
 pub record RosterTables : Type 0 where
   pub numbers : Numbers
   pub open numbers use *
   pub cells : List Bool
-
--- the index of a cell in the order of nurse, day, shift type and skill, for these numbers of shift types and skills
-abbrev pub cell_index : ℕ → ℕ → Cell → ℕ
-cell_index shifts skills cell = ((cell.nurse * DAYS + cell.day) * shifts + cell.shift) * skills + cell.skill
-
--- the number of cells that a week has for these numbers of nurses, shift types and skills
-abbrev pub cell_count : (nurses shifts skills : ℕ) → ℕ
-cell_count nurses shifts skills = DAYS * nurses * shifts * skills
 
 -- the set of the roster's cells: those whose index has the value true (a cell outside the week may have the index of another)
 abbrev pub set_of : RosterTables → Roster

@@ -2,7 +2,8 @@
 use Rattle.std.specs.Prelude.{◌≡◌, ℕ, ◌*◌, ◌≤◌, ◌<◌, Bool, false, List, [], ◌∷◌, length, codes}
 use Rattle.std.specs.List.{AllByRecursion, IsDistinct}
 use Rattle.std.specs.Str.{bytes_eq}
-use Rattle.rota_core.specs.Limits.{Numbers, Within, max_contracts, max_nurses, max_number, max_shifts, max_skills, max_weeks}
+use Rattle.rota_core.specs.Limits.{Within, max_contracts, max_nurses, max_number, max_shifts, max_skills, max_weeks}
+use Rattle.rota_core.specs.Sizes.{Numbers}
 use Rattle.rota_core.specs.declared.values.Span.{Span}
 use Rattle.rota_core.specs.declared.values.Contract.{Contract}
 use Rattle.rota_core.specs.Words.{is_among, IsWord}

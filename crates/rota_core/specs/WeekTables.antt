@@ -2,7 +2,8 @@
 use Rattle.std.specs.Prelude.{◌≡◌, ℕ, ◌*◌, ◌≤◌, ◌<◌, List, length}
 use Rattle.std.specs.List.{AllByRecursion}
 use Rattle.std.specs.Option.{ForSome}
-use Rattle.rota_core.specs.Limits.{DAYS, Numbers, AreLimited, max_number}
+use Rattle.rota_core.specs.Limits.{AreLimited, max_number}
+use Rattle.rota_core.specs.Sizes.{DAYS, Numbers}
 use Rattle.rota_core.specs.declared.values.Demand.{Demand}
 use Rattle.rota_core.specs.declared.values.Past.{Past}
 

@@ -1,6 +1,6 @@
 //! The indices of the cells. Rosters store cells by index, and models number their variables by it.
 ghost use Rattle.std.specs.Prelude.{◌≡◌, ◌<◌, ◌≤◌};
-ghost use Rattle.rota_core.specs.RosterTables.{cell_index, cell_count};
+ghost use Rattle.rota_core.specs.CellIndex.{cell_index, cell_count};
 ghost use Rattle.rota_core.specs.RosterCells.{cell_at};
 
 use crate::instance::Instance;

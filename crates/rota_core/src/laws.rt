@@ -1,11 +1,14 @@
-//! The laws of numerals and of the list of a roster's cells. Each law holds for all numbers or rosters, and
+//! The laws of numerals, of the list of a roster's cells and of the list of rules. Each law holds for all numbers or rosters, and
 //! does nothing when it runs.
-ghost use Rattle.std.specs.Prelude.{ℕ};
+ghost use Rattle.std.specs.Prelude.{◌≡◌, ℕ};
 ghost use Rattle.rota_core.specs.CellLists.{ListsCells, TablesListCells};
 ghost use Rattle.rota_core.specs.NumeralLaws.{ReadsBack};
 ghost use Rattle.rota_core.specs.Roster.{Roster};
 ghost use Rattle.rota_core.specs.RosterTables.{HasShapeOf, RosterTables};
 ghost use Rattle.rota_core.specs.Problem.{Problem};
+ghost use Rattle.rota_core.specs.Rules.{hard_rules, soft_rules};
+
+use crate::rule::Rule;
 
 /// The numeral of a number is a word of digits. Its value is the number, and it has no digit that it does not
 /// need.
@@ -19,4 +22,10 @@ pub fn numerals_read_back()
 pub fn rosters_list_their_cells()
     ensures cells { (problem : Problem) (roster : Roster) → ListsCells problem roster }
     ensures tables { (problem : Problem) (t : RosterTables) → HasShapeOf problem t → TablesListCells problem t }
+{}
+
+/// The rules are in the order of their numbers.
+pub fn rules_in_order()
+    ensures hard { Rule.HARD ≡ hard_rules }
+    ensures soft { Rule.SOFT ≡ soft_rules }
 {}

@@ -59,7 +59,7 @@ pub use ports::{PortFault, Source, Target};
 pub use prices::Prices;
 pub use roster::Roster;
 pub use roster_cells::Cells;
-pub use rule::{Rule, SOFT_RULES, rules_in_order};
+pub use rule::{Rule, SOFT_RULES};
 pub use scenario::{Scenario, ScenarioParts};
 pub use std_ports::{FromRead, ToWrite};
 pub use true_indices::TrueIndices;

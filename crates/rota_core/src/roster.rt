@@ -1,7 +1,7 @@
 //! A roster: a set of cells.
 
 ghost use Rattle.std.specs.Prelude.{◌≡◌, ◌<◌, ◌≤◌, Bool, not, IfOk, false, length, slice_index_or};
-ghost use Rattle.rota_core.specs.RosterTables.{cell_index, cell_count};
+ghost use Rattle.rota_core.specs.CellIndex.{cell_index, cell_count};
 
 use crate::bits::Bits;
 use crate::cell_indices::{count_of_cells, index_of_cell};

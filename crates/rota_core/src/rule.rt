@@ -1,7 +1,7 @@
 //! The rules of a week, under the names that the competition gives them.
 
 ghost use Rattle.std.specs.Prelude.{◌≡◌, Some};
-ghost use Rattle.rota_core.specs.Rules.{hard_rules, rule_name, soft_rules};
+ghost use Rattle.rota_core.specs.RuleNames.{rule_name};
 
 use std::fmt;
 
@@ -83,9 +83,3 @@ impl fmt::Display for Rule {
         f.write_str(self.name())
     }
 }
-
-/// The rules are in the order of their numbers.
-pub fn rules_in_order()
-    ensures hard { Rule.HARD ≡ hard_rules }
-    ensures soft { Rule.SOFT ≡ soft_rules }
-{}

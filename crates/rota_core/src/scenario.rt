@@ -58,7 +58,7 @@ impl Scenario {
     ghost use Rattle.rota_core.specs.Limits.{Within};
     ghost use Rattle.rota_core.specs.ScenarioTables.{IsScenario};
     ghost use Rattle.rota_core.specs.Parts.{scenario_of};
-    ghost use Rattle.rota_core.specs.Problem.{no_contract, no_span};
+    ghost use Rattle.rota_core.specs.Defaults.{no_contract, no_span};
 
     /// The scenario of these rows.
     pub fn of_parts(parts: ScenarioParts) -> Scenario

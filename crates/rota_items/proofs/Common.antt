@@ -7,5 +7,5 @@ pub use Rattle.rota_items.proofs.InstanceLimits.{instance-within_limits}
 pub use Rattle.rota_items.proofs.Lists.{SumOfEach}
 pub use Rattle.rota_items.proofs.Taking.{both, cell_refused, cell_taken, cells_join, events_join, exits, go_on, goes_on, held_join}
 pub use Rattle.rota_items.proofs.Taking.{items_join, list_refused, lone_row, loop_ended, loop_refused, no_pattern, nothing, numbers_join}
-pub use Rattle.rota_items.proofs.Taking.{pattern_refused, pattern_takes, pattern_took, range_refused, row_closed, row_refused, row_taken}
+pub use Rattle.rota_items.proofs.Taking.{pattern_refused, pattern_takes, pattern_took, row_closed, row_refused, row_taken}
 pub use Rattle.rota_items.proofs.Taking.{row_unclosed, row_unstarted, rows_join, stop, taking, takes_one, terms_join, Refused-one, row-is}

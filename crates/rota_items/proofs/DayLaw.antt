@@ -1,8 +1,8 @@
 -- A day's window and patterns charge the cost of the run on that day.
 use Rattle.rota_items.proofs.Common.Imports.{◌≡◌, ℕ, zero, suc, ◌+◌, ◌-◌, ◌<◌, ◌≤◌, Bool, ◌&&◌, not, cond, true, ◌⊎◌, inr, List, ◌∷◌, [], ◌++◌}
-use Rattle.rota_items.proofs.Common.Imports.{refl, map, ap, arith, ltb, leb, nat_lt, nat_le, list_all, range_with_len, sum_by, list_all-append}
+use Rattle.rota_items.proofs.Common.Imports.{refl, map, ap, arith, add-one, ltb, leb, nat_lt, nat_le, list_all, range_with_len, sum_by, list_all-append}
 use Rattle.rota_items.proofs.Common.Imports.{sum_by-append, nat_tests, concat_below, Span, PatternDay, Pattern, with_property, without_property}
-use Rattle.rota_items.proofs.Common.Imports.{days_with, windows_on, closed_patterns_at, patterns_on, run_length_before, is_over, missing_on}
+use Rattle.rota_items.proofs.Common.Imports.{days_with, windows_on, closed_patterns_at, patterns_on, run_length, is_over, missing_on}
 use Rattle.rota_items.proofs.Lists.{sum_by-singleton_if}
 
 -- whether the day matches the pattern
@@ -24,7 +24,7 @@ units has all = sum_by (units_of has) all
 
 module _ (has : ℕ → Bool) (history : ℕ) where
   abbrev length_at : ℕ → ℕ
-  length_at d = run_length_before has history d
+  length_at d = run_length has history d
 
   -- a run is shorter than the week so far, or fills it after the history
   is_run : (d : ℕ) → (length_at d < d) ⊎ (length_at d ≡ history + d)
@@ -51,7 +51,7 @@ module _ (has : ℕ → Bool) (history : ℕ) where
 
   pub units-windows_on : (d : ℕ) (limits : Span) → units has (windows_on history limits d) ≡ cond (is_over has history limits.max d) 1 0
   units-windows_on d limits =
-      rw (sum_by-singleton_if, matches-run (d - limits.max) (d + 1 - (d - limits.max)) (suc d) (omega arith))
+      rw (sum_by-singleton_if, add-one d, matches-run (d - limits.max) (suc d - (d - limits.max)) (suc d) (omega arith))
       (grind (arith, nat_tests, is_run (suc d)))
 
   -- the closed patterns of runs below a number of days charge the shortage of the run, if it is one of these

@@ -34,6 +34,7 @@ pub mod ObjectiveTaking
 pub mod Occurrence
 pub mod PatternItems
 pub mod RisingCells
+pub mod RowLoops
 pub mod RowTaking
 pub mod RuleSizes
 pub mod RunLaw

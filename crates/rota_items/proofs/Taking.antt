@@ -9,7 +9,7 @@ use Rattle.rota_items.proofs.Common.Imports.{flat_map, h5_row, numbered, numbere
 use Rattle.rota_items.proofs.Common.Imports.{map-range_with_len_more, Pattern, DayPattern, charged_items, item_of, TakesItems, TookItems}
 use Rattle.std.proofs.Math.Seq.{drop-cons}
 use Rattle.rota_items.specs.CellSums.{pattern_of}
-use Rattle.rota_items.specs.SoftItems.{numbered_item}
+use Rattle.rota_items.specs.SentItems.{numbered_item}
 use Rattle.rota_items.specs.declared.items.soft_item.RunCharge.{RunCharge}
 use Rattle.rota_items.specs.declared.items.soft_item.SoftItem.{SoftItem}
 use Rattle.rota_items.specs.declared.items.item_takers.ItemTaker as item_taker
@@ -159,6 +159,14 @@ pub takes_one : {S V E R F : Type 0} (value : S → V) (step : V → E → V) (l
     MatchResult r (λ _. value t ≡ step (value s) event) (λ _. left (value s) event t) → TakesAll value step left (event ∷ []) s t r
 takes_one value step left event s t r takes = MatchResult-weaker r takes (λ _. Took-one event s t) (λ _. Refused-one event s t)
 
+-- the exit of a call that is refused at the first element
+pub refused_first : {S V E : Type 0} {value : S → V} {step : V → E → V} {left : V → E → S → Type 0} (event : E) (rest : List E) (s t : S) →
+    left (value s) event t → RefusedOne value step left (event ∷ rest) s t
+refused_first event rest s t refused = Refused-before (event ∷ []) rest s t (Refused-one event s t refused)
+
+-- the rules that calls one after another need, once the definition of their list is unfolded
+pub ruleset calling = (map-append, fold-append, refused_first, Refused-before, Refused-after, exits, Takes-then)
+
 -- ---- a taker of rows
 
 module _ {S F : Type 0} (T : Ghosts S F) where
@@ -223,17 +231,17 @@ pub range_terms-more : (coefficient : ℤ) (first n : ℕ) →
     times coefficient (range_with_len first (n + 1)) ≡ times coefficient (range_with_len first n) ++ (coefficient, first + n) ∷ []
 range_terms-more coefficient first n = map-range_with_len_more {X = Term ℕ} (λ v. (coefficient, v)) first n (first + n) refl
 
--- the rules that a loop over variables that follow one another needs
-pub ruleset ranges = (range_terms-more, map-append, fold-append, to_z-of_z)
-
-pub range_refused : {S F : Type 0} (T : Ghosts S F) (coefficient : ℤ) (first i n : ℕ) (s t u : S) → i < n →
-    Took T (term_events (times coefficient (range_with_len first i))) s t →
+pub range_refused : {S F : Type 0} (T : Ghosts S F) (coefficient : ℤ) (first i n : ℕ) (s t u : S) →
+    Took T (term_events (times coefficient (range_with_len first i))) s t → i < n →
     T.left (T.value t) (term coefficient (first + i)) u → Refused T (term_events (times coefficient (range_with_len first n))) s u
 unfolding term_events
-range_refused T coefficient first i n s t u below p refused =
+range_refused T coefficient first i n s t u taken below refused =
     rw (slack_terms-are coefficient first n)
     (loop_refused numbers_join i n (slack_term coefficient first) s t u below
-    (rw (slack_terms-are coefficient first i) at p) (Refused-one _ t u refused))
+    (rw (slack_terms-are coefficient first i) at taken) (Refused-one _ t u refused))
+
+-- the rules that a loop over variables that follow one another needs
+pub ruleset ranges = (range_terms-more, map-append, fold-append, to_z-of_z, range_refused, exits)
 
 -- ---- a taker of items: the item of a pattern of days
 

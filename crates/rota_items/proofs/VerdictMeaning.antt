@@ -7,7 +7,7 @@ use Rattle.rota_items.proofs.Common.Imports.{soft_rules, Problem, Rule, Cell, ce
 use Rattle.rota_items.proofs.Common.Imports.{Satisfies, SatisfiesModel, LinearRow, item_rows, model_cost, rule_cost, soft_items, extension_of, model_of}
 use Rattle.rota_items.proofs.Common.Imports.{numbered_items, rows_of, first_unmet, later, truth_of, H1, is_soft, Verdict, Subject, SettlesModel}
 use Rattle.rota_items.proofs.Common.Imports.{assigned, assignment_in, extended, roster_in, CostsTheRules, ExtendsToModel, IsMet, Judges, JudgesTheRules}
-use Rattle.rota_core.specs.Rules.{is_rule}
+use Rattle.rota_core.specs.RuleNames.{is_rule}
 use Rattle.rota_items.proofs.Extension.{extension-objective, extension-satisfies, extension-unit, satisfying-keeps, satisfying-objective, extension-roster}
 use Rattle.rota_items.proofs.FirstUnmet.{Decided, Named, first_unmet-decides, hard-first_broken}
 use Rattle.rota_items.proofs.SoftRules.EachRule.{SoftItem, charged_on, soft_items-soft, sound-rule}

@@ -3,7 +3,8 @@ use Rattle.std.specs.Prelude.{ℕ, ◌+◌, ◌-◌, ◌*◌, ◌^◌, max, sum_
 use Rattle.rota_core.specs.declared.rule.Rule.{Rule}
 use Rattle.rota_core.specs.declared.rule.Rule.TheVariants.{S1, S2, S6, S7}
 use Rattle.rota_core.specs.Rules.{soft_rules}
-use Rattle.rota_core.specs.Limits.{DAYS, max_nurses, max_number, max_shifts, max_skills}
+use Rattle.rota_core.specs.Limits.{max_nurses, max_number, max_shifts, max_skills}
+use Rattle.rota_core.specs.Sizes.{DAYS}
 use Rattle.rota_items.specs.rules.CompleteWeekends.Cost.{complete_weekend_weight}
 use Rattle.rota_items.specs.rules.ConsecutiveAssignments.Cost.{shift_run_weight, work_run_weight}
 use Rattle.rota_items.specs.rules.ConsecutiveDaysOff.Cost.{off_run_weight}

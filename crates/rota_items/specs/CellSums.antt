@@ -1,7 +1,7 @@
 -- The meaning of sums of cells, and the days of a nurse's pattern.
 use Rattle.std.specs.Prelude.{ℕ, ◌+◌, ◌-◌, ◌<◌, ◌≤◌, pos, negsuc, Bool, not, IsTrue, ⊤}
 use Rattle.std.specs.Prelude.{Option, Some, None, IfSome, List, [], ◌∷◌, ◌++◌, flat_map}
-use Rattle.rota_core.specs.Limits.{DAYS}
+use Rattle.rota_core.specs.Sizes.{DAYS}
 use Rattle.rota_core.specs.declared.values.Cell.{Cell}
 use Rattle.rota_core.specs.Lists.{singleton_if}
 use Rattle.rota_core.specs.Roster.{InWeek}

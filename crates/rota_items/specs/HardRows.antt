@@ -1,5 +1,5 @@
 -- The rows that mean the hard rules, over cells.
-use Rattle.rota_core.specs.Limits.{DAYS}
+use Rattle.rota_core.specs.Sizes.{DAYS}
 use Rattle.rota_items.specs.Imports.{ℕ, pos, negsuc, nat_lt, Bool, false, not, List, [], map, flat_map, Option, Some, None, Cell, Problem}
 use Rattle.rota_items.specs.Imports.{Rule}
 use Rattle.rota_items.specs.Imports.{hard_rules, H1, H2, H3, H4, H5}

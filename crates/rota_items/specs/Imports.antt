@@ -3,7 +3,7 @@ pub use Rattle.std.specs.Prelude.{ℕ, zero, suc, nat_le, nat_lt, min, ℤ, int_
 pub use Rattle.std.specs.Prelude.{List, [], map, flat_map, length, count_by, sum_by, slice_index_or, All, Option, Some, None, MatchOption}
 pub use Rattle.std.specs.List.{range_with_len, list_any}
 pub use Rattle.rota_core.specs.SumsBelow.{sum_below, count_below}
-pub use Rattle.rota_core.specs.Limits.{DAYS}
+pub use Rattle.rota_core.specs.Sizes.{DAYS}
 pub use Rattle.rota_core.specs.Problem.{Problem}
 pub use Rattle.rota_core.specs.Roster.{Roster, cell, InWeek}
 pub use Rattle.rota_core.specs.HardRules.{works, is_on, is_off, nurses_at, KeepsHardRules, KeepsCompetitionRules}

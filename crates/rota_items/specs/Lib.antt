@@ -15,7 +15,7 @@ pub mod HardRows
 pub mod ItemConstraints
 pub mod ItemCounting
 pub mod RowsOfItems
-pub mod SoftItems
+pub mod SentItems
 pub mod JudgeSubject
 pub mod JudgeState
 pub mod Linear

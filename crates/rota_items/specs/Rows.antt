@@ -4,7 +4,7 @@ pub use Rattle.rota_core.specs.RosterCells.{cell_at, cells_of}
 pub use Rattle.rota_items.specs.declared.part.Part.{Part}
 pub use Rattle.rota_items.specs.declared.part.Part.TheVariants.{Hard, Objective, Soft}
 pub use Rattle.rota_items.specs.Linear.{Term, value_of, Constraint, Model}
-use Rattle.rota_core.specs.Limits.{DAYS}
+use Rattle.rota_core.specs.Sizes.{DAYS}
 use Rattle.rota_items.specs.Imports.{ℕ, ℤ, Bool, int_le, List, pos, negsuc, Rule, [], Cell, Problem, cell}
 use Rattle.std.specs.Prelude.{map, ◌-ℤ◌, ◌∷◌}
 

@@ -1,6 +1,6 @@
 -- The run items of a day, and the conditions of the laws on run items.
 use Rattle.std.specs.Prelude.{◌≤◌, ◌<◌, ◌++◌, ◌≡◌, ◌+◌, if◌then◌else◌}
-use Rattle.rota_core.specs.Limits.{DAYS}
+use Rattle.rota_core.specs.Sizes.{DAYS}
 use Rattle.rota_items.specs.Imports.{ℕ, Bool, List, map, count_by, length, range_with_len, Span, not, list_any}
 use Rattle.rota_items.specs.Rows.{Item}
 use Rattle.rota_items.specs.RunItems.{Pattern, windows_on, patterns_on}

@@ -1,6 +1,6 @@
 -- The windows and patterns that charge runs, as days that must have a property or must not, and their items.
 use Rattle.std.specs.Prelude.{◌+◌, ◌-◌, ◌*◌, ◌&&◌, ◌-ℤ◌, if◌then◌else◌, ◌∷◌, ◌++◌}
-use Rattle.rota_core.specs.Limits.{DAYS}
+use Rattle.rota_core.specs.Sizes.{DAYS}
 use Rattle.rota_items.specs.Imports.{ℕ, pos, negsuc, Bool, true, false, not, nat_le, nat_lt, List, [], map, flat_map, range_with_len}
 use Rattle.rota_items.specs.Imports.{count_by, Cell, Rule, Span, Problem}
 use Rattle.rota_items.specs.Rows.{Term, times, Item, concat_below, singleton_if, work_cells}

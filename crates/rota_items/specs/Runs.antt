@@ -7,19 +7,20 @@ use Rattle.rota_items.specs.Imports.{DAYS, ℕ, zero, suc, Bool, not, nat_le, na
 abbrev pub week_days : List ℕ
 week_days = range_with_len 0 DAYS
 
--- the length of the run on the day before d: the number of consecutive days with the property up to that day (`history` before Monday)
-abbrev pub run_length_before : (ℕ → Bool) → ℕ → ℕ → ℕ
-run_length_before has history zero = history
-run_length_before has history (suc d) = (if has d then run_length_before has history d + 1 else 0)
+-- the length of the run at the end of the first n days: the number of consecutive days with the property up to the last of them, day
+-- n - 1; at the end of no day, that is of the week before, it is `history`
+abbrev pub run_length : (ℕ → Bool) → (history days : ℕ) → ℕ
+run_length has history zero = history
+run_length has history (suc n) = (if has n then run_length has history n + 1 else 0)
 
--- whether the run on day d, up to that day, is longer than the maximum
+-- whether the run at the end of day d, that is of the first d + 1 days, is longer than the maximum
 abbrev pub is_over : (ℕ → Bool) → (history maximum day : ℕ) → Bool
-is_over has history maximum d = nat_lt maximum (run_length_before has history (suc d))
+is_over has history maximum d = nat_lt maximum (run_length has history (d + 1))
 
--- the number of days that a run is shorter than the minimum, if the run ended on the day before d; otherwise 0
+-- the number of days that the run at the end of the first d days is shorter than the minimum, if day d ends it; otherwise 0
 abbrev pub missing_on : (ℕ → Bool) → (history minimum day : ℕ) → ℕ
 missing_on has history minimum d =
-    (if not (has d) && nat_le 1 (run_length_before has history d) then minimum - run_length_before has history d else 0)
+    (if not (has d) && nat_le 1 (run_length has history d) then minimum - run_length has history d else 0)
 
 -- the number of days of the week on which the run, up to that day, is longer than the maximum
 unfoldable pub run_over : (ℕ → Bool) → ℕ → ℕ → ℕ

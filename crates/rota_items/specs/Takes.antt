@@ -4,7 +4,7 @@ use Rattle.std.specs.List.{fold}
 use Rattle.rota_core.specs.declared.values.Cell.{Cell}
 use Rattle.rota_core.specs.Problem.{Problem}
 use Rattle.rota_items.specs.Events.{Event}
-use Rattle.rota_items.specs.SoftItems.{numbered_list, numbered_rows}
+use Rattle.rota_items.specs.SentItems.{numbered_list, numbered_rows}
 use Rattle.rota_items.specs.Rows.{Item, LinearRow}
 use Rattle.rota_items.specs.declared.literals.literal_takers.LiteralTaker as literal_taker
 use Rattle.rota_items.specs.declared.hard.row_takers.RowTaker as row_taker

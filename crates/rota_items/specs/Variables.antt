@@ -1,7 +1,7 @@
 -- The numbers of the model's variables, and the roster that an assignment represents.
 use Rattle.std.specs.Prelude.{◌+◌}
 use Rattle.rota_items.specs.Imports.{ℕ, Bool, Cell, Problem, cell, Roster}
-use Rattle.rota_core.specs.RosterTables.{cell_index, cell_count}
+use Rattle.rota_core.specs.CellIndex.{cell_index, cell_count}
 
 -- the number of the variable that is true if the cell is in the roster: its index plus 1
 abbrev pub cell_number : Problem → Cell → ℕ

@@ -6,7 +6,8 @@ use Rattle.rota_core.specs.Problem.{Problem}
 use Rattle.rota_core.specs.Roster.{Roster}
 use Rattle.rota_core.specs.HardRules.{KeepsOneCell, KeepsCompetitionRules, KeepsHardRules}
 use Rattle.rota_items.specs.FirstUnmet.{FirstBroken, first_unmet}
-use Rattle.rota_core.specs.Rules.{is_rule, soft_rules}
+use Rattle.rota_core.specs.Rules.{soft_rules}
+use Rattle.rota_core.specs.RuleNames.{is_rule}
 use Rattle.rota_items.specs.declared.judge.verdicts.Verdict.{Verdict}
 use Rattle.rota_items.specs.Variables.{unit_number, roster_of}
 use Rattle.rota_items.specs.Linear.{SatisfiesModel, objective_value}

@@ -6,7 +6,8 @@ use Rattle.rota_core.specs.declared.values.Span.{Span}
 use Rattle.rota_core.specs.declared.values.Contract.{Contract}
 use Rattle.rota_core.specs.declared.values.Demand.{Demand}
 use Rattle.rota_core.specs.declared.values.Past.{Past}
-use Rattle.rota_core.specs.Problem.{Problem, no_demand, no_past}
+use Rattle.rota_core.specs.Problem.{Problem}
+use Rattle.rota_core.specs.Defaults.{no_demand, no_past}
 use Rattle.rota_core.specs.Roster.{Roster}
 use Rattle.rota_items.specs.Linear.{Term, Constraint}
 use Rattle.rota_items.specs.WeekModel.{model_of}

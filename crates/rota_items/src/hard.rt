@@ -24,7 +24,7 @@ use rota_core::{Instance, Rule};
 pub use row_counts::count_rule_rows;
 
 // Sends the taker the rows of the rule, if it is a hard rule.
-#[tactic(auto, using(crate::proofs::Taking::taking), unfolding(crate::specs::SoftItems::numbered_rows))]
+#[tactic(auto, using(crate::proofs::Taking::taking), unfolding(crate::specs::SentItems::numbered_rows))]
 fn visit_rule<T: RowTaker>(instance: &Instance, taker: &mut T, rule: Rule) -> Result<(), T::Fault>
     ensures { let problem = problem_of instance.now in
         TakesRows T.RowTaker problem (rows_of_hard_rule problem rule) taker.old taker.new result }
@@ -40,7 +40,7 @@ fn visit_rule<T: RowTaker>(instance: &Instance, taker: &mut T, rule: Rule) -> Re
 }
 
 /// Sends the taker the rows of all hard rules, in the order of the rules.
-#[tactic(auto, using(crate::proofs::Taking::taking, crate::proofs::Lists::listing), unfolding(crate::specs::SoftItems::numbered_rows))]
+#[tactic(auto, using(crate::proofs::Taking::taking, crate::proofs::Lists::listing), unfolding(crate::specs::SentItems::numbered_rows))]
 pub fn visit_rule_rows<T: RowTaker>(instance: &Instance, taker: &mut T) -> Result<(), T::Fault>
     ensures { let problem = problem_of instance.now in
         TakesRows T.RowTaker problem (rule_rows problem) taker.old taker.new result }

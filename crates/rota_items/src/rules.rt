@@ -33,7 +33,7 @@ pub fn soft_index(rule: Rule) -> Option<usize>
 }
 
 // Sends the taker the items of a rule that charges each nurse, for one nurse.
-#[tactic(auto, using(crate::proofs::Taking::taking), unfolding(crate::specs::SoftItems::numbered_list))]
+#[tactic(auto, using(crate::proofs::Taking::taking), unfolding(crate::specs::SentItems::numbered_list))]
 fn visit_nurse<T: RunTaker>(
     instance: &Instance,
     taker: &mut T,
@@ -55,7 +55,7 @@ fn visit_nurse<T: RunTaker>(
 }
 
 // Sends the taker the items of a rule that charges each nurse.
-#[tactic(auto, using(crate::proofs::Taking::taking), unfolding(crate::specs::SoftItems::numbered_list))]
+#[tactic(auto, using(crate::proofs::Taking::taking), unfolding(crate::specs::SentItems::numbered_list))]
 fn visit_nurses<T: RunTaker>(instance: &Instance, taker: &mut T, rule: Rule) -> Result<(), T::Fault>
     ensures { let problem = problem_of instance.now in
         TakesItems T.ItemTaker problem (concat_below problem.nurses (nurse_items problem rule))
@@ -80,7 +80,7 @@ fn visit_rule<T: RunTaker>(instance: &Instance, taker: &mut T, rule: Rule) -> Re
 }
 
 /// Sends the taker the items of all soft rules, in the order of the rules.
-#[tactic(auto, using(crate::proofs::Taking::taking, crate::proofs::Lists::listing), unfolding(crate::specs::SoftItems::numbered_list))]
+#[tactic(auto, using(crate::proofs::Taking::taking, crate::proofs::Lists::listing), unfolding(crate::specs::SentItems::numbered_list))]
 pub fn visit_soft_items<T: RunTaker>(instance: &Instance, taker: &mut T) -> Result<(), T::Fault>
     ensures { let problem = problem_of instance.now in
         TakesItems T.ItemTaker problem (soft_items problem) taker.old taker.new result }

@@ -140,6 +140,7 @@ fn emit_pattern_days<T: Taker>(
 
 // Sends the taker the cells of a nurse's day on a shift type and of the next day on another, each with
 // coefficient -1.
+#[tactic(auto, using(crate::proofs::Taking::calling), unfolding(crate::specs::CellEvents::cell_term_events, crate::specs::Events::term_events))]
 fn emit_in_turn<T: Taker>(
     instance: &Instance,
     taker: &mut T,

@@ -1,5 +1,5 @@
 //! Sums of cells, term by term.
-ghost use Rattle.std.specs.Prelude.{◌≡◌, ◌+◌, ◌<◌};
+ghost use Rattle.std.specs.Prelude.{◌≡◌, ◌+◌, ◌*◌, ◌<◌, ◌≤◌};
 ghost use Rattle.std.specs.List.{range_with_len};
 ghost use Rattle.rota_core.specs.InstanceTables.{problem_of};
 ghost use Rattle.rota_core.specs.Roster.{cell};
@@ -7,6 +7,7 @@ ghost use Rattle.rota_items.specs.CellEvents.{coefficient_of, sum_events};
 ghost use Rattle.rota_items.specs.Rows.{demand_cells, nurse_cells, on_cells, skill_cells, times, work_cells};
 ghost use Rattle.rota_items.specs.Events.{term_events};
 ghost use Rattle.rota_items.specs.Takes.{Takes};
+ghost use Rattle.rota_items.specs.Bounds.{max_cells_of_day};
 ghost use Rattle.rota_items.specs.MachineBounds.{word_limit};
 
 use crate::takers::Taker;
@@ -69,6 +70,14 @@ pub fn emit_on<T: Taker>(
     emit_range(taker, coefficient(sign), first, cells)
 }
 
+// The number of a nurse's cells on a day.
+fn cells_of_day(instance: &Instance) -> u32
+    ensures count { let problem = problem_of instance.now in result ≡ problem.shifts * problem.skills }
+    ensures within { result ≤ max_cells_of_day }
+{
+    u32::from(instance.shifts()) * u32::from(instance.skills())
+}
+
 /// Sends the taker the cells of a nurse's day. Their variables follow one another.
 pub fn emit_work<T: Taker>(
     instance: &Instance,
@@ -83,8 +92,7 @@ pub fn emit_work<T: Taker>(
         Takes T.Taker (sum_events problem sign (work_cells problem nurse day)) taker.old taker.new result }
 {
     let first = first_var_on(instance, nurse, day, 0);
-    let cells = u32::from(instance.shifts()) * u32::from(instance.skills());
-    emit_range(taker, coefficient(sign), first, cells)
+    emit_range(taker, coefficient(sign), first, cells_of_day(instance))
 }
 
 /// Sends the taker all cells of a nurse. Their variables follow one another.

@@ -4,7 +4,8 @@ use Rattle.std.specs.Prelude.{sum, slice_index_or}
 use Rattle.rota_core.specs.Problem.{Problem}
 use Rattle.rota_core.specs.declared.values.Cell.{Cell}
 use Rattle.rota_core.specs.Roster.{InWeek, Roster}
-use Rattle.rota_core.specs.RosterTables.{RosterTables, HasShapeOf, cell_index, set_of}
+use Rattle.rota_core.specs.RosterTables.{RosterTables, HasShapeOf, set_of}
+use Rattle.rota_core.specs.CellIndex.{cell_index}
 use Rattle.rota_items.specs.AlikeRosters.{AreAlike, CostAlike}
 use Rattle.rota_items.specs.Linear.{objective_value}
 use Rattle.rota_core.specs.Rules.{soft_rules}

@@ -4,9 +4,9 @@ use Rattle.std.specs.Prelude.{IsErr}
 use Rattle.rota_core.specs.declared.ports.PortFault.{PortFault}
 use Rattle.rota_core.specs.declared.ports.Target.{Ghosts}
 use Rattle.rota_core.specs.Lists.{concat_below}
-use Rattle.opb_text.specs.declared.sink.Sink.{Sink}
-use Rattle.opb_text.specs.Sink.{PutsText, bytes_put, sink_failed, target_of}
-use Rattle.opb_text.proofs.LogicWords.{append_known-nil, or_false, puts_exit, puts_stop, puts_then}
+use Rattle.text_sink.specs.declared.sink.Sink.{Sink}
+use Rattle.text_sink.specs.Sink.{PutsText, bytes_put, sink_failed, target_of}
+use Rattle.text_sink.proofs.LogicWords.{append_known-nil, or_false, puts_exit, puts_stop, puts_then}
 use Rattle.rota_core.proofs.LogicWords.{concat_below-zero, concat_below-more, in_turn}
 
 -- a text made of a list, element by element

@@ -53,7 +53,7 @@ pub record IsEnded (reader : Reader) : Type 0 where
   pub none_left : IsAtEnd (reader.port.left reader.new)
   pub reported : reader.port.has_ended reader.new ≡ true
 
--- these bytes were taken, the reader has failed, and no read of the run reported its end
+-- these bytes were taken, the reader has failed, and the run did not change whether its end was reported
 pub record FailsAfter (reader : Reader) (taken : List ℕ) : Type 0 where
   pub front : reader.port.left reader.old ≡ prepend_known taken (reader.port.left reader.new)
   pub failure : reader.port.has_failed reader.new ≡ true

@@ -7,7 +7,8 @@ ghost use Rattle.rota_pb.specs.RunPorts.{reader_of};
 use crate::fault::Fault;
 use crate::file_bytes::PIECE;
 use rota_core::Source;
-use solver_text::{Answer, Solved, fault_of_a_beginning_stays};
+use solver_text::laws::fault_of_a_beginning_stays;
+use solver_text::{Answer, Solved};
 use std::alloc::Global;
 
 // Feeds the answer with the bytes of the source, up to its end.

@@ -9,9 +9,10 @@ ghost use Rattle.rota_pb.specs.Steps.{send};
 use crate::fault::Fault;
 use crate::model_text::model_text_means_the_rules;
 use crate::week_files::{Choice, read_instance};
-use opb_text::{OpbTaker, Sink, put_model};
+use opb_text::{OpbTaker, put_model};
 use rota_core::{Instance, Source, Target};
 use std::alloc::Global;
+use text_sink::Sink;
 
 /// Writes the whole model of the week, hard and soft rules, in the linear format of the Pseudo-Boolean
 /// Competition: the first line, the objective if it has a term, and the constraints.

@@ -8,11 +8,11 @@ use crate::extension_answer::put_answer;
 use crate::fault::Fault;
 use crate::roster_files::read_roster;
 use crate::week_files::{Choice, read_instance};
-use opb_text::Sink;
 use rota_core::{Instance, Roster, Source, Target};
 use rota_items::{Judge, verdict_of};
 use solver_text::AnswerWriter;
 use std::alloc::Global;
+use text_sink::Sink;
 
 /// Writes the answer that a solver would give for the roster, in the output format of the Pseudo-Boolean
 /// Competition: an `o` line with its penalty, the line `s SATISFIABLE`, and `v` lines with the values of all

@@ -3,7 +3,7 @@ ghost use Rattle.std.specs.Prelude.{◌≡◌, length, OnOk};
 ghost use Rattle.rota_core.specs.InstanceTables.{problem_of};
 ghost use Rattle.rota_core.specs.RosterTables.{HasShapeOf, set_of};
 ghost use Rattle.rota_items.specs.ExtensionTruths.{extension_truths};
-ghost use Rattle.opb_text.specs.Sink.{FinishesSink, PutsText};
+ghost use Rattle.text_sink.specs.Sink.{FinishesSink, PutsText};
 ghost use Rattle.solver_text.specs.AnswerWriter.{literals_of, literals_text, phase_of, writer_sink};
 ghost use Rattle.solver_text.specs.declared.answer_writer.Phase.TheVariants.{New, Started};
 ghost use Rattle.rota_pb.specs.Extending.{extension_answer};
@@ -13,7 +13,8 @@ use rota_items::laws::{
     extension_truths_are_those_of_the_variables, instances_are_within_limits, variables_are_few,
 };
 use rota_items::{LiteralTaker, drive_extension};
-use solver_text::{AnswerWriter, calls_write_the_answer};
+use solver_text::AnswerWriter;
+use solver_text::laws::calls_write_the_answer;
 
 // Writes each literal that it takes into an answer whose first lines were written. It fails only if the
 // target fails.

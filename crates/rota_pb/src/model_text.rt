@@ -4,7 +4,7 @@ ghost use Rattle.rota_items.specs.WeekModel.{model_of};
 ghost use Rattle.opb_text.specs.ModelText.{opb_text};
 ghost use Rattle.rota_pb.specs.Encoding.{IsModelText};
 
-use opb_text::each_text_spells_one_model;
+use opb_text::laws::each_text_spells_one_model;
 use rota_items::laws::{
     first_failing_row_has_first_broken_rule, hard_constraints_mean_hard_rules,
     rosters_extend_at_their_penalty, satisfying_assignments_are_rosters,

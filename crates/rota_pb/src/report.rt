@@ -1,6 +1,6 @@
 //! The report on a decoded answer.
 ghost use Rattle.std.specs.Prelude.{◌≡◌, true, IsErr, codes};
-ghost use Rattle.opb_text.specs.Sink.{PutsText, sink_failed};
+ghost use Rattle.text_sink.specs.Sink.{PutsText, sink_failed};
 ghost use Rattle.rota_read.specs.SolutionText.{spaced, ended};
 ghost use Rattle.solver_text.specs.Status.{status_words};
 ghost use Rattle.rota_pb.specs.Decoded.{FindsRoster};
@@ -10,9 +10,9 @@ ghost use Rattle.rota_pb.specs.RunPorts.{writer_of};
 
 use crate::decoded::Decoded;
 use crate::fault::Fault;
-use opb_text::{Piece, Sink};
 use rota_core::{PortFault, Rule, SOFT_RULES, Target};
 use solver_text::Status;
+use text_sink::{Piece, Sink};
 
 // Writes a line with a number.
 fn put_number_line<W: Target>(sink: &mut Sink<W>, name: &[u8], number: u64) -> Result<(), PortFault>

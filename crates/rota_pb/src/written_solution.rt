@@ -6,16 +6,17 @@ ghost use Rattle.rota_core.specs.HardRules.{KeepsOneCell};
 ghost use Rattle.rota_core.specs.RosterTables.{HasShapeOf, set_of};
 ghost use Rattle.rota_read.specs.SolutionLayout.{SpellsRoster};
 ghost use Rattle.rota_read.specs.SolutionText.{assignment_text, heading_text, rows_text, solution_text};
-ghost use Rattle.opb_text.specs.Sink.{PutsText, sink_failed};
+ghost use Rattle.text_sink.specs.Sink.{PutsText, sink_failed};
 ghost use Rattle.rota_core.specs.RosterCells.{cells_of};
 ghost use Rattle.rota_pb.specs.Steps.{send};
 ghost use Rattle.rota_pb.specs.RunPorts.{writer_of};
 
 use crate::fault::Fault;
-use opb_text::{Piece, Sink};
 use rota_core::laws::rosters_list_their_cells;
 use rota_core::{Cell, Instance, MAX_FILE_LEN, PortFault, Roster, Target};
-use rota_read::{day_name, each_roster_has_its_text};
+use rota_read::day_name;
+use rota_read::laws::each_roster_has_its_text;
+use text_sink::{Piece, Sink};
 
 // Writes the lines before the `count` assignments.
 fn put_heading<W: Target>(

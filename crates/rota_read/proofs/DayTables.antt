@@ -4,7 +4,7 @@ use Rattle.std.proofs.Common.{List, [], ◌∷◌, Option, Some, None, length, g
 use Rattle.std.specs.List.{All, AllByRecursion, flat_map, range_with_len}
 use Rattle.std.proofs.lemmas.List.{length-map, length-replicate, length-set}
 use Rattle.std.proofs.lemmas.List.Elements.{All-replicate, All-set, recursion_from_All}
-use Rattle.rota_core.specs.Limits.{DAYS}
+use Rattle.rota_core.specs.Sizes.{DAYS}
 use Rattle.rota_core.proofs.LogicWords.{AllByRecursion-append}
 use Rattle.rota_read.specs.Tokens.{Token}
 use Rattle.rota_read.specs.Layout.{Layout, repeat, one_more, many}
@@ -70,7 +70,8 @@ module _ {A : Type 0} (P : A → Type 0) where
         (length (day_table absent rows) ≡ 7 * shifts * skills) × AllByRecursion P (day_table absent rows)
     day_table-all shifts skills rows k =
         let e : 7 * (shifts * skills) ≡ 7 * shifts * skills = omega arith in (
-          rows_length (λ day. map (value_on absent day) rows) (shifts * skills) (λ day. length-map rows (value_on absent day) ∙ k.0) 0 7 ∙ e,
+          rows_length (λ day. map (value_on absent day) rows) (shifts * skills) (λ day. length-map rows (value_on absent day) ∙ k.0)
+              (range_with_len 0 7) ∙ e,
           all_rows P (λ day. map (value_on absent day) rows)
               (λ day. all_map RowAll P (value_on absent day) (value_on-all day) rows (recursion_from_All RowAll rows k.1)) 0 7,
         )

@@ -7,13 +7,14 @@ use Rattle.std.proofs.lemmas.Bool.{and_parts, or_parts, not-true}
 use Rattle.std.proofs.lemmas.Bool.Decides.{nat_tests}
 use Rattle.std.proofs.lemmas.List.{append-nil}
 use Rattle.rota_core.specs.Words.{index_of, is_whitespace, is_sign, is_word_byte, IsWord}
-use Rattle.rota_core.specs.Numeral.{numeral, decimal}
-use Rattle.rota_read.specs.Tokens.{Token, tokens_from, lengthen, next_line}
+use Rattle.rota_core.specs.Numeral.{numeral}
+use Rattle.rota_core.specs.Decimal.{decimal}
+use Rattle.rota_read.specs.Tokens.{Token, tokens_from, next_line}
 use Rattle.rota_read.specs.Layout.{Slot, wants_exactly, wants_number, wants_word, wants_known, Layout, end, slot, ◌>>=◌}
 use Rattle.rota_read.specs.Layout.{misfit, is_sign_token, exactly, number, any_word, known_name}
 use Rattle.rota_read.specs.Files.{Fills}
 use Rattle.rota_core.specs.NumeralLaws.{ReadsBack}
-use Rattle.rota_read.proofs.TokenLemmas.{tokens_from-sign, one_blank, one_longer, last_byte}
+use Rattle.rota_read.proofs.TokenLemmas.{tokens_from-sign, one_blank, word_goes_on, word_ends}
 
 -- The piece, in front of any bytes, is a number of tokens that fill the layout with the value.
 abbrev pub FillsAsPiece : {V : Type 0} → Layout V → List ℕ → V → Type 0
@@ -63,15 +64,10 @@ no_word_byte b blank = rw blank refl
 tokens_from-word_and_blank : (word : List ℕ) (b line : ℕ) (rest : List ℕ) → IsWord word → is_whitespace b ≡ true →
     tokens_from line (word ++ b ∷ rest) ≡ record { word = word; line = line } ∷ tokens_from (next_line b line) rest
 tokens_from-word_and_blank [] b line rest is_word blank = absurd (omega (arith, is_word.0))
-tokens_from-word_and_blank (x ∷ []) b line rest is_word blank =
-    let parts = and_parts (is_word_byte x) true is_word.1 in
-    last_byte x line (b ∷ rest) parts.0 (no_word_byte b blank)
-    ∙ ap (λ tokens. record { word = x ∷ []; line = line } ∷ tokens) (one_blank b line rest blank)
-tokens_from-word_and_blank (x ∷ y ∷ ys) b line rest is_word blank =
-    let parts = and_parts (is_word_byte x) (list_all is_word_byte (y ∷ ys)) is_word.1 in
-    let next = and_parts (is_word_byte y) (list_all is_word_byte ys) parts.1 in
-    one_longer x line ((y ∷ ys) ++ b ∷ rest) parts.0 next.0
-    ∙ ap (lengthen x) (tokens_from-word_and_blank (y ∷ ys) b line rest (omega arith, parts.1) blank)
+tokens_from-word_and_blank (x ∷ xs) b line rest is_word blank =
+    word_goes_on [] (x ∷ xs) line (b ∷ rest) is_word.1
+    ∙ word_ends (x ∷ xs) b line rest (no_word_byte b blank)
+    ∙ ap (λ tokens. record { word = x ∷ xs; line = line } ∷ tokens) (one_blank b line rest blank)
 
 -- a word and a blank
 pub piece-word : (s : Slot) (word : List ℕ) (b : ℕ) → IsWord word → is_whitespace b ≡ true → misfit s word ≡ None →

@@ -12,7 +12,8 @@ use Rattle.rota_core.specs.InstanceTables.{InstanceTables, IsInstance, problem_o
 use Rattle.rota_core.specs.Numeral.{numeral}
 use Rattle.rota_core.specs.Roster.{Has, InWeek, Roster, cell}
 use Rattle.rota_core.specs.HardRules.{KeepsOneCell}
-use Rattle.rota_core.specs.RosterTables.{RosterTables, HasShapeOf, cell_index, set_of}
+use Rattle.rota_core.specs.RosterTables.{RosterTables, HasShapeOf, set_of}
+use Rattle.rota_core.specs.CellIndex.{cell_index}
 use Rattle.rota_core.specs.ScenarioTables.{ScenarioTables, IsShiftName, AreDistinct}
 use Rattle.rota_core.specs.Words.{IsWord}
 use Rattle.rota_core.proofs.LogicWords.{AllByRecursion-append, all-weaker}
@@ -25,7 +26,7 @@ use Rattle.rota_read.specs.Files.{Fills}
 use Rattle.rota_read.specs.RosterReading.{assignment_row}
 use Rattle.rota_read.specs.SolutionLayout.{is_same_cell, is_one_cell, assignment, solution, SpellsRoster}
 use Rattle.rota_read.specs.SolutionText.{name_at, spaced, ended, heading_text, assignment_text, text_of_cells, solution_text}
-use Rattle.rota_read.specs.Tokens.{tokens_from, tokens}
+use Rattle.rota_read.specs.Tokens.{tokens_after, tokens}
 use Rattle.rota_core.specs.RosterCells.{cells_of}
 use Rattle.rota_read.proofs.CellLists.{is_one_cell-cells_of}
 use Rattle.rota_read.proofs.NameIndices.{holds-name_at, index_of-name_at}
@@ -225,7 +226,7 @@ module _ (reads_back : (n : ℕ) → ReadsBack n) (tables : InstanceTables) (val
   pub roster_text-spelled : ((roster : Roster) → ListsCells (problem_of tables) roster) →
       (roster : RosterTables) → HasShapeOf (problem_of tables) roster → KeepsOneCell (problem_of tables) (set_of roster) →
       length (solution_text tables (set_of roster)) ≤ max_file_len → SpellsRoster tables (solution_text tables (set_of roster)) roster
-  unfolding solution many assignment_row text_of_cells tokens_from
+  unfolding solution many assignment_row text_of_cells tokens_after
   roster_text-spelled lists roster shape one_cell short =
       let problem = problem_of tables in
       let cells : List Cell = cells_of problem (set_of roster) in

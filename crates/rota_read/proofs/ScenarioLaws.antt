@@ -1,8 +1,8 @@
 -- The scenario that a text spells is within the limits.
-use Rattle.std.proofs.Common.{◌≡◌, ℕ, zero, suc, ◌+◌, ◌*◌, ◌<◌, ◌≤◌, Bool, true, false, ◌||◌, refl, sym, ap, ◌∙◌, subst, arith}
-use Rattle.std.proofs.Common.{List, [], ◌∷◌, ◌++◌, length, codes}
-use Rattle.std.specs.List.{AllByRecursion, IsDistinct, flat_map, range_with_len}
-use Rattle.std.proofs.lemmas.List.{length-append}
+use Rattle.std.proofs.Common.{◌≡◌, ℕ, suc, ◌+◌, ◌*◌, ◌<◌, ◌≤◌, Bool, true, false, ◌||◌, refl, sym, ap, ◌∙◌, subst, arith}
+use Rattle.std.proofs.Common.{List, [], ◌∷◌, ◌++◌, length, codes, replicate, Some, None, unwrap_or}
+use Rattle.std.specs.List.{AllByRecursion, IsDistinct, flat_map}
+use Rattle.std.proofs.lemmas.List.{length-append, length-replicate, length-set}
 use Rattle.std.proofs.lemmas.List.FromFn.{length-map-range_with_len}
 use Rattle.std.specs.Str.{bytes_eq}
 use Rattle.std.specs.Cmp.Lexicographic.{nat_list_eq_equiv}
@@ -14,14 +14,12 @@ use Rattle.rota_core.specs.ScenarioTables.{ScenarioTables, IsScenario, AreLimits
 use Rattle.rota_core.specs.declared.values.Span.{Span}
 use Rattle.rota_core.specs.declared.values.Contract.{Contract}
 use Rattle.rota_read.specs.Tokens.{Token, tokens}
-use Rattle.rota_read.specs.ScenarioLayout.{section, named, contract, nurse, marks, scenario}
-use Rattle.rota_read.specs.ScenarioRows.{Shifts, shift_row, no_shift_types, Contracts, contract_row, no_contracts, Nurses, nurse_row, no_nurses}
-use Rattle.rota_read.specs.ScenarioRows.{columns, column_after, successions_part, scenario_by_column}
-use Rattle.rota_read.specs.Layout.{Layout, new_name, one_more, many, pair, setting, is_one_of, none_taken}
+use Rattle.rota_read.specs.ScenarioLayout.{section, marks, Shifts, no_shift_types, shift_row, Successions, succession_row, succession_rows, successions}
+use Rattle.rota_read.specs.ScenarioLayout.{contract, Contracts, no_contracts, contract_row, Nurses, no_nurses, nurse_row, scenario}
+use Rattle.rota_read.specs.Layout.{Layout, new_name, one_more, pair, setting, is_one_of, none_taken}
 use Rattle.rota_read.specs.Files.{Fills, Spells}
-use Rattle.rota_read.proofs.WordLaws.{IsToken, tokens-are_tokens}
-use Rattle.rota_read.proofs.ScenarioColumns.{spells_by_column}
-use Rattle.rota_read.proofs.SlotLaws.{AreTokens, all_push, length_push, repeat-keeps}
+use Rattle.rota_read.proofs.WordLaws.{IsToken, AreTokens, tokens-are_tokens}
+use Rattle.rota_read.proofs.SlotLaws.{all_push, length_push, repeat-keeps}
 use Rattle.rota_read.proofs.SlotLaws.{number-within, any_word-is_word, new_name-is_new, known_name-below}
 
 pub left : (front first second : List Token) → front ≡ first ++ second → AreTokens front → AreTokens first
@@ -78,18 +76,17 @@ neither false false z h = (refl, h)
 
 shift_row-keeps : (i : ℕ) (s : Shifts) (front : List Token) (next : Shifts) →
     AreTokens front → Fills (shift_row s) front next → ShiftsKept i s → ShiftsKept (suc i) next
-unfolding Fills shift_row named
+unfolding Fills shift_row
 shift_row-keeps i s front next all h k =
-    let row = h.4 in
-    let w = new_name-is_new (reserved ++ s.names) row.1 row.0 (left h.1 row.1 row.2 row.3 (left front h.1 h.2 h.3 all)) row.4 in
-    let new = neither (bytes_eq row.0 (codes "None")) (bytes_eq row.0 (codes "Any")) (is_among s.names row.0) w.1 in
-    let limit = row.5.0 in
-    rw (h.5.1, row.5.5.1) (
-      length_push s.names row.0 i k.0,
-      all_push IsShiftName s.names row.0 k.1 (w.0, new.0),
-      one_more_name s.names row.0 k.2 new.1,
-      length_push s.limits limit i k.3,
-      all_push AreLimits s.limits limit k.4 (pair-limits row.5.1 limit row.5.4),
+    let w = new_name-is_new (reserved ++ s.names) h.1 h.0 (left front h.1 h.2 h.3 all) h.4 in
+    let new = neither (bytes_eq h.0 (codes "None")) (bytes_eq h.0 (codes "Any")) (is_among s.names h.0) w.1 in
+    let limit = h.5 in
+    rw limit.5.1 (
+      length_push s.names h.0 i k.0,
+      all_push IsShiftName s.names h.0 k.1 (w.0, new.0),
+      one_more_name s.names h.0 k.2 new.1,
+      length_push s.limits limit.0 i k.3,
+      all_push AreLimits s.limits limit.0 k.4 (pair-limits limit.1 limit.0 limit.4),
     )
 
 contract-limits : (front : List Token) (c : Contract) → Fills contract front c → IsContract c
@@ -111,12 +108,11 @@ ContractsKept i c = (length c.names ≡ i) × (length c.contracts ≡ i) × AllB
 
 contract_row-keeps : (i : ℕ) (c : Contracts) (front : List Token) (next : Contracts) →
     AreTokens front → Fills (contract_row c) front next → ContractsKept i c → ContractsKept (suc i) next
-unfolding Fills contract_row named
+unfolding Fills contract_row
 contract_row-keeps i c front next all h k =
-    let row = h.4 in
-    let one = row.5 in
-    rw (h.5.1, row.5.5.1) (
-      length_push c.names row.0 i k.0,
+    let one = h.5 in
+    rw one.5.1 (
+      length_push c.names h.0 i k.0,
       length_push c.contracts one.0 i k.1,
       all_push IsContract c.contracts one.0 k.2 (contract-limits one.1 one.0 one.4),
     )
@@ -136,17 +132,16 @@ more_marks before row i skills h g =
 nurse_row-keeps : (contracts skills : List (List ℕ)) (i : ℕ) (n : Nurses) (front : List Token) (next : Nurses) →
     AreTokens front → Fills (nurse_row contracts skills n) front next →
     NursesKept (length contracts) (length skills) i n → NursesKept (length contracts) (length skills) (suc i) next
-unfolding Fills nurse_row named nurse
+unfolding Fills nurse_row
 nurse_row-keeps contracts skills i n front next all h k =
-    let row = h.4 in
-    let w = new_name-is_new n.names row.1 row.0 (left h.1 row.1 row.2 row.3 (left front h.1 h.2 h.3 all)) row.4 in
-    let of = row.5.4 in
+    let w = new_name-is_new n.names h.1 h.0 (left front h.1 h.2 h.3 all) h.4 in
+    let of = h.5 in
     let has = of.5 in
     let size = length skills in
-    rw (h.5.1, row.5.5.1, has.5.1) (
-      length_push n.names row.0 i k.0,
-      all_push IsWord n.names row.0 k.1 w.0,
-      one_more_name n.names row.0 k.2 w.1,
+    rw has.5.1 (
+      length_push n.names h.0 i k.0,
+      all_push IsWord n.names h.0 k.1 w.0,
+      one_more_name n.names h.0 k.2 w.1,
       length_push n.contract_of of.0 i k.3,
       all_push (λ c. c < length contracts) n.contract_of of.0 k.4 (known_name-below contracts none_taken of.1 of.0 of.4),
       more_marks n.has_skill (marks size has.0) i size k.5 (length-map-range_with_len (is_one_of has.0) 0 size),
@@ -154,52 +149,52 @@ nurse_row-keeps contracts skills i n front next all h k =
 
 -- ---- the parts
 
-skills-kept : (front : List Token) (names : List (List ℕ)) → AreTokens front →
-    Fills (section (codes "SKILLS") max_skills new_name) front names → (n : ℕ) × Within max_skills n × Names n names
-unfolding Fills section many
-skills-kept front names all h =
-    let kept =
-    repeat-keeps (one_more new_name) Names name_row-keeps h.0 0 [] h.2 names (right front h.1 h.2 h.3 all) h.5 (refl, tt, none_distinct) in
-    let e : h.0 + 0 ≡ h.0 = omega arith in
-    (h.0, setting-within (codes "SKILLS") 1 max_skills h.1 h.0 h.4, subst (λ n. Names n names) e kept)
-
 -- a property that each row keeps holds after all rows of a section
-columns-kept : {S : Type 0} (name : List ℕ) (maximum : ℕ) (row : S → Layout S) (none : S) (Keeps : ℕ → S → Type 0) →
+section-kept : {S : Type 0} (name : List ℕ) (maximum : ℕ) (row : S → Layout S) (none : S) (Keeps : ℕ → S → Type 0) →
     ((i : ℕ) (s : S) (front : List Token) (next : S) → AreTokens front → Fills (row s) front next → Keeps i s → Keeps (suc i) next) →
-    (front : List Token) (last : S) → AreTokens front → Fills (columns name maximum row none) front last → Keeps 0 none →
+    (front : List Token) (last : S) → AreTokens front → Fills (section name maximum row none) front last → Keeps 0 none →
     (n : ℕ) × Within maximum n × Keeps n last
-unfolding Fills columns
-columns-kept name maximum row none Keeps step front last all h k =
+unfolding Fills section
+section-kept name maximum row none Keeps step front last all h k =
     let kept = repeat-keeps row Keeps step h.0 0 none h.2 last (right front h.1 h.2 h.3 all) h.5 k in
     let e : h.0 + 0 ≡ h.0 = omega arith in
     (h.0, setting-within name 1 maximum h.1 h.0 h.4, subst (λ n. Keeps n last) e kept)
 
-pub rows_length : {X : Type 0} (row : ℕ → List X) (len : ℕ) → ((k : ℕ) → length (row k) ≡ len) →
-    (first n : ℕ) → length (flat_map row (range_with_len first n)) ≡ n * len
-rows_length row len each first zero = let e : 0 ≡ 0 * len = omega arith in e
-rows_length row len each first (suc n) =
-    let e : suc n * len ≡ len + n * len = omega arith in
-    let rest = rows_length row len each (first + 1) n in
-    length-append (row first) (flat_map row (range_with_len (first + 1) n)) ∙ omega (arith, each first, rest, e)
+-- rows of the same length, one after the other
+pub rows_length : {X Y : Type 0} (row : X → List Y) (len : ℕ) → ((x : X) → length (row x) ≡ len) →
+    (xs : List X) → length (flat_map row xs) ≡ length xs * len
+rows_length row len each [] = let e : 0 ≡ 0 * len = omega arith in e
+rows_length row len each (x ∷ xs) =
+    let e : suc (length xs) * len ≡ len + length xs * len = omega arith in
+    length-append (row x) (flat_map row xs) ∙ omega (arith, each x, rows_length row len each xs, e)
 
-successions-length : (names : List (List ℕ)) (front : List Token) (table : List Bool) →
-    Fills (successions_part names) front table → length table ≡ length names * length names
-unfolding Fills successions_part
-successions-length names front table h =
-    let rows = h.5.0 in
+succession_row-keeps : (names : List (List ℕ)) (i : ℕ) (rows : Successions) (front : List Token) (next : Successions) →
+    AreTokens front → Fills (succession_row names rows) front next → length rows ≡ length names → length next ≡ length names
+unfolding Fills succession_row
+succession_row-keeps names i rows front next all h k = rw h.5.5.1 (length-set rows h.0 (Some h.5.0) ∙ k)
+
+successions-length : (names : List (List ℕ)) (front : List Token) (table : List Bool) → AreTokens front →
+    Fills (successions names) front table → length table ≡ length names * length names
+unfolding Fills successions succession_rows
+successions-length names front table all h =
+    let rows = h.5 in
     let count = length names in
-    ap length h.5.5.1
-    ∙ rows_length (λ shift. marks count (column_after rows shift)) count
-    (λ shift. length-map-range_with_len (is_one_of (column_after rows shift)) 0 count) 0 count
+    let kept =
+    repeat-keeps (succession_row names) (λ _ rows. length rows ≡ count) (succession_row-keeps names) count 0 (replicate count None)
+    rows.1 rows.0 (left h.2 rows.1 rows.2 rows.3 (right front h.1 h.2 h.3 all)) rows.4 (length-replicate count None) in
+    ap length rows.5.1
+    ∙ rows_length (λ row. marks count (unwrap_or row [])) count
+    (λ row. length-map-range_with_len (is_one_of (unwrap_or row [])) 0 count) rows.0
+    ∙ ap (λ n. n * count) kept
 
 -- the number of items is the count
 counted : (maximum n len : ℕ) → Within maximum n → len ≡ n → Within maximum len
 counted maximum n len h e = (omega (arith, h.0, e), omega (arith, h.1, e))
 
--- tokens that fill the slots of a scenario file, by column, give a scenario
-scenario-is_scenario : (front : List Token) (tables : ScenarioTables) → AreTokens front → Fills scenario_by_column front tables →
+-- tokens that fill the slots of a scenario file give a scenario
+scenario-is_scenario : (front : List Token) (tables : ScenarioTables) → AreTokens front → Fills scenario front tables →
     IsScenario tables
-unfolding Fills scenario_by_column
+unfolding Fills scenario
 scenario-is_scenario front tables all h =
     let equals = h.5 in
     let na = equals.5 in
@@ -218,17 +213,19 @@ scenario-is_scenario front tables all h =
     let after_contracts = right fo.2 co.1 co.2 co.3 after_successions in
     let name = any_word-is_word na.1 na.0 (left equals.2 na.1 na.2 na.3 after_equals) na.4 in
     let weeks = setting-within (codes "WEEKS") 1 max_weeks we.1 we.0 we.4 in
-    let skills = skills-kept sk.1 sk.0 (left we.2 sk.1 sk.2 sk.3 after_weeks) sk.4 in
+    let skills =
+    section-kept (codes "SKILLS") max_skills (one_more new_name) [] Names name_row-keeps sk.1 sk.0
+    (left we.2 sk.1 sk.2 sk.3 after_weeks) sk.4 (refl, tt, none_distinct) in
     let shifts =
-    columns-kept (codes "SHIFT_TYPES") max_shifts shift_row no_shift_types ShiftsKept shift_row-keeps sh.1 sh.0
+    section-kept (codes "SHIFT_TYPES") max_shifts shift_row no_shift_types ShiftsKept shift_row-keeps sh.1 sh.0
     (left sk.2 sh.1 sh.2 sh.3 after_skills) sh.4 (refl, tt, none_distinct, refl, tt) in
-    let forbidden = successions-length sh.0.names fo.1 fo.0 fo.4 in
+    let forbidden = successions-length sh.0.names fo.1 fo.0 (left sh.2 fo.1 fo.2 fo.3 after_shifts) fo.4 in
     let contracts =
-    columns-kept (codes "CONTRACTS") max_contracts contract_row no_contracts ContractsKept contract_row-keeps co.1 co.0
+    section-kept (codes "CONTRACTS") max_contracts contract_row no_contracts ContractsKept contract_row-keeps co.1 co.0
     (left fo.2 co.1 co.2 co.3 after_successions) co.4 (refl, refl, tt) in
     let none : length {A = Bool} [] ≡ 0 * length sk.0 = omega arith in
     let nurses =
-    columns-kept (codes "NURSES") max_nurses (nurse_row co.0.names sk.0) no_nurses (NursesKept (length co.0.names) (length sk.0))
+    section-kept (codes "NURSES") max_nurses (nurse_row co.0.names sk.0) no_nurses (NursesKept (length co.0.names) (length sk.0))
     (nurse_row-keeps co.0.names sk.0) nu.1 nu.0 (left co.2 nu.1 nu.2 nu.3 after_contracts) nu.4
     (refl, tt, none_distinct, refl, tt, none) in
     rw nu.5.1 (record {
@@ -250,4 +247,4 @@ scenario-is_scenario front tables all h =
 -- a text spells scenarios only
 pub spells-is_scenario : (text : List ℕ) (tables : ScenarioTables) → Spells scenario text tables → IsScenario tables
 spells-is_scenario text tables h =
-    scenario-is_scenario (tokens text) tables (tokens-are_tokens text) (spells_by_column text tables h).filled
+    scenario-is_scenario (tokens text) tables (tokens-are_tokens text) h.filled

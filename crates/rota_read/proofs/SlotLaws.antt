@@ -13,13 +13,10 @@ use Rattle.rota_core.specs.Words.{IsWord, is_among, index_of}
 use Rattle.rota_core.specs.declared.fault.Kind.{Kind}
 use Rattle.rota_core.specs.declared.fault.Kind.TheVariants as kinds
 use Rattle.rota_read.specs.Tokens.{Token}
-use Rattle.rota_core.specs.Numeral.{decimal, is_decimal}
+use Rattle.rota_core.specs.Decimal.{decimal, is_decimal}
 use Rattle.rota_read.specs.Layout.{Layout, is_sign_token, number, any_word, new_name, known_name, none_taken, repeat, shift_at, shift_or}
 use Rattle.rota_read.specs.Files.{Fills}
-use Rattle.rota_read.proofs.WordLaws.{IsToken}
-
-abbrev pub AreTokens : List Token → Type 0
-AreTokens ts = AllByRecursion IsToken ts
+use Rattle.rota_read.proofs.WordLaws.{IsToken, AreTokens}
 
 pub all_push : {X : Type 0} (P : X → Type 0) (xs : List X) (x : X) → AllByRecursion P xs → P x →
     AllByRecursion P (xs ++ x ∷ [])

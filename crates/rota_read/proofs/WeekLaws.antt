@@ -1,12 +1,13 @@
 -- The week that a text spells is within the limits.
-use Rattle.std.proofs.Common.{◌≡◌, ℕ, zero, suc, ◌+◌, ◌*◌, ◌≤◌, refl, ◌∙◌, arith}
+use Rattle.std.proofs.Common.{◌≡◌, ℕ, zero, suc, ◌+◌, ◌*◌, ◌≤◌, refl, ap, ◌∙◌, arith}
 use Rattle.std.proofs.Common.{List, [], Option, Some, None, length, map}
 use Rattle.std.specs.List.{AllByRecursion, count_by, flat_map, range_with_len}
-use Rattle.std.proofs.lemmas.List.FromFn.{length-map-range_with_len}
+use Rattle.std.proofs.lemmas.List.FromFn.{length-map-range_with_len, length-range_with_len}
 use Rattle.std.proofs.lemmas.List.Sums.{count_by-le-length}
-use Rattle.rota_core.specs.Limits.{AreLimited, DAYS, max_number}
+use Rattle.rota_core.specs.Limits.{AreLimited, max_number}
+use Rattle.rota_core.specs.Sizes.{DAYS}
 use Rattle.rota_core.specs.ScenarioTables.{ScenarioTables, numbers_of}
-use Rattle.rota_core.specs.Problem.{no_demand}
+use Rattle.rota_core.specs.Defaults.{no_demand}
 use Rattle.rota_core.specs.WeekTables.{WeekTables, IsWeek, IsDemand}
 use Rattle.rota_core.specs.declared.values.Demand.{Demand}
 use Rattle.rota_read.specs.declared.week.RequestRow.{RequestRow}
@@ -15,8 +16,8 @@ use Rattle.rota_read.specs.Layout.{◌>>=◌, one_more, many}
 use Rattle.rota_read.specs.WeekLayout.{demand, Requirements, requirement, part_or, max_rows, no_requirements, requirement_rows}
 use Rattle.rota_read.specs.WeekLayout.{request, asks, request_table, week}
 use Rattle.rota_read.specs.Files.{Fills, Spells}
-use Rattle.rota_read.proofs.WordLaws.{tokens-are_tokens}
-use Rattle.rota_read.proofs.SlotLaws.{AreTokens, length_push, number-within, repeat-keeps}
+use Rattle.rota_read.proofs.WordLaws.{AreTokens, tokens-are_tokens}
+use Rattle.rota_read.proofs.SlotLaws.{length_push, number-within, repeat-keeps}
 use Rattle.rota_read.proofs.DayTables.{all_rows, days-all, RowsAll, no_rows-all, row_set-all, day_table-all}
 use Rattle.rota_read.proofs.ScenarioLaws.{left, right, pair-limits, rows_length}
 
@@ -70,8 +71,9 @@ request_table-length nurses shifts rows =
     rows_length (λ nurse. flat_map (λ day. map (λ shift. count_by (asks nurse day shift) rows) (range_with_len 0 shifts)) (range_with_len 0 7))
     (7 * shifts)
     (λ nurse. rows_length (λ day. map (λ shift. count_by (asks nurse day shift) rows) (range_with_len 0 shifts)) shifts
-    (λ day. length-map-range_with_len (λ shift. count_by (asks nurse day shift) rows) 0 shifts) 0 7)
-    0 nurses
+    (λ day. length-map-range_with_len (λ shift. count_by (asks nurse day shift) rows) 0 shifts) (range_with_len 0 7))
+    (range_with_len 0 nurses)
+    ∙ ap (λ n. n * (7 * shifts)) (length-range_with_len 0 nurses)
     ∙ e
 
 all_counts : (maximum : ℕ) (f : ℕ → ℕ) → ((k : ℕ) → f k ≤ maximum) → (first n : ℕ) →

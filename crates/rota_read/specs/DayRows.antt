@@ -2,7 +2,7 @@
 use Rattle.std.specs.Prelude.{ℕ, ◌+◌, ◌*◌, Option, List, length, map, slice_index_or}
 use Rattle.std.specs.List.{flat_map, range_with_len}
 use Rattle.std.specs.Option.{option_map_or}
-use Rattle.rota_core.specs.Limits.{DAYS}
+use Rattle.rota_core.specs.Sizes.{DAYS}
 use Rattle.rota_read.specs.Layout.{Layout, end, ◌>>=◌, known_name, has_row}
 
 -- the index of a shift type and a skill, for this number of skills

@@ -3,7 +3,7 @@ use Rattle.std.specs.Prelude.{ℕ, List, codes, length, map, replicate, slice_se
 use Rattle.rota_core.specs.Limits.{max_number}
 use Rattle.rota_core.specs.declared.values.Past.{Past}
 use Rattle.rota_core.specs.ScenarioTables.{ScenarioTables, numbers_of}
-use Rattle.rota_core.specs.Problem.{no_past}
+use Rattle.rota_core.specs.Defaults.{no_past}
 use Rattle.rota_core.specs.WeekTables.{HistoryTables}
 use Rattle.rota_read.specs.Layout.{shift_or, Layout, end, ◌>>=◌, exactly, number, any_word, known_name, has_row, repeat}
 

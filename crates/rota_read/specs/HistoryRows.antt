@@ -2,7 +2,7 @@
 use Rattle.std.specs.Prelude.{◌≡◌, List, Option, Some, map, unwrap_or}
 use Rattle.rota_core.specs.declared.values.Past.{Past}
 use Rattle.rota_core.specs.ScenarioTables.{ScenarioTables}
-use Rattle.rota_core.specs.Problem.{no_past}
+use Rattle.rota_core.specs.Defaults.{no_past}
 use Rattle.rota_read.specs.Tokens.{Token}
 use Rattle.rota_read.specs.HistoryLayout.{past_rows}
 use Rattle.rota_read.specs.Files.{Fills}

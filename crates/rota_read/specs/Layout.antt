@@ -5,7 +5,7 @@ use Rattle.std.specs.List.{list_any}
 use Rattle.std.specs.Option.{option_map_or}
 use Rattle.rota_core.specs.Limits.{max_number}
 use Rattle.rota_core.specs.Words.{is_among, index_of, is_sign}
-use Rattle.rota_core.specs.Numeral.{is_decimal, decimal}
+use Rattle.rota_core.specs.Decimal.{is_decimal, decimal}
 use Rattle.rota_core.specs.declared.fault.Kind.{Kind}
 use Rattle.rota_core.specs.declared.fault.Kind.TheVariants as kinds
 use Rattle.rota_core.specs.declared.values.Span.{Span}

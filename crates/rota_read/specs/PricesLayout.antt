@@ -1,6 +1,7 @@
 -- The slots of a prices' file.
 use Rattle.std.specs.Prelude.{ℕ, ◌*◌, Option, Some, None, List, codes, length, replicate, slice_set}
-use Rattle.rota_core.specs.Limits.{DAYS, max_number, max_price}
+use Rattle.rota_core.specs.Limits.{max_number, max_price}
+use Rattle.rota_core.specs.Sizes.{DAYS}
 use Rattle.rota_core.specs.PriceTables.{PriceTables}
 use Rattle.rota_core.specs.ScenarioTables.{ScenarioTables}
 use Rattle.rota_read.specs.Layout.{Layout, end, ◌>>=◌, exactly, number, any_word, known_name, none_taken, many, repeat, setting}

@@ -3,10 +3,11 @@ use Rattle.std.specs.Prelude.{ℕ, zero, suc, ◌==◌, ◌+◌, ◌*◌, Bool, 
 use Rattle.std.specs.Prelude.{List, codes, length, map, replicate, count_by, slice_set}
 use Rattle.std.specs.List.{flat_map, range_with_len}
 use Rattle.std.specs.Option.{option_map_or}
-use Rattle.rota_core.specs.Limits.{DAYS, max_number}
+use Rattle.rota_core.specs.Limits.{max_number}
+use Rattle.rota_core.specs.Sizes.{DAYS}
 use Rattle.rota_core.specs.declared.values.Demand.{Demand}
 use Rattle.rota_core.specs.ScenarioTables.{ScenarioTables, numbers_of}
-use Rattle.rota_core.specs.Problem.{no_demand}
+use Rattle.rota_core.specs.Defaults.{no_demand}
 use Rattle.rota_core.specs.WeekTables.{WeekTables}
 use Rattle.rota_read.specs.declared.week.RequestRow.{RequestRow}
 use Rattle.rota_read.specs.Layout.{Layout, end, ◌>>=◌, many}

@@ -4,8 +4,8 @@ ghost use Rattle.std.specs.Prelude.{◌≡◌, ◌≤◌, ◌+◌, codes, length
 ghost use Rattle.rota_core.specs.Parts.{bytes_of};
 ghost use Rattle.rota_read.specs.Layout.{repeat};
 ghost use Rattle.rota_read.specs.Reading.{read_layout, Reads};
-ghost use Rattle.rota_read.specs.ScenarioLayout.{contract};
-ghost use Rattle.rota_read.specs.ScenarioRows.{columns, contract_row, contracts_of, no_contracts};
+ghost use Rattle.rota_read.specs.ScenarioLayout.{contract, contract_row, no_contracts, section};
+ghost use Rattle.rota_read.specs.ScenarioRows.{contracts_of};
 
 use crate::cursor::Cursor;
 use crate::fault::Stop;
@@ -39,7 +39,7 @@ impl<'a> Cursor<'a> {
         })
     }
 
-    #[tactic(auto, unfolding(crate::specs::ScenarioRows::contract_row, crate::specs::ScenarioLayout::named, crate::specs::Reading::read_layout))]
+    #[tactic(auto, unfolding(crate::specs::ScenarioLayout::contract_row, crate::specs::Reading::read_layout))]
     fn contract_row(&mut self, alloc: Global, rows: &mut ContractRows) -> Result<(), Stop>
         ensures read { Reads (λ _. contracts_of rows.new) result self.new (read_layout (contract_row (contracts_of rows.old)) self.old) }
         ensures longer { OnOk result (length (bytes_of rows.new.names) ≡ length (bytes_of rows.old.names) + 1) }
@@ -66,10 +66,10 @@ impl<'a> Cursor<'a> {
         Ok(())
     }
 
-    #[tactic(auto, unfolding(crate::specs::ScenarioRows::columns, crate::specs::Reading::read_layout))]
+    #[tactic(auto, unfolding(crate::specs::ScenarioLayout::section, crate::specs::Reading::read_layout))]
     pub fn contracts_part(&mut self, alloc: Global, rows: &mut ContractRows) -> Result<(), Stop>
         requires { contracts_of rows.old ≡ no_contracts }
-        ensures read { Reads (λ _. contracts_of rows.new) result self.new (read_layout (columns (codes "CONTRACTS") MAX_CONTRACTS contract_row no_contracts) self.old) }
+        ensures read { Reads (λ _. contracts_of rows.new) result self.new (read_layout (section (codes "CONTRACTS") MAX_CONTRACTS contract_row no_contracts) self.old) }
         ensures few { OnOk result (length (bytes_of rows.new.names) ≤ MAX_CONTRACTS) }
     {
         let count = self.setting(b"CONTRACTS", 1, MAX_CONTRACTS)?;

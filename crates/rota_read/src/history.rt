@@ -2,15 +2,13 @@
 
 ghost use Rattle.std.specs.Prelude.{◌≡◌, ◌<◌, length, map, None, unwrap_or, replicate, IfOk, IfErr};
 ghost use Rattle.rota_core.specs.Parts.{history_of};
-ghost use Rattle.rota_core.specs.Problem.{no_past};
+ghost use Rattle.rota_core.specs.Defaults.{no_past};
 ghost use Rattle.rota_core.specs.Limits.{AreLimited};
-ghost use Rattle.rota_core.specs.ScenarioTables.{ScenarioTables, numbers_of};
+ghost use Rattle.rota_core.specs.ScenarioTables.{numbers_of};
 ghost use Rattle.rota_core.specs.declared.fault.FileName.TheVariants as files;
 ghost use Rattle.rota_read.specs.Files.{Spells};
 ghost use Rattle.rota_read.specs.FileAnswers.{IsFaultOf};
-ghost use Rattle.rota_read.specs.OneMeaning.{OneMeaning};
 ghost use Rattle.rota_read.specs.HistoryLayout.{past, past_row, past_rows, history};
-ghost use Rattle.rota_read.specs.HistoryRows.{GivesEachPast};
 ghost use Rattle.rota_read.specs.Layout.{repeat};
 ghost use Rattle.rota_read.specs.Reading.{read_layout, Reads, read_text, ReadsFile};
 
@@ -154,15 +152,3 @@ pub fn read_history(alloc: Global, scenario: &Scenario, text: &[u8]) -> Result<H
         Err(stop) => Err(stop.in_file(FileName::History)),
     }
 }
-
-/// A law: for each scenario, every text spells one history or has one fault, and never both.
-#[tactic(auto, using(crate::proofs::FileLaws::one_meaning))]
-pub fn each_text_means_one_history()
-    ensures { (tables : ScenarioTables) → OneMeaning (history tables) }
-{}
-
-/// A law: after the rows of a history file each nurse has her past.
-#[tactic(auto, using(crate::proofs::HistoryLaws::gives_each_past))]
-pub fn each_nurse_has_a_past()
-    ensures { (tables : ScenarioTables) → GivesEachPast tables }
-{}

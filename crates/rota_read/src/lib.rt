@@ -18,8 +18,8 @@ mod cursor;
 mod day_rows;
 mod days;
 mod fault;
-mod files;
 mod history;
+pub mod laws;
 mod names;
 mod nurses;
 mod prices;
@@ -33,10 +33,8 @@ mod week;
 mod week_tables;
 
 pub use days::day_name;
-pub use files::{each_text_means_one_scenario, read_scenario};
-pub use history::{each_nurse_has_a_past, each_text_means_one_history, read_history};
-pub use prices::{each_text_means_one_table_of_prices, read_prices};
-pub use solution::{
-    each_roster_has_its_text, each_text_means_one_solution, read_fixed, read_solution,
-};
-pub use week::{each_text_means_one_week, no_requirement_is_cut_off, read_week};
+pub use history::read_history;
+pub use prices::read_prices;
+pub use scenario::read_scenario;
+pub use solution::{read_fixed, read_solution};
+pub use week::read_week;

@@ -4,13 +4,14 @@ ghost use Rattle.std.specs.Prelude.{◌≡◌, ◌≤◌, codes, length};
 ghost use Rattle.rota_core.specs.Parts.{bytes_of};
 ghost use Rattle.rota_read.specs.Layout.{repeat, known_name, none_taken};
 ghost use Rattle.rota_read.specs.Reading.{read_layout, Reads};
-ghost use Rattle.rota_read.specs.ScenarioRows.{columns, nurse_row, nurses_of, no_nurses};
+ghost use Rattle.rota_read.specs.ScenarioLayout.{nurse_row, no_nurses, section};
+ghost use Rattle.rota_read.specs.ScenarioRows.{nurses_of};
 
 use crate::cursor::Cursor;
 use crate::fault::Stop;
 use crate::rows::append_marks;
 use indexmap::IndexSet;
-use rota_core::{MAX_CONTRACTS, MAX_NURSES, add_name};
+use rota_core::{MAX_CONTRACTS, MAX_NURSES, MAX_SKILLS, add_name};
 use std::alloc::Global;
 
 #[derive(Drop)]
@@ -30,25 +31,24 @@ impl<'a> Cursor<'a> {
         Ok(contract as u8)
     }
 
-    #[tactic(auto, unfolding(crate::specs::ScenarioRows::nurse_row, crate::specs::ScenarioLayout::named, crate::specs::ScenarioLayout::nurse, crate::specs::Reading::read_layout))]
+    #[tactic(auto, unfolding(crate::specs::ScenarioLayout::nurse_row, crate::specs::Reading::read_layout))]
     fn nurse_row(
         &mut self,
         alloc: Global,
         contracts: &IndexSet<Vec<u8>>,
         skills: &IndexSet<Vec<u8>>,
-        skill_count: u16,
         rows: &mut NurseRows,
     ) -> Result<(), Stop>
-        requires count { length (bytes_of skills.now) ≡ skill_count }
-        requires few { length (bytes_of contracts.now) ≤ MAX_CONTRACTS }
+        requires contracts { length (bytes_of contracts.now) ≤ MAX_CONTRACTS }
+        requires skills { length (bytes_of skills.now) ≤ MAX_SKILLS }
         ensures { Reads (λ _. nurses_of rows.new) result self.new (read_layout (nurse_row (bytes_of contracts.now) (bytes_of skills.now) (nurses_of rows.old)) self.old) }
     {
         let name = self.new_name(&rows.names)?;
         let contract = self.known_contract(contracts)?;
-        let row = self.known_names(alloc, skills, skill_count)?;
+        let row = self.known_names(alloc, skills)?;
         add_name(alloc, &mut rows.names, name)?;
         rows.contract_of.push(contract)?;
-        Ok(append_marks(&mut rows.has_skill, &row, skill_count)?)
+        Ok(append_marks(&mut rows.has_skill, &row, skills.len())?)
     }
 
     #[tactic(auto, using(crate::proofs::RowSteps::row_steps))]
@@ -57,36 +57,34 @@ impl<'a> Cursor<'a> {
         alloc: Global,
         contracts: &IndexSet<Vec<u8>>,
         skills: &IndexSet<Vec<u8>>,
-        skill_count: u16,
         count: u16,
         rows: &mut NurseRows,
     ) -> Result<(), Stop>
-        requires count { length (bytes_of skills.now) ≡ skill_count }
-        requires few { length (bytes_of contracts.now) ≤ MAX_CONTRACTS }
+        requires contracts { length (bytes_of contracts.now) ≤ MAX_CONTRACTS }
+        requires skills { length (bytes_of skills.now) ≤ MAX_SKILLS }
         ensures { Reads (λ _. nurses_of rows.new) result self.new (read_layout (repeat count (nurse_row (bytes_of contracts.now) (bytes_of skills.now)) (nurses_of rows.old)) self.old) }
     {
         for _ in 0..count {
-            self.nurse_row(alloc, contracts, skills, skill_count, rows)?;
+            self.nurse_row(alloc, contracts, skills, rows)?;
         }
         Ok(())
     }
 
-    #[tactic(auto, unfolding(crate::specs::ScenarioRows::columns, crate::specs::Reading::read_layout))]
+    #[tactic(auto, unfolding(crate::specs::ScenarioLayout::section, crate::specs::Reading::read_layout))]
     pub fn nurses_part(
         &mut self,
         alloc: Global,
         contracts: &IndexSet<Vec<u8>>,
         skills: &IndexSet<Vec<u8>>,
-        skill_count: u16,
         rows: &mut NurseRows,
     ) -> Result<(), Stop>
-        requires count { length (bytes_of skills.now) ≡ skill_count }
-        requires few { length (bytes_of contracts.now) ≤ MAX_CONTRACTS }
+        requires contracts { length (bytes_of contracts.now) ≤ MAX_CONTRACTS }
+        requires skills { length (bytes_of skills.now) ≤ MAX_SKILLS }
         requires none { nurses_of rows.old ≡ no_nurses }
-        ensures { Reads (λ _. nurses_of rows.new) result self.new (read_layout (columns (codes "NURSES") MAX_NURSES (nurse_row (bytes_of contracts.now) (bytes_of skills.now)) no_nurses) self.old) }
+        ensures { Reads (λ _. nurses_of rows.new) result self.new (read_layout (section (codes "NURSES") MAX_NURSES (nurse_row (bytes_of contracts.now) (bytes_of skills.now)) no_nurses) self.old) }
     {
         let count = self.setting(b"NURSES", 1, MAX_NURSES)?;
-        self.nurse_rows(alloc, contracts, skills, skill_count, count, rows)
+        self.nurse_rows(alloc, contracts, skills, count, rows)
     }
 }
 

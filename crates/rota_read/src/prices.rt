@@ -1,13 +1,11 @@
 //! Reads a prices' file.
 
-ghost use Rattle.std.specs.Prelude.{◌≡◌, ◌*◌, length, None, replicate, IfOk, IfErr};
+ghost use Rattle.std.specs.Prelude.{◌≡◌, ◌*◌, length, None, IfOk, IfErr};
 ghost use Rattle.rota_core.specs.declared.fault.FileName.TheVariants as files;
 ghost use Rattle.rota_core.specs.Limits.{max_price};
-ghost use Rattle.rota_core.specs.ScenarioTables.{ScenarioTables};
 ghost use Rattle.rota_read.specs.FileAnswers.{IsFaultOf};
 ghost use Rattle.rota_read.specs.Files.{Spells};
 ghost use Rattle.rota_read.specs.Layout.{many, number, repeat};
-ghost use Rattle.rota_read.specs.OneMeaning.{OneMeaning};
 ghost use Rattle.rota_read.specs.PricesLayout.{no_prices, price_row, prices, table_for};
 ghost use Rattle.rota_read.specs.Reading.{read_layout, read_text, Reads, ReadsFile};
 
@@ -119,9 +117,3 @@ pub fn read_prices(alloc: Global, scenario: &Scenario, text: &[u8]) -> Result<Pr
         Err(stop) => Err(stop.in_file(FileName::Prices)),
     }
 }
-
-/// A law: for each scenario, every text spells one table of prices or has one fault, and never both.
-#[tactic(auto, using(crate::proofs::FileLaws::one_meaning))]
-pub fn each_text_means_one_table_of_prices()
-    ensures { (tables : ScenarioTables) → OneMeaning (prices tables) }
-{}

@@ -1,10 +1,13 @@
 //! Reads a scenario file.
 
-ghost use Rattle.std.specs.Prelude.{◌≡◌, ◌≤◌, [], codes, length, IfOk};
+ghost use Rattle.std.specs.Prelude.{◌≡◌, ◌≤◌, [], codes, length, IfOk, IfErr, OnOk};
+ghost use Rattle.rota_core.specs.declared.fault.FileName.TheVariants as files;
 ghost use Rattle.rota_core.specs.Parts.{bytes_of, scenario_of};
+ghost use Rattle.rota_read.specs.FileAnswers.{IsFaultOf};
+ghost use Rattle.rota_read.specs.Files.{Spells};
 ghost use Rattle.rota_read.specs.Reading.{read_layout, read_text, Reads, ReadsFile};
-ghost use Rattle.rota_read.specs.ScenarioRows.{scenario_by_column, tables_of, IsEmpty};
-ghost use Rattle.rota_read.specs.Layout.{new_name};
+ghost use Rattle.rota_read.specs.ScenarioRows.{tables_of, IsEmpty};
+ghost use Rattle.rota_read.specs.Layout.{new_name, one_more};
 ghost use Rattle.rota_read.specs.ScenarioLayout.{section, scenario};
 
 use crate::contracts::{ContractRows, no_contracts};
@@ -13,7 +16,7 @@ use crate::fault::Stop;
 use crate::nurses::{NurseRows, no_nurses};
 use crate::shift_types::{ShiftRows, no_shift_types};
 use indexmap::IndexSet;
-use rota_core::{MAX_SKILLS, MAX_WEEKS, ScenarioParts};
+use rota_core::{FileFault, FileName, MAX_SKILLS, MAX_WEEKS, Scenario, ScenarioParts};
 use std::alloc::Global;
 
 // The contents of the sections of a scenario file.
@@ -86,46 +89,38 @@ impl ScenarioRows {
 }
 
 impl<'a> Cursor<'a> {
-    #[tactic(auto, unfolding(crate::specs::ScenarioLayout::section, crate::specs::Layout::many, crate::specs::Reading::read_layout))]
-    fn skills_part(&mut self, alloc: Global, names: &mut IndexSet<Vec<u8>>) -> Result<u16, Stop>
+    #[tactic(auto, unfolding(crate::specs::ScenarioLayout::section, crate::specs::Reading::read_layout))]
+    fn skills_part(&mut self, alloc: Global, names: &mut IndexSet<Vec<u8>>) -> Result<(), Stop>
         requires { bytes_of names.old ≡ [] }
-        ensures read { Reads (λ _. bytes_of names.new) result self.new (read_layout (section (codes "SKILLS") MAX_SKILLS new_name) self.old) }
-        ensures count { IfOk result (λ count. length (bytes_of names.new) ≡ count) }
+        ensures read { Reads (λ _. bytes_of names.new) result self.new (read_layout (section (codes "SKILLS") MAX_SKILLS (one_more new_name) []) self.old) }
+        ensures few { OnOk result (length (bytes_of names.new) ≤ MAX_SKILLS) }
     {
         let count = self.setting(b"SKILLS", 1, MAX_SKILLS)?;
-        self.new_names(alloc, count, names)?;
-        Ok(count)
+        self.new_names(alloc, count, names)
     }
 
     // Reads each section into rows that one caller owns.
-    #[tactic(auto, unfolding(crate::specs::ScenarioRows::scenario_by_column, crate::specs::Reading::read_layout))]
+    #[tactic(auto, unfolding(crate::specs::ScenarioLayout::scenario, crate::specs::Reading::read_layout))]
     fn sections(&mut self, alloc: Global, rows: &mut ScenarioRows) -> Result<(), Stop>
         requires { IsEmpty rows.old }
-        ensures { Reads (λ _. tables_of rows.new) result self.new (read_layout scenario_by_column self.old) }
+        ensures { Reads (λ _. tables_of rows.new) result self.new (read_layout scenario self.old) }
     {
         self.exactly(b"SCENARIO")?;
         self.exactly(b"=")?;
         rows.name.extend_from_slice(self.word()?.word)?;
         rows.weeks = self.setting(b"WEEKS", 1, MAX_WEEKS)?;
-        let skill_count = self.skills_part(alloc, &mut rows.skills)?;
-        let shift_count = self.shifts_part(alloc, &mut rows.shifts)?;
-        let shifts = &rows.shifts.names;
-        self.successions_part(alloc, shifts, shift_count, &mut rows.forbidden)?;
+        self.skills_part(alloc, &mut rows.skills)?;
+        self.shifts_part(alloc, &mut rows.shifts)?;
+        self.successions_part(alloc, &rows.shifts.names, &mut rows.forbidden)?;
         self.contracts_part(alloc, &mut rows.contracts)?;
         let contracts = &rows.contracts.names;
-        self.nurses_part(
-            alloc,
-            contracts,
-            &rows.skills,
-            skill_count,
-            &mut rows.nurses,
-        )
+        self.nurses_part(alloc, contracts, &rows.skills, &mut rows.nurses)
     }
 }
 
 /// The parts of a scenario, from the whole text.
-#[tactic(auto, using(crate::proofs::EndLemmas::front_fails, crate::proofs::ScenarioColumns::read_by_column), unfolding(crate::specs::Reading::read_text))]
-pub fn scenario_parts(alloc: Global, text: &[u8]) -> Result<ScenarioParts, Stop>
+#[tactic(auto, using(crate::proofs::EndLemmas::front_fails), unfolding(crate::specs::Reading::read_text))]
+fn scenario_parts(alloc: Global, text: &[u8]) -> Result<ScenarioParts, Stop>
     ensures { ReadsFile scenario_of result (read_text scenario text.now) }
 {
     let mut cursor = Cursor::open(text)?;
@@ -133,4 +128,29 @@ pub fn scenario_parts(alloc: Global, text: &[u8]) -> Result<ScenarioParts, Stop>
     cursor.sections(alloc, &mut rows)?;
     cursor.finish()?;
     Ok(rows.into_parts())
+}
+
+/// Returns the scenario that the text spells.
+///
+/// The text is a scenario file of the Second International Nurse Rostering Competition (INRC-II), in the
+/// layout of `docs/formats.md`: skills, shift types and forbidden successions, contracts and nurses, all
+/// numbered from 0 in the order of the file.
+///
+/// See the example at the top of the crate.
+///
+/// # Errors
+///
+/// `Bad` is the text's one fault: the fault of the first token that does not fit its position, with the
+/// token's line, or `Ended`, with the line of the last token (1 if there is none). A text of more than
+/// `MAX_FILE_LEN` bytes has `Limit` on line 0. `Memory` is returned only if memory runs out before a fault
+/// was found.
+#[tactic(auto, using(crate::proofs::FileLaws::file_steps))]
+pub fn read_scenario(alloc: Global, text: &[u8]) -> Result<Scenario, FileFault>
+    ensures spelled { IfOk result (Spells scenario text.now) }
+    ensures fault { IfErr result (IsFaultOf files.Scenario scenario text.now) }
+{
+    match scenario_parts(alloc, text) {
+        Ok(parts) => Ok(Scenario::of_parts(parts)),
+        Err(stop) => Err(stop.in_file(FileName::Scenario)),
+    }
 }

@@ -1,16 +1,16 @@
 //! Reads the shift types and the forbidden successions of a scenario file.
 
-ghost use Rattle.std.specs.Prelude.{◌≡◌, ◌==◌, ◌≤◌, ◌+◌, [], codes, length, position, IfOk, OnOk};
+ghost use Rattle.std.specs.Prelude.{◌≡◌, ◌≤◌, ◌+◌, [], codes, length, None, replicate, unwrap_or, IfOk, OnOk};
+ghost use Rattle.std.specs.Option.{option_map};
 ghost use Rattle.rota_core.specs.Parts.{bytes_of};
 ghost use Rattle.rota_read.specs.Layout.{repeat};
 ghost use Rattle.rota_read.specs.Reading.{read_layout, Reads};
-ghost use Rattle.rota_read.specs.ScenarioLayout.{forbidden_table};
-ghost use Rattle.rota_read.specs.ScenarioRows.{column_after, columns, shift_row, succession_row, successions_part};
-ghost use Rattle.rota_read.specs.ScenarioRows.{no_shift_types, no_successions, shifts_of, successions_of};
+ghost use Rattle.rota_read.specs.ScenarioLayout.{section, shift_row, no_shift_types, succession_row, succession_rows};
+ghost use Rattle.rota_read.specs.ScenarioLayout.{successions, forbidden_table};
+ghost use Rattle.rota_read.specs.ScenarioRows.{shifts_of, successions_of};
 
 use crate::cursor::Cursor;
 use crate::fault::Stop;
-use crate::names::is_taken;
 use crate::rows::append_marks;
 use indexmap::IndexSet;
 use rota_core::{MAX_SHIFTS, Span, add_name};
@@ -22,14 +22,11 @@ pub struct ShiftRows {
     pub limits: Vec<Span>,
 }
 
-#[derive(Drop)]
-struct SuccessionRows {
-    shifts: Vec<usize>,
-    after: Vec<Vec<usize>>,
-}
+// The shift types that may not follow a shift type, if a row has given them.
+type SuccessionRow = Option<Vec<usize>>;
 
 impl<'a> Cursor<'a> {
-    #[tactic(auto, unfolding(crate::specs::ScenarioRows::shift_row, crate::specs::ScenarioLayout::named, crate::specs::Reading::read_layout))]
+    #[tactic(auto, unfolding(crate::specs::ScenarioLayout::shift_row, crate::specs::Reading::read_layout))]
     fn shift_row(&mut self, alloc: Global, rows: &mut ShiftRows) -> Result<(), Stop>
         ensures read { Reads (λ _. shifts_of rows.new) result self.new (read_layout (shift_row (shifts_of rows.old)) self.old) }
         ensures longer { OnOk result (length (bytes_of rows.new.names) ≡ length (bytes_of rows.old.names) + 1) }
@@ -51,68 +48,79 @@ impl<'a> Cursor<'a> {
         Ok(())
     }
 
-    #[tactic(auto, unfolding(crate::specs::ScenarioRows::columns, crate::specs::Reading::read_layout))]
-    pub fn shifts_part(&mut self, alloc: Global, rows: &mut ShiftRows) -> Result<u16, Stop>
+    #[tactic(auto, unfolding(crate::specs::ScenarioLayout::section, crate::specs::Reading::read_layout))]
+    pub fn shifts_part(&mut self, alloc: Global, rows: &mut ShiftRows) -> Result<(), Stop>
         requires { shifts_of rows.old ≡ no_shift_types }
-        ensures read { Reads (λ _. shifts_of rows.new) result self.new (read_layout (columns (codes "SHIFT_TYPES") MAX_SHIFTS shift_row no_shift_types) self.old) }
-        ensures count { IfOk result (λ count. length (bytes_of rows.new.names) ≡ count) }
+        ensures read { Reads (λ _. shifts_of rows.new) result self.new (read_layout (section (codes "SHIFT_TYPES") MAX_SHIFTS shift_row no_shift_types) self.old) }
+        ensures few { OnOk result (length (bytes_of rows.new.names) ≤ MAX_SHIFTS) }
     {
         let count = self.setting(b"SHIFT_TYPES", 1, MAX_SHIFTS)?;
-        self.shift_rows(alloc, count, rows)?;
-        Ok(count)
+        self.shift_rows(alloc, count, rows)
     }
 
-    #[tactic(auto, using(crate::proofs::NameSteps::known_taken, std::proofs::lemmas::Grind::common_steps), unfolding(crate::specs::ScenarioRows::succession_row, crate::specs::ScenarioLayout::succession, crate::specs::Layout::known_once, crate::specs::Reading::read_layout))]
+    #[tactic(auto, using(crate::proofs::SuccessionRows::succession_steps), unfolding(crate::specs::ScenarioLayout::succession_row, crate::specs::Reading::read_layout))]
     fn succession_row(
         &mut self,
         alloc: Global,
         names: &IndexSet<Vec<u8>>,
-        count: u16,
-        rows: &mut SuccessionRows,
+        rows: &mut [SuccessionRow],
     ) -> Result<(), Stop>
-        requires count { length (bytes_of names.now) ≡ count }
+        requires few { length (bytes_of names.now) ≤ MAX_SHIFTS }
+        requires rows { length rows.old ≡ length (bytes_of names.now) }
         ensures { Reads (λ _. successions_of rows.new) result self.new (read_layout (succession_row (bytes_of names.now) (successions_of rows.old)) self.old) }
     {
         let shift = self.known_name(names)?;
-        self.unless_taken(is_taken(&rows.shifts, shift))?;
-        let after = self.known_names(alloc, names, count)?;
-        rows.shifts.push(shift)?;
-        Ok(rows.after.push(after)?)
+        self.unless_taken(rows[shift].is_some())?;
+        rows[shift] = Some(self.known_names(alloc, names)?);
+        Ok(())
     }
 
     #[tactic(auto, using(crate::proofs::RowSteps::row_steps))]
-    fn succession_rows(
+    fn rows_of_shifts(
         &mut self,
         alloc: Global,
         names: &IndexSet<Vec<u8>>,
-        count: u16,
-        rows: &mut SuccessionRows,
+        rows: &mut [SuccessionRow],
     ) -> Result<(), Stop>
-        requires count { length (bytes_of names.now) ≡ count }
-        ensures { Reads (λ _. successions_of rows.new) result self.new (read_layout (repeat count (succession_row (bytes_of names.now)) (successions_of rows.old)) self.old) }
+        requires few { length (bytes_of names.now) ≤ MAX_SHIFTS }
+        requires rows { length rows.old ≡ length (bytes_of names.now) }
+        ensures { Reads (λ _. successions_of rows.new) result self.new (read_layout (repeat (length rows.old) (succession_row (bytes_of names.now)) (successions_of rows.old)) self.old) }
     {
-        for _ in 0..count {
-            self.succession_row(alloc, names, count, rows)?;
+        for _ in 0..rows.len() {
+            self.succession_row(alloc, names, rows)?;
         }
         Ok(())
     }
 
-    #[tactic(auto, unfolding(crate::specs::ScenarioRows::successions_part, crate::specs::Reading::read_layout))]
+    // The row of each shift type, ordered by shift type.
+    #[tactic(auto, unfolding(crate::specs::ScenarioLayout::succession_rows))]
+    fn succession_rows(
+        &mut self,
+        alloc: Global,
+        names: &IndexSet<Vec<u8>>,
+    ) -> Result<Vec<SuccessionRow>, Stop>
+        requires few { length (bytes_of names.now) ≤ MAX_SHIFTS }
+        ensures { Reads (λ v. successions_of v.items) result self.new (read_layout (succession_rows (bytes_of names.now)) self.old) }
+    {
+        let mut rows = no_successions(alloc, names.len())?;
+        self.rows_of_shifts(alloc, names, &mut rows)?;
+        Ok(rows)
+    }
+
+    #[tactic(auto, unfolding(crate::specs::ScenarioLayout::successions, crate::specs::Reading::read_layout))]
     pub fn successions_part(
         &mut self,
         alloc: Global,
         names: &IndexSet<Vec<u8>>,
-        count: u16,
         table: &mut Vec<bool>,
     ) -> Result<(), Stop>
-        requires count { length (bytes_of names.now) ≡ count }
+        requires few { length (bytes_of names.now) ≤ MAX_SHIFTS }
         requires none { table.old.items ≡ [] }
-        ensures { Reads (λ _. table.new.items) result self.new (read_layout (successions_part (bytes_of names.now)) self.old) }
+        ensures { Reads (λ _. table.new.items) result self.new (read_layout (successions (bytes_of names.now)) self.old) }
     {
         self.exactly(b"FORBIDDEN_SHIFT_TYPES_SUCCESSIONS")?;
-        let mut rows = no_successions(alloc);
-        self.succession_rows(alloc, names, count, &mut rows)?;
-        Ok(append_forbidden(table, count, &rows)?)
+        let rows = self.succession_rows(alloc, names)?;
+        Ok(append_forbidden(table, names.len(), &rows)?)
     }
 }
 
@@ -126,46 +134,37 @@ pub fn no_shift_types(alloc: Global) -> ShiftRows
     }
 }
 
-// The rows before the first row of successions.
-fn no_successions(alloc: Global) -> SuccessionRows
-    ensures { successions_of result ≡ no_successions }
+// No shift type has a row.
+fn no_successions(alloc: Global, shifts: usize) -> Result<Vec<SuccessionRow>, AllocError>
+    ensures none { IfOk result (λ v. successions_of v.items ≡ replicate shifts None) }
+    ensures length { IfOk result (λ v. length v.items ≡ shifts) }
 {
-    SuccessionRows {
-        shifts: Vec::new(alloc),
-        after: Vec::new(alloc),
+    let mut rows = Vec::with_capacity(alloc, shifts)?;
+    for _ in 0..shifts {
+        rows.push(None)?;
     }
+    Ok(rows)
 }
 
-fn index_of_shift(shifts: &[usize], shift: usize) -> Option<usize>
-    ensures { result ≡ position (λ p. p == shift) shifts.now }
+fn after_shift(row: &SuccessionRow) -> &[usize]
+    ensures { result.now ≡ unwrap_or (option_map (λ indices. indices.items) row.now) [] }
 {
-    shifts.iter().position(|p| *p == shift)
-}
-
-// The shift types that may not follow a shift type.
-fn after_shift(rows: &SuccessionRows, shift: usize) -> &[usize]
-    ensures { result.now ≡ column_after (successions_of rows.now) shift }
-{
-    let Some(index) = index_of_shift(&rows.shifts, shift) else {
-        return &[];
-    };
-    match rows.after.get(index) {
+    match row {
         Some(indices) => indices,
         None => &[],
     }
 }
 
-#[tactic(auto, using(crate::proofs::TableLemmas::one_more_row))]
 fn append_forbidden(
     table: &mut Vec<bool>,
-    size: u16,
-    rows: &SuccessionRows,
+    size: usize,
+    rows: &[SuccessionRow],
 ) -> Result<(), AllocError>
     requires { table.old.items ≡ [] }
-    ensures { OnOk result (table.new.items ≡ forbidden_table size (column_after (successions_of rows.now))) }
+    ensures { OnOk result (table.new.items ≡ forbidden_table size (successions_of rows.now)) }
 {
-    for shift in 0..size {
-        append_marks(table, after_shift(rows, usize::from(shift)), size)?;
+    for row in rows {
+        append_marks(table, after_shift(row), size)?;
     }
     Ok(())
 }

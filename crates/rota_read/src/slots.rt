@@ -3,7 +3,7 @@
 ghost use Rattle.std.specs.Prelude.{◌≡◌, ◌+◌, IfOk, ◌≤◌, ◌∷◌, [], min, Some, None, MatchResult, if◌then◌else◌};
 ghost use Rattle.rota_core.specs.declared.fault.Kind.TheVariants.{Ended};
 ghost use Rattle.rota_core.specs.Limits.{max_price};
-ghost use Rattle.rota_core.specs.Numeral.{is_decimal, decimal};
+ghost use Rattle.rota_core.specs.Decimal.{is_decimal, decimal};
 ghost use Rattle.rota_read.specs.Layout.{exactly, number, any_word};
 ghost use Rattle.rota_read.specs.Reading.{read_layout, Reads, check_end, ReadsFile};
 

@@ -4,18 +4,14 @@ ghost use Rattle.std.specs.Prelude.{List, ◌∷◌, ◌++◌, [], IfOk, IfErr};
 ghost use Rattle.rota_core.specs.declared.fault.FileName.TheVariants as files;
 ghost use Rattle.rota_core.specs.InstanceTables.{problem_of};
 ghost use Rattle.rota_core.specs.RosterTables.{HasShapeOf};
-ghost use Rattle.rota_core.specs.ScenarioTables.{ScenarioTables};
 ghost use Rattle.rota_read.specs.FileAnswers.{IsFaultOf};
-ghost use Rattle.rota_read.specs.OneMeaning.{OneMeaning};
 ghost use Rattle.rota_read.specs.Layout.{repeat};
 ghost use Rattle.rota_read.specs.Reading.{read_layout, Reads, read_text};
 ghost use Rattle.rota_read.specs.SolutionLayout.{solution, HasCells, SpellsRoster};
-ghost use Rattle.rota_read.specs.SolutionText.{EachRosterHasItsText};
 ghost use Rattle.rota_read.specs.RosterReading.{assignment_row, ReadsRoster, ReadsRosterFile};
 
 use crate::cursor::Cursor;
 use crate::fault::Stop;
-use rota_core::laws::{numerals_read_back, rosters_list_their_cells};
 use rota_core::{Cell, FileFault, FileName, Instance, MAX_NUMBER, Roster};
 use std::alloc::Global;
 
@@ -114,20 +110,4 @@ pub fn read_fixed(alloc: Global, instance: &Instance, text: &[u8]) -> Result<Ros
     ensures fault { IfErr result (IsFaultOf files.Fixed (solution instance.now.scenario) text.now) }
 {
     solution_roster(alloc, instance, text).map_err(|stop| stop.in_file(FileName::Fixed))
-}
-
-/// A law: for each scenario, every text spells the assignments of one solution or has one fault, and never
-/// both.
-#[tactic(auto, using(crate::proofs::FileLaws::one_meaning))]
-pub fn each_text_means_one_solution()
-    ensures { (tables : ScenarioTables) → OneMeaning (solution tables) }
-{}
-
-/// A law: for each instance, the solution file of a roster with at most one cell for each nurse and day
-/// spells that roster, if the file has at most `MAX_FILE_LEN` bytes.
-pub fn each_roster_has_its_text()
-    ensures { EachRosterHasItsText }
-{
-    numerals_read_back();
-    rosters_list_their_cells();
 }

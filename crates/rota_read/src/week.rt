@@ -5,13 +5,11 @@ ghost use Rattle.std.specs.List.{All};
 ghost use Rattle.rota_read.specs.Layout.{repeat};
 ghost use Rattle.rota_core.specs.Parts.{week_tables_of};
 ghost use Rattle.rota_core.specs.Limits.{AreLimited};
-ghost use Rattle.rota_core.specs.ScenarioTables.{ScenarioTables, numbers_of};
+ghost use Rattle.rota_core.specs.ScenarioTables.{numbers_of};
 ghost use Rattle.rota_core.specs.declared.fault.FileName.TheVariants as files;
 ghost use Rattle.rota_read.specs.Files.{Spells};
 ghost use Rattle.rota_read.specs.FileAnswers.{IsFaultOf};
-ghost use Rattle.rota_read.specs.OneMeaning.{OneMeaning};
 ghost use Rattle.rota_read.specs.Reading.{read_layout, read_text, Reads, ReadsFile};
-ghost use Rattle.rota_read.specs.WeekBound.{BoundEndsNoRows};
 ghost use Rattle.rota_read.specs.WeekRows.{request_row, IsRequest};
 ghost use Rattle.rota_read.specs.WeekLayout.{week};
 
@@ -128,16 +126,3 @@ pub fn read_week(alloc: Global, scenario: &Scenario, text: &[u8]) -> Result<Week
         Err(stop) => Err(stop.in_file(FileName::Week)),
     }
 }
-
-/// A law: for each scenario every text spells one week or has one fault, and never both.
-#[tactic(auto, using(crate::proofs::FileLaws::one_meaning))]
-pub fn each_text_means_one_week()
-    ensures { (t : ScenarioTables) → OneMeaning (week t) }
-{}
-
-/// A law: the bound on the rows of requirements, one row more than there are pairs of a shift type and a
-/// skill, cuts off no row.
-#[tactic(auto, using(crate::proofs::BoundLaws::bound_ends_no_rows))]
-pub fn no_requirement_is_cut_off()
-    ensures { BoundEndsNoRows }
-{}

@@ -5,7 +5,8 @@ use Rattle.std.specs.Prelude.{All}
 use Rattle.std.specs.Option.{option_map_or}
 use Rattle.std.proofs.lemmas.Bool.{lt-ltb, le-leb, ne_eqb}
 use Rattle.std.proofs.lemmas.List.Elements.{All-nil, All-cons}
-use Rattle.rota_core.specs.Numeral.{numeral, decimal, is_decimal}
+use Rattle.rota_core.specs.Numeral.{numeral}
+use Rattle.rota_core.specs.Decimal.{decimal, is_decimal}
 use Rattle.rota_core.specs.NumeralLaws.{AreDigits, ReadsBack}
 use Rattle.solver_text.specs.Lines.{is_blank, is_line_feed, has_bytes}
 use Rattle.solver_text.specs.Answers.{Literal, magnitude_of, positive_of, number_of, variable_of, literal_of}

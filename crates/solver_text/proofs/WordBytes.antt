@@ -3,7 +3,7 @@ use Rattle.std.proofs.Common.{◌≡◌, ℕ, Bool, true, false, List, ◌∷◌
 use Rattle.std.specs.Char.{is_ascii_digit}
 use Rattle.solver_text.specs.Lines.{is_blank, is_line_feed}
 use Rattle.solver_text.specs.Answers.{AnswerState, and_then}
-use Rattle.rota_core.specs.Numeral.{with_digit}
+use Rattle.rota_core.specs.Decimal.{with_digit}
 use Rattle.std.specs.Prelude.{min}
 use Rattle.solver_text.specs.declared.literal.LiteralFront.TheVariants.{Empty, Number, Bad}
 use Rattle.solver_text.specs.declared.line_state.Line.TheVariants.{Values}

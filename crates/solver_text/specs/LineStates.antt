@@ -18,7 +18,7 @@ use Rattle.solver_text.specs.declared.literal.LiteralFront.TheVariants as fronts
 use Rattle.solver_text.specs.declared.line_state.Line.{Line}
 use Rattle.solver_text.specs.declared.line_state.Line.TheVariants as at
 use Rattle.solver_text.specs.Lines.{is_blank, is_line_feed}
-use Rattle.rota_core.specs.Numeral.{with_digit}
+use Rattle.rota_core.specs.Decimal.{with_digit}
 use Rattle.solver_text.specs.Answers.{AnswerState, keyword_of, one_word_status, number_of, and_then, check_status, check_objective}
 use Rattle.solver_text.specs.Answers.{check_literal}
 

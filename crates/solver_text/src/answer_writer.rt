@@ -1,11 +1,11 @@
 //! A writer of the answer that a solver would give.
 ghost use Rattle.std.specs.Prelude.{◌≡◌, ◌+◌, ◌-◌, ◌^◌, min, true, IsErr};
-ghost use Rattle.opb_text.specs.Sink.{sink_failed, FinishesSink, PutsText};
+ghost use Rattle.text_sink.specs.Sink.{sink_failed, FinishesSink, PutsText};
 ghost use Rattle.solver_text.specs.AnswerText.{answer_head};
 ghost use Rattle.solver_text.specs.AnswerWriter.{literal_text, end_text};
 
-use opb_text::Sink;
 use rota_core::{PortFault, Target};
+use text_sink::Sink;
 
 // The text that a writer has written so far: nothing, the first lines and some literals, or the whole answer.
 #[derive(Clone, Copy)]

@@ -15,18 +15,14 @@
 #![tactic(auto)]
 
 mod answer;
-mod answer_laws;
 mod answer_state;
 mod answer_writer;
+pub mod laws;
 mod line_state;
 mod literal;
 mod outcome;
 mod words;
 
 pub use answer::Answer;
-pub use answer_laws::{
-    calls_write_the_answer, fault_of_a_beginning_stays, positive_literals_make_true,
-    written_answer_is_read,
-};
 pub use answer_writer::AnswerWriter;
 pub use outcome::{AnswerFault, Solved, Status};

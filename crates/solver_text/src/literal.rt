@@ -2,7 +2,7 @@
 
 ghost use Rattle.std.specs.Prelude.{◌≡◌, ◌≤◌, ℕ, IsTrue, List, length, min};
 ghost use Rattle.std.specs.Char.{is_ascii_digit as is_digit};
-ghost use Rattle.rota_core.specs.Numeral.{with_digit};
+ghost use Rattle.rota_core.specs.Decimal.{with_digit};
 ghost use Rattle.solver_text.specs.Answers.{AnswerState};
 ghost use Rattle.solver_text.specs.Lines.{is_blank as blank_byte};
 ghost use Rattle.solver_text.specs.LineStates.{MAX_VARIABLE, take_bytes, in_word, with_literal_byte, with_number};

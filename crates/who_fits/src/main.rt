@@ -1,9 +1,9 @@
 //! Prints the nurses who could fill each demand of a week, with the variable of each in the week's model. It
 //! is a small program that uses only `rota_core`, `rota_read` and `rota_items`.
 //!
-//! `who_fits SCENARIO HISTORY WEEK` prints a line for each day, shift type and skill that needs nurses. A
+//! `inrc2pb-fits SCENARIO HISTORY WEEK` prints a line for each day, shift type and skill that needs nurses. A
 //! nurse fits if she has the skill and, on Monday, if her last shift does not forbid the shift type.
-//! `who_fits --help` prints a help text.
+//! `inrc2pb-fits --help` prints a help text.
 #![tactic(auto)]
 
 ghost use Rattle.std.specs.Prelude.{◌≡◌, ◌<◌, IfOk};
@@ -21,7 +21,7 @@ use std::{env, fs, io};
 
 const HELP: &str = "Prints the nurses who could fill each place of a week
 
-Usage: who_fits SCENARIO HISTORY WEEK
+Usage: inrc2pb-fits SCENARIO HISTORY WEEK
 
 Arguments:
   SCENARIO  the scenario, with the ward's nurses and their skills
@@ -35,7 +35,7 @@ A line names the day, the shift type and the skill of a place, the minimum and t
 nurse who fits, with her variable in the week's model. A nurse fits if she has the skill and, on Monday, if her last
 shift does not forbid the shift type.
 
-The files and the exit statuses: who_fits(1), docs/formats.md.
+The files and the exit statuses: inrc2pb-fits(1), docs/formats.md.
 ";
 
 fn main(rt: HostRuntime) -> Result<()> {
@@ -75,7 +75,7 @@ fn history_of<R: Files + AllocGlobal>(rt: &R, scenario: &Scenario, path: &str) -
 }
 
 // The week's data that the file spells.
-fn data_of<R: Files + AllocGlobal>(rt: &R, scenario: &Scenario, path: &str) -> Result<Week>
+fn week_of<R: Files + AllocGlobal>(rt: &R, scenario: &Scenario, path: &str) -> Result<Week>
     ensures { IfOk result (λ w. w.numbers ≡ numbers_of scenario.now) }
 {
     let text = bytes_of(rt, path)?;
@@ -91,7 +91,7 @@ fn join<R: Files + AllocGlobal>(
 ) -> Result<Instance> {
     let scenario = scenario_of(rt, scenario)?;
     let history = history_of(rt, &scenario, history)?;
-    let week = data_of(rt, &scenario, week)?;
+    let week = week_of(rt, &scenario, week)?;
     Ok(Instance::join(scenario, history, week, false)?)
 }
 

@@ -3,7 +3,7 @@ use Rattle.std.specs.Prelude.{◌+◌, ◌*◌, ◌^◌, max}
 use Rattle.rota_core.specs.declared.rule.Rule.TheVariants.{S1}
 use Rattle.rota_items.specs.Imports.{ℕ, Bool, List, Cell, Problem, Rule, DAYS}
 use Rattle.rota_items.specs.Bounds.{max_cells_of_nurse, max_unit_weight, max_weight}
-use Rattle.rota_items.specs.SoftItems.{numbered_list, numbered_rows}
+use Rattle.rota_items.specs.SentItems.{numbered_list, numbered_rows}
 use Rattle.rota_core.specs.Limits.{max_number, max_nurses}
 use Rattle.rota_items.specs.Rows.{Item, LinearRow}
 use Rattle.rota_items.specs.RunItems.{Runs, closed_patterns_at, pattern_items}

@@ -38,9 +38,11 @@ pub use Rattle.rota_core.specs.InstanceTables.{problem_of, InstanceTables, IsIns
 pub use Rattle.rota_core.specs.Roster.{Roster, cell, InWeek, Has}
 pub use Rattle.rota_core.specs.RosterCells.{cell_at}
 unfoldable pub use Rattle.rota_core.specs.RosterCells.{cells_of}
-pub use Rattle.rota_core.specs.RosterTables.{set_of, cell_count, cell_index, HasShapeOf, RosterTables}
+pub use Rattle.rota_core.specs.RosterTables.{set_of, HasShapeOf, RosterTables}
+pub use Rattle.rota_core.specs.CellIndex.{cell_count, cell_index}
 pub use Rattle.rota_core.specs.ScenarioTables.{AreLimits, IsContract}
-pub use Rattle.rota_core.specs.Problem.{Problem, no_demand, no_past, no_span}
+pub use Rattle.rota_core.specs.Problem.{Problem}
+pub use Rattle.rota_core.specs.Defaults.{no_demand, no_past, no_span}
 pub use Rattle.rota_core.specs.WeekTables.{IsDemand, IsPast}
 pub use Rattle.rota_items.specs.RuleItems.{soft_items, items_of_rule, constant, constant_of_rule, cell_terms, nurse_constant, nurse_items, cell_terms_of_rule}
 pub use Rattle.rota_items.specs.Coefficients.{IsUnit, HasUnitCoefficients}
@@ -85,7 +87,7 @@ pub use Rattle.rota_items.specs.RunItemParts.{DaysFollow, has_property, pattern_
 pub use Rattle.rota_items.specs.RunItems.{run_items, Runs, Pattern, PatternDay, pattern_item, variables_on, Property, day_terms, Present, patterns, windows}
 pub use Rattle.rota_items.specs.RunItems.{with_property, without_property, days_with, is_plain, patterns_on, windows_on, closed_patterns_at, closed_patterns_on}
 pub use Rattle.rota_items.specs.RunItems.{edge_patterns_on, saturday, Absent, closed_pattern, edge_pattern, only_sunday, weekend_items, window, pattern_items}
-pub use Rattle.rota_items.specs.Runs.{run_cost, is_over, missing_on, run_length_before, week_days}
+pub use Rattle.rota_items.specs.Runs.{run_cost, is_over, missing_on, run_length, week_days}
 unfoldable pub use Rattle.rota_items.specs.Runs.{run_over, run_under}
 pub use Rattle.rota_items.specs.declared.cell_sum.DayPattern.{DayPattern}
 pub use Rattle.rota_items.specs.declared.cell_sum.DayProperty.{DayProperty}
@@ -96,8 +98,8 @@ unfoldable pub use Rattle.rota_items.specs.CellEvents.{cell_term_events}
 pub use Rattle.rota_items.specs.Events.{row_events, close_row, start_row, term, Event}
 unfoldable pub use Rattle.rota_items.specs.Events.{term_events, events}
 pub use Rattle.rota_items.specs.RowsOfItems.{row_of_item, RowsState, StopsAtRow, slacks_within, weights_of_item, with_item, with_row, within_numbers}
-pub use Rattle.rota_items.specs.SoftItems.{runs_of, item_of, charged_items}
-unfoldable pub use Rattle.rota_items.specs.SoftItems.{numbered_list, numbered_rows}
+pub use Rattle.rota_items.specs.SentItems.{runs_of, item_of, charged_items}
+unfoldable pub use Rattle.rota_items.specs.SentItems.{numbered_list, numbered_rows}
 pub use Rattle.rota_items.specs.Takes.{Took, Refused, RefusedFrom, Takes, RefusedOne, TookAll, TakesAll, TakesItems}
 pub use Rattle.rota_items.proofs.Common.Definitions.{TookItems, TookLiterals, TookRows, closed_items_at}
 pub use Rattle.rota_items.proofs.Common.Definitions.{half_limit, max_charge, max_cost, max_cost_of_nurse, max_slacks, max_terms}

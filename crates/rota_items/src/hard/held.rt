@@ -8,7 +8,7 @@ use crate::hard::row_takers::{HardRow, RowTaker};
 use rota_core::{Instance, Rule};
 
 /// Each held cell, in ascending order of the variables.
-#[tactic(auto, using(crate::proofs::Taking::taking_held), unfolding(crate::specs::SoftItems::numbered_rows))]
+#[tactic(auto, using(crate::proofs::Taking::taking_held), unfolding(crate::specs::SentItems::numbered_rows))]
 pub fn visit<T: RowTaker>(instance: &Instance, taker: &mut T) -> Result<(), T::Fault>
     ensures { let problem = problem_of instance.now in
         TakesRows T.RowTaker problem (h5_rows problem) taker.old taker.new result }

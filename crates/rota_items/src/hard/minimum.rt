@@ -9,7 +9,7 @@ use crate::hard::row_visits::emit_row_if;
 use rota_core::{DAYS, Instance, Rule};
 
 /// The minimum number of nurses, for each day, shift type and skill for which it is above 0.
-#[tactic(auto, using(crate::proofs::Taking::taking), unfolding(crate::specs::SoftItems::numbered_rows))]
+#[tactic(auto, using(crate::proofs::Taking::taking), unfolding(crate::specs::SentItems::numbered_rows))]
 pub fn visit<T: RowTaker>(instance: &Instance, taker: &mut T) -> Result<(), T::Fault>
     ensures { let problem = problem_of instance.now in
         TakesRows T.RowTaker problem (h2_rows problem) taker.old taker.new result }

@@ -2,7 +2,7 @@
 ghost use Rattle.std.specs.Prelude.{◌≡◌, ℕ, MatchResult};
 ghost use Rattle.rota_core.specs.InstanceTables.{problem_of};
 ghost use Rattle.rota_items.specs.CellSums.{IsSumOf};
-ghost use Rattle.rota_items.specs.SoftItems.{hard_row_of};
+ghost use Rattle.rota_items.specs.SentItems.{hard_row_of};
 ghost use Rattle.rota_items.specs.Rows.{LinearRow};
 ghost use Rattle.rota_items.specs.WeekModel.{numbered_row};
 

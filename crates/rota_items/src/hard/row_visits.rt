@@ -2,13 +2,14 @@
 ghost use Rattle.rota_core.specs.InstanceTables.{problem_of};
 ghost use Rattle.rota_core.specs.Lists.{singleton_if};
 ghost use Rattle.rota_items.specs.CellSums.{IsSumOf};
-ghost use Rattle.rota_items.specs.SoftItems.{hard_row_of};
+ghost use Rattle.rota_items.specs.SentItems.{hard_row_of};
 ghost use Rattle.rota_items.specs.Takes.{TakesRows};
 
 use crate::hard::row_takers::{HardRow, RowTaker};
 use rota_core::Instance;
 
 /// Sends the row to the taker if the condition holds.
+#[tactic(auto, using(crate::proofs::Taking::calling), unfolding(crate::specs::SentItems::numbered_rows, rota_core::specs::Lists::singleton_if))]
 pub fn emit_row_if<T: RowTaker>(
     instance: &Instance,
     taker: &mut T,

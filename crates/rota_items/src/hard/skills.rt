@@ -9,7 +9,7 @@ use crate::hard::row_visits::emit_row_if;
 use rota_core::{Instance, Rule};
 
 /// No cell of a nurse that needs a skill, for each nurse and each skill that she does not have.
-#[tactic(auto, using(crate::proofs::Taking::taking), unfolding(crate::specs::SoftItems::numbered_rows))]
+#[tactic(auto, using(crate::proofs::Taking::taking, crate::proofs::RowLoops::row_loops), unfolding(crate::specs::SentItems::numbered_rows))]
 pub fn visit<T: RowTaker>(instance: &Instance, taker: &mut T) -> Result<(), T::Fault>
     ensures { let problem = problem_of instance.now in
         TakesRows T.RowTaker problem (h4_rows problem) taker.old taker.new result }

@@ -23,7 +23,7 @@ fn forbidden_on_monday(instance: &Instance, nurse: u16, shift: u8) -> bool
 }
 
 // The shift types that a nurse may not have on Monday, after the last one of the history.
-#[tactic(auto, using(crate::proofs::Taking::taking), unfolding(crate::specs::SoftItems::numbered_rows))]
+#[tactic(auto, using(crate::proofs::Taking::taking, crate::proofs::RowLoops::row_loops), unfolding(crate::specs::SentItems::numbered_rows))]
 fn visit_monday<T: RowTaker>(instance: &Instance, taker: &mut T, nurse: u16) -> Result<(), T::Fault>
     requires nurse_in { nurse < (problem_of instance.now).nurses }
     ensures { let problem = problem_of instance.now in
@@ -50,7 +50,7 @@ fn visit_monday<T: RowTaker>(instance: &Instance, taker: &mut T, nurse: u16) -> 
 }
 
 // Not both shift types on a day and the next, if the second may not follow the first.
-#[tactic(auto, using(crate::proofs::Taking::taking), unfolding(crate::specs::SoftItems::numbered_rows))]
+#[tactic(auto, using(crate::proofs::Taking::taking), unfolding(crate::specs::SentItems::numbered_rows))]
 fn visit_between<T: RowTaker>(
     instance: &Instance,
     taker: &mut T,
@@ -81,7 +81,7 @@ fn visit_between<T: RowTaker>(
 }
 
 // The forbidden successions of a nurse.
-#[tactic(auto, using(crate::proofs::Taking::taking), unfolding(crate::specs::SoftItems::numbered_rows))]
+#[tactic(auto, using(crate::proofs::Taking::taking), unfolding(crate::specs::SentItems::numbered_rows))]
 fn visit_nurse<T: RowTaker>(instance: &Instance, taker: &mut T, nurse: u16) -> Result<(), T::Fault>
     requires nurse_in { nurse < (problem_of instance.now).nurses }
     ensures { let problem = problem_of instance.now in
@@ -95,7 +95,7 @@ fn visit_nurse<T: RowTaker>(instance: &Instance, taker: &mut T, nurse: u16) -> R
 }
 
 /// No forbidden succession of shift types.
-#[tactic(auto, using(crate::proofs::Taking::taking), unfolding(crate::specs::SoftItems::numbered_rows))]
+#[tactic(auto, using(crate::proofs::Taking::taking, crate::proofs::RowLoops::row_loops), unfolding(crate::specs::SentItems::numbered_rows))]
 pub fn visit<T: RowTaker>(instance: &Instance, taker: &mut T) -> Result<(), T::Fault>
     ensures { let problem = problem_of instance.now in
         TakesRows T.RowTaker problem (h3_rows problem) taker.old taker.new result }

@@ -2,7 +2,7 @@
 ghost use Rattle.std.specs.Prelude.{◌≡◌, ℕ, MatchResult};
 ghost use Rattle.rota_core.specs.InstanceTables.{problem_of};
 ghost use Rattle.rota_items.specs.Rows.{Item};
-ghost use Rattle.rota_items.specs.SoftItems.{numbered_item};
+ghost use Rattle.rota_items.specs.SentItems.{numbered_item};
 ghost use Rattle.rota_items.specs.CellSums.{IsSumOf};
 
 use crate::items::soft_item::SoftItem;

@@ -1,6 +1,6 @@
 //! Takers of the items of a nurse's runs in one call.
 ghost use Rattle.rota_core.specs.InstanceTables.{problem_of};
-ghost use Rattle.rota_items.specs.SoftItems.{IsChargeOf, numbered_list, runs_of};
+ghost use Rattle.rota_items.specs.SentItems.{IsChargeOf, numbered_list, runs_of};
 ghost use Rattle.rota_items.specs.RunItems.{run_items};
 ghost use Rattle.rota_items.specs.Takes.{TakesAll};
 

@@ -9,7 +9,7 @@ ghost use Rattle.rota_items.specs.Verdicts.{Judges, JudgesTheRules};
 ghost use Rattle.rota_items.specs.WeekModel.{objective_terms, rows_of};
 
 use crate::drive::drive_constraints;
-use crate::judge::judge::Judge;
+use crate::judge::taker::Judge;
 use crate::judge::verdicts::Verdict;
 use crate::objective::drive_objective;
 use rota_core::Instance;

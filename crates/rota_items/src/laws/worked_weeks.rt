@@ -1,6 +1,6 @@
 //! Small weeks whose models and penalties are written out.
 ghost use Rattle.std.specs.Prelude.{◌≡◌, false, ◌||◌, ◌==◌, length};
-ghost use Rattle.rota_core.specs.Problem.{no_past};
+ghost use Rattle.rota_core.specs.Defaults.{no_past};
 ghost use Rattle.rota_items.specs.Penalty.{penalty};
 ghost use Rattle.rota_items.specs.RunItems.{patterns, windows};
 ghost use Rattle.rota_items.specs.WorkedWeeks.{CompleteWeekends, DaysOff, DemandNobodyCanMeet, FewerThanTheOptimum, HeldCells};

@@ -2,7 +2,7 @@
 ghost use Rattle.std.specs.Prelude.{◌≡◌};
 ghost use Rattle.rota_core.specs.InstanceTables.{IsInstance, problem_of};
 ghost use Rattle.rota_core.specs.RosterTables.{HasShapeOf, set_of};
-ghost use Rattle.rota_items.specs.SoftItems.{numbered_item};
+ghost use Rattle.rota_items.specs.SentItems.{numbered_item};
 ghost use Rattle.rota_items.specs.CellSums.{IsSumOf};
 ghost use Rattle.rota_items.specs.Takes.{TakesLiterals};
 ghost use Rattle.rota_items.specs.SlackValues.{first_true, slack_truths, with_terms_of};

@@ -2,7 +2,7 @@
 ghost use Rattle.std.specs.Prelude.{◌≡◌, ◌<◌};
 ghost use Rattle.rota_core.specs.InstanceTables.{problem_of};
 ghost use Rattle.rota_items.specs.Takes.{TakesItems};
-ghost use Rattle.rota_items.specs.SoftItems.{IsChargeOf, runs_of};
+ghost use Rattle.rota_items.specs.SentItems.{IsChargeOf, runs_of};
 ghost use Rattle.rota_items.specs.rules.ConsecutiveAssignments.Items.{assignment_runs_of, shift_runs, work_runs};
 ghost use Rattle.rota_items.specs.rules.ConsecutiveAssignments.Cost.{history_on};
 
@@ -67,7 +67,7 @@ fn work_runs(instance: &Instance, nurse: u16) -> NurseRuns
 }
 
 /// A nurse's runs on each shift type, then her runs of working days.
-#[tactic(auto, using(crate::proofs::Taking::taking), unfolding(crate::specs::SoftItems::numbered_list))]
+#[tactic(auto, using(crate::proofs::Taking::taking), unfolding(crate::specs::SentItems::numbered_list))]
 pub fn visit<T: RunTaker>(instance: &Instance, taker: &mut T, nurse: u16) -> Result<(), T::Fault>
     requires nurse_in { nurse < (problem_of instance.now).nurses }
     ensures { let problem = problem_of instance.now in

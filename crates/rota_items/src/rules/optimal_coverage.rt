@@ -14,7 +14,7 @@ const WEIGHT: u16 = 30;
 
 /// Each nurse missing below the optimal number, for each day, shift type and skill for which it is above the
 /// minimum.
-#[tactic(auto, using(crate::proofs::Taking::taking), unfolding(crate::specs::SoftItems::numbered_list))]
+#[tactic(auto, using(crate::proofs::Taking::taking), unfolding(crate::specs::SentItems::numbered_list))]
 pub fn visit<T: ItemTaker>(instance: &Instance, taker: &mut T) -> Result<(), T::Fault>
     ensures { let problem = problem_of instance.now in
         TakesItems T.ItemTaker problem (optimum_items problem) taker.old taker.new result }

@@ -4,7 +4,7 @@ ghost use Rattle.rota_core.specs.InstanceTables.{problem_of};
 ghost use Rattle.rota_items.specs.CountedItems.{max_totals_count};
 ghost use Rattle.rota_items.specs.Takes.{TakesItems};
 ghost use Rattle.rota_items.specs.CellSums.{IsSumOf};
-ghost use Rattle.rota_items.specs.SoftItems.{item_of};
+ghost use Rattle.rota_items.specs.SentItems.{item_of};
 ghost use Rattle.rota_items.specs.rules.TotalAssignments.Items.{assignment_constant_of, assignments_above, max_total_item, min_total_item};
 ghost use Rattle.rota_items.specs.rules.TotalAssignments.Items.{still_allowed, still_wanted, totals_of, wanted_beyond_days};
 
@@ -95,6 +95,7 @@ fn max_total(instance: &Instance, nurse: u16) -> SoftItem
 
 /// The item of a nurse's minimum total, if it counts and needs more assignments, and the item of her maximum,
 /// if it counts and the week can exceed it.
+#[tactic(auto, using(crate::proofs::Taking::calling), unfolding(crate::specs::SentItems::numbered_list))]
 pub fn visit<T: ItemTaker>(instance: &Instance, taker: &mut T, nurse: u16) -> Result<(), T::Fault>
     requires nurse_in { nurse < (problem_of instance.now).nurses }
     ensures { let problem = problem_of instance.now in

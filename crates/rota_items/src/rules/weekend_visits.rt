@@ -3,7 +3,7 @@ ghost use Rattle.std.specs.Prelude.{◌≡◌, [], ◌∷◌};
 ghost use Rattle.rota_core.specs.InstanceTables.{problem_of};
 ghost use Rattle.rota_items.specs.Takes.{TakesItems};
 ghost use Rattle.rota_items.specs.CellSums.{IsInWeek, pattern_of};
-ghost use Rattle.rota_items.specs.SoftItems.{IsChargeOf, charged_items};
+ghost use Rattle.rota_items.specs.SentItems.{IsChargeOf, charged_items};
 ghost use Rattle.rota_items.specs.RunItems.{only_sunday, saturday};
 
 use crate::cell_sum::DayPattern;

@@ -2,7 +2,7 @@
 ghost use Rattle.std.specs.Prelude.{◌≡◌, ◌<◌, ◌≤◌, pos, ◌-ℤ◌, [], ◌∷◌, count_by};
 ghost use Rattle.rota_core.specs.Problem.{Problem};
 ghost use Rattle.rota_items.specs.CellSums.{AreInWeek, IsInWeek, days_of, is_plain_of, pattern_of, patterns_given};
-ghost use Rattle.rota_items.specs.SoftItems.{charged_items, item_of};
+ghost use Rattle.rota_items.specs.SentItems.{charged_items, item_of};
 ghost use Rattle.rota_items.specs.RunItems.{closed_patterns_at, edge_patterns_on, windows_on};
 
 use crate::cell_sum::{CellSum, DayPattern, DayProperty};

@@ -3,7 +3,7 @@ ghost use Rattle.std.specs.Prelude.{◌<◌};
 ghost use Rattle.rota_core.specs.InstanceTables.{problem_of};
 ghost use Rattle.rota_core.specs.Lists.{concat_below};
 ghost use Rattle.rota_items.specs.Takes.{TakesItems};
-ghost use Rattle.rota_items.specs.SoftItems.{IsChargeOf, runs_of};
+ghost use Rattle.rota_items.specs.SentItems.{IsChargeOf, runs_of};
 ghost use Rattle.rota_items.specs.RunItemParts.{pattern_items_on, window_items_on};
 ghost use Rattle.rota_items.specs.RunItems.{run_items};
 
@@ -14,7 +14,7 @@ use crate::runs::run_patterns::{closed_before, edge_before, pattern_item, window
 use rota_core::{DAYS, Instance};
 
 // The windows of the week.
-#[tactic(auto, using(crate::proofs::Taking::taking), unfolding(crate::specs::SoftItems::numbered_list))]
+#[tactic(auto, using(crate::proofs::Taking::taking), unfolding(crate::specs::SentItems::numbered_list))]
 fn visit_windows<T: ItemTaker>(
     instance: &Instance,
     taker: &mut T,
@@ -34,7 +34,7 @@ fn visit_windows<T: ItemTaker>(
 }
 
 // The runs that end before a day.
-#[tactic(auto, using(crate::proofs::Taking::taking), unfolding(crate::specs::SoftItems::numbered_list))]
+#[tactic(auto, using(crate::proofs::Taking::taking), unfolding(crate::specs::SentItems::numbered_list))]
 fn visit_patterns_on<T: ItemTaker>(
     instance: &Instance,
     taker: &mut T,
@@ -59,7 +59,7 @@ fn visit_patterns_on<T: ItemTaker>(
 }
 
 /// The items of a nurse's runs: the windows of the week, then the runs that end in it.
-#[tactic(auto, using(crate::proofs::Taking::taking), unfolding(crate::specs::SoftItems::numbered_list))]
+#[tactic(auto, using(crate::proofs::Taking::taking), unfolding(crate::specs::SentItems::numbered_list))]
 pub fn visit_runs<T: ItemTaker>(
     instance: &Instance,
     taker: &mut T,

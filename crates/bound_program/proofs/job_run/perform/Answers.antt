@@ -7,7 +7,7 @@ use Rattle.bound_program.proofs.job_run.perform.Goals as goal
 pub returns-in_err-opened : goal.returns-in_err-opened
 returns-in_err-opened g c =
     let p = err_from_is_err_and c.from_residual.result c.from_residual.ensures.1 in
-    refused (rw (p.1, p.2, c.in_err-opened.ensures.fault) refl) c.in_err-opened.ensures.stops refl
+    refused (rw (p.1, p.2, c.in_err-opened.ensures.refused.is_read) refl) c.in_err-opened.ensures.refused.stops refl
 
 pub returns : goal.returns
 returns g c =
@@ -22,5 +22,5 @@ returns g c =
       prices = c.run_bound.new.prices_file;
       roster = c.run_bound.new.roster_file;
     } in
-    ran c.in_ok-opened.ensures.all c.in_ok-opened.opened left c.in_ok-opened.ensures.open c.question_of-question.result c.question_of-question.ensures
+    ran c.in_ok-opened.ensures.opened.all c.in_ok-opened.opened left c.in_ok-opened.ensures.opened.are_open c.question_of-question.result c.question_of-question.ensures
     c.run_bound.ensures.outcome

@@ -1,4 +1,4 @@
-use Rattle.opb_text.proofs.LogicWords.{puts_exit, puts_stop, puts_then}
+use Rattle.text_sink.proofs.LogicWords.{puts_exit, puts_stop, puts_then}
 use Rattle.bound_run.specs.BoundText.{optimal_line, penalty_line}
 use Rattle.bound_run.proofs.bound_text.put_answer.Goals as goal
 

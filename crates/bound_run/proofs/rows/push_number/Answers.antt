@@ -1,6 +1,6 @@
 use Rattle.std.proofs.Common.{◌≡◌, ◌∙◌, arith}
 use Rattle.rota_core.specs.Numeral.{numeral}
-use Rattle.opb_text.proofs.StdNumerals.{numeral_is}
+use Rattle.text_sink.proofs.StdNumerals.{numeral_is}
 use Rattle.bound_run.proofs.RowTexts.{items_if_ok}
 use Rattle.bound_run.proofs.rows.push_number.Goals as goal
 

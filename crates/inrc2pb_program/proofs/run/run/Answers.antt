@@ -29,8 +29,8 @@ pub returns : goal.returns
 returns g c =
     performed c.in_ok-job.job c.in_ok-job.ensures.ok c.place.new.self
     (record {
-      path = c.in_ok-place.ensures.path ∙ c.output_path.ensures;
-      sound = c.in_ok-place.ensures.sound;
-      unwritten = c.in_ok-place.ensures.unwritten;
+      path = c.in_ok-place.ensures.placed.path ∙ c.output_path.ensures;
+      sound = c.in_ok-place.ensures.placed.sound;
+      unwritten = c.in_ok-place.ensures.placed.unwritten;
     })
     c.perform.result c.perform.ensures c.ended.ensures

@@ -1,7 +1,7 @@
 use Rattle.std.proofs.Common.{ℕ, ◌-◌, ◌+◌, ◌∙◌, ap, refl, arith}
 use Rattle.std.specs.Prelude.{Option}
 use Rattle.rota_core.specs.InstanceTables.{problem_of}
-use Rattle.rota_core.specs.Limits.{DAYS}
+use Rattle.rota_core.specs.Sizes.{DAYS}
 use Rattle.rota_core.specs.PriceTables.{prices_of}
 use Rattle.rota_bound.specs.ChosenDuties.{best_duties}
 use Rattle.rota_bound.specs.DayCharges.{day_charge, past_after}

@@ -1,7 +1,7 @@
 use Rattle.std.proofs.Common.{◌≡◌, ◌≤◌, ◌+◌, ◌*◌, ◌-◌, ◌++◌}
 use Rattle.rota_core.specs.InstanceTables.{problem_of}
 use Rattle.rota_core.specs.PriceTables.{prices_of}
-use Rattle.rota_core.specs.Limits.{DAYS}
+use Rattle.rota_core.specs.Sizes.{DAYS}
 use Rattle.rota_bound.specs.CheapestWeeks.{cost_of, paid_for}
 use Rattle.rota_bound.specs.ChosenDuties.{best_duties}
 use Rattle.rota_bound.specs.KnownCosts.{AreRight}

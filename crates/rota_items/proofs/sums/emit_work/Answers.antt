@@ -6,4 +6,4 @@ returns g c =
     let w = c.args in
     let given = rw (to_z-of_z w64 c.coefficient.result (search rules), c.coefficient.ensures) at c.emit_range.ensures in
     rw (work_cells-range (problem_of w.instance.now) (coefficient_of w.sign) w.nurse w.day)
-    (rw (c.first_var_on-first.ensures.number, c.from.ensures, c.shifts.ensures.count, c.from-2.ensures, c.skills.ensures.count) at given)
+    (rw (c.first_var_on-first.ensures.number, c.cells_of_day.ensures.count) at given)

@@ -1,6 +1,6 @@
 use Rattle.std.proofs.Common.{refl, rules, arith, length-take, ◌∙◌}
 use Rattle.std.proofs.lemmas.Result.{err_from_is_err_and}
-use Rattle.opb_text.proofs.LogicWords.{or_false}
+use Rattle.text_sink.proofs.LogicWords.{or_false}
 use Rattle.rota_pb.specs.RunPorts.{reader_of}
 use Rattle.rota_pb.proofs.Feeding.{taken_nothing, taken_more, fault_taken}
 use Rattle.rota_pb.proofs.answer_pieces.feed_all.Goals as goal

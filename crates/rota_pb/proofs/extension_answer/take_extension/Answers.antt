@@ -3,7 +3,7 @@ use Rattle.std.proofs.lemmas.Result.{MatchResult-weaker}
 use Rattle.rota_core.specs.InstanceTables.{problem_of}
 use Rattle.rota_core.specs.RosterTables.{set_of}
 use Rattle.rota_items.specs.ExtensionTruths.{extension_truths}
-use Rattle.opb_text.proofs.LogicWords.{puts_same}
+use Rattle.text_sink.proofs.LogicWords.{puts_same}
 use Rattle.opb_text.proofs.TakenEvents.{events_put_text, took_events_keep}
 use Rattle.solver_text.specs.AnswerWriter.{literals_text, writer_sink}
 use Rattle.rota_pb.specs.ExtensionAnswer.{WriterState, answer_writer, literal_texts, writer_state_of}

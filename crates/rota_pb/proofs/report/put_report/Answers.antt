@@ -1,7 +1,7 @@
 use Rattle.std.proofs.Common.{refl}
 use Rattle.std.specs.Prelude.{codes}
 use Rattle.rota_pb.specs.Report.{cost_lines, last_o_line, number_line}
-use Rattle.opb_text.proofs.LogicWords.{puts_exit, puts_same, puts_stop, puts_then}
+use Rattle.text_sink.proofs.LogicWords.{puts_exit, puts_same, puts_stop, puts_then}
 use Rattle.rota_pb.proofs.report.put_report.Goals as goal
 
 pub returns-in_err-put_status_line-clause-takes : goal.returns-in_err-put_status_line-clause-takes

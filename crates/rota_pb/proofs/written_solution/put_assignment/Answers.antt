@@ -1,4 +1,4 @@
-use Rattle.opb_text.proofs.LogicWords.{puts_same}
+use Rattle.text_sink.proofs.LogicWords.{puts_same}
 use Rattle.rota_pb.proofs.SolutionPieces.{name_at-is, assignment-pieces}
 use Rattle.rota_pb.proofs.written_solution.put_assignment.Goals as goal
 

@@ -7,7 +7,7 @@ use Rattle.rota_core.specs.RosterCells.{cells_of}
 use Rattle.rota_core.specs.RosterTables.{set_of}
 use Rattle.rota_core.proofs.LogicWords.{AllByRecursion-back, all-weaker}
 use Rattle.rota_read.specs.SolutionText.{rows_text}
-use Rattle.opb_text.proofs.LogicWords.{puts_exit, puts_same, puts_stop, puts_then}
+use Rattle.text_sink.proofs.LogicWords.{puts_exit, puts_same, puts_stop, puts_then}
 use Rattle.rota_pb.proofs.SinkLoops.{puts_nothing}
 use Rattle.rota_pb.proofs.SolutionPieces.{rows-more, rows-left}
 use Rattle.rota_pb.proofs.written_solution.put_assignments.Goals as goal

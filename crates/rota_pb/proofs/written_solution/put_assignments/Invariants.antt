@@ -3,7 +3,7 @@ use Rattle.rota_core.specs.InstanceTables.{problem_of}
 use Rattle.rota_core.specs.RosterCells.{cells_of}
 use Rattle.rota_core.specs.RosterTables.{set_of}
 use Rattle.rota_read.specs.SolutionText.{rows_text}
-use Rattle.opb_text.specs.Sink.{PutsText}
+use Rattle.text_sink.specs.Sink.{PutsText}
 use Rattle.rota_pb.proofs.written_solution.put_assignments.Given as goal
 
 -- the rows of the cells so far are written, and the others are left

@@ -1,5 +1,5 @@
 use Rattle.std.proofs.Common.{◌∙◌}
-use Rattle.opb_text.proofs.LogicWords.{puts_same}
+use Rattle.text_sink.proofs.LogicWords.{puts_same}
 use Rattle.rota_pb.proofs.SolutionPieces.{heading-pieces}
 use Rattle.rota_pb.proofs.written_solution.put_heading.Goals as goal
 

@@ -3,7 +3,7 @@ use Rattle.rota_core.specs.InstanceTables.{problem_of}
 use Rattle.rota_core.specs.RosterTables.{set_of}
 use Rattle.rota_core.specs.RosterCells.{cells_of}
 use Rattle.rota_read.specs.SolutionText.{text_of_cells}
-use Rattle.opb_text.proofs.LogicWords.{puts_exit, puts_stop, puts_then}
+use Rattle.text_sink.proofs.LogicWords.{puts_exit, puts_stop, puts_then}
 use Rattle.rota_read.specs.SolutionText.{rows_text}
 use Rattle.rota_pb.proofs.written_solution.put_solution.Goals as goal
 

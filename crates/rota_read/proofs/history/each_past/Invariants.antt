@@ -1,5 +1,5 @@
 use Rattle.std.proofs.Common.{◌≡◌, map, take, unwrap_or}
-use Rattle.rota_core.specs.Problem.{no_past}
+use Rattle.rota_core.specs.Defaults.{no_past}
 use Rattle.rota_read.proofs.history.each_past.Given as goal
 
 abbrev pub invariant-loop-past : goal.invariant-loop-past

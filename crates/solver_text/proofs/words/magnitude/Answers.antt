@@ -5,7 +5,7 @@ use Rattle.std.proofs.lemmas.Int.{to_z_pos}
 use Rattle.std.proofs.lemmas.List.{take_all}
 use Rattle.std.proofs.lemmas.Bool.{lt-ltb, le-leb}
 use Rattle.std.specs.Option.{option_map_or}
-use Rattle.rota_core.specs.Numeral.{decimal, is_decimal}
+use Rattle.rota_core.specs.Decimal.{decimal, is_decimal}
 use Rattle.solver_text.specs.Answers.{magnitude_of}
 use Rattle.solver_text.proofs.words.magnitude.Goals as goal
 

@@ -1,5 +1,5 @@
 use Rattle.std.proofs.Common.{◌≡◌, ◌^◌, ◌<◌, true, take}
-use Rattle.rota_core.specs.Numeral.{is_decimal, decimal}
+use Rattle.rota_core.specs.Decimal.{is_decimal, decimal}
 use Rattle.solver_text.proofs.words.magnitude.Given as goal
 
 abbrev pub invariant-loop-b : goal.invariant-loop-b

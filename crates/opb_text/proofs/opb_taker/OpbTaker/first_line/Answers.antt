@@ -2,7 +2,7 @@ use Rattle.std.proofs.Common.{◌≡◌, ℕ, [], ◌++◌, append_assoc}
 use Rattle.std.specs.Prelude.{codes}
 use Rattle.rota_core.specs.Numeral.{numeral}
 use Rattle.opb_text.specs.ModelText.{first_line}
-use Rattle.opb_text.proofs.LogicWords.{puts_exit, puts_same, puts_stop, puts_then}
+use Rattle.text_sink.proofs.LogicWords.{puts_exit, puts_same, puts_stop, puts_then}
 use Rattle.opb_text.proofs.opb_taker.OpbTaker.first_line.Goals as goal
 
 -- the first number with the text before and after it, and then the second number

@@ -4,7 +4,7 @@ use Rattle.std.specs.Prelude.{codes, nat_abs}
 use Rattle.std.proofs.lemmas.Int.{ints, to_z-of_z}
 use Rattle.rota_core.specs.Numeral.{numeral}
 use Rattle.opb_text.specs.ModelText.{coefficient_text, term_text}
-use Rattle.opb_text.proofs.LogicWords.{puts_exit, puts_same, puts_stop, puts_then}
+use Rattle.text_sink.proofs.LogicWords.{puts_exit, puts_same, puts_stop, puts_then}
 use Rattle.opb_text.proofs.opb_taker.OpbTaker.weighted_term.Given.{Over}
 use Rattle.opb_text.proofs.opb_taker.OpbTaker.weighted_term.Goals.{After-unsigned_abs, then-coefficient-lt0, else-coefficient-lt0}
 use Rattle.opb_text.proofs.opb_taker.OpbTaker.weighted_term.Goals as goal

@@ -1,6 +1,6 @@
 use Rattle.std.proofs.Common.{◌<◌, ap, subst, sym, ◌∙◌}
 use Rattle.rota_core.specs.InstanceTables.{problem_of}
-use Rattle.rota_core.specs.RosterTables.{cell_index, cell_count}
+use Rattle.rota_core.specs.CellIndex.{cell_index, cell_count}
 use Rattle.rota_core.proofs.CellIndices.{cell_index-lt}
 use Rattle.rota_core.proofs.instance.Instance.index_of.Goals as goal
 

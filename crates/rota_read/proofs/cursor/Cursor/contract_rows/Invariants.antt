@@ -1,6 +1,7 @@
 use Rattle.std.proofs.Common.{◌≡◌, ◌-◌, ◌+◌, length}
 use Rattle.rota_core.specs.Parts.{bytes_of}
-use Rattle.rota_read.specs.ScenarioRows.{contract_row, contracts_of}
+use Rattle.rota_read.specs.ScenarioLayout.{contract_row}
+use Rattle.rota_read.specs.ScenarioRows.{contracts_of}
 use Rattle.rota_read.specs.Layout.{repeat}
 use Rattle.rota_read.specs.Reading.{read_layout}
 use Rattle.rota_read.proofs.cursor.Cursor.contract_rows.Given as goal

@@ -1,5 +1,0 @@
-use Rattle.opb_text.proofs.OneModel as one
-use Rattle.opb_text.proofs.text_laws.each_text_spells_one_model.Goals as goal
-
-pub returns : goal.returns
-returns c = one.each_text_spells_one_model c.numerals_read_back.ensures

@@ -1,5 +1,0 @@
-use Rattle.opb_text.proofs.RowTexts as rows
-use Rattle.opb_text.proofs.text_laws.events_spell_their_model.Goals as goal
-
-pub returns : goal.returns
-returns c = rows.events_spell_their_model

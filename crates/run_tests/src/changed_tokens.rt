@@ -1,0 +1,212 @@
+//! Files in which each token is replaced, preceded or cut off by each of these words. No fault is called a lack of
+//! memory. `tests/random/changed_tokens.py` finds the same numbers of faults with the helpers' readers.
+use crate::changes::{Base, texts_of};
+use crate::file_faults::read_tables;
+use crate::jobs::Kind as JobKind;
+use rota_core::{FileFault, FileName, Instance, Kind};
+use rota_read::{read_fixed, read_history, read_prices, read_scenario, read_solution, read_week};
+use std::alloc::{AllocError, Global};
+use std::process::Abort;
+use std::test::Fail;
+
+// In these files one space or end of line follows each token.
+const SCENARIO: &[u8] = b"SCENARIO = s1
+WEEKS = 2
+SKILLS = 2
+Nurse Head
+SHIFT_TYPES = 2
+Early ( 1 , 9 )
+Late ( 1 , 9 )
+FORBIDDEN_SHIFT_TYPES_SUCCESSIONS
+Early 0
+Late 1 Early
+CONTRACTS = 2
+Full ( 1 , 9 ) ( 1 , 9 ) ( 1 , 9 ) 9 0
+Half ( 1 , 9 ) ( 1 , 9 ) ( 1 , 9 ) 9 1
+NURSES = 2
+Ann Full 2 Head Nurse
+Bob Half 1 Nurse
+";
+
+const HISTORY: &[u8] = b"HISTORY
+0 s1
+NURSE_HISTORY
+Bob 1 2 Late 3 4 5
+Ann 9999 0 None 0 0 6
+";
+
+const WEEK: &[u8] = b"WEEK_DATA
+s1
+REQUIREMENTS
+Late Head ( 0 , 1 ) ( 0 , 1 ) ( 0 , 1 ) ( 0 , 1 ) ( 0 , 1 ) ( 0 , 1 ) ( 0 , 1 )
+Early Head ( 0 , 1 ) ( 0 , 1 ) ( 0 , 1 ) ( 0 , 1 ) ( 0 , 1 ) ( 0 , 1 ) ( 0 , 1 )
+SHIFT_OFF_REQUESTS = 2
+Ann Early Mon
+Bob Any Sun
+";
+
+const SOLUTION: &[u8] = b"SOLUTION
+0 s1
+ASSIGNMENTS = 2
+Ann Mon Early Nurse
+Bob Mon Early Nurse
+";
+
+const PRICES: &[u8] = b"PRICES
+s1
+ROWS = 2
+Late Head 0 0 0 22500 0 0 999999999
+Early Head 1 2 3 4 5 6 7
+";
+
+const BASE: Base = Base {
+    kind: JobKind::Extend,
+    early: false,
+    inputs: [SCENARIO, HISTORY, WEEK, b"", SOLUTION],
+};
+
+const WORDS: &str =
+    "( ) , = 0 1 2 9 10 16 17 52 64 1000 9999 10000 999999999 1000000000 4294967296 007 -1 +1 1.5 \
+    none None Any SCENARIO SHIFT_OFF_REQUESTS ROWS s1 Early Late Nurse Head Full Ann Bob Mon Sun";
+
+fn is_blank(byte: &u8) -> bool {
+    *byte == b' ' || *byte == b'\n'
+}
+
+// The tokens before the one with this number, the word, and the tokens from number `rest` on.
+fn changed(
+    alloc: Global,
+    text: &[u8],
+    number: usize,
+    word: &str,
+    rest: usize,
+) -> Result<Vec<u8>, AllocError> {
+    let mut made = Vec::new(alloc);
+    for token in text.split_inclusive(is_blank).take(number) {
+        made.extend_from_slice(token)?;
+    }
+    made.extend_from_slice(word.as_bytes())?;
+    made.push(b' ')?;
+    for token in text.split_inclusive(is_blank).skip(rest) {
+        made.extend_from_slice(token)?;
+    }
+    Ok(made)
+}
+
+// The fault of a file that goes with the instance.
+fn fault_of(alloc: Global, instance: &Instance, file: FileName, text: &[u8]) -> Option<FileFault> {
+    let scenario = instance.scenario();
+    match file {
+        FileName::Scenario => read_scenario(alloc, text).err(),
+        FileName::History => read_history(alloc, scenario, text).err(),
+        FileName::Week => read_week(alloc, scenario, text).err(),
+        FileName::Solution => read_solution(alloc, instance, text).err(),
+        FileName::Fixed => read_fixed(alloc, instance, text).err(),
+        FileName::Prices => read_prices(alloc, scenario, text).err(),
+    }
+}
+
+// A file, and the numbers of its changed texts that have no fault, and that have a fault of each kind: `Ended`, `OtherWord`,
+// `NoNumber`, `Limit`, `Unknown`, `Repeated` and `Trailing`. The last number is the sum of the faults' lines.
+type Ends = (FileName, &'static [u8], [u64; 9]);
+
+const ENDS: [Ends; 5] = [
+    (
+        FileName::Scenario,
+        SCENARIO,
+        [388, 627, 4932, 2029, 603, 1090, 37, 122, 97156],
+    ),
+    (
+        FileName::History,
+        HISTORY,
+        [187, 164, 341, 768, 132, 474, 4, 153, 8280],
+    ),
+    (
+        FileName::Week,
+        WEEK,
+        [439, 459, 5676, 2030, 348, 1103, 2, 122, 46155],
+    ),
+    (
+        FileName::Solution,
+        SOLUTION,
+        [66, 82, 503, 139, 24, 817, 2, 122, 6387],
+    ),
+    (
+        FileName::Prices,
+        PRICES,
+        [255, 247, 441, 1040, 96, 509, 2, 218, 10533],
+    ),
+];
+
+// The number of a kind in `Ends`. No text here has the week number of a later week.
+fn number_of(kind: Kind) -> usize {
+    match kind {
+        Kind::Ended => 1,
+        Kind::OtherWord => 2,
+        Kind::NoNumber => 3,
+        Kind::Limit => 4,
+        Kind::Unknown => 5,
+        Kind::Repeated => 6,
+        Kind::Trailing | Kind::LateWeek => 7,
+    }
+}
+
+fn add(ends: &mut [u64; 9], number: usize, count: u64) {
+    if let Some(end) = ends.get_mut(number) {
+        *end = end.saturating_add(count);
+    }
+}
+
+// Counts the end of a text.
+fn count_end(
+    rt: &impl Abort,
+    alloc: Global,
+    instance: &Instance,
+    (file, text): (FileName, &[u8]),
+    ends: &mut [u64; 9],
+) {
+    match fault_of(alloc, instance, file, text) {
+        None => add(ends, 0, 1),
+        Some(FileFault::Bad { kind, line, .. }) => {
+            add(ends, number_of(kind), 1);
+            add(ends, 8, u64::from(line));
+        }
+        Some(FileFault::Memory) => panic!(rt; "{file}: {text:?}"),
+    }
+}
+
+// The ends of all changes of a file. Each word also follows its last token.
+fn ends_of(
+    rt: &impl Abort,
+    alloc: Global,
+    instance: &Instance,
+    file: FileName,
+    text: &[u8],
+) -> Result<[u64; 9], AllocError> {
+    let count = text.split_inclusive(is_blank).count();
+    let mut ends = [0; 9];
+    for number in 0..=count {
+        for word in WORDS.split(' ') {
+            for rest in [number.saturating_add(1), number, count] {
+                let made = changed(alloc, text, number, word, rest)?;
+                count_end(rt, alloc, instance, (file, &made), &mut ends);
+            }
+        }
+    }
+    Ok(ends)
+}
+
+#[test]
+fn each_token_changed(rt: HostRuntime) -> Result<(), Fail> {
+    let texts = texts_of(rt.alloc(), &BASE, &[])?;
+    match read_tables(rt.alloc(), &texts, false) {
+        Ok(instance) => {
+            for (file, text, wanted) in ENDS {
+                let ends = ends_of(&rt, rt.alloc(), &instance, file, text)?;
+                assert_eq!(rt; ends, wanted, "{file}");
+            }
+            Ok(())
+        }
+        Err(fault) => panic!(rt; "{fault}"),
+    }
+}

@@ -1,5 +1,0 @@
-use Rattle.solver_text.proofs.AnswerRows.{written-answer_text}
-use Rattle.solver_text.proofs.answer_laws.calls_write_the_answer.Goals as goal
-
-pub returns : goal.returns
-returns c = written-answer_text

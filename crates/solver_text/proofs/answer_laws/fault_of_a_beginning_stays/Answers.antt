@@ -1,5 +1,0 @@
-use Rattle.solver_text.proofs.StayLaws.{fault-stays}
-use Rattle.solver_text.proofs.answer_laws.fault_of_a_beginning_stays.Goals as goal
-
-pub returns : goal.returns
-returns c = fault-stays

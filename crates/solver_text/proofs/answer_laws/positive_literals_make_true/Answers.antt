@@ -1,5 +1,0 @@
-use Rattle.solver_text.proofs.TruthLaws.{true-by_literal}
-use Rattle.solver_text.proofs.answer_laws.positive_literals_make_true.Goals as goal
-
-pub returns : goal.returns
-returns c = true-by_literal
