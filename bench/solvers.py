@@ -29,6 +29,8 @@ EXAMPLES = ROOT / "examples"
 # Last weeks of planned periods, with the numbers of their files, and the nurses of the large wards.
 LAST_WEEKS = {"last12": 3, "last60": 3, "last120": 3, "second60": 1, "second120": 1}
 LARGE = (250, 500, 1000)
+# The nurses of wide weeks, the number of their shift types and skills, and the seed.
+WIDE = ((100, 8, 1),)
 
 
 class Run(NamedTuple):
@@ -57,14 +59,17 @@ def weeks(folder: Path) -> Dict[str, WeekFiles]:
         home = EXAMPLES / name
         found[name] = WeekFiles(home / "ward.txt", home / f"history-{number}.txt", home / f"week-{number}.txt")
     for nurses in LARGE:
-        subprocess.run([sys.executable, str(EXAMPLES / "make_weeks.py"), str(folder), str(nurses)], check=True)
+        subprocess.run([sys.executable, str(ROOT / "bench/make_weeks.py"), str(folder), str(nurses)], check=True)
         found[f"{nurses} nurses"] = named(folder / f"ward{nurses}", f"ward{nurses}", 3)
+    for nurses, kinds, seed in WIDE:
+        subprocess.run([sys.executable, str(ROOT / "bench/wide_weeks.py"), str(folder), str(nurses), str(kinds), str(seed)], check=True)
+        found[f"{nurses} nurses, {kinds} x {kinds}"] = named(folder / f"wide{kinds}x{seed}", "wide", 3)
     return found
 
 
 def named(home: Path, name: str, number: int) -> WeekFiles:
     """The files of a week with the competition's names."""
-    return WeekFiles(home / f"Sc-{name}.txt", home / f"H0-{name}-{number}.txt", home / f"WD-{name}-{number}.txt")
+    return WeekFiles(home / "ward.txt", home / f"history-{number}.txt", home / f"week-{number}.txt")
 
 
 def run(files: WeekFiles, seconds: float, folder: Path) -> Run:

@@ -95,13 +95,6 @@ class Written(NamedTuple):
     requests: int
     certain: int
 
-    def warning(self) -> str:
-        """What the planner should know if the file has too few rows to be certain; else nothing."""
-        if self.requests >= self.certain:
-            return ""
-        room = f"the file has room for {self.requests} requests for each absence, and {self.certain} would be certain for each solver"
-        return f"{room}: nothing to do if you plan with inrc2pb-improve or inrc2pb-period, which keep absences like hard rules"
-
 
 class TooMany(Exception):
     """More absences than the requests of a week's file allow."""

@@ -2,6 +2,7 @@
 
 import threading
 import time
+from typing import Optional
 
 
 class TimeIsOver(Exception):
@@ -11,31 +12,29 @@ class TimeIsOver(Exception):
 class Clock:
     """Some seconds from now on. `part` gives a part of them, which ends at the latest with the whole."""
 
-    def __init__(self, seconds: float) -> None:
+    def __init__(self, seconds: float, whole: "Optional[Clock]" = None) -> None:
         self.began = time.monotonic()
         self.limit = self.began + seconds
-        self._stopped = threading.Event()
+        self._stopped, self._whole = threading.Event(), whole
 
     def part(self, seconds: float) -> "Clock":
         """A clock for at most these seconds."""
-        clock = Clock(max(0.0, min(seconds, self.left())))
-        clock._stopped = self._stopped
-        return clock
+        return Clock(max(0.0, min(seconds, self.left())), self)
 
     def stop(self) -> None:
-        """The time is over now, also for the parts."""
+        """The time is over now, also that of the parts."""
         self._stopped.set()
 
     @property
     def stopped(self) -> bool:
-        """Whether it was stopped."""
-        return self._stopped.is_set()
+        """Whether it was stopped, or the whole was."""
+        return self._stopped.is_set() or (self._whole is not None and self._whole.stopped)
 
     def left(self) -> float:
         """The seconds that are left, 0 if it was stopped."""
-        return 0.0 if self._stopped.is_set() else max(0.0, self.limit - time.monotonic())
+        return 0.0 if self.stopped else max(0.0, self.limit - time.monotonic())
 
     def check(self) -> None:
         """Raises TimeIsOver if no time is left."""
-        if self._stopped.is_set() or time.monotonic() >= self.limit:
+        if self.stopped or time.monotonic() >= self.limit:
             raise TimeIsOver

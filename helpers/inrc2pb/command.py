@@ -11,7 +11,7 @@ from pathlib import Path
 from typing import Callable, Dict, Optional, Sequence, TextIO
 
 from .arguments import parser
-from .faults import FileFault, Misuse, ProgramFault, fault_line
+from .faults import FileFault, FileFaults, Misuse, ProgramFault, fault_line
 from .program import FAULT, OUT_OF_MEMORY, READ_OR_WRITE, WeekFiles
 
 __all__ = ["add_solver_option", "add_week_options", "check_seconds", "number_of_seconds", "parser", "run", "week_files"]
@@ -19,8 +19,8 @@ __all__ = ["add_solver_option", "add_week_options", "check_seconds", "number_of_
 # The exit statuses with which a shell reports that the signals PIPE and INT ended a command; that of another signal is its number more
 # than the base.
 BROKEN_PIPE, INTERRUPTED, SIGNAL_BASE = 141, 130, 128
-# The most seconds of a search.
-MAX_SECONDS = 10_000_000
+# The most seconds of a search, and the most faults of a file that are reported together.
+MAX_SECONDS, MAX_FAULTS = 10_000_000, 20
 
 
 def number_of_seconds(text: str) -> float:
@@ -108,12 +108,12 @@ def _standard_error(stream: Optional[TextIO]) -> TextIO:
 
 
 def run(main: Callable[[], Optional[int]]) -> None:
-    """Runs a helper and exits: faults are one line on standard error, with status 1 or the program's own."""
+    """Runs a helper and exits: each fault is one line on standard error, with status 1 or the program's own."""
     name = os.path.basename(sys.argv[0])
-    _catch_signals()
     sys.stdout = _standard_output(sys.stdout)
     sys.stderr = _standard_error(sys.stderr)
     try:
+        _catch_signals()
         status = main() or 0
         sys.stdout.flush()
     except BrokenPipeError:
@@ -128,6 +128,12 @@ def run(main: Callable[[], Optional[int]]) -> None:
         print(f"{name}: {fault_line(fault)}", file=sys.stderr)
         status = READ_OR_WRITE if isinstance(fault, OSError) else FAULT
         _drop_output()
+    except FileFaults as several:
+        for one in several.faults[:MAX_FAULTS]:
+            print(f"{name}: {fault_line(one)}", file=sys.stderr)
+        if len(several.faults) > MAX_FAULTS:
+            print(f"{name}: and {len(several.faults) - MAX_FAULTS} more such faults", file=sys.stderr)
+        status = FAULT
     except MemoryError:
         print(f"{name}: out of memory", file=sys.stderr)
         status = OUT_OF_MEMORY

@@ -1,8 +1,9 @@
-"""The faults that a helper reports in one line, and the advice that the line ends with."""
+"""The faults that a helper reports, each in one line, and the advice that the line ends with."""
 
+import contextlib
 import errno
 from pathlib import Path
-from typing import Union
+from typing import Iterator, List, Optional, Sequence, Type, Union
 
 # Advice after a fault of the operating system, by its number.
 _ADVICE = {
@@ -46,6 +47,36 @@ class FileFault(Exception):
     def __str__(self) -> str:
         where = f"{self.path} line {self.line}" if self.line else f"{self.path}"
         return f"{where}: {self.message}"
+
+
+class FileFaults(Exception):
+    """Several faults of a file, which are reported together."""
+
+    def __init__(self, faults: Sequence[FileFault]) -> None:
+        super().__init__(faults)
+        self.faults = faults
+
+
+class Gathering:
+    """A block at whose end the faults of its steps are raised together."""
+
+    def __init__(self) -> None:
+        self._found: List[FileFault] = []
+
+    def __enter__(self) -> "Gathering":
+        return self
+
+    @contextlib.contextmanager
+    def step(self) -> Iterator[None]:
+        """A fault within this step is kept for the end of the block."""
+        try:
+            yield
+        except FileFault as fault:
+            self._found.append(fault)
+
+    def __exit__(self, kind: Optional[Type[BaseException]], *_: object) -> None:
+        if kind is None and self._found:
+            raise FileFaults(self._found) if len(self._found) > 1 else self._found[0]
 
 
 class ProgramFault(Exception):

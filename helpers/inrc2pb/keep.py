@@ -1,7 +1,6 @@
 """Keeps rows of a roster, by day or nurse, for `--fix`, and days off, as absences in a copy of the week's file."""
 
 import argparse
-import sys
 from pathlib import Path
 from typing import Collection, Iterable, Iterator, List, Optional, Sequence
 
@@ -70,8 +69,6 @@ def _week_text(week: Path, scenario: Scenario, nurses: Sequence[str], days: Sequ
         written = with_absences(scenario, read_week(week, scenario), days_off(nurses or list(scenario.nurses), days or range(len(DAYS)), rows))
     except TooMany as fault:
         raise Misuse(f"{week}: {fault}: give fewer days or nurses") from fault
-    if written.warning():
-        print(f"inrc2pb-keep: {written.warning()}", file=sys.stderr)
     return week_text(written.data)
 
 

@@ -16,7 +16,9 @@ MAX_FAULTS = 3
 # An answer beyond it is none.
 _MAX_VALUE = 1e15
 # With more rows of places and crews than this, cbc's simplex is faster after its "idiot" crash: nine times with 1800 of them.
-LARGE, LARGE_WORDS = 1500, ("-idiot", "30", "-primalSimplex")
+LARGE = 1500
+# With more whole columns than this, cbc's own heuristics take longer than its search.
+MANY = 500
 # Seconds that cbc has beyond its own limit to write its answer.
 _WRITING = 1.0
 
@@ -26,11 +28,13 @@ class SolverFault(Misuse):
 
 
 class Relaxed(NamedTuple):
-    """An optimal solution of a linear program: its value, and by name the values that are not 0 and the prices of the rows."""
+    """An optimal solution of a linear program: its value, and by name the values that are not 0, the prices of the rows, and by how much
+    one of each other row of a nurse would raise the value."""
 
     value: float
     taken: Dict[str, float]
     prices: Dict[str, float]
+    rises: Dict[str, float]
 
 
 class Chosen(NamedTuple):
@@ -48,10 +52,11 @@ class LinearSolver:
     chooses: bool = False
 
     def __init__(self, processes: Processes, folder: Path) -> None:
-        self._processes, self._model, self._answer = processes, folder / "rows.mps", folder / "rows.sol"
+        self._processes, self._model, self._answer, self._basis = processes, folder / "rows.mps", folder / "rows.sol", folder / "rows.bas"
 
-    def relax(self, model: str, clock: Clock) -> Relaxed:
-        """Solves a linear program. A wrong answer is a SolverFault if it shows."""
+    def relax(self, model: str, clock: Clock, goes_on: bool = False) -> Relaxed:
+        """Solves a linear program. If it `goes_on`, it begins at the solution of the last one, by the names that both have. A wrong
+        answer is a SolverFault if it shows."""
         raise NotImplementedError
 
     def choose(self, model: str, clock: Clock, cutoff: Optional[int], step: int) -> Chosen:
@@ -61,6 +66,10 @@ class LinearSolver:
     def beside(self, number: int) -> "LinearSolver":
         """The same solver with files of its own, so that it can run at the same time; the number is above 0."""
         raise NotImplementedError
+
+    def end_all(self) -> None:
+        """Ends what runs now, also in the solvers beside this one."""
+        self._processes.end_running()
 
     def _run(self, model: str, words: Sequence[str], clock: Clock, seconds: float) -> Ended:
         self._model.write_text(model)
@@ -100,27 +109,35 @@ class Coin(LinearSolver):
         super().__init__(processes, folder)
         self.name, self.chooses = name, name == "cbc"
 
-    def relax(self, model: str, clock: Clock) -> Relaxed:
-        large = model.count("\n G  ") > LARGE
-        words = [self._model.name, *(LARGE_WORDS if large else ["-initialSolve" if self.name == "cbc" else "-dualsimplex"])]
-        ended = self._run(model, [*words, "-printingOptions", "all", "-solution", self._answer.name], clock, clock.left())
+    def relax(self, model: str, clock: Clock, goes_on: bool = False) -> Relaxed:
+        if model.count("\n G  ") > LARGE:
+            how = ["-idiot", "30", "-primalSimplex"]
+        elif goes_on and self._basis.exists():
+            how = ["-basisIn", self._basis.name, "-primalSimplex"]
+        else:
+            how = ["-initialSolve" if self.name == "cbc" else "-dualsimplex"]
+        words = [self._model.name, *how, "-basisOut", self._basis.name, "-printingOptions", "all", "-solution", self._answer.name]
+        ended = self._run(model, words, clock, clock.left())
         clock.check()
         head, *lines = self._lines(ended)
         if "ptimal" not in head:
             raise SolverFault(f"{self.name} found no solution: {head[:60]}")
-        taken, prices = {}, {}
+        found = Relaxed(_number(head.split()[-1], self.name), {}, {}, {})
         for name, value, price in self._entries(lines, 4):
             if name[0] in "cn":
-                prices[name] = _number(price, self.name)
+                found.prices[name] = _number(price, self.name)
             elif value != "0":
-                taken[name] = _number(value, self.name)
-        return Relaxed(_number(head.split()[-1], self.name), taken, prices)
+                found.taken[name] = _number(value, self.name)
+            elif name[0] == "v":
+                found.rises[name] = _number(price, self.name)
+        return found
 
     def choose(self, model: str, clock: Clock, cutoff: Optional[int], step: int) -> Chosen:
         most = [] if cutoff is None else ["cutoff", f"{cutoff + 0.5}"]
         seconds = clock.left()
         words = [self._model.name, "sec", f"{seconds:.1f}", "timem", "elapsed", *most, "ratio", "0", "allow", f"{step - 0.1}", "increment", f"{step - 0.1}"]
-        ended = self._run(model, [*words, "solve", "solution", self._answer.name], clock, seconds + _WRITING)
+        how = ["-heuristicsOnOff", "off"] if model.count("\n BV ") > MANY else []
+        ended = self._run(model, [*words, *how, "solve", "solution", self._answer.name], clock, seconds + _WRITING)
         late = clock.left() < seconds / 2
         if ended.timed_out:
             return Chosen(None, False)
@@ -146,12 +163,12 @@ class Glpsol(LinearSolver):
 
     name = "glpsol"
 
-    def relax(self, model: str, clock: Clock) -> Relaxed:
+    def relax(self, model: str, clock: Clock, goes_on: bool = False) -> Relaxed:
         words = ["--nomip", self._model.name, "-w", self._answer.name]
         ended = self._run(model, words, clock, clock.left())
         clock.check()
         rows, columns = _names(model)
-        value, taken, prices = math.nan, {}, {}
+        value, found = math.nan, Relaxed(0, {}, {}, {})
         for line in self._lines(ended):
             kind, *words = line.split() or [""]
             if line.startswith("c Objective:"):
@@ -161,10 +178,12 @@ class Glpsol(LinearSolver):
             elif kind in ("i", "j") and len(words) == 4 and words[0].isdigit() and 0 < int(words[0]) <= len(rows if kind == "i" else columns):
                 name = (rows if kind == "i" else columns)[int(words[0]) - 1]
                 if kind == "i":
-                    prices[name] = _number(words[3], self.name)
+                    found.prices[name] = _number(words[3], self.name)
                 elif words[2] != "0":
-                    taken[name] = _number(words[2], self.name)
-        return Relaxed(_number(str(value), self.name), taken, prices)
+                    found.taken[name] = _number(words[2], self.name)
+                elif name[0] == "v":
+                    found.rises[name] = _number(words[3], self.name)
+        return found._replace(value=_number(str(value), self.name))
 
 
 def _names(model: str) -> "tuple[List[str], List[str]]":
@@ -206,11 +225,11 @@ class LinearSolvers(LinearSolver):
         """Whether it solves integer programs well enough."""
         return self._others[0].chooses
 
-    def relax(self, model: str, clock: Clock) -> Relaxed:
+    def relax(self, model: str, clock: Clock, goes_on: bool = False) -> Relaxed:
         """Solves a linear program."""
         while True:
             try:
-                found = self._others[0].relax(model, clock)
+                found = self._others[0].relax(model, clock, goes_on)
                 self._faults = 0
                 return found
             except SolverFault as fault:
@@ -231,6 +250,7 @@ class LinearSolvers(LinearSolver):
         return LinearSolvers([other.name for other in self._others], self._processes, folder, self._warn)
 
     def _blame(self, fault: SolverFault) -> None:
+        self._basis.unlink(missing_ok=True)
         self._faults += 1
         if self._faults < MAX_FAULTS:
             return

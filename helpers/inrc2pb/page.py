@@ -49,8 +49,7 @@ summary { cursor: pointer }
 .legend li { display: inline-block; margin-right: 1.4em }
 @page { size: A4 landscape; margin: 10mm }
 @media print {
-body { margin: 0; font-size: 9pt; max-width: none }
-td, th { background: none !important; color: #000 !important }
+body { margin: 0; font-size: 9pt; max-width: none; -webkit-print-color-adjust: exact; print-color-adjust: exact }
 section { overflow: visible }
 thead { display: table-header-group }
 .many { line-height: 1.15; margin: .2em 0 .4em }
@@ -67,9 +66,9 @@ RULES = {
 
 
 def _style(page: Content) -> Markup:
-    """The style, with the colors of the shift types on a screen."""
+    """The style, with the colors of the shift types. Browsers print them only if `print-color-adjust` says so."""
     colors = "".join(f".s{number} {{ background: {color}; color: {ink_on(color)} }}\n" for number, color in enumerate(COLORS))
-    return Markup(STYLE + f"@media screen {{\n{colors}}}\n")
+    return Markup(STYLE + colors)
 
 
 def title(page: Content) -> str:

@@ -4,7 +4,6 @@ import datetime
 from dataclasses import dataclass, field
 from typing import Dict, Iterator, List, Mapping, Optional, Sequence
 
-from .absences import Absence
 from .changes import Change, cells_text, changes
 from .coverage import Covered, coverage
 from .dates import Times, day_names
@@ -44,13 +43,6 @@ class Content:
     def marks(self, marks: str) -> str:
         """Those marks of a cell that the page shows."""
         return "".join(mark for mark in marks if mark == AWAY or not self.only_table)
-
-    def is_away(self, week: int, nurse: str, day: int) -> bool:
-        """Whether a nurse without a shift is away by the plan. If some work, and all others are away, the day was kept: nobody is named."""
-        away = self.view.weeks[week].absences
-        off = [one for one in self.view.nurses if not self.view.cells(week, one, day)]
-        is_kept = 1 < len(off) < len(self.view.nurses) and all(Absence(one, day, None) in away for one in off)
-        return Absence(nurse, day, None) in away and not is_kept
 
     @property
     def changes(self) -> List[Change]:
@@ -127,7 +119,7 @@ class RosterTable:
         cells = self.view.cells(week, nurse, day)
         change = self.changed.get((week, nurse, day))
         parts = [self._shift(cell) for cell in cells]
-        if not cells and self.page.is_away(week, nurse, day):
+        if not cells and self.view.is_away(week, nurse, day):
             parts.append(element("span", "away", class_="away"))
         elif not cells and change:
             parts.append(element("span", "off", class_="away"))

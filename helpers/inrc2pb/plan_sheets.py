@@ -5,12 +5,13 @@ import re
 from typing import Collection, Dict, Iterator, List, NamedTuple, Optional, Tuple
 
 from .absences import Absence, is_broken_by, readable
+from .faults import Gathering
 from .hints import plural
 from .records import DAYS, Assignment, Place, Request, Requirement, Scenario
 from .sheet_files import Book
 from .sheet_rows import Cell, Row, Table
 from .slots import MAX_NUMBER
-from .ward_sheets import Ward, day_of
+from .ward_sheets import Ward, table_of
 
 AWAY = ("away", "ill", "leave", "training")
 _WISH, _NO_WISH = ("wish", "wish off", "off?"), ("", "-")
@@ -65,11 +66,20 @@ def read_days(book: Book) -> Days:
         if bool(date) != bool(monday):
             cell.fault(f"'{cell.text}' has {'a date' if date else 'no date'}, unlike the first day: write dates for all days or for none")
         wanted = DAYS[at % len(DAYS)]
-        if (date.weekday() if date else day_of(cell)) != at % len(DAYS):
+        if (date.weekday() if date else _day_of(cell)) != at % len(DAYS):
             cell.fault(f"'{cell.text}' should be a {wanted}: the plan begins on a Monday, and has each day once")
     if not columns or len(columns) % len(DAYS):
         plan.fault(f"it has {plural(len(columns), 'day')}: plan whole weeks, from Monday to Sunday")
     return Days(plan, columns, monday)
+
+
+def _day_of(cell: Cell) -> int:
+    """The day of the week with which a head begins, as Wed or Wednesday 0."""
+    short = cell.text[:3].casefold()
+    for day, name in enumerate(DAYS):
+        if short == name.casefold():
+            return day
+    cell.fault(f"'{cell.text}' is no day of the week: write one of {','.join(DAYS)}")
 
 
 def _date_of(cell: Cell) -> Optional[datetime.date]:
@@ -88,16 +98,12 @@ def _date_of(cell: Cell) -> Optional[datetime.date]:
 def read_weeks(book: Book, ward: Ward, days: Days) -> List[WeekSheet]:
     """The weeks of the sheets needs and plan."""
     weeks = [WeekSheet() for _ in range(days.weeks)]
-    _read_needs(Table(book, "needs", ("shift", "skill", *(day.casefold() for day in DAYS)), ("week",)), ward.scenario, weeks)
-    seen: Dict[str, Row] = {}
-    for row in days.plan.rows:
-        cell = row.of("nurse")
-        nurse = cell.known("nurse of the sheet nurses", ward.scenario.nurses)
-        if nurse in seen:
-            cell.fault(f"{readable(nurse)} has a row already: put everything into one row")
-        seen[nurse] = row
-        for at, head in enumerate(days.columns):
-            _read_day(row.at(head.column), nurse, at, ward.scenario, weeks)
+    _read_needs(table_of(book, "needs"), ward.scenario, weeks)
+    with Gathering() as faults:
+        for nurse, row in _plan_rows(days, ward.scenario, faults).items():
+            for at, head in enumerate(days.columns):
+                with faults.step():
+                    _read_day(row.at(head.column), nurse, at, ward.scenario, weeks)
     for nurse, (shifts, weekdays) in ward.never.items():
         for week in weeks:
             week.absences += [Absence(nurse, day, shift) for shift in shifts for day in range(len(DAYS))]
@@ -105,20 +111,34 @@ def read_weeks(book: Book, ward: Ward, days: Days) -> List[WeekSheet]:
     return weeks
 
 
+def _plan_rows(days: Days, scenario: Scenario, faults: Gathering) -> Dict[str, Row]:
+    """The row of each nurse in the plan."""
+    rows: Dict[str, Row] = {}
+    for row in days.plan.rows:
+        with faults.step():
+            cell = row.of("nurse")
+            nurse = cell.known("nurse of the sheet nurses", scenario.nurses)
+            if nurse in rows:
+                cell.fault(f"{readable(nurse)} has a row already: put everything into one row")
+            rows[nurse] = row
+    return rows
+
+
 def _read_needs(table: Table, scenario: Scenario, weeks: List[WeekSheet]) -> None:
     """Rows without a week are for all, but for the weeks that have a row of their own."""
-    given: Dict[Tuple[Optional[int], str, str], Row] = {}
-    for row in table.rows:
-        week = row.of("week").number(most=len(weeks) - 1) if row.of("week").text else None
-        shift, skill = row.of("shift").known("shift type", scenario.shift_types), row.of("skill").known("skill of the sheet nurses", scenario.skills)
-        if (week, shift, skill) in given:
-            row.of("shift").fault(f"{readable(shift)} {readable(skill)} has a row already: delete one, or write its week")
-        given[week, shift, skill] = row
-    for (only, shift, skill), row in given.items():
+    given: Dict[Tuple[Optional[int], str, str], List[Requirement]] = {}
+    with Gathering() as faults:
+        for row in table.rows:
+            with faults.step():
+                week = row.of("week").number(most=len(weeks) - 1) if row.of("week").text else None
+                shift, skill = row.of("shift").known("shift type", scenario.shift_types), row.of("skill").known("skill of the sheet nurses", scenario.skills)
+                if (week, shift, skill) in given:
+                    row.of("shift").fault(f"{readable(shift)} {readable(skill)} has a row already: delete one, or write its week")
+                given[week, shift, skill] = [_needed(row.of(name.casefold())) for name in DAYS]
+    for (only, shift, skill), needed in given.items():
         for number, one in enumerate(weeks):
             if only == number or (only is None and (number, shift, skill) not in given):
-                for day, name in enumerate(DAYS):
-                    one.requirements[Place(day, shift, skill)] = _needed(row.of(name.casefold()))
+                one.requirements.update({Place(day, shift, skill): asked for day, asked in enumerate(needed)})
 
 
 def _needed(cell: Cell) -> Requirement:
@@ -172,15 +192,22 @@ def _held(cell: Cell, nurse: str, day: int, week: WeekSheet, scenario: Scenario)
 def check_held(ward: Ward, weeks: List[WeekSheet]) -> None:
     """A held shift may not follow one after which it is forbidden, nor break an absence."""
     last = {past.nurse: (past.last_shift, -1) for past in ward.history.nurses.values()}
-    for number, week in enumerate(weeks):
-        for held in sorted(week.held, key=lambda one: one.row.day):
-            nurse, day, shift = held.row.nurse, 7 * number + held.row.day, held.row.shift
-            before, on = last[nurse]
-            if before is not None and on == day - 1 and shift in ward.scenario.shift_types[before].forbidden_next:
-                held.cell.fault(f"{readable(nurse)} may not work {readable(shift)} on the day after {readable(before)}: change one of the two")
-            if is_broken_by(week.absences, held.row):
-                held.cell.fault(f"{readable(nurse)} never works this shift or is always off on this day, by the sheet nurses: change one of the two")
-            last[nurse] = (shift, day)
+    with Gathering() as faults:
+        for number, week in enumerate(weeks):
+            for held in sorted(week.held, key=lambda one: one.row.day):
+                with faults.step():
+                    _check_held(ward.scenario, week, held, 7 * number + held.row.day, last)
+
+
+def _check_held(scenario: Scenario, week: WeekSheet, held: Held, day: int, last: Dict[str, Tuple[Optional[str], int]]) -> None:
+    """The same for one shift. `last` has the last shift of each nurse, and its day."""
+    nurse, shift = held.row.nurse, held.row.shift
+    before, on = last[nurse]
+    last[nurse] = (shift, day)
+    if before is not None and on == day - 1 and shift in scenario.shift_types[before].forbidden_next:
+        held.cell.fault(f"{readable(nurse)} may not work {readable(shift)} on the day after {readable(before)}: change one of the two")
+    if is_broken_by(week.absences, held.row):
+        held.cell.fault(f"{readable(nurse)} never works this shift or is always off on this day, by the sheet nurses: change one of the two")
 
 
 def days_away(weeks: List[WeekSheet], reasons: Collection[str]) -> Iterator[Tuple[str, int]]:

@@ -119,6 +119,11 @@ class Processes:
         """Ends all processes, permanently."""
         with self._lock:
             self._stopped = True
+        self.end_running()
+
+    def end_running(self) -> None:
+        """Ends the processes that run now. Others may start."""
+        with self._lock:
             for process in self._running:
                 _signal_group(process, signal.SIGKILL)
 

@@ -5,13 +5,15 @@ from typing import Dict, Iterator, List, Sequence
 
 from .charge_words import costs_text
 from .files import DAYS
-from .roster_view import Cell, RosterView
+from .roster_view import RosterView
 from .totals import HEADS, LEGEND, totals
 
 # Colors that color-blind eyes distinguish (Okabe and Ito), and their numbers in a terminal. Shift types from the ninth on
 # have them again, in a picture with a dashed frame.
 COLORS = ("#e69f00", "#56b4e9", "#0072b2", "#009e73", "#f0e442", "#cc79a7", "#d55e00", "#999999")
 TERMINAL_COLORS = (214, 74, 25, 36, 227, 175, 166, 246)
+# A nurse who is away, in a table of several weeks.
+AWAY = "-"
 
 
 def ink_on(color: str) -> str:
@@ -66,8 +68,9 @@ class TextTable:
         self.shifts = cuts(view.shifts, 5 if self.single else 1)
         self.skills = cuts(view.skills, 2)
         self.gap = "  " if self.single else " "
-        cells = [self.text(view.cells(week, nurse, day)) for week in range(len(view.weeks)) for nurse in view.nurses for day in range(7)]
+        cells = [self.text(week, nurse, day) for week in range(len(view.weeks)) for nurse in view.nurses for day in range(7)]
         self.width = max([3 if self.single else 2, *map(columns, cells)])
+        self.has_away = AWAY in cells
         self.first = max([columns(name) for name in self.nurses.values()], default=0)
         self.types = cuts(view.shifts, 1)
         self.right = self._right()
@@ -86,14 +89,18 @@ class TextTable:
             found.append(["cost", *(f"{sum(self.view.costs[nurse].values()):4}  {costs_text(self.view.costs[nurse])}" for nurse in self.view.nurses)])
         return [[_filled(text, max(map(columns, column))) for text in column] for column in found]
 
-    def text(self, cells: Sequence[Cell]) -> str:
-        """The text of the cells of one nurse and day."""
+    def text(self, week: int, nurse: str, day: int) -> str:
+        """The text of one nurse and day."""
+        cells = self.view.cells(week, nurse, day)
+        if not cells and self.view.is_away(week, nurse, day):
+            return "away" if self.single else AWAY
         skills = [f" {self.skills[cell.skill]}" if self.single else "" for cell in cells]
         return "+".join(f"{self.shifts[cell.shift]}{skill}{cell.marks}" for cell, skill in zip(cells, skills)) or "."
 
-    def shown(self, cells: Sequence[Cell]) -> str:
+    def shown(self, week: int, nurse: str, day: int) -> str:
         """The same in its column."""
-        padded = _filled(self.text(cells), self.width)
+        cells = self.view.cells(week, nurse, day)
+        padded = _filled(self.text(week, nurse, day), self.width)
         return in_color(padded, self.view.shifts.index(cells[0].shift)) if self.colored and cells else padded
 
     def head(self) -> List[str]:
@@ -112,11 +119,11 @@ class TextTable:
         view, lines = self.view, self.head()
         for row, (nurse, name) in enumerate(self.nurses.items(), 1):
             weeks = [
-                _with_weekend_apart([self.shown(view.cells(week, nurse, day)) for day in range(7)], self.gap) for week in range(len(view.weeks))
+                _with_weekend_apart([self.shown(week, nurse, day) for day in range(7)], self.gap) for week in range(len(view.weeks))
             ]
             lines.append("  ".join([_filled(name, self.first), "  ||  ".join(weeks), *(column[row] for column in self.right)]).rstrip())
         names = [self.nurses, self.shifts] + [self.skills] * self.single + [self.types] * bool(self.right)
-        below = abbreviations(*names) + [LEGEND] * bool(totals(view)) + view.legend() + view.misfilled()
+        below = abbreviations(*names) + [LEGEND] * bool(totals(view)) + [f"{AWAY} = away"] * self.has_away + view.legend() + view.misfilled()
         return lines + [""] * bool(below) + below
 
 

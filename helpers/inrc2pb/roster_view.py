@@ -128,6 +128,10 @@ class RosterView:
         """A nurse's cells on a day; weeks are counted from 0 in the table."""
         return self._cells.get((week, nurse, day), [])
 
+    def is_away(self, week: int, nurse: str, day: int) -> bool:
+        """Whether the nurse is away on this day by the week's file."""
+        return Absence(nurse, day, None) in self.weeks[week].absences
+
     @property
     def has_costs(self) -> bool:
         """Whether the cost of each nurse is known."""

@@ -1,4 +1,4 @@
-"""The cheapest rows of a graph by NumPy, some ten times faster than without it; NumPy is not needed."""
+"""The cheapest rows of a graph by NumPy: twice as fast as without it for four shift types, ten times for 16. NumPy is not needed."""
 
 import importlib
 from typing import Any, List, Optional, Sequence, Tuple
@@ -13,8 +13,6 @@ def _numpy() -> Any:
 
 
 numpy = _numpy()
-# With fewer nodes NumPy is not faster.
-LEAST_NODES = 2000
 INSTALL = "NumPy is not installed: with it the search is several times faster (Debian: apt-get install python3-numpy)"
 
 
@@ -27,9 +25,8 @@ class Arrays:
 
     @staticmethod
     def of(days: Sequence[Tuple[List[List[int]], List[List[int]], List[int]]]) -> "Optional[Arrays]":
-        """The arrays of these days, if NumPy is installed and worth it."""
-        nodes = sum(len(entered) for _, _, entered in days)
-        return Arrays(days) if numpy is not None and nodes >= LEAST_NODES else None
+        """The arrays of these days, if NumPy is installed."""
+        return Arrays(days) if numpy is not None else None
 
     def cheapest(self, start: int, pay: Sequence[Sequence[int]]) -> Tuple[int, bytes]:
         """The least cost of a row from this node on, and the first row that has it, if a choice costs this pay beside its own costs."""

@@ -1,15 +1,16 @@
 """Neighborhoods over rows: some nurses get new rows beside those of all others, as a small plan of their own."""
 
 import concurrent.futures
+import contextlib
 import random
 import threading
 import time
 from dataclasses import replace
-from typing import Dict, List, Optional, Sequence
+from typing import Callable, Dict, List, Optional, Sequence
 
 from .clock import Clock, TimeIsOver
-from .linear_solvers import LinearSolver
-from .plan import WEEK_DAYS
+from .linear_solvers import LinearSolver, SolverFault
+from .plan import POINT, WEEK_DAYS
 from .pricing import Row
 from .records import Place, Requirement
 from .row_search import RowSearch
@@ -19,7 +20,12 @@ from .skills import staffed
 FIRST_SIZE, LEAST_SIZE = 20.0, 4
 # A neighborhood that takes less than the first of these seconds is followed by a larger one; the second is its limit.
 QUICK_SECONDS, MOST_SECONDS = 1.5, 6.0
-GROWTH = 1.15
+GROWTH, SHRINKAGE = 1.15, 0.96
+# From this gap on, in thousandths, a neighborhood is worth a dive.
+DIVE_GAP = 50 * POINT
+# Up to this part of the bound a gap is small. The share of the time that is left for an integer program over the known rows of all
+# nurses then.
+SMALL_GAP, WHOLE_SHARE = 0.03, 0.3
 
 
 class RowParts:
@@ -32,51 +38,73 @@ class RowParts:
         self._size = min(len(search.plan.nurses), FIRST_SIZE * (WEEK_DAYS / search.plan.days) ** 0.5)
         # Guards all that the threads share: the search, the size and the chance.
         self._lock = threading.Lock()
-        self._ended = threading.Event()
 
     def run(self, clock: Clock) -> None:
         """Searches until the time is over or the best roster is proved."""
+        shared = clock.part(clock.left())
         with concurrent.futures.ThreadPoolExecutor(len(self._solvers)) as pool:
-            workers = [pool.submit(self._work, solver, clock) for solver in self._solvers]
+            workers = [pool.submit(self._work, solver, shared, number == 0) for number, solver in enumerate(self._solvers)]
             try:
                 for worker in concurrent.futures.as_completed(workers):
                     worker.result()
+            except (SolverFault, TimeIsOver):
+                # A thread that finds the proof stops the clock of all, and their solvers.
+                if not self._search.is_proved:
+                    raise
             finally:
-                self._ended.set()
+                shared.stop()
 
-    def _work(self, solver: LinearSolver, clock: Clock) -> None:
-        """One thread: neighborhoods of sizes that its time allows."""
-        while not self._ended.is_set() and not self._search.is_proved:
+    def _work(self, solver: LinearSolver, clock: Clock, is_first: bool) -> None:
+        """One thread: neighborhoods of sizes that its time allows. If the gap is small, the first thread begins with all nurses."""
+        search = self._search
+        if is_first and search.bound is not None and search.penalty is not None and search.gap() < SMALL_GAP * search.bound:
+            with contextlib.suppress(TimeIsOver):
+                self.improve(range(len(search.plan.nurses)), solver, clock.part(clock.left() * WHOLE_SHARE))
+        while not search.is_proved:
             clock.check()
             began = time.monotonic()
             try:
-                self.improve(self._nurses(), solver, clock.part(MOST_SECONDS))
+                ended = self.improve(self._nurses(), solver, clock.part(MOST_SECONDS))
             except TimeIsOver:
+                ended = False
                 self._resize(1 / GROWTH)
-            if time.monotonic() - began < QUICK_SECONDS:
+            if not ended:
+                self._resize(SHRINKAGE)
+            elif time.monotonic() - began < QUICK_SECONDS:
                 self._resize(GROWTH)
-        self._ended.set()
+        clock.stop()
+        solver.end_all()
 
     def _resize(self, factor: float) -> None:
         with self._lock:
             self._size = min(len(self._search.plan.nurses), max(LEAST_SIZE, self._size * factor))
 
     def _nurses(self) -> List[int]:
-        """Nurses for a neighborhood: half of them have rows that cost more at the best prices than their cheapest ones."""
+        """Nurses for a neighborhood: half of them have rows that cost more at the best prices than their cheapest ones. In every second
+        neighborhood the others are those who share the most skills with one of them."""
         with self._lock:
             rows, size = self._search.rows, int(self._size)
             assert rows is not None
             costly = self._search.costly(rows, self._least)
             first = self._chance.sample(costly, min(len(costly), size // 2))
             rest = [nurse for nurse in range(len(rows)) if nurse not in first]
-            return sorted(first + self._chance.sample(rest, size - len(first)))
+            self._chance.shuffle(rest)
+            if costly and self._chance.random() < 0.5:
+                first = [self._chance.choice(costly)]
+                rest = sorted((nurse for nurse in range(len(rows)) if nurse != first[0]), key=self._alike(first[0]))
+            return sorted(first + rest[: size - len(first)])
+
+    def _alike(self, nurse: int) -> Callable[[int], float]:
+        """How few skills another nurse shares with this one, with chance among equals."""
+        skills = [set(self._search.plan.scenario.nurses[name].skills) for name in self._search.plan.nurses]
+        return lambda other: self._chance.random() - len(skills[other] & skills[nurse])
 
     def improve(self, nurses: Sequence[int], solver: LinearSolver, clock: Clock) -> bool:
-        """Looks for better rows of these nurses. Returns whether there are some."""
+        """Looks for better rows of these nurses. Returns whether there are some, or there are none."""
         whole = self._search
         with self._lock:
             assert whole.rows is not None
-            rows, before = list(whole.rows), whole.penalty
+            rows = list(whole.rows)
         names = tuple(whole.plan.nurses[nurse] for nurse in nurses)
         plan = replace(whole.plan, nurses=names, demand=self._left(rows, set(names)))
 
@@ -91,10 +119,13 @@ class RowParts:
         part.rows = [rows[nurse] for nurse in nurses]
         part.penalty = part.value_of(part.rows)
         part.add_roster(part.rows)
+        part.begin_with(whole, nurses)
         part.generate(clock)
-        if not part.is_proved:
-            part.choose(part.known_within(), clock, f"{len(nurses)} nurses")
-        return whole.penalty != before
+        if part.penalty is None or part.gap() > DIVE_GAP:
+            found = part.dive(clock)
+            if found and part.keep(found, f"{len(nurses)} nurses, fixing rows"):
+                return True
+        return part.is_proved or part.choose(part.known_within(), clock, f"{len(nurses)} nurses")
 
     def _left(self, rows: Sequence[Row], names: "set[str]") -> Dict[Place, Requirement]:
         """The demand that the other nurses leave."""

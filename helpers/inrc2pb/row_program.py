@@ -1,6 +1,6 @@
 """The program that chooses one known row for each nurse, as a linear or integer program in the MPS format."""
 
-from typing import Dict, Iterable, List, NamedTuple, Optional, Sequence, Set, Tuple
+from typing import Dict, Iterable, List, NamedTuple, Optional, Sequence, Tuple
 
 from .linear_solvers import Relaxed, SolverFault
 from .plan import POINT, Plan
@@ -24,13 +24,14 @@ class Column(NamedTuple):
 
 class Solved(NamedTuple):
     """A solution of the linear program: its value in points, whole prices of places and of nurses in thousandths, the share of each
-    column that it takes, and how many nurses are missing below minimums."""
+    column that it takes, how many nurses are missing below minimums, and by how much one of each other column would raise the value."""
 
     value: float
     prices: Prices
     nurses: List[int]
     shares: Dict[int, float]
     missing: float
+    rises: Dict[int, float]
 
 
 def _entry(column: str, row: str, value: float) -> str:
@@ -44,12 +45,15 @@ class RowProgram:
         self.columns: List[Column] = []
         self._crews, self._nurses, self._missing = crews, len(plan.nurses), plan.missing_cost
         self.below = BELOW_MINIMUM if plan.charging else 1
-        self._known: Set[Tuple[int, Row, Tuple[int, ...]]] = set()
+        self._known: Dict[Tuple[int, Row, Tuple[int, ...]], int] = {}
+        # The number of each crew at each of its places: names are the same in all programs.
+        self._at: Dict[Tuple[int, int], int] = {}
         # Whether a column names the places of its row. Then the columns of a row have some of its places, and not all.
         self.names_places = sum(len(places) > 1 for places in crews.members) > MOST_LINKS
 
-    def add(self, nurse: int, row: Row, cost: int, prices: Prices, at: Sequence[Optional[int]] = ()) -> bool:
-        """Adds a row, if it is new. If columns name places, they are these on each day, or else those of the highest prices."""
+    def add(self, nurse: int, row: Row, cost: int, prices: Prices, at: Sequence[Optional[int]] = ()) -> int:
+        """Adds a row, if it is new. Returns its column. If columns name places, they are these on each day, or else those of the highest
+        prices."""
         of = self._crews.of[nurse]
         crews = [of[day][choice] for day, choice in enumerate(row)]
         named = [self._crews.members[crew] for crew in crews]
@@ -57,14 +61,14 @@ class RowProgram:
         used = places if self.names_places else tuple(places[0] if len(places) == 1 else None for places in named)
         key = (nurse, row, tuple(-1 if place is None else place for place in places))
         if key in self._known:
-            return False
-        self._known.add(key)
+            return self._known[key]
+        self._known[key] = len(self.columns)
         links = () if self.names_places else tuple(crew for crew, places in zip(crews, named) if len(places) > 1)
         name = f"v{len(self.columns)}"
         rows = [f"n{nurse}", *(f"c{place}" for place in used if place is not None), *(f"k{crew}" for crew in links)]
         text = (_entry(name, "obj", cost) if cost else "") + "".join(_entry(name, row, 1) for row in rows)
         self.columns.append(Column(nurse, row, cost, links, text))
-        return True
+        return self._known[key]
 
     def text(self, use: Iterable[int], whole: bool = False) -> str:
         """The program over these columns; `whole` makes them integers."""
@@ -83,7 +87,7 @@ class RowProgram:
                     limits.append(f" UP BND       {name:<8}  {most:>12}\n")
         for crew in links:
             for place in self._crews.members[crew]:
-                name = f"f{len(limits)}"
+                name = f"f{self._at.setdefault((crew, place), len(self._at))}"
                 lines.append(_entry(name, f"c{place}", 1) + _entry(name, f"k{crew}", -1))
                 limits.append(f" PL BND       {name:<8}\n")
         mark = "    MARKER                 'MARKER'                 'INT{}'\n"
@@ -100,7 +104,8 @@ class RowProgram:
         nurses = [round(found.prices.get(f"n{nurse}", 0) * POINT) for nurse in range(self._nurses)]
         shares = {self._column(name): share for name, share in found.taken.items() if name[0] == "v"}
         missing = sum(share for name, share in found.taken.items() if name[0] == "b")
-        return Solved(found.value, prices, nurses, shares, missing)
+        rises = {self._column(name): rise for name, rise in found.rises.items()}
+        return Solved(found.value, prices, nurses, shares, missing, rises)
 
     def chosen(self, names: Iterable[str]) -> Optional[List[int]]:
         """The column of each nurse, by the names that an integer program took; None if a nurse has none or several."""

@@ -15,7 +15,7 @@ from .skills import staffed
 
 # The shares of the time that is left: for new rows before a dive, for the dive, for one when no row is missing, for an integer program
 # over the known rows, and for one over all rows.
-ROWS_SHARE, DIVE_SHARE, LAST_DIVE_SHARE, KNOWN_SHARE, LISTED_SHARE = 0.5, 0.5, 0.8, 0.1, 0.5
+ROWS_SHARE, DIVE_SHARE, LAST_DIVE_SHARE, KNOWN_SHARE, LISTED_SHARE = 0.5, 0.5, 0.8, 0.03, 0.5
 # The most rows of an integer program.
 MOST_LISTED = 6_000
 Found = TypeVar("Found")

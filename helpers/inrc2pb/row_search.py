@@ -6,7 +6,7 @@ all rows that a better roster can have.
 """
 
 import math
-from typing import Callable, Dict, List, Optional, Sequence, Tuple
+from typing import Callable, Dict, Iterable, List, Optional, Sequence, Tuple
 
 from .clock import Clock
 from .first_rows import Descent
@@ -18,7 +18,7 @@ from .row_program import MOST_BELOW, RowProgram, Solved
 from .skills import staffed
 
 # The share of the best prices in those that are tried next.
-SMOOTHING = 0.7
+SMOOTHING = 0.4
 # A row is worth a column if it costs less than the known ones by more than this many thousandths.
 WORTH = 1
 # The share of the nurses whose rows are fixed at once: at first, at least, and at most.
@@ -28,6 +28,8 @@ HURRY = 1.5
 # Rounds of new rows between two fixings.
 DIVE_ROUNDS = 3
 MOST_SWEEPS = 4
+# The columns in use for each nurse, after some were dropped and at most; so many are never too many.
+KEPT, MOST_USED, LEAST_USED = 4, 6, 3000
 _EXACT = 1e-6
 # The name of what found the rows with which a search begins.
 GIVEN = "the given roster"
@@ -51,6 +53,9 @@ class RowSearch:
         self.pricing, self.plan, self.clock = pricing, pricing.plan, clock
         self._solver, self._offer, self._heard = solver, offer, heard
         self.program = RowProgram(self.plan, pricing.crews)
+        # The columns in use, and whether the solver has a solution of this program.
+        self._used: Dict[int, None] = {}
+        self._goes_on = False
         self.prices: Prices = [0] * len(pricing.crews.places)
         # The lower bound in thousandths, and the rows and the penalty of the best roster.
         self.bound: Optional[int] = None
@@ -115,13 +120,28 @@ class RowSearch:
         for nurse_number, row in enumerate(rows):
             cost = self.pricing.cost(nurse_number, row)
             if cost is not None:
-                self.program.add(nurse_number, row, cost, self.prices, places[nurse_number])
+                self._add(nurse_number, row, cost, self.prices, places[nurse_number])
+
+    def begin_with(self, whole: "RowSearch", nurses: Sequence[int]) -> None:
+        """Begins with the prices of a search over more nurses, and with what it knows of these ones."""
+        known = dict(zip(whole.pricing.crews.places, whole.prices))
+        self.prices = [known.get(place, 0) for place in self.pricing.crews.places]
+        numbers = {nurse: number for number, nurse in enumerate(nurses)}
+        for column in list(whole.program.columns):
+            if column.nurse in numbers:
+                self._add(numbers[column.nurse], column.row, column.cost, self.prices)
 
     def add_row(self, nurse: int, row: Row) -> None:
         """Adds a row to the program, if no hard rule forbids it."""
         cost = self.pricing.cost(nurse, row)
         if cost is not None:
-            self.program.add(nurse, row, cost, self.prices)
+            self._add(nurse, row, cost, self.prices)
+
+    def _add(self, nurse: int, row: Row, cost: int, prices: Prices, at: Sequence[Optional[int]] = ()) -> bool:
+        """Adds a row to those in use. Returns whether it was none of them."""
+        column, before = self.program.add(nurse, row, cost, prices, at), len(self._used)
+        self._used[column] = None
+        return len(self._used) > before
 
     # ---- prices and rows
 
@@ -142,9 +162,11 @@ class RowSearch:
             self.bound, self.prices = bound, prices
             self._heard()
 
-    def _relax(self, use: Sequence[int], clock: Clock) -> Solved:
+    def _relax(self, use: Iterable[int], clock: Clock) -> Solved:
         assert self._solver is not None
-        return self.program.solved(self._solver.relax(self.program.text(use), clock))
+        found = self._solver.relax(self.program.text(use), clock, self._goes_on)
+        self._goes_on = True
+        return self.program.solved(found)
 
     def _earned(self, prices: Prices, nurse: int, row: Row) -> int:
         crews = self.pricing.crews
@@ -156,17 +178,18 @@ class RowSearch:
         found = self._priced(self.prices, everyone, clock)
         self._raise_bound(self.prices, found)
         for nurse, priced in found.items():
-            self.program.add(nurse, priced.row, priced.cost, self.prices)
+            self._add(nurse, priced.row, priced.cost, self.prices)
         share = 0.0
         while not self.complete:
-            now = self._relax(range(len(self.program.columns)), clock)
+            now = self._relax(self._used, clock)
+            self._drop(now)
             tried = [round(share * best + (1 - share) * price) for best, price in zip(self.prices, now.prices)] if share else now.prices
             found = self._priced(tried, everyone, clock)
             self._raise_bound(tried, found)
             new = 0
             for nurse, priced in found.items():
                 if priced.cost * POINT - self._earned(now.prices, nurse, priced.row) - now.nurses[nurse] < -WORTH:
-                    new += self.program.add(nurse, priced.row, priced.cost, now.prices)
+                    new += self._add(nurse, priced.row, priced.cost, now.prices)
             if self._meets(now.value) or not (new or share):
                 self.misses_minimums = now.missing > _EXACT
                 if self.misses_minimums and self.plan.charging and self.program.below < MOST_BELOW:
@@ -174,6 +197,14 @@ class RowSearch:
                 else:
                     self.complete = True
             share = SMOOTHING if new else 0.0
+
+    def _drop(self, now: Solved) -> None:
+        """Drops the most expensive columns, if there are too many. Each nurse keeps one."""
+        nurses = len(self.plan.nurses)
+        keep = max(LEAST_USED, KEPT * nurses) - len(now.shares)
+        if len(self._used) > max(LEAST_USED, MOST_USED * nurses) and len({self.program.columns[at].nurse for at in now.shares}) == nurses:
+            cheap = sorted((at for at in self._used if at not in now.shares), key=lambda at: now.rises.get(at, 0.0))
+            self._used = dict.fromkeys([*now.shares, *cheap[: max(0, keep)]])
 
     def _meets(self, value: float) -> bool:
         """Whether the bound is as good as this value of the program."""
@@ -213,13 +244,14 @@ class RowSearch:
     def _relaxed_beside(self, chosen: Dict[int, int], clock: Clock) -> Tuple[Solved, List[int]]:
         """The linear program with these columns fixed, and some new rows for the other nurses."""
         free = [nurse for nurse in range(len(self.plan.nurses)) if nurse not in chosen]
-        for turn in range(DIVE_ROUNDS):
-            use = [at for at, column in enumerate(self.program.columns) if chosen.get(column.nurse, at) == at]
+        rounds = DIVE_ROUNDS if chosen else 1
+        for turn in range(rounds):
+            use = [at for at in self._used if chosen.get(self.program.columns[at].nurse, at) == at]
             now = self._relax(use, clock)
             new = 0
-            for nurse, priced in self._priced(now.prices, free, clock).items() if turn < DIVE_ROUNDS - 1 else ():
+            for nurse, priced in self._priced(now.prices, free, clock).items() if turn < rounds - 1 else ():
                 if priced.value - now.nurses[nurse] < -WORTH:
-                    new += self.program.add(nurse, priced.row, priced.cost, now.prices)
+                    new += self._add(nurse, priced.row, priced.cost, now.prices)
             if not new:
                 break
         return now, use

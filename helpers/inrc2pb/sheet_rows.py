@@ -5,7 +5,7 @@ import unicodedata
 from typing import Collection, Dict, List, NamedTuple, NoReturn, Optional, Sequence, Tuple
 
 from .absences import readable
-from .faults import FileFault
+from .faults import FileFault, Gathering
 from .hints import quoted
 from .sheet_files import Book, Rows
 from .slots import MAX_NUMBER, SIGNS, closest
@@ -110,8 +110,10 @@ class Table:
         rows = self._sheet()
         first = self._find_head(rows)
         head, begin = _joined_head(rows, first, open_end)
-        for column, text in enumerate(head):
-            self._take_head(Cell(tidy(text), book, name, first + 1, column), open_end)
+        with Gathering() as faults:
+            for column, text in enumerate(head):
+                with faults.step():
+                    self._take_head(Cell(tidy(text), book, name, first + 1, column), head, open_end)
         missing = [wanted for wanted in heads if wanted not in self.columns]
         if missing:
             raise FileFault(book.path, 0, f"sheet {name}, row {first + 1}: there is no column '{missing[0]}': add it")
@@ -133,7 +135,7 @@ class Table:
                 return at
         raise FileFault(self.book.path, 0, f"sheet {self.name}: no row has the head '{self.heads[0]}': write {quoted(self.heads)} into the first row")
 
-    def _take_head(self, cell: Cell, open_end: bool) -> None:
+    def _take_head(self, cell: Cell, heads: Sequence[str], open_end: bool) -> None:
         head = cell.text.casefold()
         if not head or head.startswith(("note", "comment", "#")):
             return
@@ -144,8 +146,13 @@ class Table:
         elif open_end:
             self.others.append(cell)
         else:
-            meant = closest(head, [*self.heads, *self.optional])
+            meant = self._meant(head, {tidy(text).casefold() for text in heads})
             cell.fault(f"'{cell.text}' is no column of this sheet: " + (f"did you mean '{meant}'?" if meant else "delete it, or begin its head with #"))
+
+    def _meant(self, head: str, taken: Collection[str]) -> Optional[str]:
+        """The column that a wrong head most likely means: none that the sheet has already."""
+        free = [name for name in (*self.heads, *self.optional) if name not in taken]
+        return closest(head, free) or next((name for name in free if {*head.split()} & {*name.split()}), None)
 
 
 def _joined_head(rows: Rows, first: int, open_end: bool) -> Tuple[List[str], int]:

@@ -6,22 +6,21 @@ import re
 from pathlib import Path
 from typing import Dict, List, NamedTuple, Optional, Sequence, TextIO, Tuple
 
-from .absences import NO_SKILL, TooMany, Written, readable, with_absences
+from .absences import NO_SKILL, TooMany, readable, with_absences
 from .command import parser
 from .demand import demand_warnings
 from .faults import FileFault, Misuse
 from .files import History, Scenario, Solution, Week, WeekData, history_text, scenario_text, solution_text, week_text
 from .files import replacing
 from .first_roster import first_cost
-from .hints import plural
 from .odd_values import history_warnings, scenario_warnings, week_warnings
 from .plan_sheets import AWAY, Days, WeekSheet, check_held, days_away, read_days, read_weeks
 from .sheet_files import Book, read_book
 from .sheet_rows import tidy
 from .targets import check_target
-from .ward_sheets import read_ward
+from .ward_sheets import read_ward, skill_warnings
 from .ward_template import write_template
-from .wish import credited
+from .wish import credit_line, credited, shifts_of_leave
 
 
 def _options() -> argparse.ArgumentParser:
@@ -62,11 +61,11 @@ def _reasons(text: str) -> List[str]:
 
 
 class WardFiles(NamedTuple):
-    """The text of each file by its name, warnings, and the days of each nurse that count as work."""
+    """The text of each file by its name, warnings, and for each nurse with days away that count as work these days and shifts."""
 
     texts: Dict[str, str]
     warnings: List[str]
-    credit: Dict[str, int]
+    credit: Dict[str, Tuple[int, int]]
 
 
 def ward_files(book: Book, name: str, days: Days, weeks: int, reasons: Sequence[str]) -> WardFiles:
@@ -75,24 +74,22 @@ def ward_files(book: Book, name: str, days: Days, weeks: int, reasons: Sequence[
     sheets = read_weeks(book, ward, days)
     check_held(ward, sheets)
     credit = dict(days_away(sheets, reasons))
-    history = credited(ward.scenario, ward.history, credit)
+    shifts = shifts_of_leave(ward.scenario, credit)
+    history = credited(ward.history, shifts)
     found = {"ward.txt": scenario_text(ward.scenario), "history-0.txt": history_text(history)}
     warnings = [f"sheet shifts, contracts or nurses: {line}" for line in scenario_warnings(ward.scenario)]
     warnings += [f"sheet nurses: {line}" for line in history_warnings(ward.history)]
-    scarce: List[Written] = []
+    warnings += [f"sheet nurses: {line}" for line in skill_warnings(ward, {place.skill for sheet in sheets for place in sheet.requirements})]
     for number, sheet in enumerate(sheets):
-        written = _week(book, ward.scenario, sheet, number, None if number else history)
-        scarce += [written] * bool(written.warning())
-        found[f"week-{number}.txt"] = week_text(written.data)
+        data = _week(book, ward.scenario, sheet, number, None if number else history)
+        found[f"week-{number}.txt"] = week_text(data)
         found[f"fix-{number}.txt"] = solution_text(Solution(number, name, tuple(held.row for held in sheet.held)))
-        odd = (*week_warnings(ward.scenario, written.data), *demand_warnings(ward.scenario, None if number else history, written.data))
+        odd = (*week_warnings(ward.scenario, data), *demand_warnings(ward.scenario, None if number else history, data))
         warnings += [f"sheet needs, week {number}: {line}" for line in odd]
-    if scarce:
-        warnings.append(f"sheet plan: {min(scarce, key=lambda one: one.requests).warning()}")
-    return WardFiles(found, warnings, credit)
+    return WardFiles(found, warnings, {nurse: (days, shifts[nurse]) for nurse, days in credit.items()})
 
 
-def _week(book: Book, scenario: Scenario, sheet: WeekSheet, number: int, history: Optional[History]) -> Written:
+def _week(book: Book, scenario: Scenario, sheet: WeekSheet, number: int, history: Optional[History]) -> WeekData:
     """The data of a week with its absences. If its history is known, fewer requests are certain."""
     data = WeekData(scenario.name, sheet.requirements, tuple(sheet.wishes))
     known = None
@@ -100,7 +97,7 @@ def _week(book: Book, scenario: Scenario, sheet: WeekSheet, number: int, history
         if history and sheet.absences:
             week = Week(scenario, history, with_absences(scenario, data, sheet.absences, 0).data)
             known = first_cost(week, [held.row for held in sheet.held])
-        return with_absences(scenario, data, sheet.absences, known)
+        return with_absences(scenario, data, sheet.absences, known).data
     except TooMany as fault:
         raise FileFault(book.path, 0, f"sheet plan, week {number}: {fault}: {NO_SKILL}") from fault
 
@@ -135,6 +132,6 @@ def main() -> int:
     for line in files.warnings:
         print(f"{given.tables}: warning: {readable(line)}")
     print(f"{given.out}: {', '.join(files.texts)}")
-    for nurse, count in files.credit.items():
-        print(f"{readable(nurse)}: {plural(count, 'day')} of leave {'counts' if count == 1 else 'count'} as work")
+    for nurse, (away, shifts) in files.credit.items():
+        print(credit_line(nurse, away, shifts, "history-0.txt"))
     return 0

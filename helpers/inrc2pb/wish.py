@@ -5,12 +5,13 @@ from dataclasses import replace
 from pathlib import Path
 from typing import Dict, Iterable, List, Optional, Sequence
 
-from .absences import NO_SKILL, Absence, TooMany, Written, absences_of, with_absences, working_while_away
+from .absences import NO_SKILL, Absence, TooMany, Written, absences_of, readable, with_absences, working_while_away
 from .command import parser
 from .faults import Misuse
 from .files import DAYS, Assignment, History, Request, Scenario, Week, WeekData, check_week_number, history_text, read_history, read_scenario, read_week
 from .files import week_text, write_text
 from .first_roster import first_cost
+from .hints import plural
 from .misfits import read_held
 from .rules import REQUEST
 from .slots import MAX_NUMBER
@@ -18,13 +19,21 @@ from .targets import check_inputs_stay, check_target
 from .wishes import Dated, Wording, of_week
 
 
-def credited(scenario: Scenario, history: History, days: Dict[str, int]) -> History:
-    """The history in which these days of leave count as work: as many shifts as the nurse's contract asks for at least on so many days
-    of the period, rounded up."""
+def shifts_of_leave(scenario: Scenario, days: Dict[str, int]) -> Dict[str, int]:
+    """The shifts as which these days of each nurse count: her contract's minimum, for this part of the period, rounded up."""
+    return {nurse: -(-count * scenario.contract_of(nurse).assignments.minimum // (7 * scenario.weeks)) for nurse, count in days.items()}
+
+
+def credit_line(nurse: str, days: int, shifts: int, file: str) -> str:
+    """Days away that count as work, in words."""
+    return f"{readable(nurse)}: {plural(days, 'day')} away {'counts' if days == 1 else 'count'} as {plural(shifts, 'shift')} in {file}"
+
+
+def credited(history: History, shifts: Dict[str, int]) -> History:
+    """The history with these shifts added."""
     nurses = dict(history.nurses)
-    for nurse, count in days.items():
-        shifts = -(-count * scenario.contract_of(nurse).assignments.minimum // (7 * scenario.weeks))
-        total = nurses[nurse].assignments + shifts
+    for nurse, count in shifts.items():
+        total = nurses[nurse].assignments + count
         if total > MAX_NUMBER:
             raise Misuse(f"{nurse} would have more than {MAX_NUMBER} assignments: correct her history")
         nurses[nurse] = replace(nurses[nurse], assignments=total)
@@ -119,8 +128,9 @@ def main() -> Optional[int]:
     away = [dated for text in given.away for dated in wording.away(text)]
     never = [dated for text in given.never for dated in wording.never(text)]
     wishes = [dated for text in given.wish for dated in wording.wish(text)]
-    if given.credit and history:
-        history = credited(scenario, history, _days_away(scenario, away))
+    days = _days_away(scenario, away) if given.credit else {}
+    shifts = shifts_of_leave(scenario, days)
+    history = credited(history, shifts) if history else None
     held = read_held(given.fix, scenario, history, lambda hint: print(f"{given.fix}: warning: {hint}")).assignments if given.fix else ()
     results = []
     for at, (path, one) in enumerate(zip(given.week, data)):
@@ -132,7 +142,8 @@ def main() -> Optional[int]:
         print(f"{target}: {_summary(result)}")
     if given.credit and history:
         write_text(given.credit, history_text(history))
-        print(f"{given.credit}: the history with leave counted as work")
+        for nurse, count in shifts.items():
+            print(credit_line(nurse, days[nurse], count, given.credit))
     return 0
 
 
@@ -141,5 +152,5 @@ def _summary(result: Written) -> str:
     count = len(absences_of(result.data))
     if not count:
         return "no absences"
-    said = f"{count} absence{'s' * (count > 1)} with {result.requests} requests each: to break one costs {REQUEST * result.requests} points"
-    return f"{said}; {result.warning()}" if result.warning() else f"{said}, more than that can save"
+    said = f"{plural(count, 'absence')} with {result.requests} requests each: to break one costs {REQUEST * result.requests} points"
+    return f"{said}, more than that can save" if result.requests >= result.certain else said
