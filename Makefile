@@ -2,7 +2,7 @@
 
 PREFIX ?= /usr/local
 PROGRAM ?= out/inrc2pb
-WHO_FITS ?= out/who_fits
+FITS ?= out/inrc2pb-fits
 BOUND ?= out/inrc2pb-bound
 SHARE = $(DESTDIR)$(PREFIX)/share
 
@@ -21,19 +21,19 @@ build:
 who_fits:
 	cd crates/who_fits && rt run -- data/scenario.txt data/history.txt data/week.txt > /dev/null
 	mkdir -p out
-	cp crates/who_fits/out/who_fits out
+	cp crates/who_fits/out/who_fits out/inrc2pb-fits
 
 # Compiles without a proof and runs the example, in about a minute.
 try:
-	examples/try.sh
+	bin/try.sh
 
 example: build
-	out/inrc2pb encode --sce examples/n005w4/Sc-n005w4.txt --his examples/n005w4/H0-n005w4-0.txt \
-	    --week examples/n005w4/WD-n005w4-0.txt
+	out/inrc2pb encode --sce examples/n005w4/ward.txt --his examples/n005w4/history-0.txt \
+	    --week examples/n005w4/week-0.txt
 
 # A week to a solver and back, each command shown before it runs.
 tour: build
-	examples/tour.sh
+	bin/tour.sh
 
 # Installs cbc from Debian, as root, plans the weeks of docs/solvers.md, and writes its table: takes some minutes.
 solvers: build
@@ -50,19 +50,19 @@ programs: all
 	cp out/inrc2pb crates/inrc2pb/out/inrc2pb
 	cd crates/inrc2pb_bound && rt run --backend rattle -- --version && mv out/inrc2pb_bound out/inrc2pb_bound.by-rattle
 	cp out/inrc2pb-bound crates/inrc2pb_bound/out/inrc2pb_bound
-	cd crates/week_report && rt run -- data/scenario.txt data/history.txt data/week.txt > /dev/null
-	cd crates/rota_tests && rt test
-	cd crates/part_tests && rt test
+	cd crates/call_report && rt run -- data/scenario.txt data/history.txt data/week.txt > /dev/null
+	cd crates/run_tests && rt test
+	cd crates/call_tests && rt test
 
 # Seconds, MB/s and memory on made-up weeks: bench/README.md says more.
 bench: build
 	python3 bench/run.py
 
-# Weeks and rosters at random, and changed files and answers, for some seconds; tests/fuzz.py says more. SEED tries the
+# Weeks and rosters at random, and changed files and answers, for some seconds; tests/random/fuzz.py says more. SEED tries the
 # same cases again.
 SECONDS ?= 60
 fuzz: build
-	python3 tests/fuzz.py --seconds $(SECONDS) $(if $(SEED),--seed $(SEED))
+	python3 tests/random/fuzz.py --seconds $(SECONDS) $(if $(SEED),--seed $(SEED))
 
 # An archive for any Linux on x86-64-v2, and a package for Debian and Ubuntu: out/inrc2pb-VERSION-x86_64-linux.tar.gz and
 # out/inrc2pb_VERSION_amd64.deb. Both contain the files of `install`, and PROVED: the commit, and the gate's result.
@@ -72,7 +72,7 @@ dist: all
 deb: all
 	package/deb.sh out
 
-# The folders of the installed parts. docs/completions/write.py writes the completions for bash, zsh and fish.
+# The folders of the installed parts. completions/write.py writes the completions for bash, zsh and fish.
 BIN = $(DESTDIR)$(PREFIX)/bin
 PAGES = $(SHARE)/doc/inrc2pb
 ZSH = $(SHARE)/zsh/site-functions
@@ -88,15 +88,15 @@ install:
 	mkdir -p "$(BIN)" "$(SHARE)/man/man1" "$(PAGES)/docs" "$(PAGES)/bench" $(COMPLETIONS)
 	install -m 755 "$(PROGRAM)" "$(BIN)/inrc2pb"
 	test ! -x "$(BOUND)" || install -m 755 "$(BOUND)" "$(BIN)/inrc2pb-bound"
-	test ! -x "$(WHO_FITS)" || install -m 755 "$(WHO_FITS)" "$(BIN)/who_fits"
+	test ! -x "$(FITS)" || install -m 755 "$(FITS)" "$(BIN)/inrc2pb-fits"
 	$(if $(HELPERS),install -m 755 $(HELPERS) "$(BIN)")
 	$(if $(MODULES),mkdir -p "$(SHARE)/inrc2pb/inrc2pb" && install -m 644 $(MODULES) "$(SHARE)/inrc2pb/inrc2pb")
-	install -m 644 docs/*.1 "$(SHARE)/man/man1"
+	install -m 644 man/*.1 "$(SHARE)/man/man1"
 	for helper in $(notdir $(HELPERS)); do echo '.so man1/inrc2pb-helpers.1' > "$(SHARE)/man/man1/$$helper.1"; done
-	install -m 644 docs/completions/inrc2pb.bash "$(SHARE)/bash-completion/completions/inrc2pb"
-	install -m 644 docs/completions/inrc2pb-bound.bash "$(SHARE)/bash-completion/completions/inrc2pb-bound"
-	install -m 644 docs/completions/_inrc2pb docs/completions/_inrc2pb-bound "$(ZSH)"
-	install -m 644 docs/completions/*.fish "$(SHARE)/fish/vendor_completions.d"
+	install -m 644 completions/inrc2pb.bash "$(SHARE)/bash-completion/completions/inrc2pb"
+	install -m 644 completions/inrc2pb-bound.bash "$(SHARE)/bash-completion/completions/inrc2pb-bound"
+	install -m 644 completions/_inrc2pb completions/_inrc2pb-bound "$(ZSH)"
+	install -m 644 completions/*.fish "$(SHARE)/fish/vendor_completions.d"
 	install -m 644 $(TOP_PAGES) "$(PAGES)"
 	install -m 644 docs/*.md docs/*.svg "$(PAGES)/docs"
 	sed -E -i 's|\[[^]]*\]\(\.\./(crates/[^)]*)\)|`\1`|g' "$(PAGES)"/docs/*.md
@@ -107,7 +107,7 @@ install:
 
 # Removes the files of `install`, with the same PREFIX, and what Python made of the library; then its own folders, if they are empty.
 uninstall:
-	rm -f "$(BIN)/inrc2pb" "$(BIN)/inrc2pb-bound" "$(BIN)/who_fits" $(patsubst docs/%,"$(SHARE)/man/man1/%",$(wildcard docs/*.1)) \
+	rm -f "$(BIN)/inrc2pb" "$(BIN)/inrc2pb-bound" "$(BIN)/inrc2pb-fits" $(patsubst man/%,"$(SHARE)/man/man1/%",$(wildcard man/*.1)) \
 	    $(foreach name,inrc2pb inrc2pb-bound,"$(SHARE)/bash-completion/completions/$(name)" "$(ZSH)/_$(name)" \
 	    "$(SHARE)/fish/vendor_completions.d/$(name).fish")
 	rm -f $(patsubst helpers/%,"$(BIN)/%",$(HELPERS)) $(patsubst helpers/%,"$(SHARE)/man/man1/%.1",$(HELPERS))

@@ -1,0 +1,216 @@
+#!/usr/bin/env python3
+"""Writes the completions of both programs for bash, zsh and fish from one description of the commands and options.
+
+tests/program/manual.sh compares the files with the output of this script, and their words with those of the program's help and of the
+manual page. Needs Python 3.8 or later.
+"""
+
+import argparse
+from pathlib import Path
+from typing import Dict, Iterator, Tuple
+
+# An option's argument, or '', and its text in the program's help, without its default.
+Option = Tuple[str, str]
+Options = Dict[str, Option]
+
+ANY: Options = {
+    "--help": ("", "Print help"),
+    "--version": ("", "Print version"),
+}
+WEEK: Options = {
+    "--sce": ("file", "The scenario"),
+    "--his": ("file", "The history before the week"),
+    "--week": ("file", "The requirements and requests of the week"),
+    "--fix": ("file", "Assignments to keep, as a solution file"),
+    "--early": ("", "Charge excess assignments and weekends as soon as they occur"),
+}
+HELP = {"--help": ANY["--help"]}
+OPB = {"--opb": ("file", "Where to write the model, replacing the file")}
+SOL = {"--sol": ("file", "Where to write the solution, replacing the file")}
+ANSWER = {"--answer": ("file", "The solver's answer")}
+FROM = {"--from": ("file", "The roster, as a solution file")}
+COMMANDS: Dict[str, Tuple[str, Options]] = {
+    "encode": ("Writes the week as a pseudo-Boolean model", {**WEEK, **OPB, **HELP}),
+    "decode": ("Turns a solver's answer into a solution file, and reports its costs", {**WEEK, **SOL, **ANSWER, **HELP}),
+    "extend": ("Turns a roster into a solver's answer", {**WEEK, **FROM, **HELP}),
+}
+BOUND: Options = {
+    **WEEK,
+    "--prices": ("file", "The price of each place, in thousandths of a point"),
+    "--roster": ("file", "A roster to judge, as a solution file"),
+    "--minimums": ("", "Leave out the soft rules, to prove that no roster exists"),
+    "--rows": ("", "Print the cheapest week of each nurse, too"),
+    **ANY,
+}
+FILES = list(dict.fromkeys(name for _, options in COMMANDS.values() for name, (kind, _) in options.items() if kind == "file"))
+
+BASH = """\
+# shellcheck shell=bash
+# Completion of inrc2pb's commands, options and file names, for bash. Written by write.py beside it.
+_inrc2pb() {
+    local word=${COMP_WORDS[COMP_CWORD]} before=${COMP_WORDS[COMP_CWORD - 1]} command='' at given choices
+    for ((at = 1; at < COMP_CWORD; at++)); do
+        case ${COMP_WORDS[at]} in
+            %(names)s)
+                command=${COMP_WORDS[at]}
+                break
+                ;;
+        esac
+    done
+    COMPREPLY=()
+    case $before in
+        %(files)s)
+            compopt -o filenames 2> /dev/null
+            mapfile -t COMPREPLY < <(compgen -f -- "$word")
+            return
+            ;;
+    esac
+    case $command in
+%(choices)s
+        *) choices='%(top)s' ;;
+    esac
+    # An option that was given already is not offered again.
+    for ((at = 1; at < COMP_CWORD; at++)); do
+        given=${COMP_WORDS[at]}
+        choices=" $choices "
+        choices=${choices/ "$given" / }
+    done
+    mapfile -t COMPREPLY < <(compgen -W "$choices" -- "$word")
+}
+complete -F _inrc2pb inrc2pb
+"""
+
+BOUND_BASH = """\
+# shellcheck shell=bash
+# Completion of inrc2pb-bound's options and file names, for bash. Written by write.py beside it.
+_inrc2pb_bound() {
+    local word=${COMP_WORDS[COMP_CWORD]} before=${COMP_WORDS[COMP_CWORD - 1]} given choices='%(options)s'
+    COMPREPLY=()
+    case $before in
+        %(files)s)
+            compopt -o filenames 2> /dev/null
+            mapfile -t COMPREPLY < <(compgen -f -- "$word")
+            return
+            ;;
+    esac
+    # An option that was given already is not offered again.
+    for given in "${COMP_WORDS[@]:1:COMP_CWORD-1}"; do
+        choices=" $choices "
+        choices=${choices/ "$given" / }
+    done
+    mapfile -t COMPREPLY < <(compgen -W "$choices" -- "$word")
+}
+complete -F _inrc2pb_bound inrc2pb-bound
+"""
+
+ZSH = """\
+#compdef inrc2pb
+# Completion of inrc2pb's commands, options and file names, for zsh. Written by write.py beside it.
+_inrc2pb() {
+    local context state line
+    typeset -A opt_args
+    _arguments -C \\
+%(top)s
+        '1:command:->command' '*::argument:->argument'
+    case $state in
+        command)
+            _values command \\
+%(commands)s
+            ;;
+        argument)
+            case $line[1] in
+%(cases)s
+            esac
+            ;;
+    esac
+}
+_inrc2pb "$@"
+"""
+
+
+def quoted(text: str) -> str:
+    """The text as one word of a shell."""
+    return "'" + text.replace("'", "'\\''") + "'"
+
+
+def bash() -> str:
+    """The completion for bash."""
+    choices = [f"        {name}) choices='{' '.join(options)}' ;;" for name, (_, options) in COMMANDS.items()]
+    return BASH % {
+        "names": " | ".join(COMMANDS),
+        "files": " | ".join(FILES),
+        "choices": "\n".join(choices),
+        "top": " ".join([*COMMANDS, *ANY]),
+    }
+
+
+def bound_bash() -> str:
+    """The completion of inrc2pb-bound for bash."""
+    files = [name for name, (kind, _) in BOUND.items() if kind == "file"]
+    return BOUND_BASH % {"files": " | ".join(files), "options": " ".join(BOUND)}
+
+
+def argument(name: str, kind: str, about: str) -> str:
+    """An option, as the completion for zsh describes it."""
+    return quoted(f"{name}[{about}]" + (":file:_files" if kind else ""))
+
+
+def bound_zsh() -> str:
+    """The completion of inrc2pb-bound for zsh."""
+    arguments = " \\\n".join(f"    {argument(name, *what)}" for name, what in BOUND.items())
+    return f"""#compdef inrc2pb-bound
+# Completion of inrc2pb-bound's options and file names, for zsh. Written by write.py beside it.
+_arguments \\
+{arguments}
+"""
+
+
+def zsh() -> str:
+    """The completion for zsh."""
+    cases = []
+    for name, (_, options) in COMMANDS.items():
+        arguments = " \\\n".join(" " * 24 + argument(option, *what) for option, what in options.items())
+        cases.append(f"                {name})\n                    _arguments \\\n{arguments}\n                    ;;")
+    return ZSH % {
+        "top": "\n".join(f"        {argument(name, *what)} \\" for name, what in ANY.items()),
+        "commands": " \\\n".join(f"                {quoted(f'{name}[{about}]')}" for name, (about, _) in COMMANDS.items()),
+        "cases": "\n".join(cases),
+    }
+
+
+def fish() -> Iterator[str]:
+    """The lines of the completion for fish."""
+    yield "# Completion of inrc2pb's commands, options and file names, for fish. Written by write.py beside it."
+    yield "complete -c inrc2pb -f"
+    for name, (_, about) in ANY.items():
+        yield f"complete -c inrc2pb -n __fish_use_subcommand -l {name[2:]} -d {quoted(about)}"
+    for command, (about, options) in COMMANDS.items():
+        yield f"complete -c inrc2pb -n __fish_use_subcommand -a {command} -d {quoted(about)}"
+        for option, (kind, meaning) in options.items():
+            seen = f"'__fish_seen_subcommand_from {command}'"
+            yield f"complete -c inrc2pb -n {seen} -l {option[2:]}{' -r -F' if kind else ''} -d {quoted(meaning)}"
+
+
+def bound_fish() -> Iterator[str]:
+    """The lines of the completion of inrc2pb-bound for fish."""
+    yield "# Completion of inrc2pb-bound's options and file names, for fish. Written by write.py beside it."
+    yield "complete -c inrc2pb-bound -f"
+    for name, (kind, about) in BOUND.items():
+        yield f"complete -c inrc2pb-bound -l {name[2:]}{' -r -F' if kind else ''} -d {quoted(about)}"
+
+
+def main() -> None:
+    """Writes the six files."""
+    parser = argparse.ArgumentParser(description="Writes the completions for bash, zsh and fish.")
+    parser.add_argument("folder", nargs="?", type=Path, default=Path(__file__).resolve().parent, help="where the files go [default: beside this script]")
+    folder = parser.parse_args().folder
+    (folder / "inrc2pb.bash").write_text(bash())
+    (folder / "_inrc2pb").write_text(zsh())
+    (folder / "inrc2pb.fish").write_text("\n".join(fish()) + "\n")
+    (folder / "inrc2pb-bound.bash").write_text(bound_bash())
+    (folder / "_inrc2pb-bound").write_text(bound_zsh())
+    (folder / "inrc2pb-bound.fish").write_text("\n".join(bound_fish()) + "\n")
+
+
+if __name__ == "__main__":
+    main()

@@ -1,0 +1,73 @@
+"""The example spreadsheet of the tests, and the files that `inrc2pb-ward` makes of it."""
+
+import copy
+from pathlib import Path
+
+from ward import ROOT
+
+from inrc2pb import ward
+from inrc2pb.plan_sheets import read_days
+from inrc2pb.records import DAYS
+from inrc2pb.sheet_files import Book
+
+DATA = ROOT / "tests" / "helpers" / "data"
+_EMPTY = [""] * 7
+_ROWS = {
+    "shifts": [
+        ("shift", "min in a row", "max in a row", "not followed by"),
+        ("Day", 2, 5, ""),
+        ("Late", 2, 4, "Day"),
+        ("Night", 2, 4, "Day, Late"),
+    ],
+    "contracts": [
+        ("contract", "shifts min", "shifts max", "work min", "work max", "off min", "off max", "weekends", "complete weekends"),
+        ("Full", 8, 11, 3, 5, 2, 3, 1, "yes"),
+        ("Half", 4, 6, 2, 3, 2, 5, 1, "no"),
+    ],
+    "nurses": [
+        ("nurse", "contract", "skills", "never", "always off", "worked", "worked weekends", "last shift", "days on it", "days of work", "days off"),
+        ("Amara Koch", "Full", "Charge, Nurse", "", "", 0, 0, "Day", 2, 2, 0),
+        ("Bruno", "Full", "Charge, Nurse", "", "", 0, 0, "", 0, 0, 2),
+        ("Chen", "Full", "Nurse", "", "", 0, 0, "Late", 1, 3, 0),
+        ("Dilek", "Full", "Nurse", "", "", 0, 0, "Night", 3, 3, 0),
+        ("Ewa", "Half", "Charge, Nurse", "Night", "", 0, 0, "", 0, 0, 3),
+        ("Finn", "Half", "Nurse", "", "Wed", 0, 0, "", 0, 0, 1),
+        ("Grace", "Full", "Nurse", "", "", 0, 0, "", 0, 0, 2),
+        ("Hana", "Full", "Charge, Nurse", "", "", 0, 0, "Day", 1, 4, 0),
+    ],
+    "needs": [
+        ("week", "shift", "skill", *DAYS),
+        ("", "Day", "Charge", *[1] * 7),
+        ("", "Day", "Nurse", *["1+1"] * 5, "0+1", "0+1"),
+        ("", "Late", "Nurse", *[1] * 7),
+        ("", "Night", "Nurse", *[1] * 7),
+        (1, "Day", "Nurse", "0+1", *["1+1"] * 4, "0+1", "0+1"),
+    ],
+    "plan": [
+        ("nurse", *(f"{day} {week}" for week in (0, 1) for day in DAYS)),
+        ("Amara Koch", *_EMPTY, "leave", "leave", *[""] * 5),
+        ("Bruno", *_EMPTY, *_EMPTY),
+        ("Chen", "", "", "", "", "", "wish", "", *_EMPTY),
+        ("Dilek", "", "", "", "", "wish", "", "", *_EMPTY),
+        ("Ewa", "", "", "", "", "", "", "wish", *_EMPTY),
+        ("Finn", "", "", "no Late", "", "", "", "", *_EMPTY),
+        ("Grace", "", "no Night", "", "", "", "", "", "Day", *[""] * 6),
+        ("Hana", *_EMPTY, *_EMPTY),
+    ],
+}
+SHEETS = {name: [[str(cell) for cell in row] for row in rows] for name, rows in _ROWS.items()}
+
+
+def texts(sheets, reasons=(), name="ward", weeks=2):
+    """The files of these sheets, without warnings."""
+    book = Book(Path("ward.ods"), sheets)
+    return ward.ward_files(book, name, read_days(book), weeks, reasons).texts
+
+
+def changed(sheet, row, column, text):
+    """The example with another text in a cell; rows are counted from 1."""
+    sheets = copy.deepcopy(SHEETS)
+    cells = sheets[sheet][row - 1]
+    cells += [""] * (column + 1 - len(cells))
+    cells[column] = text
+    return sheets

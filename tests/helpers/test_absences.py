@@ -1,0 +1,224 @@
+"""Tests of absences: how they are written and read, `inrc2pb-wish`, and that a search keeps them."""
+
+import itertools
+import unittest
+from dataclasses import replace
+
+from ward import HAS_CBC, HAS_CLASP, HISTORY, ROSTER, SCENARIO, WEEK, WEEK_FILES, WEEK_OPTIONS, HelperTest, files, run
+
+from inrc2pb import rules
+from inrc2pb.absences import MARK, ROWS, Absence, absences_of, in_words, way_out, wishes_of, with_absences, working_while_away
+from inrc2pb.best_roster import BestRoster
+from inrc2pb.program import penalty_of
+from inrc2pb.records import Assignment, Contract, History, Limits, Nurse, NurseHistory, Place, Request, Requirement, Scenario, ShiftType, Week, WeekData
+from inrc2pb.savings import largest_saving
+
+WARD, DATA = files.read_scenario(SCENARIO), files.read_week(WEEK, files.read_scenario(SCENARIO))
+AWAY = Absence("Chen", 4, None)
+
+
+def small_ward(types, contract, weeks=4):
+    """A ward of one nurse."""
+    shifts = {name: ShiftType(name, Limits(*limits), after) for name, limits, after in types}
+    return Scenario("small", weeks, ("Nurse",), shifts, {"Full": contract}, {"Ann": Nurse("Ann", "Full", ("Nurse",))})
+
+
+def differences(scenario, pasts):
+    """For each history the greatest difference of the costs of two weeks that keep the hard rules, tried one by one."""
+    data = WeekData("small", {}, ())
+    for past in pasts:
+        week = Week(scenario, History(0, "small", {"Ann": past}), data)
+        costs = []
+        for shifts in itertools.product((None, *scenario.shift_types), repeat=7):
+            rows = [Assignment("Ann", day, shift, "Nurse") for day, shift in enumerate(shifts) if shift]
+            if not rules.first_broken(week, rows):
+                costs.append(sum(rules.costs(week, rows).values()))
+        yield max(costs) - min(costs)
+
+
+class Savings(unittest.TestCase):
+    def test_the_widest_difference_of_one_nurse_is_the_greatest_of_all_weeks_and_histories(self):
+        for limits, work, off, whole in (((2, 3), (2, 4), (2, 3), True), ((1, 9), (3, 2), (0, 1), False), ((3, 4), (1, 9), (2, 9), True)):
+            scenario = small_ward([("Day", limits, ())], Contract("Full", Limits(0, 9), Limits(*work), Limits(*off), 9, whole))
+            pasts = [NurseHistory("Ann", 0, 0, None, 0, 0, length) for length in range(11)]
+            pasts += [NurseHistory("Ann", 0, 0, "Day", on, days, 0) for on in range(1, 11) for days in range(on, 11)]
+            self.assertEqual(largest_saving(scenario, WeekData("small", {}, ())), max(differences(scenario, pasts)) + 7 * 20 + 30)
+
+    def test_with_two_shift_types_and_a_forbidden_succession(self):
+        scenario = small_ward([("Day", (2, 3), ()), ("Night", (2, 2), ("Day",))], Contract("Full", Limits(0, 9), Limits(2, 4), Limits(2, 3), 9, True))
+        pasts = [NurseHistory("Ann", 0, 0, "Night", 1, 1, 0), NurseHistory("Ann", 0, 0, None, 0, 0, 3)]
+        self.assertGreaterEqual(largest_saving(scenario, WeekData("small", {}, ())) - 170, max(differences(scenario, pasts)))
+
+    def test_places_and_requests_count(self):
+        scenario = small_ward([("Day", (1, 9), ())], Contract("Full", Limits(0, 9), Limits(1, 9), Limits(1, 9), 9, False))
+        place = Place(0, "Day", "Nurse")
+        most = largest_saving(scenario, WeekData("small", {}, ()))
+        data = WeekData("small", {place: Requirement(1, 3)}, (Request("Ann", None, 0), Request("Ann", "Day", 1)))
+        self.assertEqual(largest_saving(scenario, data), 2 * 30 + 2 * 10 + most)
+
+
+class Writing(unittest.TestCase):
+    def test_what_is_written_is_read(self):
+        added = [AWAY, Absence("Ewa", 0, "Night")]
+        written = with_absences(WARD, DATA, added)
+        self.assertEqual(absences_of(written.data), set(added))
+        self.assertEqual(wishes_of(written.data), DATA.requests)
+        self.assertEqual(10 * written.requests, 10 * (largest_saving(WARD, DATA) // 10 + 1))
+        self.assertEqual(written.requests, written.certain)
+
+    def test_all_absences_have_the_same_number(self):
+        once = with_absences(WARD, DATA, [AWAY], known_cost=0).data
+        self.assertEqual(sum(request.nurse == "Chen" and request.day == 4 for request in once.requests), MARK)
+        twice = with_absences(WARD, once, [Absence("Ewa", 0, None)])
+        self.assertEqual(len(twice.data.requests), len(DATA.requests) + 2 * twice.requests)
+
+    def test_thirty_equal_requests_are_an_absence_and_fewer_are_a_wish(self):
+        for number, found in ((MARK - 1, set()), (MARK, {AWAY})):
+            data = replace(DATA, requests=(Request("Chen", None, 4),) * number)
+            self.assertEqual(absences_of(data), found)
+
+    def test_more_than_the_rows_allow(self):
+        every = [Absence(nurse, day, None) for nurse in WARD.nurses for day in range(7)]
+        written = with_absences(WARD, DATA, every)
+        self.assertEqual(written.requests, ROWS // len(every))
+        self.assertLess(written.requests, written.certain)
+
+    def test_rows_that_break_absences(self):
+        rows = [Assignment("Chen", 4, "Late", "Nurse"), Assignment("Ewa", 0, "Day", "Nurse"), Assignment("Chen", 3, "Late", "Nurse")]
+        away = {AWAY, Absence("Chen", 3, None), Absence("Ewa", 0, "Night")}
+        self.assertEqual(working_while_away(away, rows), [rows[0], rows[2]])
+        self.assertEqual(in_words(rows), "Chen works Late on Thu and Fri, Ewa works Day on Mon")
+
+    def test_the_way_out(self):
+        broken = [Assignment("Chen", 4, "Day", "Charge")]
+        held = [Assignment("Amara", 4, "Late", "Nurse"), Assignment("Grace", 4, "Late", "Nurse"), Assignment("Bruno", 3, "Day", "Charge")]
+        self.assertEqual(way_out(WARD, held, broken), "hold fewer shifts with --fix; these nurses have the skill: Amara Fri Late")
+        self.assertIn("type inrc2pb-check with the same files and --why-none: ", way_out(WARD, held[1:], broken))
+
+
+class Wish(HelperTest):
+    def wish(self, *words, week=WEEK):
+        return run("wish", "--sce", SCENARIO, "--week", week, *words, "--out", self.folder / "wished.txt")
+
+    def wished(self, *words):
+        status, printed, said = self.wish(*words)
+        self.assertEqual((status, said), (0, ""), printed)
+        return files.read_week(self.folder / "wished.txt", WARD)
+
+    def test_days_dates_shift_types_and_wishes(self):
+        for words, away in (
+            (("--away", "Chen=Fri,Sat"), {AWAY, AWAY._replace(day=5)}),
+            (("--away", "Chen"), {AWAY._replace(day=day) for day in range(7)}),
+            (("--monday", "2026-11-30", "--away", "Chen=2026-12-04"), {AWAY}),
+            (("--monday", "2026-11-30", "--away", "Chen=2026-12-05..2026-12-20"), {AWAY._replace(day=5), AWAY._replace(day=6)}),
+            (("--never", "Chen=Night"), {Absence("Chen", day, "Night") for day in range(7)}),
+        ):
+            self.assertEqual(absences_of(self.wished(*words)), away)
+        data = self.wished("--wish", "Amara=Sat", "--wish", "Bruno=Sun:Late")
+        self.assertEqual(data.requests, (*DATA.requests, Request("Amara", None, 5), Request("Bruno", "Late", 6)))
+
+    def test_several_weeks(self):
+        second = self.changed(WEEK, "Chen Any Sat", "Chen Any Sun", "week-1.txt")
+        folder = self.folder / "out"
+        folder.mkdir()
+        words = ("--week", second, "--monday", "2026-11-30", "--away", "Chen=2026-12-06..2026-12-07")
+        self.assertEqual(run("wish", "--sce", SCENARIO, "--week", WEEK, *words, "--out", folder)[0], 0)
+        for name, day in (("week-0.txt", 6), ("week-1.txt", 0)):
+            self.assertEqual(absences_of(files.read_week(folder / name, WARD)), {Absence("Chen", day, None)})
+
+    def test_the_summary_says_what_is_certain(self):
+        for nurses, certain in ((("Chen",), True), (WARD.nurses, False)):
+            status, printed, said = self.wish(*(word for nurse in nurses for word in ("--away", nurse)))
+            self.assertEqual((status, said, printed.endswith(" points, more than that can save\n")), (0, "", certain))
+            self.assertRegex(printed, r": [0-9]+ absences with [0-9]+ requests each: to break one costs [0-9]+0 points")
+
+    def test_with_the_history_fewer_requests_are_certain(self):
+        status, printed, _ = self.wish("--his", HISTORY, "--away", "Chen=Mon")
+        self.assertEqual((status, f"with {MARK} requests each" in printed), (0, True), printed)
+
+    def test_leave_counts_as_work(self):
+        history = self.folder / "history.txt"
+        words = ("--his", HISTORY, "--away", "Chen=Mon,Tue,Wed", "--away", "Ewa=Sun", "--credit", history)
+        status, printed, _ = self.wish(*words)
+        self.assertEqual((status, printed.splitlines()[1:]), (0, [f"Chen: 3 days away count as 2 shifts in {history}", f"Ewa: 1 day away counts as 1 shift in {history}"]))
+        before, after = files.read_history(HISTORY, WARD).nurses, files.read_history(history, WARD).nurses
+        # Full asks for 17 shifts in 28 days, Half for 8: three days are 1.8 shifts, one day 0.3.
+        self.assertEqual({nurse: after[nurse].assignments - before[nurse].assignments for nurse in after if after[nurse] != before[nurse]}, {"Chen": 2, "Ewa": 1})
+
+    def test_faults(self):
+        for words, said in (
+            ((), "nothing says what to write: give --away, --never or --wish"),
+            (("--away", "Chan=Fri"), "--away Chan=Fri: 'Chan' is no nurse: did you mean Chen?"),
+            (("--away", "Chen=Friday"), "--away Chen=Friday: 'Friday' is no day: did you mean Fri?"),
+            (("--away", "Chen=2026-12-04"), "--away Chen=2026-12-04: a date needs --monday, the date of the first week's Monday"),
+            (("--monday", "2026-12-01", "--away", "Chen"), "--monday 2026-12-01: this is a Tuesday: give a Monday, such as 2026-11-30"),
+            (("--monday", "30.11.", "--away", "Chen"), "--monday 30.11.: this is no date: give year, month and day, such as 2026-11-30"),
+            (
+                ("--monday", "2026-11-30", "--away", "Chen=2026-12-09"),
+                "--away Chen=2026-12-09: 2026-12-09 is not in the week from 2026-11-30 to 2026-12-06",
+            ),
+            (
+                ("--monday", "2026-11-30", "--away", "Chen=2026-12-04..2026-12-01"),
+                "--away Chen=2026-12-04..2026-12-01: 2026-12-04 comes after 2026-12-01: give the earlier date first",
+            ),
+            (("--never", "Chen"), "--never Chen: give the nurse and the shift type, such as Chen=Day"),
+            (("--never", "Chen=Nigth"), "--never Chen=Nigth: 'Nigth' is no shift type: did you mean Night?"),
+            (("--wish", "Chen"), "--wish Chen: give the nurse and the days, such as Chen=Sat or Chen=Sat:Day"),
+            (("--credit", "h.txt", "--away", "Chen"), "--credit needs --his and --away: give the history with which the first week begins, and who is away"),
+            (("--fix", ROSTER, "--away", "Chen"), "--fix needs --his: give the history with which the first week begins"),
+            (("--his", HISTORY, "--fix", ROSTER, "--away", "Chen=Wed"),
+             "Chen is away on Wed, and --fix holds Late: leave out one of the two; inrc2pb-keep --nurses Chen --keep Wed --others FILE leaves out the shift"),
+        ):
+            with self.subTest(words):
+                self.assert_fault(self.wish(*words), f"inrc2pb-wish: {said}")
+        line = f"inrc2pb-wish: {WEEK} is read, so the result cannot be written to it: choose another file"
+        self.assert_fault(run("wish", "--sce", SCENARIO, "--week", WEEK, "--away", "Chen", "--out", WEEK), line)
+        self.assertFalse((self.folder / "wished.txt").exists())
+
+
+class Kept(HelperTest):
+    def test_a_search_prefers_a_roster_that_keeps_absences(self):
+        away = Absence("Chen", 6, None)
+        week = files.read_files(SCENARIO, HISTORY, WEEK)
+        week = replace(week, data=with_absences(WARD, DATA, [away], known_cost=0).data)
+        costly, cheap = (files.read_solution(path).assignments for path in (self.swapped("Chen", "Grace"), ROSTER))
+        self.assertFalse(working_while_away({away}, costly))
+        self.assertLess(penalty_of(WEEK_FILES, ROSTER), penalty_of(WEEK_FILES, self.folder / "start.txt"))
+        for offers in ((costly, cheap), (cheap, costly)):
+            best = BestRoster(WEEK_FILES, week, self.folder / "best.txt", lambda penalty, finder: None)
+            for offer in offers:
+                best.offer(offer, "test")
+            self.assertEqual((set(files.read_solution(self.folder / "best.txt").assignments), best.breaks()), (set(costly), []))
+
+    @unittest.skipUnless(HAS_CBC, "needs cbc")
+    def test_rows_keep_absences_unless_no_roster_can(self):
+        target = self.folder / "roster.txt"
+        for away, kept in (({AWAY, Absence("Grace", 6, "Day")}, True), ({Absence(nurse, 4, None) for nurse in ("Amara", "Bruno", "Ewa")}, False)):
+            files.write_text(self.folder / "away.txt", files.week_text(with_absences(WARD, DATA, away).data))
+            status, report, said = run("improve", *WEEK_OPTIONS[:4], "--week", self.folder / "away.txt", "--sol", target)
+            self.assertEqual(status, 0, said)
+            self.assertEqual(working_while_away(away, files.read_solution(target).assignments) == [], kept)
+            self.assertEqual("no roster was found that keeps every absence: " in said, not kept)
+            self.assertIn("no roster costs less", report)
+            self.assertEqual(("--why-none" in said, report.endswith("no roster costs less, but this one breaks an absence\n")), (not kept, not kept))
+
+    def test_a_roster_that_breaks_an_absence_is_a_mistake(self):
+        self.assertEqual(run("wish", *WEEK_OPTIONS[:2], *WEEK_OPTIONS[4:], "--away", "Chen=Mon,Wed", "--out", self.folder / "away.txt")[0], 0)
+        words = (*WEEK_OPTIONS[:4], "--week", self.folder / "away.txt")
+        status, printed, _ = run("check", *words, "--roster", ROSTER)
+        self.assertEqual((status, printed), (1, f"{ROSTER}: Chen works Late on Wed, and is away\n"))
+        fix = self.solution("Chen Mon Day Nurse")
+        status, printed, _ = run("check", *words, "--fix", fix)
+        self.assertEqual((status, printed), (1, f"{fix}: Chen is away on Mon, and Day is held: remove one of the two\n"))
+
+    @unittest.skipUnless(HAS_CLASP, "there is no clasp")
+    def test_who_works_is_named_if_no_roster_keeps_all_absences(self):
+        words = [word for nurse in ("Amara", "Bruno", "Ewa") for word in ("--away", f"{nurse}=Fri")]
+        self.assertEqual(run("wish", *WEEK_OPTIONS[:2], *WEEK_OPTIONS[4:], *words, "--out", self.folder / "away.txt")[0], 0)
+        words = (*WEEK_OPTIONS[:4], "--week", self.folder / "away.txt", "--solver", "clasp", "--time", "5", "--sol", self.folder / "roster.txt")
+        _, _, said = run("improve", *words)
+        self.assertRegex(said, r"no roster was found that keeps every absence: (Amara|Bruno|Ewa) works Day on Fri\n")
+
+
+if __name__ == "__main__":
+    unittest.main()

@@ -1,0 +1,89 @@
+"""The example weeks, and runs of the helpers, for the tests of this folder."""
+
+import os
+import shutil
+import signal
+import subprocess
+import sys
+import tempfile
+import unittest
+from dataclasses import replace
+from pathlib import Path
+
+ROOT = Path(__file__).resolve().parents[2]
+HELPERS = ROOT / "helpers"
+sys.path.insert(0, str(HELPERS))
+
+from inrc2pb import files, program  # noqa: E402
+
+WARD = ROOT / "examples" / "ward"
+SCENARIO, HISTORY, WEEK, ROSTER = (WARD / name for name in ("ward.txt", "history-0.txt", "week-0.txt", "roster-0.txt"))
+WEEK_OPTIONS = ("--sce", SCENARIO, "--his", HISTORY, "--week", WEEK)
+WEEK_FILES = program.WeekFiles(SCENARIO, HISTORY, WEEK)
+THIRTY = ROOT / "examples" / "thirty"
+THIRTY_FILES = program.WeekFiles(THIRTY / "ward.txt", THIRTY / "history-3.txt", THIRTY / "week-3.txt")
+# A roster of this week: clasp's answer to its model with --early.
+EARLY_ANSWER = ROOT / "tests" / "data" / "thirty_clasp_early.txt"
+# A shell lets its background ignore Ctrl-C, and so would the helpers.
+if signal.getsignal(signal.SIGINT) == signal.SIG_IGN:
+    signal.signal(signal.SIGINT, signal.default_int_handler)
+HAS_CLASP, HAS_CBC = (shutil.which(name) is not None for name in ("clasp", "cbc"))
+
+
+def run(helper, *words, environment=None):
+    """Runs a helper; its status, standard output and standard error."""
+    ran = subprocess.run(
+        [sys.executable, str(HELPERS / f"inrc2pb-{helper}"), *map(str, words)],
+        stdout=subprocess.PIPE, stderr=subprocess.PIPE, env={**os.environ, **(environment or {})}, timeout=600)
+    return ran.returncode, ran.stdout.decode(), ran.stderr.decode()
+
+
+class HelperTest(unittest.TestCase):
+    """A test with a folder of its own."""
+
+    def setUp(self):
+        folder = tempfile.TemporaryDirectory()
+        self.addCleanup(folder.cleanup)
+        self.folder = Path(folder.name)
+
+    def changed(self, path, old, new, name="changed.txt"):
+        """The file with another text, in the test's folder."""
+        text = path.read_text()
+        self.assertIn(old, text)
+        target = self.folder / name
+        target.write_text(text.replace(old, new, 1))
+        return target
+
+    def solution(self, *rows, week=0, ward="ward", name="rows.txt"):
+        """A solution file with these rows, the first of them on line 5."""
+        target = self.folder / name
+        target.write_text("\n".join([f"SOLUTION\n{week} {ward}\n", f"ASSIGNMENTS = {len(rows)}", *rows]) + "\n")
+        return target
+
+    def swapped(self, one, two):
+        """The ward's roster with the weeks of two nurses swapped, in the file start.txt."""
+        names = {one: two, two: one}
+        rows = files.read_solution(ROSTER).assignments
+        return self.solution(*(row._replace(nurse=names.get(row.nurse, row.nurse)).row() for row in rows), name="start.txt")
+
+    def script(self, name, text):
+        """A shell script in the test's folder."""
+        path = self.folder / name
+        path.write_text(f"#!/bin/sh\n{text}")
+        path.chmod(0o755)
+        return path
+
+    def answers_once(self, early=False):
+        """A solver that has an answer of penalty 20 to the ward's week when it is called first, and none later."""
+        answer = self.folder / "answer.txt"
+        answer.write_text(program.answer_with(replace(WEEK_FILES, early=early), ROSTER))
+        return f"sh -c 'mkdir {self.folder}/called 2> /dev/null && cat {answer}'"
+
+    def slow_to_encode(self, running):
+        """The environment of a program whose `encode` makes the file `running`, and does not end in the time of a test."""
+        encodes = f'[ "$1" != encode ] || {{ touch {running}; exec sleep 200; }}'
+        return {"INRC2PB": str(self.script("inrc2pb", f'{encodes}\nexec {program.find_program()} "$@"\n'))}
+
+    def assert_fault(self, ran, line, status=1):
+        """The run printed this line on standard error and nothing else."""
+        self.assertEqual(ran, (status, "", line + "\n"))

@@ -1,0 +1,233 @@
+#!/usr/bin/env python3
+"""Compares the lists of docs/reading.md with the definitions that the contracts of the runs rest on.
+
+usage: reading.py [--fix]
+
+A contract cites definitions, and these rest on others: a list has the files that are reached through the imports of
+specs/. The first list begins with the meaning of a model and the text of one, each other list with the definitions that
+its contracts cite. A file is in one list only, and comes after the files that it rests on. No other file defines a name
+of the lists. Each definition has a comment above it.
+
+The page gives the lines of each file; for each list its files, their lines, and the lines of definitions (without
+imports, comments and blank lines); and the number of public definitions in the first two lists. After a change of
+specs/, --fix writes these numbers. Rows are added, moved and removed by hand, as the complaints say.
+"""
+
+import argparse
+import re
+import sys
+from pathlib import Path
+from typing import Dict, Iterable, Iterator, List, Match, NamedTuple, Set, Tuple
+
+ROOT = Path(__file__).resolve().parents[2]
+CRATES = ROOT / "crates"
+PAGE = ROOT / "docs" / "reading.md"
+EXACT = CRATES / "rota_pb/specs/ExactModel.antt"
+ENCODE = ("rota_pb/src/encoding.rt", "run_encode")
+DECODE = ("rota_pb/src/decoding.rt", "run_decode")
+EXTEND = ("rota_pb/src/extending.rt", "run_extend")
+PERFORM = ("inrc2pb_job/src/job_run.rt", "perform")
+PROGRAM = ("inrc2pb_program/src/run.rt", "program")
+EXACT_ANSWERS = CRATES / "bound_run/specs/ExactAnswers.antt"
+ROWS = CRATES / "bound_run/specs/Rows.antt"
+BOUND = ("bound_run/src/run.rt", "run_bound")
+BOUND_PERFORM = ("bound_program/src/job_run.rt", "perform")
+BOUND_PROGRAM = ("bound_program/src/run.rt", "program")
+
+
+class FileList(NamedTuple):
+    """A list of the page: words of its heading, the files and the calls that it begins with, and where it stops."""
+
+    heading: str
+    files: List[str]
+    calls: List[Tuple[str, str]]
+    stops: Set[Path]
+
+
+LISTS = [
+    FileList("The meaning of a model", ["rota_pb/specs/Meaning.antt", "opb_text/specs/ModelText.antt"], [], set()),
+    FileList("The files and the run", [], [ENCODE], {EXACT}),
+    FileList("The exact text", [], [ENCODE], set()),
+    FileList("Decode and extend", [], [DECODE, EXTEND], set()),
+    FileList("The whole program", [], [PERFORM, PROGRAM], set()),
+    FileList("A proved bound", [], [BOUND, BOUND_PERFORM, BOUND_PROGRAM], {EXACT_ANSWERS, ROWS}),
+    FileList("The exact bound", [], [BOUND], set()),
+]
+USE = re.compile(r"(?m)^ *(?:pub )?(?:ghost )?use Rattle\.(\w+)\.specs\.([\w.]+?)(?:\.\{([^}]*)\})?(?: as \w+)?;?$")
+ROW = re.compile(r"(?m)^- `([\w/]+\.antt)` \((\d+)\):")
+FIRST_LISTS = 2
+DEFINED = re.compile(r"(The\s+first\s+two\s+lists\s+have\s+)(\d+)(\s+public\s+definitions)")
+TOTAL = re.compile(r"(\d+) files, ([\d,]+) lines, ([\d,]+) of definitions")
+NO_DEFINITION = re.compile(r" *(--|(pub )?use |$)")
+DEFINITION = re.compile(r"(?:abbrev |unfoldable )?pub (?!use )(?:record |data )?(\S+)")
+NAME = re.compile(r"(?m)^ *(?:pub )?(?:abbrev|unfoldable|opaque|lemma|record|data) (?:pub )?([^\s:(){}]+)")
+
+
+def imports(text: str) -> Iterator[Tuple[Path, Set[str]]]:
+    """The files of specs/ that a text imports, each with the names that it takes."""
+    for crate, module, names in USE.findall(text):
+        file = CRATES / crate / "specs" / (module.replace(".", "/") + ".antt")
+        if file.exists():
+            yield file, {name.split(" as ")[-1].strip() for name in names.split(",")}
+
+
+def cited(source: str, call: str) -> List[Path]:
+    """The files that the contract of a call cites: those of the names in it."""
+    text = (CRATES / source).read_text(encoding="utf-8")
+    found = re.search(rf"(?ms)^pub fn {call}\b.*?^\{{$", text)
+    if not found:
+        sys.exit(f"FAILED: {source} has no function {call}")
+    words = set(re.findall(r"\w+", found.group()))
+    return [file for file, names in imports(text) if names & words]
+
+
+def reached(files: Iterable[Path], stops: Set[Path]) -> List[Path]:
+    """The files that are reached from these, with these, but none that is reached only through a stop."""
+    found: List[Path] = []
+    todo = list(files)
+    while todo:
+        file = todo.pop()
+        if file not in found and file not in stops:
+            found.append(file)
+            todo += [other for other, _ in imports(file.read_text(encoding="utf-8"))]
+    return found
+
+
+def read_lines(file: Path) -> List[str]:
+    """The lines of a file."""
+    return file.read_text(encoding="utf-8").splitlines()
+
+
+def length(file: Path) -> int:
+    """The number of lines of a file."""
+    return len(read_lines(file))
+
+
+def total(files: List[Path]) -> str:
+    """The counts of a list, as the page gives them."""
+    lines = [line for file in files for line in read_lines(file)]
+    defining = sum(not NO_DEFINITION.match(line) for line in lines)
+    return f"{len(files)} files, {len(lines):,} lines, {defining:,} of definitions"
+
+
+def defined(files: Iterable[Path]) -> int:
+    """The number of public definitions in these files."""
+    return sum(bool(DEFINITION.match(line)) for file in files for line in read_lines(file))
+
+
+def name(file: Path) -> str:
+    """The path of a file below crates/."""
+    return str(file.relative_to(CRATES))
+
+
+def section(page: str, heading: str) -> Tuple[int, int]:
+    """Where the text below a heading with these words begins and ends."""
+    begin = re.search(rf"(?m)^## .*{heading}.*$", page)
+    if not begin:
+        sys.exit(f"FAILED: docs/reading.md has no heading with the words '{heading}'")
+    end = page.find("\n## ", begin.end())
+    return begin.end(), end if end >= 0 else len(page)
+
+
+def compare(page: str, heading: str, wanted: List[Path], before: List[Path]) -> Iterator[str]:
+    """The faults of a list of the page."""
+    first, last = section(page, heading)
+    rows = ROW.findall(page[first:last])
+    files = [CRATES / row[0] for row in rows]
+    for file in sorted(set(wanted) - set(files)):
+        yield f"{name(file)}, {length(file)} lines, is missing in the list '{heading}'"
+    for file in files:
+        if file not in wanted:
+            yield f"{name(file)} does not belong in the list '{heading}'"
+    for index, (file, row) in enumerate(zip(files, rows)):
+        if file not in wanted:
+            continue
+        if length(file) != int(row[1]):
+            yield f"{name(file)} has {length(file)} lines, and not {row[1]}"
+        known = set(files[:index]) | set(before)
+        for other, _ in imports(file.read_text(encoding="utf-8")):
+            if other in wanted and other not in known:
+                yield f"{name(file)} comes before {name(other)}, on which it rests"
+    if total(wanted) not in page[first:last]:
+        yield f"the list '{heading}' has {total(wanted)}"
+
+
+def uncommented(file: Path) -> Iterator[str]:
+    """The public definitions of a file that have no comment above them."""
+    before = ""
+    for line in read_lines(file):
+        found = DEFINITION.match(line)
+        if found and not before.startswith("--"):
+            yield f"{name(file)} has no comment above {found.group(1)}"
+        if not line.startswith("infix"):
+            before = line
+
+
+def defined_twice(files: Iterable[Path]) -> Iterator[str]:
+    """The names of these files that another file of specs/ defines too."""
+    owners: Dict[str, List[Path]] = {}
+    for file in sorted(CRATES.glob("*/specs/**/*.antt")):
+        for word in set(NAME.findall(file.read_text(encoding="utf-8"))):
+            owners.setdefault(word, []).append(file)
+    for word, found in sorted(owners.items()):
+        if len(found) > 1 and set(found) & set(files):
+            yield f"{word} is defined in {' and in '.join(map(name, found))}"
+
+
+def compare_defined(page: str, files: List[Path]) -> Iterator[str]:
+    """The fault of the number of public definitions in the first lists, whose files are given."""
+    found = DEFINED.search(page)
+    if not found or int(found.group(2)) != defined(files):
+        yield f"the first two lists have {defined(files)} public definitions"
+
+
+def row_with_length(row: Match[str]) -> str:
+    """A row of the page with the lines of its file, or as it was if there is no such file."""
+    file = CRATES / row.group(1)
+    return f"- `{row.group(1)}` ({length(file)}):" if file.exists() else row.group()
+
+
+def fixed(page: str, heading: str, wanted: List[Path]) -> str:
+    """The page with the right counts in a list."""
+    first, last = section(page, heading)
+    text = ROW.sub(row_with_length, page[first:last])
+    text = TOTAL.sub(total(wanted), text, count=1)
+    return page[:first] + text + page[last:]
+
+
+def lists() -> Iterator[Tuple[str, List[Path], List[Path]]]:
+    """Each list of the page: the words of its heading, its files, and those of the lists before it."""
+    before: List[Path] = []
+    for one in LISTS:
+        starts = [CRATES / file for file in one.files] + [file for source, call in one.calls for file in cited(source, call)]
+        wanted = [file for file in reached(starts, one.stops) if file not in before]
+        yield one.heading, wanted, before
+        before = before + wanted
+
+
+def main() -> int:
+    """Compares, or with --fix writes the counts and then compares; the exit status is 1 if something is wrong."""
+    parser = argparse.ArgumentParser(description=(__doc__ or "").split("\n")[0])
+    parser.add_argument("--fix", action="store_true", help="write the numbers on the page")
+    fix = parser.parse_args().fix
+    page = PAGE.read_text(encoding="utf-8")
+    all_lists = list(lists())
+    first_files = [file for _, wanted, _ in all_lists[:FIRST_LISTS] for file in wanted]
+    if fix:
+        for heading, wanted, _ in all_lists:
+            page = fixed(page, heading, wanted)
+        page = DEFINED.sub(rf"\g<1>{defined(first_files)}\g<3>", page)
+        PAGE.write_text(page, encoding="utf-8")
+    wrong = list(compare_defined(page, first_files))
+    for heading, wanted, before in all_lists:
+        wrong += compare(page, heading, wanted, before)
+        wrong += [line for file in wanted for line in uncommented(file)]
+    every = [file for _, wanted, _ in all_lists for file in wanted]
+    wrong += defined_twice(every)
+    for line in wrong:
+        print("FAILED:", line)
+    print(f"{total(every)}, {len(wrong)} failed")
+    return 1 if wrong else 0
+
+
+sys.exit(main())

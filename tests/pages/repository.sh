@@ -1,0 +1,129 @@
+#!/usr/bin/env bash
+# Checks facts that the repository states twice: the program, CHANGELOG.md and the helpers have the same version, the
+# generators write the example weeks, README.md names this kit, and the examples of the libraries are their tests. Checks that
+# no crate uses more lemmas of another than before, the shell scripts by shellcheck, if it is installed, and which files can be run.
+#
+#   tests/pages/repository.sh [llvm | rattle | PROGRAM]
+#
+# Needs bash, the usual tools of a shell and Python 3.8.
+. "$(dirname "$0")/../kit/kit.sh"
+
+version_is_in_preparation() {
+    local version
+    begins_case 'the version in CHANGELOG.md and helpers/pyproject.toml'
+    version=$("$program" --version)
+    grep -m 1 '^## ' CHANGELOG.md | grep -qx "## ${version#inrc2pb }" || complain "it does not begin with ${version#inrc2pb }"
+    grep -qx "version = \"${version#inrc2pb }\"" helpers/pyproject.toml || complain "helpers/pyproject.toml has another one"
+}
+
+weeks_are_made() {
+    local folder name file
+    begins_case 'the example weeks'
+    bench/make_weeks.py "$room/weeks"
+    for folder in "$room"/weeks/*/; do
+        name=$(basename "$folder")
+        # The prices of a week come from a search, and tests/program/bound.sh checks what they prove.
+        diff -r -x prices.txt "$folder" "examples/$name" > "$room/diff" || complain "examples/$name: $(head -n 5 "$room/diff")"
+    done
+    for name in second60 second120; do
+        bench/weeks.py period "${name#second}" "$room/$name"
+        for file in ward.txt week-1.txt; do
+            diff "$room/$name/$file" "examples/$name/$file" > "$room/diff" || complain "examples/$name: $(head -n 5 "$room/diff")"
+        done
+    done
+}
+
+# Each command of the helpers is a copy of their launcher.
+helpers_are_launchers() {
+    local file
+    begins_case 'the commands of the helpers'
+    for file in helpers/inrc2pb-*; do cmp -s helpers/launcher "$file" || complain "$file is no copy of helpers/launcher"; done
+}
+
+# The kit at hand is the one that README.md names or a later one, with the logic that README.md and docs/trusted.md name.
+kit_is_named() {
+    local kit named sum
+    begins_case 'the kit in README.md'
+    command -v rt > /dev/null || return
+    kit=$(rt version)
+    named=$(grep -o -m 1 'rattle-kit-[0-9a-z]*' README.md)
+    sum=$(grep -oP -m 1 'sum=\K[0-9a-f]+' docs/trusted.md)
+    printf '%s\n' "$named" "${kit%% *}" | sort -VC || complain "$kit is older than $named"
+    [ "${kit#* }" = "logic $sum" ] || complain "$kit has another logic than $sum"
+    grep -qF "the logic \`$sum\`" README.md || complain "README.md does not name the logic $sum"
+}
+
+# The example with which a library opens is the text of a test, line for line.
+examples_are_tests() {
+    local crate example test
+    begins_case "the libraries' examples"
+    for crate in rota_core rota_read rota_items text_sink opb_text solver_text rota_pb; do
+        example=$(awk '/^\/\/! ```$/ { inside = !inside; next } inside { sub(/^\/\/! /, "    "); print }' "crates/$crate/src/lib.rt")
+        test=$(sed -n "/^fn example_of_$crate(/,/^}/p" crates/*_tests/src/examples.rt)
+        [ -n "$example" ] || complain "crates/$crate/src/lib.rt opens with no example"
+        [[ $test == *"$example"* ]] || complain "crates/$crate/src/lib.rt: its example is not its test"
+    done
+}
+
+# A crate uses another crate's contracts, and no more of its lemmas than today.
+takes_contracts() {
+    local modules
+    begins_case 'lemma modules that a crate takes from another'
+    modules=$(tests/pages/doors.py | cut -d ' ' -f 2,3 | sort -u | wc -l)
+    [ "$modules" -le 9 ] || complain "$modules, and 9 before: $(tests/pages/doors.py)"
+}
+
+# Wrong bodies that people would write: the proofs refuse an edit of each name.
+mistakes=(
+    windows_before_monday_left_out open_run_charged_for_its_minimum closed_pattern_of_plain_weight constant_dropped unit_left_free
+    one_unsatisfiable_row unit_not_counted totals_in_every_week last_o_taken_for_the_penalty soft_rows_not_checked
+    more_put_after_a_failure cut_literal_lost second_skill_on_one_shift_allowed each_slack_of_an_extension_true
+    two_terms_on_one_cell solution_before_the_check report_first memory_fault_after_writing write_fault_of_a_sound_writer
+    later_fault_named text_after_the_end_accepted long_file_accepted rest_of_buffer_kept never_flushed later_value_wins
+    every_assignment_refused whole_excess_each_week only_first_cell_held
+)
+
+# A body that always gives up for want of memory is proved. These tests find it: tests/program/refused_memory.sh runs them.
+tests_of_memory=(scenario_read history_read week_read solution_read new_roster new_bits new_answer runs)
+
+mistakes_are_refused() {
+    local name
+    begins_case 'the mistakes that have to be refused'
+    for name in "${mistakes[@]}"; do
+        [ "$(find crates/*/must-fail -name "$name.edit" | wc -l)" = 1 ] || complain "not one edit $name"
+    done
+    for name in "${tests_of_memory[@]}"; do
+        grep -qs "^fn $name(rt: HostRuntime)" crates/*_tests/src/refused_*.rt || complain "no test $name"
+    done
+    tests/pages/edits.py stale > "$room/edits" || complain "$(cat "$room/edits")"
+}
+
+scripts_are_clean() {
+    begins_case 'the scripts'
+    command -v shellcheck > /dev/null || return
+    shellcheck .ci/run ./*.sh bin/*.sh package/*.sh tests/*/*.sh > "$room/checked" || complain "$(head -n 20 "$room/checked")"
+}
+
+# A file with an interpreter in its first line can be run, and no other.
+scripts_are_executable() {
+    local file
+    begins_case 'the files that can be run'
+    for file in .ci/run ./*.sh bench/*.* bin/*.* completions/*.py helpers/launcher package/*.* tests/*/*.*; do
+        if [ "$(head -c 2 "$file")" = '#!' ]; then
+            [ -x "$file" ] || complain "$file cannot be run"
+        else
+            [ ! -x "$file" ] || complain "$file can be run, and names no interpreter"
+        fi
+    done
+}
+
+version_is_in_preparation
+weeks_are_made
+helpers_are_launchers
+kit_is_named
+examples_are_tests
+takes_contracts
+mistakes_are_refused
+scripts_are_clean
+scripts_are_executable
+finish

@@ -1,0 +1,92 @@
+#!/usr/bin/env python3
+"""Finds the ends of the texts of crates/run_tests/src/changed_tokens.rt with the readers of helpers/inrc2pb.
+
+usage: changed_tokens.py [--fix]
+
+The test replaces, precedes or cuts off each token of five files by each of its words, and counts the faults by their kind. This
+script makes the same texts from the constants of that file, and compares its own counts with the numbers there. With --fix it
+writes them. The prices' file has no reader among the helpers, so this script has one.
+"""
+
+import re
+import sys
+from typing import Callable, Dict, List, Set, Tuple
+
+from drafts import ROOT, FileFault, files
+from inrc2pb.slots import Slots
+
+SOURCE = f"{ROOT}/crates/run_tests/src/changed_tokens.rt"
+KINDS = ["end of file", "another word expected", "number expected", "out of limits", "unknown name", "repeated", "text after the end"]
+MAX_PRICE = 999999999
+
+
+def read_prices(path: str, ward: files.Scenario, text: str) -> None:
+    """Reads the prices' file of a scenario."""
+    slots = Slots(path, text)
+    slots.words("PRICES")
+    slots.any_word("the scenario's name")
+    slots.words("ROWS", "=")
+    known: Set[Tuple[str, str]] = set()
+    for _ in range(slots.number("the number of rows")):
+        shift = slots.known_name("shift type", ward.shift_types, "SHIFT_TYPES")
+        skill = slots.known_name("skill", ward.skills, "SKILLS")
+        if (shift.text, skill.text) in known:
+            slots.fault(skill, "repeated", "listed twice")
+        known.add((shift.text, skill.text))
+        for _ in range(7):
+            slots.number("a price", 0, MAX_PRICE)
+    slots.end("row")
+
+
+def texts(text: str, words: List[str]) -> List[str]:
+    """The changed texts of a file."""
+    tokens = re.findall(r"[^ \n]+[ \n]", text)
+    count = len(tokens)
+    return [
+        "".join([*tokens[:number], f"{word} ", *tokens[rest:]])
+        for number in range(count + 1) for word in words for rest in (number + 1, number, count)
+    ]
+
+
+def ends(read: Callable[[str], object], changed: List[str]) -> List[int]:
+    """How many of the texts have no fault and a fault of each kind, and the sum of the faults' lines."""
+    found = [0] * (len(KINDS) + 2)
+    for text in changed:
+        try:
+            read(text)
+            found[0] += 1
+        except FileFault as fault:
+            found[1 + KINDS.index(fault.fault)] += 1
+            found[-1] += fault.line
+    return found
+
+
+def main() -> int:
+    """Compares, or with --fix writes, the numbers; the exit status is 1 if they differ."""
+    with open(SOURCE, encoding="utf-8") as source:
+        code = source.read()
+    base: Dict[str, str] = dict(re.findall(r'(?s)const (\w+): &\[u8\] = b"(.*?)";', code))
+    words = dict(re.findall(r'(?s)const (WORDS): &str =\s*"(.*?)";', code))["WORDS"].replace("\\\n", "").split()
+    ward = files.read_scenario("scenario", base["SCENARIO"])
+    readers: Dict[str, Callable[[str], object]] = {
+        "SCENARIO": lambda text: files.read_scenario("scenario", text),
+        "HISTORY": lambda text: files.read_history("history", ward, text),
+        "WEEK": lambda text: files.read_week("week", ward, text),
+        "SOLUTION": lambda text: files.read_solution("solution", ward, text),
+        "PRICES": lambda text: read_prices("prices", ward, text),
+    }
+    made = code
+    for name, read in readers.items():
+        found = ends(read, texts(base[name], words))
+        made = re.sub(rf"(?s)(, {name}, )\[[^]]*\]", lambda row: f"{row.group(1)}{found}", made)
+    if sys.argv[1:] == ["--fix"]:
+        with open(SOURCE, "w", encoding="utf-8") as source:
+            source.write(made)
+    elif re.sub(r"\s", "", made) != re.sub(r"\s", "", code):
+        print(f"FAILED: other numbers than those of {SOURCE}")
+        return 1
+    print(f"{len(readers)} files, no difference")
+    return 0
+
+
+sys.exit(main())
