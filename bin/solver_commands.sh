@@ -1,5 +1,5 @@
 # shellcheck shell=bash
-# What solves a model, and how. To be sourced.
+# The solvers of a model, and their commands. To be sourced.
 
 # Debian's package `sat4j` has the solver for pseudo-Boolean models in this file.
 sat4j_jar=/usr/share/java/org.sat4j.pb.jar

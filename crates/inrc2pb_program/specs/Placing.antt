@@ -12,7 +12,7 @@ pub record FileGhosts (F : Type 0) : Type 1 where
 abbrev pub file_ghosts : {F : Type 0} → TargetGhosts F → (F → Option Path) → FileGhosts F
 file_ghosts target path = record { target = target; path = path }
 
--- the file `placed` is `old` with this path: nothing was written to it, and it did not fail
+-- the file `placed` is `old` with this path: nothing was written to it, and it has failed only if it had failed before
 pub record IsPlaced {F : Type 0} (port : FileGhosts F) (old : F) (to : Option Path) (placed : F) : Type 0 where
   pub path : port.path placed ≡ to
   pub sound : port.target.has_failed placed ≡ port.target.has_failed old
