@@ -4,6 +4,7 @@ PREFIX ?= /usr/local
 PROGRAM ?= out/inrc2pb
 FITS ?= out/inrc2pb-fits
 BOUND ?= out/inrc2pb-bound
+PERIOD_BOUND ?= out/inrc2pb-period-bound
 SHARE = $(DESTDIR)$(PREFIX)/share
 
 # rt lets one command at a time into a crate, and build.sh already runs two.
@@ -50,6 +51,8 @@ programs: all
 	cp out/inrc2pb crates/inrc2pb/out/inrc2pb
 	cd crates/inrc2pb_bound && rt run --backend rattle -- --version && mv out/inrc2pb_bound out/inrc2pb_bound.by-rattle
 	cp out/inrc2pb-bound crates/inrc2pb_bound/out/inrc2pb_bound
+	cd crates/inrc2pb_period_bound && rt run --backend rattle -- --version && mv out/inrc2pb_period_bound out/inrc2pb_period_bound.by-rattle
+	cp out/inrc2pb-period-bound crates/inrc2pb_period_bound/out/inrc2pb_period_bound
 	cd crates/call_report && rt run -- data/scenario.txt data/history.txt data/week.txt > /dev/null
 	cd crates/run_tests && rt test
 	cd crates/call_tests && rt test
@@ -79,6 +82,7 @@ ZSH = $(SHARE)/zsh/site-functions
 HELPERS = $(wildcard helpers/inrc2pb-*)
 MODULES = $(wildcard helpers/inrc2pb/*.py) helpers/inrc2pb/py.typed
 TOP_PAGES = README.md CHANGELOG.md CONTRIBUTING.md
+COMPLETED = inrc2pb inrc2pb-bound inrc2pb-period-bound
 COMPLETIONS = "$(SHARE)/bash-completion/completions" "$(ZSH)" "$(SHARE)/fish/vendor_completions.d"
 
 # Installs the built programs, and builds nothing, so it can run as another user. Sources are in the clone only: an installed page
@@ -88,14 +92,16 @@ install:
 	mkdir -p "$(BIN)" "$(SHARE)/man/man1" "$(PAGES)/docs" "$(PAGES)/bench" $(COMPLETIONS)
 	install -m 755 "$(PROGRAM)" "$(BIN)/inrc2pb"
 	test ! -x "$(BOUND)" || install -m 755 "$(BOUND)" "$(BIN)/inrc2pb-bound"
+	test ! -x "$(PERIOD_BOUND)" || install -m 755 "$(PERIOD_BOUND)" "$(BIN)/inrc2pb-period-bound"
 	test ! -x "$(FITS)" || install -m 755 "$(FITS)" "$(BIN)/inrc2pb-fits"
 	$(if $(HELPERS),install -m 755 $(HELPERS) "$(BIN)")
 	$(if $(MODULES),mkdir -p "$(SHARE)/inrc2pb/inrc2pb" && install -m 644 $(MODULES) "$(SHARE)/inrc2pb/inrc2pb")
 	install -m 644 man/*.1 "$(SHARE)/man/man1"
 	for helper in $(notdir $(HELPERS)); do echo '.so man1/inrc2pb-helpers.1' > "$(SHARE)/man/man1/$$helper.1"; done
-	install -m 644 completions/inrc2pb.bash "$(SHARE)/bash-completion/completions/inrc2pb"
-	install -m 644 completions/inrc2pb-bound.bash "$(SHARE)/bash-completion/completions/inrc2pb-bound"
-	install -m 644 completions/_inrc2pb completions/_inrc2pb-bound "$(ZSH)"
+	for name in $(COMPLETED); do \
+	    install -m 644 "completions/$$name.bash" "$(SHARE)/bash-completion/completions/$$name" || exit; \
+	    install -m 644 "completions/_$$name" "$(ZSH)" || exit; \
+	done
 	install -m 644 completions/*.fish "$(SHARE)/fish/vendor_completions.d"
 	install -m 644 $(TOP_PAGES) "$(PAGES)"
 	install -m 644 docs/*.md docs/*.svg "$(PAGES)/docs"
@@ -107,8 +113,9 @@ install:
 
 # Removes the files of `install`, with the same PREFIX, and what Python made of the library; then its own folders, if they are empty.
 uninstall:
-	rm -f "$(BIN)/inrc2pb" "$(BIN)/inrc2pb-bound" "$(BIN)/inrc2pb-fits" $(patsubst man/%,"$(SHARE)/man/man1/%",$(wildcard man/*.1)) \
-	    $(foreach name,inrc2pb inrc2pb-bound,"$(SHARE)/bash-completion/completions/$(name)" "$(ZSH)/_$(name)" \
+	rm -f "$(BIN)/inrc2pb" "$(BIN)/inrc2pb-bound" "$(BIN)/inrc2pb-period-bound" "$(BIN)/inrc2pb-fits" \
+	    $(patsubst man/%,"$(SHARE)/man/man1/%",$(wildcard man/*.1)) \
+	    $(foreach name,$(COMPLETED),"$(SHARE)/bash-completion/completions/$(name)" "$(ZSH)/_$(name)" \
 	    "$(SHARE)/fish/vendor_completions.d/$(name).fish")
 	rm -f $(patsubst helpers/%,"$(BIN)/%",$(HELPERS)) $(patsubst helpers/%,"$(SHARE)/man/man1/%.1",$(HELPERS))
 	for page in $(TOP_PAGES) docs/*.md docs/*.svg bench/README.md bench/*.svg; do rm -f "$(PAGES)/$$page"; done

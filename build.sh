@@ -1,9 +1,10 @@
 #!/usr/bin/env bash
-# Proves the crates below the two programs, each before those that use it, and leaves the programs at out/inrc2pb and out/inrc2pb-bound.
+# Proves the crates below the three programs, each before those that use it, and leaves the programs in out: inrc2pb, inrc2pb-bound and
+# inrc2pb-period-bound.
 #
 #   ./build.sh
 #
-# The plain way to the same programs is `rt run` in crates/inrc2pb and crates/inrc2pb_bound: `rt` proves the crates in the order of crates.txt and
+# The plain way to the same programs is `rt run` in the crates of these names: `rt` proves the crates in the order of crates.txt and
 # chooses the number of jobs of each. From nothing, on four processors, this schedule took 905 s and the plain way 1,174 s in November
 # 2026, before the crates of the bound and `text_sink` were there; with them it was not measured:
 #
@@ -59,10 +60,13 @@ wait $other
 prove inrc2pb_program 2
 prove bound_run 2
 prove bound_program 2
+prove period_bound 1
 
 # `rt run` leaves a program in its crate.
 (cd crates/inrc2pb && rt run --jobs 2 -- --version)
 (cd crates/inrc2pb_bound && rt run --jobs 2 -- --version)
+(cd crates/inrc2pb_period_bound && rt run --jobs 2 -- --version)
 mkdir -p out
 cp crates/inrc2pb/out/inrc2pb out
 cp crates/inrc2pb_bound/out/inrc2pb_bound out/inrc2pb-bound
+cp crates/inrc2pb_period_bound/out/inrc2pb_period_bound out/inrc2pb-period-bound

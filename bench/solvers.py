@@ -34,7 +34,8 @@ WIDE = ((100, 8, 1),)
 
 
 class Run(NamedTuple):
-    """What a run printed last, its seconds by the clock and of processors, its memory in MB, and whether its result is proved or claimed."""
+    """What a run printed last, its seconds by the clock and of processors, its memory in MB, whether its result is proved or claimed, and
+    what proved or computed its bound."""
 
     penalty: str
     bound: str
@@ -42,6 +43,7 @@ class Run(NamedTuple):
     seconds: float
     processor: float
     memory: int
+    by: str
 
 
 def weeks(folder: Path) -> Dict[str, WeekFiles]:
@@ -85,11 +87,12 @@ def run(files: WeekFiles, seconds: float, folder: Path) -> Run:
     none = re.search(r"no roster keeps the hard rules", text)
     penalty, bound = (re.search(rf"^{what} ([0-9]+)", text, re.MULTILINE) for what in ("penalty", "lower bound"))
     claim = re.search(r"^no roster costs less(?:, says (.*))?", text, re.MULTILINE)
+    by = re.search(r"(?:^lower bound [0-9]+|no roster keeps the hard rules) \((.*?)\)", text, re.MULTILINE)
     return Run(
         "none exists" if none else penalty[1] if penalty else "none",
         bound[1] if bound else "",
         f"says {claim[1]}" if claim and claim[1] else "yes" if claim or none else "no",
-        took, used.ru_utime + used.ru_stime, used.ru_maxrss >> 10,
+        took, used.ru_utime + used.ru_stime, used.ru_maxrss >> 10, by[1] if by else "",
     )  # fmt: skip
 
 

@@ -1,5 +1,5 @@
 # shellcheck shell=bash
-# Completion of inrc2pb-bound's options and file names, for bash. Written by write.py beside it.
+# Completion of inrc2pb-bound's options and file names, for bash. Written by completions/write.py.
 _inrc2pb_bound() {
     local word=${COMP_WORDS[COMP_CWORD]} before=${COMP_WORDS[COMP_CWORD - 1]} given choices='--sce --his --week --fix --early --prices --roster --minimums --rows --help --version'
     COMPREPLY=()

@@ -1,4 +1,4 @@
-# Completion of inrc2pb-bound's options and file names, for fish. Written by write.py beside it.
+# Completion of inrc2pb-bound's options and file names, for fish. Written by completions/write.py.
 complete -c inrc2pb-bound -f
 complete -c inrc2pb-bound -l sce -r -F -d 'The scenario'
 complete -c inrc2pb-bound -l his -r -F -d 'The history before the week'

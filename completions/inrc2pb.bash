@@ -1,5 +1,5 @@
 # shellcheck shell=bash
-# Completion of inrc2pb's commands, options and file names, for bash. Written by write.py beside it.
+# Completion of inrc2pb's commands, options and file names, for bash. Written by completions/write.py.
 _inrc2pb() {
     local word=${COMP_WORDS[COMP_CWORD]} before=${COMP_WORDS[COMP_CWORD - 1]} command='' at given choices
     for ((at = 1; at < COMP_CWORD; at++)); do

@@ -1,4 +1,4 @@
-# Completion of inrc2pb's commands, options and file names, for fish. Written by write.py beside it.
+# Completion of inrc2pb's commands, options and file names, for fish. Written by completions/write.py.
 complete -c inrc2pb -f
 complete -c inrc2pb -n __fish_use_subcommand -l help -d 'Print help'
 complete -c inrc2pb -n __fish_use_subcommand -l version -d 'Print version'

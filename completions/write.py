@@ -1,5 +1,5 @@
 #!/usr/bin/env python3
-"""Writes the completions of both programs for bash, zsh and fish from one description of the commands and options.
+"""Writes the completions of the programs for bash, zsh and fish from one description of the commands and options.
 
 tests/program/manual.sh compares the files with the output of this script, and their words with those of the program's help and of the
 manual page. Needs Python 3.8 or later.
@@ -7,7 +7,7 @@ manual page. Needs Python 3.8 or later.
 
 import argparse
 from pathlib import Path
-from typing import Dict, Iterator, Tuple
+from typing import Dict, Iterator, List, Tuple
 
 # An option's argument, or '', and its text in the program's help, without its default.
 Option = Tuple[str, str]
@@ -42,11 +42,24 @@ BOUND: Options = {
     "--rows": ("", "Print the cheapest week of each nurse, too"),
     **ANY,
 }
+PERIOD: Options = {
+    "--sce": WEEK["--sce"],
+    "--his": ("file", "The history before the first week"),
+    "--week": ("file", "The requirements and requests of a week, for each week in order"),
+    "--prices": ("file", "The price of each place of the week, in thousandths of a point"),
+    "--early": WEEK["--early"],
+    **ANY,
+}
+# The programs of one command. The options of the second list may be given several times.
+PLAIN: Dict[str, Tuple[Options, List[str]]] = {
+    "inrc2pb-bound": (BOUND, []),
+    "inrc2pb-period-bound": (PERIOD, ["--week", "--prices"]),
+}
 FILES = list(dict.fromkeys(name for _, options in COMMANDS.values() for name, (kind, _) in options.items() if kind == "file"))
 
 BASH = """\
 # shellcheck shell=bash
-# Completion of inrc2pb's commands, options and file names, for bash. Written by write.py beside it.
+# Completion of inrc2pb's commands, options and file names, for bash. Written by completions/write.py.
 _inrc2pb() {
     local word=${COMP_WORDS[COMP_CWORD]} before=${COMP_WORDS[COMP_CWORD - 1]} command='' at given choices
     for ((at = 1; at < COMP_CWORD; at++)); do
@@ -80,10 +93,10 @@ _inrc2pb() {
 complete -F _inrc2pb inrc2pb
 """
 
-BOUND_BASH = """\
+PLAIN_BASH = """\
 # shellcheck shell=bash
-# Completion of inrc2pb-bound's options and file names, for bash. Written by write.py beside it.
-_inrc2pb_bound() {
+# Completion of %(program)s's options and file names, for bash. Written by completions/write.py.
+%(function)s() {
     local word=${COMP_WORDS[COMP_CWORD]} before=${COMP_WORDS[COMP_CWORD - 1]} given choices='%(options)s'
     COMPREPLY=()
     case $before in
@@ -93,19 +106,19 @@ _inrc2pb_bound() {
             return
             ;;
     esac
-    # An option that was given already is not offered again.
+    # An option that was given already is not offered again%(but)s.
     for given in "${COMP_WORDS[@]:1:COMP_CWORD-1}"; do
-        choices=" $choices "
+%(skip)s        choices=" $choices "
         choices=${choices/ "$given" / }
     done
     mapfile -t COMPREPLY < <(compgen -W "$choices" -- "$word")
 }
-complete -F _inrc2pb_bound inrc2pb-bound
+complete -F %(function)s %(program)s
 """
 
 ZSH = """\
 #compdef inrc2pb
-# Completion of inrc2pb's commands, options and file names, for zsh. Written by write.py beside it.
+# Completion of inrc2pb's commands, options and file names, for zsh. Written by completions/write.py.
 _inrc2pb() {
     local context state line
     typeset -A opt_args
@@ -144,22 +157,30 @@ def bash() -> str:
     }
 
 
-def bound_bash() -> str:
-    """The completion of inrc2pb-bound for bash."""
-    files = [name for name, (kind, _) in BOUND.items() if kind == "file"]
-    return BOUND_BASH % {"files": " | ".join(files), "options": " ".join(BOUND)}
+def plain_bash(program: str) -> str:
+    """The completion of a program of one command for bash."""
+    options, again = PLAIN[program]
+    return PLAIN_BASH % {
+        "program": program,
+        "function": "_" + program.replace("-", "_"),
+        "files": " | ".join(name for name, (kind, _) in options.items() if kind == "file"),
+        "options": " ".join(options),
+        "but": f", but {' and '.join(again)} are" if again else "",
+        "skip": f"        case $given in {' | '.join(again)}) continue ;; esac\n" if again else "",
+    }
 
 
 def argument(name: str, kind: str, about: str) -> str:
-    """An option, as the completion for zsh describes it."""
+    """An option, as the completion for zsh describes it. A star before its name allows it again."""
     return quoted(f"{name}[{about}]" + (":file:_files" if kind else ""))
 
 
-def bound_zsh() -> str:
-    """The completion of inrc2pb-bound for zsh."""
-    arguments = " \\\n".join(f"    {argument(name, *what)}" for name, what in BOUND.items())
-    return f"""#compdef inrc2pb-bound
-# Completion of inrc2pb-bound's options and file names, for zsh. Written by write.py beside it.
+def plain_zsh(program: str) -> str:
+    """The completion of a program of one command for zsh."""
+    options, again = PLAIN[program]
+    arguments = " \\\n".join(f"    {argument('*' * (name in again) + name, *what)}" for name, what in options.items())
+    return f"""#compdef {program}
+# Completion of {program}'s options and file names, for zsh. Written by completions/write.py.
 _arguments \\
 {arguments}
 """
@@ -180,7 +201,7 @@ def zsh() -> str:
 
 def fish() -> Iterator[str]:
     """The lines of the completion for fish."""
-    yield "# Completion of inrc2pb's commands, options and file names, for fish. Written by write.py beside it."
+    yield "# Completion of inrc2pb's commands, options and file names, for fish. Written by completions/write.py."
     yield "complete -c inrc2pb -f"
     for name, (_, about) in ANY.items():
         yield f"complete -c inrc2pb -n __fish_use_subcommand -l {name[2:]} -d {quoted(about)}"
@@ -191,25 +212,26 @@ def fish() -> Iterator[str]:
             yield f"complete -c inrc2pb -n {seen} -l {option[2:]}{' -r -F' if kind else ''} -d {quoted(meaning)}"
 
 
-def bound_fish() -> Iterator[str]:
-    """The lines of the completion of inrc2pb-bound for fish."""
-    yield "# Completion of inrc2pb-bound's options and file names, for fish. Written by write.py beside it."
-    yield "complete -c inrc2pb-bound -f"
-    for name, (kind, about) in BOUND.items():
-        yield f"complete -c inrc2pb-bound -l {name[2:]}{' -r -F' if kind else ''} -d {quoted(about)}"
+def plain_fish(program: str) -> Iterator[str]:
+    """The lines of the completion of a program of one command for fish."""
+    yield f"# Completion of {program}'s options and file names, for fish. Written by completions/write.py."
+    yield f"complete -c {program} -f"
+    for name, (kind, about) in PLAIN[program][0].items():
+        yield f"complete -c {program} -l {name[2:]}{' -r -F' if kind else ''} -d {quoted(about)}"
 
 
 def main() -> None:
-    """Writes the six files."""
+    """Writes the files."""
     parser = argparse.ArgumentParser(description="Writes the completions for bash, zsh and fish.")
     parser.add_argument("folder", nargs="?", type=Path, default=Path(__file__).resolve().parent, help="where the files go [default: beside this script]")
     folder = parser.parse_args().folder
     (folder / "inrc2pb.bash").write_text(bash())
     (folder / "_inrc2pb").write_text(zsh())
     (folder / "inrc2pb.fish").write_text("\n".join(fish()) + "\n")
-    (folder / "inrc2pb-bound.bash").write_text(bound_bash())
-    (folder / "_inrc2pb-bound").write_text(bound_zsh())
-    (folder / "inrc2pb-bound.fish").write_text("\n".join(bound_fish()) + "\n")
+    for program in PLAIN:
+        (folder / f"{program}.bash").write_text(plain_bash(program))
+        (folder / f"_{program}").write_text(plain_zsh(program))
+        (folder / f"{program}.fish").write_text("\n".join(plain_fish(program)) + "\n")
 
 
 if __name__ == "__main__":

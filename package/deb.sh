@@ -16,7 +16,7 @@ top=$stage/top
 pages=$top/usr/share/doc/inrc2pb
 mkdir "$top"
 install_to "$top" /usr ZSH="$top/usr/share/zsh/vendor-completions"
-strip --strip-all "$top/usr/bin/inrc2pb" "$top/usr/bin/inrc2pb-bound" "$top/usr/bin/inrc2pb-fits" || exit
+strip --strip-all "$top"/usr/bin/inrc2pb{,-bound,-period-bound,-fits} || exit
 gzip -n9 "$top"/usr/share/man/man1/*.1
 
 cat > "$pages/copyright" << 'TEXT'
@@ -38,7 +38,7 @@ inrc2pb ($version) unstable; urgency=medium
 TEXT
 
 # The path of Debian's Python, and the version that the commands ask for.
-sed -i '1s|.*|#!/usr/bin/python3|' "$top"/usr/bin/inrc2pb-*
+sed -i '1s|^#!.*|#!/usr/bin/python3|' "$top"/usr/bin/inrc2pb-*
 
 # In KiB, each file rounded up, and 1 for each folder: the same on every file system.
 kib=$(find "$top/usr" \( -type f -printf '%s\n' \) -o -printf '1\n' | awk '{ n += int(($1 + 1023) / 1024) } END { print n }')

@@ -1,16 +1,18 @@
 # shellcheck shell=bash
 # The common part of archive and package. To be sourced at the top of the clone.
 #
-# PROGRAM, BOUND and FITS name other programs than out/inrc2pb, out/inrc2pb-bound and out/inrc2pb-fits.
+# PROGRAM, BOUND, PERIOD_BOUND and FITS name other programs than inrc2pb, inrc2pb-bound, inrc2pb-period-bound and inrc2pb-fits of out.
 umask 022
 export LC_ALL=C TZ=UTC
 . package/commit.sh
 
 PROGRAM=$(realpath -m "${PROGRAM:-out/inrc2pb}")
 BOUND=$(realpath -m "${BOUND:-out/inrc2pb-bound}")
+PERIOD_BOUND=$(realpath -m "${PERIOD_BOUND:-out/inrc2pb-period-bound}")
 FITS=$(realpath -m "${FITS:-out/inrc2pb-fits}")
-export PROGRAM BOUND FITS
-for program in "$PROGRAM" "$BOUND" "$FITS"; do
+export PROGRAM BOUND PERIOD_BOUND FITS
+programs=("$PROGRAM" "$BOUND" "$PERIOD_BOUND" "$FITS")
+for program in "${programs[@]}"; do
     [ -x "$program" ] || { echo "There is no $program yet: 'make' builds it."; exit 2; }
 done
 
@@ -18,7 +20,7 @@ done
 version=$("$PROGRAM" --version) && version=${version#inrc2pb } || exit 2
 
 # The latest version of the C library whose symbols the programs use.
-libc=$(grep -aoh 'GLIBC_[0-9][0-9.]*' "$PROGRAM" "$BOUND" "$FITS" | sort -uV | tail -n 1)
+libc=$(grep -aoh 'GLIBC_[0-9][0-9.]*' "${programs[@]}" | sort -uV | tail -n 1)
 libc=${libc#GLIBC_}
 
 stage=$(mktemp -d) || exit 2
@@ -26,7 +28,8 @@ trap 'rm -rf "$stage"' EXIT
 
 # install_to FOLDER PREFIX [VARIABLE=VALUE..]: the files of `make install`, and PROVED with the pages. Prints whether the gate passed.
 install_to() {
-    make -s --no-print-directory install PROGRAM="$PROGRAM" BOUND="$BOUND" FITS="$FITS" DESTDIR="$1" PREFIX="$2" "${@:3}" || exit
+    make -s --no-print-directory install PROGRAM="$PROGRAM" BOUND="$BOUND" PERIOD_BOUND="$PERIOD_BOUND" FITS="$FITS" \
+        DESTDIR="$1" PREFIX="$2" "${@:3}" || exit
     package/proved.sh > "$1$2/share/doc/inrc2pb/PROVED"
     printf 'libc: %s or later\n' "$libc" >> "$1$2/share/doc/inrc2pb/PROVED"
     grep '^proofs and tests' "$1$2/share/doc/inrc2pb/PROVED" >&2

@@ -1,25 +1,29 @@
-"""Lower bounds from prices: the program `inrc2pb-bound` proves them; without it they are computed in plain Python."""
+"""Lower bounds from prices: `inrc2pb-bound` proves those of a week, and `inrc2pb-period-bound` those of several weeks. Without them they
+are computed in plain Python."""
 
 import os
 import re
 import tempfile
 from dataclasses import dataclass
 from pathlib import Path
-from typing import Callable, List, Optional, Sequence
+from typing import Callable, List, Optional, Sequence, Tuple
 
 from .faults import ProgramFault
 from .plan import WEEK_DAYS
 from .pricing import Prices
-from .program import WeekFiles, find_program, run_program
+from .processes import Processes
+from .program import LONGEST_RUN, WeekFiles, find_program, run_unless_stopped
 from .records import Place, Scenario
 from .writing import write_text
 
-PROVER, PLAIN = "inrc2pb-bound", "plain Python, not proved"
+PROVER, PERIOD_PROVER, PLAIN = "inrc2pb-bound", "inrc2pb-period-bound", "plain Python, not proved"
+# The options of a week's files, and the text of its prices.
+PricedWeek = Tuple[Sequence[str], str]
 
 
-def find_prover() -> Optional[Path]:
-    """The program `inrc2pb-bound` beside `inrc2pb`, if it is there."""
-    prover = find_program().with_name(PROVER)
+def find_prover(name: str) -> Optional[Path]:
+    """The program of this name beside `inrc2pb`, if it is there."""
+    prover = find_program().with_name(name)
     return prover if prover.is_file() and os.access(prover, os.X_OK) else None
 
 
@@ -41,13 +45,58 @@ class Bound:
     by: str
 
 
+class Prover:
+    """A program that proves bounds. It has no answer if it is not there, and none after a fault, which `warn` gets."""
+
+    def __init__(self, name: str, processes: Processes, warn: Callable[[str], None]) -> None:
+        self.name, self._processes, self._warn = name, processes, warn
+        self._program = find_prover(name)
+
+    @property
+    def works(self) -> bool:
+        """Whether the program is there and had no fault."""
+        return self._program is not None
+
+    def answer(self, weeks: Sequence[PricedWeek], words: Sequence[str] = (), seconds: float = LONGEST_RUN) -> Optional[str]:
+        """What the program prints about these weeks."""
+        if self._program is None:
+            return None
+        with tempfile.TemporaryDirectory(prefix=f"{self.name}-") as folder:
+            given: List[str] = []
+            for number, (options, text) in enumerate(weeks):
+                path = Path(folder, f"prices-{number}.txt")
+                write_text(path, text)
+                given += [*options, "--prices", str(path)]
+            try:
+                return run_unless_stopped(self._program, [*given, *words], seconds, self._processes)
+            except ProgramFault as fault:
+                self.fail(str(fault))
+                return None
+
+    def bound(self, weeks: Sequence[PricedWeek], seconds: float = LONGEST_RUN) -> Optional[Bound]:
+        """The bound that the program proves."""
+        answer = self.answer(weeks, (), seconds)
+        if answer is None:
+            return None
+        found = re.match("lower bound ([0-9]{1,18})\n", answer)
+        if not found:
+            self.fail("its answer is no bound")
+        return Bound(int(found[1]), self.name) if found else None
+
+    def fail(self, fault: str) -> None:
+        """From now on the program has no answer."""
+        self._program = None
+        self._warn(f"{self.name} failed, so bounds are computed in {PLAIN}: {fault}")
+
+
 class Bounds:
     """The bounds of a week. `target` is the file that gets the prices of the best one, if any. After a fault of `inrc2pb-bound`, which
     `warn` gets, bounds are computed in plain Python."""
 
     def __init__(self, files: WeekFiles, scenario: Scenario, places: Sequence[Place], target: Optional[Path], warn: Callable[[str], None]) -> None:
-        self._files, self._scenario, self._places, self._target, self._warn = files, scenario, places, target, warn
-        self._prover = find_prover()
+        self._files, self._scenario, self._places, self._target = files, scenario, places, target
+        # Ctrl-C does not end a proof of one week, which takes moments.
+        self._prover = Prover(PROVER, Processes(), warn)
         self._seen: Optional[Prices] = None
         self._best: Optional[Bound] = None
 
@@ -55,8 +104,7 @@ class Bounds:
         """The bound of these prices; `plain` computes it in plain Python."""
         if prices is not self._seen or self._best is None:
             self._seen = prices
-            proved = re.match("lower bound ([0-9]+)\n", self._prove(prices) or "")
-            found = Bound(int(proved[1]), PROVER) if proved else Bound(plain(), PLAIN)
+            found = self._prover.bound([self._priced(prices)]) or Bound(plain(), PLAIN)
             if self._best is None or found.points > self._best.points:
                 self._best = found
                 self._write(prices)
@@ -66,25 +114,14 @@ class Bounds:
         """What proved by these prices that no roster keeps the minimums; None if they do not prove it."""
         self._places = places
         self._write(prices)
-        answer = self._prove(prices, "--minimums")
+        answer = self._prover.answer([self._priced(prices)], ["--minimums"])
         if answer is None:
             return PLAIN
         return PROVER if answer.startswith("no roster exists") else None
 
+    def _priced(self, prices: Prices) -> PricedWeek:
+        return self._files.options(), prices_text(self._scenario, self._places, prices)
+
     def _write(self, prices: Prices) -> None:
         if self._target:
-            write_text(self._target, prices_text(self._scenario, self._places, prices))
-
-    def _prove(self, prices: Prices, *words: str) -> Optional[str]:
-        """What `inrc2pb-bound` prints; None without it."""
-        if not self._prover:
-            return None
-        with tempfile.TemporaryDirectory() as folder:
-            path = Path(folder, "prices.txt")
-            write_text(path, prices_text(self._scenario, self._places, prices))
-            try:
-                return run_program(*self._files.options(), "--prices", str(path), *words, program=self._prover)
-            except ProgramFault as fault:
-                self._prover = None
-                self._warn(f"{PROVER} failed, so bounds are computed in {PLAIN}: {fault}")
-                return None
+            write_text(self._target, self._priced(prices)[1])

@@ -16,7 +16,7 @@ from .improve import search
 from .interrupts import Interrupts, interrupts
 from .next_history import next_history
 from .period_search import PeriodSearch
-from .planned_weeks import PeriodFiles, PlannedWeeks, WrittenWeek, history_name, roster_name
+from .planned_weeks import PeriodFiles, PlannedWeeks, WrittenWeek, history_name, prices_name, roster_name
 from .program import SOFT_RULES, Report, extend, find_program
 from .progress import Progress
 from .solvers import find_solver
@@ -24,10 +24,11 @@ from .targets import check_inputs_stay, check_no_pipes
 
 
 class Period:
-    """A period that is planned: its reports by week, in order, and the lines about its lower bound."""
+    """A period that is planned: its reports by week, in order, and the lines about its lower bound. `prices` is the folder for the prices of
+    the bound, if any."""
 
-    def __init__(self, files: PeriodFiles, folder: Path) -> None:
-        self.folder, self.progress = folder, Progress(sys.stderr)
+    def __init__(self, files: PeriodFiles, folder: Path, prices: Optional[Path] = None) -> None:
+        self.folder, self.prices, self.progress = folder, prices, Progress(sys.stderr)
         check_no_pipes(files.all())
         self.weeks = PlannedWeeks(files)
         self.numbers = self.weeks.numbers
@@ -38,15 +39,18 @@ class Period:
             # Files of an earlier run may be replaced.
             check_inputs_stay(files.all(), folder / roster_name(number), f"the roster of week {number}", "folder")
             check_inputs_stay(files.all(), folder / history_name(number + 1), f"the history of week {number + 1}", "folder")
+            if prices:
+                check_inputs_stay(files.all(), prices / prices_name(number), f"the prices of week {number}", "folder")
         find_program()
-        folder.mkdir(parents=True, exist_ok=True)
-        if not os.access(folder, os.W_OK):
-            raise PermissionError(errno.EACCES, os.strerror(errno.EACCES), str(folder))
+        for path in (folder, prices):
+            if path:
+                _make_folder(path)
 
     def name_replaced(self) -> None:
         """Says which files of an earlier run get new contents."""
         later = [number + 1 for number in self.numbers if number + 1 < self.weeks.scenario.weeks]
         written = [self.folder / name for name in (*map(roster_name, self.numbers), *map(history_name, later))]
+        written += [self.prices / prices_name(number) for number in self.numbers if self.prices]
         old = [str(path) for path in written if path.exists()]
         if old:
             _say(f"files that are replaced: {', '.join(old)}")
@@ -57,7 +61,7 @@ class Period:
         _say(f"{weeks}, at most {seconds:g} s")
         for hint in self.weeks.hints:
             self.progress.warn(hint)
-        running = PeriodSearch(self.weeks, self._keep, Clock(seconds), self.progress)
+        running = PeriodSearch(self.weeks, self._keep, Clock(seconds), self.progress, self.prices)
         with interrupts() as signals:
             try:
                 with signals.calling(running.interrupt):
@@ -79,9 +83,10 @@ class Period:
         with interrupts() as signals:
             for number in self.numbers:
                 week = WrittenWeek(self.weeks.week_files(number, path), self.folder / roster_name(number))
+                prices = self.prices / prices_name(number) if self.prices else None
                 _say(f"week {number}, {week.files.week}")
                 try:
-                    outcome = search(week.files, week.roster, None, seconds, solver, None, Progress(sys.stderr))
+                    outcome = search(week.files, week.roster, None, seconds, solver, prices, Progress(sys.stderr))
                 except (FileFault, Misuse, ProgramFault) as fault:
                     raise Misuse(f"week {number}: {fault_line(fault)}") from fault
                 self._report(number, week)
@@ -131,6 +136,13 @@ class Period:
         return f"stopped: {_weeks(list(self.reports))} planned" + (f", {_weeks(left)} not" if left else "")
 
 
+def _make_folder(path: Path) -> None:
+    """Makes the folder, if it is not there. It must be possible to write to it."""
+    path.mkdir(parents=True, exist_ok=True)
+    if not os.access(path, os.W_OK):
+        raise PermissionError(errno.EACCES, os.strerror(errno.EACCES), str(path))
+
+
 def _say(text: str) -> None:
     print(text, file=sys.stderr, flush=True)
 
@@ -150,7 +162,8 @@ def _options() -> argparse.ArgumentParser:
     options = parser(
         "Plans the weeks of a period together, and reports what they cost, with a lower bound of their sum.",
         "The folder gets roster-N.txt of each week N and history-N.txt of each next one; they always have the best plan of this run.\n"
-        "Ctrl-C ends the search and keeps it. With --solver each week is planned before the next ones, by that solver.",
+        "Ctrl-C ends the search and keeps it. `inrc2pb-period-bound` proves the lower bound, if the time is enough. With --solver\n"
+        "each week is planned before the next ones, by that solver.",
     )
     options.add_argument("--sce", metavar="FILE", type=Path, required=True, help="the scenario")
     options.add_argument("--his", metavar="FILE", type=Path, required=True, help="the history with which the first of these weeks begins")
@@ -161,6 +174,7 @@ def _options() -> argparse.ArgumentParser:
     totals.add_argument("--early", action="store_true", help="charge excess assignments and weekends as soon as they occur")
     totals.add_argument("--ahead", action="store_true", help="plan for the later weeks too: they are not known, and count with the numbers of these weeks")
     options.add_argument("--time", metavar="SECONDS", type=number_of_seconds, default=60, help="seconds for each week (default: 60)")
+    options.add_argument("--prices", metavar="FOLDER", type=Path, help="the folder for the prices that prove the lower bound, for inrc2pb-period-bound")
     add_solver_option(options)
     return options
 
@@ -173,7 +187,9 @@ def main() -> Optional[int]:
         find_solver(given.solver)
         if given.ahead:
             raise Misuse("--ahead is a plan of all weeks, and --solver plans one: leave one of them out")
-    period = Period(PeriodFiles(given.sce, given.his, given.week, fixes_by_week(given.fix), given.early, given.ahead), given.out)
+    if given.prices and (given.solver or given.ahead):
+        raise Misuse(f"with {'--solver' if given.solver else '--ahead'} there are no prices: leave out --prices")
+    period = Period(PeriodFiles(given.sce, given.his, given.week, fixes_by_week(given.fix), given.early, given.ahead), given.out, given.prices)
     period.name_replaced()
     with interrupts() as signals:
         try:

@@ -4,14 +4,16 @@ import tempfile
 from pathlib import Path
 from typing import Callable, List, Optional, Sequence
 
+from .bounds import PERIOD_PROVER, Bound
 from .clock import Clock
 from .faults import ProgramFault
 from .files import Assignment
 from .linear_solvers import INSTALL, LinearSolver, LinearSolvers, installed
 from .next_history import next_history
+from .period_bound import PeriodBound
 from .plan import WEEK_DAYS, Plan
 from .planned_weeks import PlannedWeeks
-from .pricing import Row, plain_bound
+from .pricing import Row
 from .processes import Processes
 from .program import BROKEN_RULE, NO_ROSTER, penalty_of
 from .progress import Progress, gap_share
@@ -31,22 +33,25 @@ Keep = Callable[[Sequence[Assignment]], None]
 
 
 class PeriodSearch:
-    """A search within the time of its clock. `keep` gets each better plan, after `inrc2pb extend` has checked its rosters.
+    """A search within the time of its clock. `keep` gets each better plan, after `inrc2pb extend` has checked its rosters; `prices` is the
+    folder for the prices of the bound, if any.
 
     `penalty` is that of the best plan, with the forecast of weeks that are not known; `bound` is what no plan costs less than.
     """
 
-    def __init__(self, weeks: PlannedWeeks, keep: Keep, clock: Clock, progress: Progress) -> None:
-        self._weeks, self._keep, self._clock, self._progress = weeks, keep, clock, progress
+    def __init__(self, weeks: PlannedWeeks, keep: Keep, clock: Clock, progress: Progress, prices: Optional[Path] = None) -> None:
+        self._weeks, self._keep, self._clock, self._progress, self._prices = weeks, keep, clock, progress, prices
         self._processes = Processes()
+        self._proof = PeriodBound(weeks, clock, progress.warn)
         self.penalty: Optional[int] = None
-        self.bound: Optional[int] = None
+        self.bound: Optional[Bound] = None
         self._cells: Sequence[Assignment] = ()
 
     def interrupt(self) -> None:
         """Ends the search now: the best plan was kept."""
         self._clock.stop()
         self._processes.stop()
+        self._proof.stop()
 
     def run(self) -> None:
         """Searches until the time is over or the best plan is found. Without a plan it is a ProgramFault that says why.
@@ -56,8 +61,18 @@ class PeriodSearch:
         with tempfile.TemporaryDirectory(prefix="inrc2pb-period-") as folder:
             try:
                 self._run(Path(folder))
+                self._proof.wait()
             finally:
+                self._proof.stop()
                 self._progress.finish()
+                self._end()
+
+    def _end(self) -> None:
+        """Takes the bound of the best prices, and writes them."""
+        if self.penalty is not None and not self._weeks.later():
+            self.bound = self._proof.bound(self.penalty)
+            if self._prices:
+                self._proof.write(self._prices)
 
     def _run(self, folder: Path) -> None:
         plan, names = self._weeks.plan(), installed()
@@ -92,15 +107,15 @@ class PeriodSearch:
             return self.penalty if run.search or not self._weeks.later() else None
 
         def heard() -> None:
+            if run.search is None or run.search.lower_bound is None or self._weeks.later():
+                return
+            self._proof.heard(run.search)
             # With absences it is a bound of the plans that keep them.
-            if run.search and run.search.lower_bound is not None and not self._weeks.later() and not plan.away:
-                self.bound = run.search.lower_bound
-                self._progress.bound_rose(self.bound)
+            if not plan.away:
+                self._progress.bound_rose(run.search.lower_bound)
 
         run = RowRun(plan, solver, self._clock, offer, heard, self._week_after_week(plan, solver))
         run.run()
-        if plan.away and run.search and not self._weeks.later() and not self._clock.stopped:
-            self.bound = plain_bound(run.search.pricing.without_absences(), run.search.prices)
         return run
 
     def _week_after_week(self, plan: Plan, solver: Optional[LinearSolver]) -> Optional[List[Row]]:
@@ -149,7 +164,7 @@ class PeriodSearch:
             return f"planned ahead of {len(self._weeks.later())} weeks that are not known: no lower bound"
         if self.bound is None or self.penalty is None:
             return "no lower bound"
-        bound = f"lower bound {self.bound} of the sum (plain Python, not proved)"
-        if self.penalty <= self.bound:
-            return f"{bound}: no plan costs less"
-        return f"{bound}: the gap is {self.penalty - self.bound}, {gap_share(self.penalty, self.bound)}"
+        bound = f"lower bound {self.bound.points} of the sum ({self.bound.by})"
+        if self.penalty <= self.bound.points:
+            return f"{bound}: no plan costs less" + (", proved" if self.bound.by == PERIOD_PROVER else "")
+        return f"{bound}: the gap is {self.penalty - self.bound.points}, {gap_share(self.penalty, self.bound.points)}"

@@ -84,6 +84,11 @@ class PlannedWeeks:
         path = self.files.weeks[number - self.numbers[0]]
         return WeekFiles(self.files.scenario, history or self.files.history, path, self.files.fixes.get(number), self.files.early)
 
+    def options(self) -> List[List[str]]:
+        """The files of each week as options of `inrc2pb-period-bound`; those of all weeks come with the first."""
+        of_all = ["--sce", str(self.files.scenario), "--his", str(self.files.history), *["--early"] * self.files.early]
+        return [[*(of_all if at == 0 else ()), "--week", str(path)] for at, path in enumerate(self.files.weeks)]
+
     def broken_absences(self, cells: Sequence[Assignment]) -> List[str]:
         """The weeks in which these assignments break an absence, who works then, and what to do."""
         broken = []
@@ -122,3 +127,8 @@ def roster_name(number: int) -> str:
 def history_name(number: int) -> str:
     """The name of the file of a week's history."""
     return f"history-{number}.txt"
+
+
+def prices_name(number: int) -> str:
+    """The name of the file of a week's prices."""
+    return f"prices-{number}.txt"

@@ -21,6 +21,10 @@ LONGEST_RUN = 600.0
 _READ_OPTIONS = ("--sce", "--his", "--week", "--fix", "--from")
 
 
+class NotInTime(ProgramFault):
+    """A program that did not end in its time."""
+
+
 @dataclass(frozen=True)
 class WeekFiles:
     """The files of a week, and the options that each command needs alike."""
@@ -157,19 +161,27 @@ def encode(files: WeekFiles, model: Path) -> None:
     run_program(*_encode_words(files, model))
 
 
+def run_unless_stopped(program: Path, words: Sequence[str], seconds: float, processes: Processes) -> Optional[str]:
+    """Runs a program as one of the `processes`, and returns its standard output; None if they are stopped before its end."""
+    try:
+        ended = processes.run([str(program), *words], seconds, Path.cwd(), signal.SIGKILL)
+    except OSError as fault:
+        raise _does_not_run(str(program), fault) from fault
+    if processes.stopped:
+        return None
+    if ended.timed_out:
+        raise NotInTime(READ_OR_WRITE, f"{program.name} did not end in {seconds:.0f} s")
+    _check_status(ended.status, ended.errors, words)
+    return ended.output
+
+
 def encode_unless_stopped(files: WeekFiles, model: Path, processes: Processes) -> bool:
     """As `encode`, in one of the `processes`. Returns whether the model is whole: it is not if they are stopped before."""
-    program, words = str(find_program()), _encode_words(files, model)
+    words = _encode_words(files, model)
     try:
-        ended = processes.run([program, *words], LONGEST_RUN, Path.cwd())
-    except OSError as fault:
-        raise _does_not_run(program, fault) from fault
-    if processes.stopped:
-        return False
-    if ended.timed_out:
-        raise _does_not_end(words)
-    _check_status(ended.status, ended.errors, words)
-    return True
+        return run_unless_stopped(find_program(), words, LONGEST_RUN, processes) is not None
+    except NotInTime as late:
+        raise _does_not_end(words) from late
 
 
 def decode(files: WeekFiles, answer: str, solution: Optional[Path] = None) -> Report:

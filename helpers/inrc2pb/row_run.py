@@ -22,7 +22,8 @@ Found = TypeVar("Found")
 
 
 class RowRun:
-    """A search over the rows of a plan. `start` has the rows to begin with, if any; `heard` is called if the bound rises."""
+    """A search over the rows of a plan. `start` has the rows to begin with, if any; `heard` is called if the bound rises, and when it is
+    final."""
 
     def __init__(
         self, plan: Plan, solver: Optional[LinearSolver], clock: Clock, offer: Offer, heard: Callable[[], None], start: Optional[List[Row]] = None

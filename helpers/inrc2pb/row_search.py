@@ -47,7 +47,7 @@ class NoRow(Exception):
 
 
 class RowSearch:
-    """A search over the rows of a plan. `offer` gets each roster; `heard` is called if the bound rises."""
+    """A search over the rows of a plan. `offer` gets each roster; `heard` is called if the bound rises, and when it is final."""
 
     def __init__(self, pricing: Pricing, solver: Optional[LinearSolver], clock: Clock, offer: Offer, heard: Callable[[], None]) -> None:
         self.pricing, self.plan, self.clock = pricing, pricing.plan, clock
@@ -197,6 +197,7 @@ class RowSearch:
                 else:
                     self.complete = True
             share = SMOOTHING if new else 0.0
+        self._heard()
 
     def _drop(self, now: Solved) -> None:
         """Drops the most expensive columns, if there are too many. Each nurse keeps one."""

@@ -54,7 +54,7 @@ class Searches(HelperTest):
     def test_the_file_of_prices_has_those_of_the_best_bound(self):
         week, target = files.read_files(SCENARIO, HISTORY, WEEK), self.folder / "prices.txt"
         plan = Plan.of(week.scenario, week.history, [week.data])
-        with mock.patch.object(bounds, "find_prover", lambda: None):
+        with mock.patch.object(bounds, "find_prover", lambda name: None):
             found = bounds.Bounds(WEEK_FILES, plan.scenario, list(plan.demand), target, self.fail)
         for price, points in ((7, 20), (8, 10)):
             self.assertEqual(found.of([price] * len(plan.demand), lambda: points).points, 20)

@@ -14,6 +14,7 @@ from pathlib import Path
 
 from ward import HAS_CBC, HAS_CLASP, HELPERS, HISTORY, ROOT, ROSTER, SCENARIO, WARD, WEEK, WEEK_FILES, WEEK_OPTIONS, HelperTest, program, run
 
+from inrc2pb.bounds import PERIOD_PROVER, PLAIN
 from inrc2pb.period import Period
 from inrc2pb.planned_weeks import PeriodFiles
 
@@ -53,7 +54,7 @@ class PeriodTest(HelperTest):
 class Together(PeriodTest):
     def test_the_ward(self):
         for totals, says in (
-            ([], "^lower bound [0-9]+ of the sum \\(plain Python, not proved\\): "),
+            ([], f"^lower bound [0-9]+ of the sum \\(({PLAIN}|{PERIOD_PROVER})\\): "),
             (["--early"], "^lower bound "),
             (["--ahead"], "^planned ahead of 2 weeks that are not known: no lower bound$"),
         ):

@@ -10,10 +10,11 @@
 . "$(dirname "$0")/../kit/kit.sh"
 needs crates/who_fits/out/who_fits
 needs_bound
+needs_period_bound
 . tests/kit/stand_ins.sh
 stand_in_for_clasp
 
-export PROGRAM=$program BOUND=$bound
+export PROGRAM=$program BOUND=$bound PERIOD_BOUND=$period_bound
 FITS=$(realpath crates/who_fits/out/who_fits)
 export FITS
 version=$("$program" --version)
@@ -71,7 +72,7 @@ gates_are_told_apart() {
     local commit kit sum not='have not passed on this commit on the machine that built this'
     commit=$(package/proved.sh | sed -n 's/^commit: //p')
     kit=$(package/proved.sh | sed -n 's/^kit: //p')
-    sum=$(cat "$PROGRAM" "$BOUND" "$FITS" | sha256sum)
+    sum=$(cat "$PROGRAM" "$BOUND" "$PERIOD_BOUND" "$FITS" | sha256sum)
     sum=${sum%% *}
     case $commit in
         unknown | *-dirty) says_of_gate 'a gate of other files' "$commit" '9 passed, 0 failed' "$kit" "$sum" "$not" ;;
@@ -137,6 +138,7 @@ installs_package() {
     by_dpkg --install "$1"
     states_proof "$pages/PROVED"
     works "$room/root/usr"
+    starts "$room/root/usr"
     begins_case 'what the package needs'
     dpkg-deb --field "$1" Depends Recommends > "$out"
     has_line "Depends: libc6 (>= $(sed -n 's/^libc: \([0-9.]*\).*/\1/p' "$pages/PROVED")), python3 (>= 3.8)"

@@ -132,24 +132,24 @@ named_pages_exist() {
 # The most words of each page, so that a new sentence takes the place of an old one.
 limits() {
     cat << END
-CONTRIBUTING.md 895
+CONTRIBUTING.md 901
 examples/README.md 310
-bench/README.md 650
-README.md 688
-docs/DECISIONS.md 1064
-docs/answers.md 1495
-docs/changing.md 793
-docs/embedding.md 1480
-docs/formats.md 1060
-docs/helpers.md 940
-docs/layers.md 518
-docs/model.md 1690
-docs/promises.md 605
-docs/proved.md 1492
-docs/reading.md 2548
-docs/rules.md 1355
-docs/solvers.md 1310
-docs/tested.md 680
+bench/README.md 660
+README.md 698
+docs/DECISIONS.md 1104
+docs/answers.md 1505
+docs/changing.md 805
+docs/embedding.md 1491
+docs/formats.md 1058
+docs/helpers.md 879
+docs/layers.md 537
+docs/model.md 1686
+docs/promises.md 654
+docs/proved.md 1417
+docs/reading.md 2607
+docs/rules.md 1354
+docs/solvers.md 1232
+docs/tested.md 691
 docs/trusted.md 787
 docs/your_ward.md 2495
 END

@@ -33,6 +33,7 @@ ROWS = CRATES / "bound_run/specs/Rows.antt"
 BOUND = ("bound_run/src/run.rt", "run_bound")
 BOUND_PERFORM = ("bound_program/src/job_run.rt", "perform")
 BOUND_PROGRAM = ("bound_program/src/run.rt", "program")
+PERIOD_BOUND = ("period_bound/src/bound.rt", "bound_of_texts")
 
 
 class FileList(NamedTuple):
@@ -52,6 +53,7 @@ LISTS = [
     FileList("The whole program", [], [PERFORM, PROGRAM], set()),
     FileList("A proved bound", [], [BOUND, BOUND_PERFORM, BOUND_PROGRAM], {EXACT_ANSWERS, ROWS}),
     FileList("The exact bound", [], [BOUND], set()),
+    FileList("The bound of a period", [], [PERIOD_BOUND], set()),
 ]
 USE = re.compile(r"(?m)^ *(?:pub )?(?:ghost )?use Rattle\.(\w+)\.specs\.([\w.]+?)(?:\.\{([^}]*)\})?(?: as \w+)?;?$")
 ROW = re.compile(r"(?m)^- `([\w/]+\.antt)` \((\d+)\):")

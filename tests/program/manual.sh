@@ -10,7 +10,10 @@
 . completions/inrc2pb.bash
 # shellcheck source=completions/inrc2pb-bound.bash
 . completions/inrc2pb-bound.bash
+# shellcheck source=completions/inrc2pb-period-bound.bash
+. completions/inrc2pb-period-bound.bash
 needs_bound
+needs_period_bound
 
 # The options that the lines on standard input name, in one line.
 options() { grep -oE '(^| |\[)--?[a-z]+' | grep -oE -- '--[a-z]+' | sort -u | tr '\n' ' '; }
@@ -96,12 +99,13 @@ completions_are_written() {
     local file offered
     begins_case 'the completions'
     completions/write.py "$room"
-    for file in inrc2pb.bash _inrc2pb inrc2pb.fish inrc2pb-bound.bash _inrc2pb-bound inrc2pb-bound.fish; do
+    for file in inrc2pb{,-bound,-period-bound}.{bash,fish} _inrc2pb{,-bound,-period-bound}; do
         cmp -s "$room/$file" "completions/$file" || complain "$file is not as write.py writes it"
     done
     if command -v zsh > /dev/null; then
-        zsh -n completions/_inrc2pb || complain 'zsh does not read its completion'
-        zsh -n completions/_inrc2pb-bound || complain 'zsh does not read that of inrc2pb-bound'
+        for file in completions/_*; do
+            zsh -n "$file" || complain "zsh does not read $file"
+        done
     fi
     if command -v fish > /dev/null; then
         for file in encode decode extend; do
@@ -111,20 +115,21 @@ completions_are_written() {
     fi
 }
 
-# The same of `inrc2pb-bound`: its synopsis, its options explained, its completion and its help.
-names_the_same_of_bound() {
-    local program=$bound shown page=man/inrc2pb-bound.1
-    shown=$("$bound" --help | grep '^ *-' | options)
-    is 'synopsis of inrc2pb-bound' "$(sed -n '/^\.Sh SYNOPSIS/,/^\.Sh DESC/s/^\.\(Op \)\{0,1\}Fl -/--/p' $page | options)" \
+# names_the_same_of NAME PROGRAM COMPLETION: the same of a program of one command: its synopsis, its options explained, its completion and
+# its help.
+names_the_same_of() {
+    local name=$1 program=$2 shown page=man/$1.1
+    shown=$("$program" --help | grep '^ *-' | options)
+    is "synopsis of $name" "$(sed -n '/^\.Sh SYNOPSIS/,/^\.Sh DESC/s/^\.\(O[op] \)\{0,1\}Fl -/--/p' "$page" | options)" \
         "$(sed 's/--help //; s/--version //' <<< "$shown")"
-    is 'options explained of inrc2pb-bound' \
-        "$(sed -n '/^\.Sh OPTIONS/,/^\.Sh FILES/s/^\.It Fl \(. , Fl \)\{0,1\}-/--/p' $page | options)" "$shown"
-    COMP_WORDS=(inrc2pb-bound --)
+    is "options explained of $name" \
+        "$(sed -n '/^\.Sh OPTIONS/,/^\.Sh FILES/s/^\.It Fl \(. , Fl \)\{0,1\}-/--/p' "$page" | options)" "$shown"
+    COMP_WORDS=("$name" --)
     COMP_CWORD=1
-    _inrc2pb_bound
-    is 'completion of inrc2pb-bound' "$(printf '%s\n' "${COMPREPLY[@]}" | sort | tr '\n' ' ')" "$shown"
-    is 'words of the completion of inrc2pb-bound' \
-        "$(sed -nE "s/^ *'--([a-z]+)\[(.*)\](:.*)?'.*/\1 \2/p" completions/_inrc2pb-bound | sort)" "$(texts_of_help)"
+    $3
+    is "completion of $name" "$(printf '%s\n' "${COMPREPLY[@]}" | sort | tr '\n' ' ')" "$shown"
+    is "words of the completion of $name" \
+        "$(sed -nE "s/^ *'\*?--([a-z]+)\[(.*)\](:.*)?'.*/\1 \2/p" "completions/_$name" | sort)" "$(texts_of_help)"
 }
 
 # is_manual PAGE: mandoc and man read it.
@@ -140,7 +145,8 @@ is_manual() {
 }
 
 names_the_same
-names_the_same_of_bound
+names_the_same_of inrc2pb-bound "$bound" _inrc2pb_bound
+names_the_same_of inrc2pb-period-bound "$period_bound" _inrc2pb_period_bound
 completes
 completions_are_written
 for page in man/*.1; do

@@ -13,6 +13,7 @@
 # and a C compiler: $CC, else cc, else the clang of Rattle's kit.
 . "$(dirname "$0")/../kit/kit.sh"
 needs_bound
+needs_period_bound
 whole_runs=crates/run_tests/out/run_tests_tests
 tables=crates/call_tests/out/call_tests_tests
 if [ -z "$ending" ]; then
@@ -176,6 +177,13 @@ line out_of_memory 'inrc2pb-bound: out of memory'
 sweep_program 'a bound, and a roster' 2 0 text nothing "${five[@]}" --prices prices.txt --roster roster
 sweep_program 'the minimums of held cells, and rows' 2 0 text nothing "${week[@]}" --fix wednesday --minimums --rows
 sweep_program 'prices with text after their end' 2 1 nothing nothing "${five[@]}" --prices more_week.txt
+program=$period_bound
+line out_of_memory 'inrc2pb-period-bound: out of memory'
+printf 'PRICES\ns1\n\nROWS = 0\n' > "$room/no_prices"
+two_weeks=("${week[@]}" --prices no_prices --week week.txt --prices no_prices)
+sweep_program 'a bound of two weeks' 2 0 text nothing "${two_weeks[@]}"
+sweep_program 'a week too many' 2 1 nothing nothing "${two_weeks[@]}" --week week.txt --prices no_prices
+sweep_program 'a week without prices' 2 2 nothing nothing "${two_weeks[@]}" --week week.txt
 program=$encoder
 line out_of_memory 'inrc2pb: out of memory'
 

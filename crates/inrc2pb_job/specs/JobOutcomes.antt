@@ -1,20 +1,15 @@
 -- The effects of a job on the files that it opened, on its input and on its outputs.
-use Rattle.std.specs.Prelude.{◌≡◌, [], ◌∷◌, ◌++◌, Result, Err, Option, Some, None}
-use Rattle.std.specs.Prelude.{MatchOption, option_map, string_bytes}
+use Rattle.std.specs.Prelude.{◌≡◌, ◌∷◌, ◌++◌, Result, Err, MatchOption}
 use Rattle.rota_pb.specs.declared.fault.Fault.{Fault}
 use Rattle.rota_pb.specs.declared.fault.Fault.TheVariants.{Read}
 use Rattle.rota_pb.specs.Decoding.{decode_run}
 use Rattle.rota_pb.specs.Encoding.{encode_run}
 use Rattle.rota_pb.specs.Extending.{extend_run}
 use Rattle.rota_pb.specs.RunPorts.{IsUntouched, Reader, reader_of, Writer}
+use Rattle.inrc2pb_job.specs.Jobs.{[], Option, Some, None, option_map, string_bytes, IsNew, Path, Inputs, Job, Encode, Decode, Extend}
 use Rattle.inrc2pb_job.specs.Jobs.{paths_of, week_paths}
-use Rattle.inrc2pb_job.specs.OpenInputs.{AreOpen, readers_of}
+use Rattle.inrc2pb_job.specs.OpenInputs.{AreOpen, OpenInputs, readers_of}
 use Rattle.inrc2pb_job.specs.OpenCalls.{FailsToOpen, Opener, OpensEach}
-use Rattle.inrc2pb_job.specs.Paths.{IsNew, Path}
-use Rattle.inrc2pb_job.specs.declared.job.Inputs.{Inputs}
-use Rattle.inrc2pb_job.specs.declared.job.Job.{Job}
-use Rattle.inrc2pb_job.specs.declared.job.Job.TheVariants.{Encode, Decode, Extend}
-use Rattle.inrc2pb_job.specs.declared.open_files.OpenInputs.{OpenInputs}
 
 -- A file did not open, and nothing was written; or the inputs were open at their paths, and the run encoded their contents: they are
 -- `opened` before the run, and `left` after it.

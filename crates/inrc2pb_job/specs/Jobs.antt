@@ -1,10 +1,10 @@
 -- The choices of a job for its run, and the paths of its files.
-use Rattle.std.specs.Prelude.{◌≡◌, List, [], ◌∷◌, ◌++◌, Option, Some, None, is_some, option_map, string_bytes}
+pub use Rattle.std.specs.Prelude.{◌≡◌, List, [], ◌∷◌, ◌++◌, Option, Some, None, is_some, option_map, string_bytes}
 use Rattle.rota_pb.specs.declared.week_files.Choice.{Choice}
-use Rattle.inrc2pb_job.specs.Paths.{Path}
-use Rattle.inrc2pb_job.specs.declared.job.Inputs.{Inputs}
-use Rattle.inrc2pb_job.specs.declared.job.Job.{Job}
-use Rattle.inrc2pb_job.specs.declared.job.Job.TheVariants.{Encode, Decode, Extend}
+pub use Rattle.inrc2pb_job.specs.Paths.{FileAt, IsNew, Path}
+pub use Rattle.inrc2pb_job.specs.declared.job.Inputs.{Inputs}
+pub use Rattle.inrc2pb_job.specs.declared.job.Job.{Job}
+pub use Rattle.inrc2pb_job.specs.declared.job.Job.TheVariants.{Encode, Decode, Extend}
 
 -- the choices for a run: early charges if the flag is set, and held cells if a file is named for them
 pub record IsChoiceOf (inputs : Inputs) (choice : Choice) : Type 0 where

@@ -1,13 +1,11 @@
 -- The inputs of a job, open.
-use Rattle.std.specs.Prelude.{⊤, false, true, [], Option, Some, None, option_map, string_bytes}
+use Rattle.std.specs.Prelude.{⊤, false, true}
 use Rattle.rota_core.specs.declared.ports.Source.{Ghosts}
 use Rattle.rota_pb.specs.RunPorts.{WeekReaders, reader_of}
-use Rattle.inrc2pb_job.specs.Jobs.{IsChoiceOf}
-use Rattle.inrc2pb_job.specs.Paths.{IsNew, Path, FileAt}
+use Rattle.inrc2pb_job.specs.Jobs.{[], Option, Some, None, option_map, string_bytes, FileAt, Inputs, IsChoiceOf, IsNew, Path}
 use Rattle.inrc2pb_job.specs.declared.optional_file.OptionalFile.{OptionalFile}
 use Rattle.inrc2pb_job.specs.declared.optional_file.OptionalFile.TheVariants.{Named, Absent}
-use Rattle.inrc2pb_job.specs.declared.job.Inputs.{Inputs}
-use Rattle.inrc2pb_job.specs.declared.open_files.OpenInputs.{OpenInputs}
+pub use Rattle.inrc2pb_job.specs.declared.open_files.OpenInputs.{OpenInputs}
 
 -- the port of a file that a job names, or else of a file without bytes, at its end
 abbrev pub optional_port : {F : Type 0} → Ghosts F → Ghosts (OptionalFile F)

@@ -2,7 +2,8 @@
 use Rattle.std.proofs.Common.{◌≡◌, ◌∙◌, inl, inr, ap, sym, refl, subst, true, List, [], Result, Ok, Err, IfErr, IsErrAnd}
 use Rattle.clap.specs.Words.{App, HasKind, Text, fault_of, is_simple_and_free}
 use Rattle.clap.specs.declared.error.Error.{Error}
-use Rattle.inrc2pb_program.specs.Stops.{IsForMemoryOr, IsStopOf, IsStopOfApp}
+use Rattle.inrc2pb_program.specs.ErrorStops.{IsStopOf}
+use Rattle.inrc2pb_program.specs.Stops.{IsForMemoryOr, IsStopOfApp}
 use Rattle.inrc2pb_program.specs.declared.stop.Stop.{Stop}
 use Rattle.inrc2pb_program.specs.declared.stop.Stop.TheVariants as stopped
 

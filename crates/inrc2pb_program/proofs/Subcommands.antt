@@ -15,7 +15,8 @@ use Rattle.clap.proofs.OnLiterals.{clap_on_literals}
 use Rattle.inrc2pb_command.specs.CommandLine.{inrc2pb_app}
 use Rattle.inrc2pb_program.specs.Jobs.{IsJobOf, IsSubcommand, LacksPath, Matched, options_of}
 use Rattle.inrc2pb_job.specs.declared.job.Job.{Job}
-use Rattle.inrc2pb_program.specs.Stops.{IsForMemoryOr, IsStopFor, IsStopOf}
+use Rattle.inrc2pb_program.specs.ErrorStops.{IsStopOf}
+use Rattle.inrc2pb_program.specs.Stops.{IsForMemoryOr, IsStopFor}
 use Rattle.inrc2pb_program.specs.declared.stop.Stop.{Stop}
 use Rattle.inrc2pb_program.proofs.Refusals.{IsForMemoryOr-weaker, no_fault, refused, stop_without_fault}
 

@@ -2,8 +2,7 @@
 use Rattle.std.specs.Prelude.{◌≡◌, ℕ, Bool, false, true, Result, Ok, Err}
 use Rattle.rota_pb.specs.Statuses.{exit_status}
 use Rattle.rota_pb.specs.declared.fault.Fault.TheVariants as failed
-use Rattle.inrc2pb_program.specs.Messages.{Messages, with_message}
-use Rattle.inrc2pb_program.specs.declared.stop.Stop.{Stop}
+use Rattle.inrc2pb_program.specs.Messages.{Messages, Stop, with_message}
 use Rattle.inrc2pb_program.specs.declared.stop.Stop.TheVariants as stops
 use Rattle.inrc2pb_program.specs.declared.printers.Printer.{Ghosts}
 

@@ -4,9 +4,7 @@ use Rattle.std.specs.Vec.Iter.{into_iter_items}
 use Rattle.std.specs.declared.io.Error.{Error}
 use Rattle.std.specs.declared.string.String.{String}
 use Rattle.std.specs.declared.vec.IntoIter.{IntoIter}
-use Rattle.clap.specs.Words.{Text}
-use Rattle.inrc2pb_program.specs.Stops.{IsStopForError}
-use Rattle.inrc2pb_program.specs.declared.stop.Stop.{Stop}
+use Rattle.inrc2pb_program.specs.Stops.{IsStopForError, Stop, Text}
 
 -- the words of the command line, or the reason why they are not text
 abbrev pub Given : Type 0 → Type 0 → Type 0

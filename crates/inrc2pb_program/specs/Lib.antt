@@ -1,3 +1,4 @@
+pub mod ErrorStops
 pub mod Exits
 pub mod FaultLines
 pub mod Files

@@ -1,6 +1,6 @@
 -- The messages about why the program ended.
 use Rattle.std.specs.Prelude.{List, [], ◌∷◌, ◌++◌, Option, option_map}
-use Rattle.inrc2pb_program.specs.declared.stop.Stop.{Stop}
+pub use Rattle.inrc2pb_program.specs.declared.stop.Stop.{Stop}
 
 -- the printed messages, one after the other, if they are known
 abbrev pub Messages : Type 0

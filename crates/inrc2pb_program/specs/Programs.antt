@@ -1,21 +1,15 @@
 -- The effects of a run of the program, from its words to its exit status.
 use Rattle.std.specs.Prelude.{◌≡◌, ℕ, List, [], Option, Result, Ok, Err, IsSomeAnd}
-use Rattle.clap.specs.Words.{Text, fault_of, subcommand_of}
-use Rattle.inrc2pb_command.specs.CommandLine.{inrc2pb_app}
-use Rattle.inrc2pb_job.specs.JobOutcomes.{JobOutcome}
-use Rattle.inrc2pb_job.specs.Jobs.{output_path_of}
-use Rattle.inrc2pb_job.specs.OpenCalls.{Opener}
-use Rattle.inrc2pb_job.specs.Paths.{Path}
-use Rattle.inrc2pb_job.specs.declared.job.Job.{Job}
-use Rattle.rota_core.specs.declared.ports.Target.{Ghosts}
 use Rattle.rota_pb.specs.RunPorts.{IsUntouched, Reader, RunPort, Writer, writer_of}
 use Rattle.rota_pb.specs.declared.fault.Fault.{Fault}
+use Rattle.inrc2pb_job.specs.Jobs.{output_path_of}
+use Rattle.inrc2pb_job.specs.OpenCalls.{Opener}
+use Rattle.inrc2pb_job.specs.JobOutcomes.{JobOutcome}
 use Rattle.inrc2pb_program.specs.Exits.{IsExitOf, PrinterState}
 use Rattle.inrc2pb_program.specs.Given.{Given, IsJobGiven, IsStopGiven}
-use Rattle.inrc2pb_program.specs.Jobs.{IsJobOf}
-use Rattle.inrc2pb_program.specs.Placing.{FileGhosts, IsPlaced, file_ghosts}
-use Rattle.inrc2pb_program.specs.Stops.{IsStopFor}
-use Rattle.inrc2pb_program.specs.declared.stop.Stop.{Stop}
+use Rattle.inrc2pb_program.specs.Jobs.{IsJobOf, Job}
+use Rattle.inrc2pb_program.specs.Placing.{FileGhosts, IsPlaced, Path, TargetGhosts, file_ghosts}
+use Rattle.inrc2pb_program.specs.Stops.{IsStopFor, Stop, Text, fault_of, inrc2pb_app, subcommand_of}
 use Rattle.inrc2pb_program.specs.declared.stop.Stop.TheVariants as stops
 
 -- the job of the words, if nothing is wrong with them
@@ -28,7 +22,7 @@ abbrev pub JobFile : Type 1
 JobFile = RunPort FileGhosts
 
 -- the file that is `old` before the program and `new` after it
-abbrev pub file_of : {F : Type 0} → Ghosts F → (F → Option Path) → F → F → JobFile
+abbrev pub file_of : {F : Type 0} → TargetGhosts F → (F → Option Path) → F → F → JobFile
 file_of {F} target path old new = record { State = F; port = file_ghosts target path; old = old; new = new }
 
 -- a job ended with the outcome of its result

@@ -3,25 +3,17 @@ use Rattle.std.specs.Prelude.{◌≡◌, ◌≢◌, ◌⊎◌, List, [], IsSomeA
 use Rattle.std.specs.IoError.{error_kind}
 use Rattle.std.specs.declared.io.Error.{Error as IoError}
 use Rattle.std.specs.declared.io.ErrorKind.TheVariants as io_kind
-use Rattle.clap.specs.Words.{App, IsAmong, Text, fault_of, kind_of, subcommand_of}
-use Rattle.clap.specs.declared.error.Error.{Error}
 use Rattle.clap.specs.declared.error.kind.ErrorKind.{ErrorKind}
-use Rattle.clap.specs.declared.error.kind.ErrorKind.TheVariants.{DisplayHelp, DisplayVersion, OutOfMemory}
-use Rattle.inrc2pb_command.specs.CommandLine.{inrc2pb_app}
+use Rattle.clap.specs.declared.error.kind.ErrorKind.TheVariants.{DisplayHelp, DisplayVersion}
+pub use Rattle.inrc2pb_command.specs.CommandLine.{App, IsAmong, Text, fault_of, inrc2pb_app, kind_of, subcommand_of}
 use Rattle.inrc2pb_program.specs.Jobs.{LacksPath}
-use Rattle.inrc2pb_program.specs.declared.stop.Stop.{Stop}
+pub use Rattle.inrc2pb_program.specs.declared.stop.Stop.{Stop}
 use Rattle.inrc2pb_program.specs.declared.stop.Stop.TheVariants as stopped
 use Rattle.rota_pb.specs.declared.fault.Fault.TheVariants as failed
 
 -- the kinds of requested texts, which are no mistakes
 abbrev pub IsAskedFor : ErrorKind → Type 0
 IsAskedFor kind = (kind ≡ DisplayHelp) ⊎ (kind ≡ DisplayVersion)
-
--- the reason for an error of clap: a requested text is shown, and if memory ran out, the program ends as a job would
-abbrev pub IsStopOf : Error → Stop → Type 0
-IsStopOf error stop = (IsAskedFor (kind_of error) → stop ≡ stopped.Shown error)
-    × (kind_of error ≡ OutOfMemory → stop ≡ stopped.Job failed.Memory)
-    × ((stop ≡ stopped.Words error) ⊎ (IsAskedFor (kind_of error) ⊎ (kind_of error ≡ OutOfMemory)))
 
 -- memory ran out, or a path is missing if `lacks` says so
 abbrev pub IsForMemoryOr : Type 0 → Stop → Type 0

@@ -3,7 +3,8 @@ ghost use Rattle.std.specs.Prelude.{◌≡◌, false};
 ghost use Rattle.std.specs.Process.{exit_status as code_of};
 ghost use Rattle.inrc2pb_program.specs.Exits.{AreSound, IsExitOf, IsReported, IsShown, IsPrinted, printer_state};
 ghost use Rattle.inrc2pb_program.specs.FaultLines.{stop_text};
-ghost use Rattle.inrc2pb_program.specs.Stops.{IsStopForError, IsStopOf};
+ghost use Rattle.inrc2pb_program.specs.ErrorStops.{IsStopOf};
+ghost use Rattle.inrc2pb_program.specs.Stops.{IsStopForError};
 ghost use Rattle.inrc2pb_program.specs.declared.stop.Stop.TheVariants.{Job};
 ghost use Rattle.rota_pb.specs.declared.fault.Fault.TheVariants.{Memory};
 

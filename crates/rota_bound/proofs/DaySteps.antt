@@ -1,7 +1,7 @@
 -- A nurse's roster day by day: her past follows the roster, and each day costs what the rules charge for it.
 use Rattle.std.proofs.Common.{◌≡◌, ℕ, zero, suc, ◌+◌, ◌-◌, ◌*◌, ◌<◌, ◌≤◌, inl, inr, Bool, true, false, not, cond, refl, ap, sym, ◌∙◌, arith}
 use Rattle.std.proofs.Common.{◌==◌, ◌&&◌, add-one}
-use Rattle.std.specs.Prelude.{Option, Some, None, is_some, nat_lt, nat_le}
+use Rattle.std.specs.Prelude.{⊤, IfSome, Option, Some, None, is_some, nat_lt, nat_le}
 use Rattle.std.proofs.lemmas.Bool.{cases_Bool, eqb-true}
 use Rattle.std.proofs.lemmas.Bool.Decides.{nat_tests}
 use Rattle.rota_core.specs.Sizes.{DAYS}
@@ -17,10 +17,12 @@ use Rattle.rota_items.specs.Runs.{run_length}
 use Rattle.rota_items.specs.rules.ConsecutiveAssignments.Cost.{history_on, shift_run_weight, work_run_weight}
 use Rattle.rota_items.specs.rules.ConsecutiveDaysOff.Cost.{off_run_weight}
 use Rattle.rota_items.specs.rules.ShiftOffRequests.Cost.{request_weight}
+use Rattle.rota_bound.specs.FirstBelow.{first_below}
 use Rattle.rota_bound.specs.DayCharges.{day_charge, is_shift, past_after, requests_against, run_charge, run_on}
 use Rattle.rota_bound.specs.DayCharges.{weekend_charge, weekend_on}
 use Rattle.rota_bound.specs.NurseBounds.{day_rebate, may_be_off}
 use Rattle.rota_core.specs.Prices.{Prices, max_price}
+use Rattle.rota_bound.proofs.FirstBelow.{first-chosen}
 use Rattle.rota_bound.proofs.Sums.{sum-same}
 
 charged : (has : Bool) (run : ℕ) (limits : Span) →
@@ -53,6 +55,11 @@ module _ (problem : Problem) (prices : Prices) (roster : Roster) (n : ℕ) where
   abbrev pub worked_before : ℕ → Bool
   worked_before zero = is_some start.last
   worked_before (suc d) = works problem roster n d
+
+  -- her shift type on the day before, if any
+  abbrev pub last_before : ℕ → Option ℕ
+  last_before zero = start.last
+  last_before (suc d) = first_below problem.shifts (λ s. is_on problem roster n s d)
 
   -- the numbers of a day in the roster: its request rows against her cells, its cells, and their prices
   abbrev pub of_day : (ℕ → ℕ → ℕ) → ℕ → ℕ
@@ -89,12 +96,19 @@ module _ (problem : Problem) (prices : Prices) (roster : Roster) (n : ℕ) where
       request_weight * requested_on d +
       weekend_charge problem n d (worked_before d) (works problem roster n d)
 
+  -- after a day off there is no run on a shift type
+  abbrev pub HasRunIfOn : ℕ → Past → Type 0
+  HasRunIfOn zero past = ⊤
+  HasRunIfOn (suc d) past = past.last ≡ None → past.shift_run ≡ 0
+
   -- the past is the one that the roster leaves before the day
   pub record Follows (d : ℕ) (past : Past) : Type 0 where
     pub on : (s : ℕ) → s < problem.shifts → run_on past s ≡ shift_run_before d s
     pub work : past.work_run ≡ work_run_before d
     pub off : past.off_run ≡ off_run_before d
     pub worked : is_some past.last ≡ worked_before d
+    pub last : past.last ≡ last_before d
+    pub run : HasRunIfOn d past
     pub allows : d < DAYS → (t : ℕ) → t < problem.shifts → is_on problem roster n t d ≡ true → is_forbidden_after problem past.last t ≡ false
     pub assignments : past.assignments ≡ start.assignments + sum_below d assigned_on
     pub weekends : past.weekends ≡ start.weekends + sum_below d weekends_on
@@ -128,6 +142,12 @@ module _ (problem : Problem) (prices : Prices) (roster : Roster) (n : ℕ) where
 
   -- ---- the past after a day
 
+  -- the choice is the first shift type that the nurse is on
+  chosen-first : (d : ℕ) (choice : Option ℕ) → Chooses d choice → IfSome choice (λ s. s < problem.shifts) →
+      choice ≡ first_below problem.shifts (λ s. is_on problem roster n s d)
+  chosen-first d choice chooses inside =
+      first-chosen problem.shifts (λ s. is_on problem roster n s d) choice inside chooses.on
+
   module _ (d : ℕ) (past : Past) (follows : Follows d past) where
     pub follows-off : Chooses d None → Follows (suc d) (past_after d past None)
     unfolding sum_below
@@ -136,6 +156,8 @@ module _ (problem : Problem) (prices : Prices) (roster : Roster) (n : ℕ) where
       work = rw chooses.working refl;
       off = rw (chooses.working, follows.off) refl;
       worked = sym chooses.working;
+      last = chosen-first d None chooses tt;
+      run = λ _. refl;
       allows = λ _ t t_in on. refl;
       assignments = omega (arith, follows.assignments, chooses.assigned);
       weekends = let now = same_weekends d follows.worked (sym chooses.working) in omega (arith, follows.weekends, now);
@@ -156,6 +178,8 @@ module _ (problem : Problem) (prices : Prices) (roster : Roster) (n : ℕ) where
       work = rw (chooses.working, follows.work) refl;
       off = rw chooses.working refl;
       worked = sym chooses.working;
+      last = chosen-first d (Some s) chooses chooses.opened;
+      run = λ none. absurd (cc none);
       allows = succession;
       assignments = omega (arith, follows.assignments, chooses.assigned);
       weekends = let now = same_weekends d follows.worked (sym chooses.working) in omega (arith, follows.weekends, now);

@@ -1,7 +1,9 @@
 -- The first number below a number that passes a test.
 use Rattle.std.proofs.Common.{◌≡◌, ℕ, zero, suc, ◌+◌, ◌<◌, inl, inr, Bool, true, false, refl, ap, sym, ◌∙◌, arith, add-one}
-use Rattle.std.specs.Prelude.{Option, Some, None}
-use Rattle.rota_bound.specs.ChosenDuties.{first_below, or_this}
+use Rattle.std.specs.Prelude.{IfSome, Option, Some, None}
+use Rattle.std.proofs.lemmas.Bool.{eq-eqb, eqb-true}
+use Rattle.rota_bound.specs.FirstBelow.{first_below, or_this}
+use Rattle.rota_bound.specs.DayCharges.{is_shift}
 use Rattle.rota_bound.proofs.Sums.{last_or_before}
 
 pub first-empty : (test : ℕ → Bool) → first_below 0 test ≡ None
@@ -41,3 +43,23 @@ first-at (suc n) i test below none passes =
           ap (λ (b : Bool). or_this None n b) (ap test (sym last) ∙ passes) ∙ ap (λ (m : ℕ). Some m) (sym last)
       | inr before ↦ ap (λ (found : Option ℕ). or_this found n (test n)) (first-at n i test before none passes)
     ]
+
+-- a choice that is the only number to pass is the first
+chosen-found : (n : ℕ) (test : ℕ → Bool) (choice found : Option ℕ) → IfSome choice (λ s. s < n) → ((i : ℕ) → i < n → test i ≡ is_shift choice i) →
+    FirstIs n test found → choice ≡ found
+chosen-found n test None None inside is first = refl
+chosen-found n test None (Some i) inside is first = absurd (cc (is i first.0, first.1))
+chosen-found n test (Some s) None inside is first = absurd (cc (first s inside, is s inside, eq-eqb s s refl))
+chosen-found n test (Some s) (Some i) inside is first = ap (λ (m : ℕ). Some m) (eqb-true s i (sym (is i first.0) ∙ first.1))
+
+pub first-chosen : (n : ℕ) (test : ℕ → Bool) (choice : Option ℕ) → IfSome choice (λ s. s < n) →
+    ((i : ℕ) → i < n → test i ≡ is_shift choice i) → choice ≡ first_below n test
+first-chosen n test choice inside is = chosen-found n test choice (first_below n test) inside is (first-is n test)
+
+inside-found : (n s : ℕ) (test : ℕ → Bool) (found : Option ℕ) → found ≡ Some s → FirstIs n test found → s < n
+inside-found n s test None is first = absurd (cc is)
+inside-found n s test (Some i) is first = let e : i ≡ s = cc is in omega (arith, first.0)
+
+-- the number found is below the number
+pub first-inside : (n : ℕ) (test : ℕ → Bool) (s : ℕ) → first_below n test ≡ Some s → s < n
+first-inside n test s is = inside-found n s test (first_below n test) is (first-is n test)

@@ -1,6 +1,9 @@
 -- The nurses: a nurse's bound and the prices of her cells are at most the cost of her week and the maximum price for each day.
 use Rattle.std.proofs.Common.{◌≡◌, ℕ, zero, suc, ◌+◌, ◌-◌, ◌*◌, ◌<◌, ◌≤◌, Bool, true, false, cond, refl, ap, ◌∙◌, arith}
 use Rattle.std.proofs.Common.{◌||◌}
+use Rattle.std.proofs.Common.{◌==◌, sym}
+use Rattle.std.proofs.lemmas.Bool.{cond-true, eq-eqb}
+use Rattle.std.specs.Option.{option_map_or}
 use Rattle.std.specs.Prelude.{Option, Some, None}
 use Rattle.rota_core.specs.Sizes.{DAYS}
 use Rattle.rota_core.specs.SumsBelow.{sum_below}
@@ -17,14 +20,16 @@ use Rattle.rota_items.specs.rules.ConsecutiveAssignments.Cost.{consecutive_assig
 use Rattle.rota_items.specs.rules.ConsecutiveDaysOff.Cost.{consecutive_day_off_cost_of, off_run_weight}
 use Rattle.rota_items.specs.rules.ShiftOffRequests.Cost.{request_weight}
 use Rattle.rota_items.specs.rules.TotalAssignments.Cost.{assignment_cost_of, assignments_of}
-use Rattle.rota_items.specs.rules.WorkedWeekends.Cost.{worked_weekend_cost_of}
-use Rattle.rota_bound.specs.DayCharges.{end_charge, past_after, run_charge}
-use Rattle.rota_bound.specs.NurseBounds.{least_cost, nurse_bound}
+use Rattle.rota_items.specs.rules.WorkedWeekends.Cost.{worked_weekend, worked_weekend_cost_of}
+use Rattle.rota_bound.specs.DayCharges.{end_charge, is_shift, past_after, run_charge, run_on}
+use Rattle.rota_bound.specs.NurseBounds.{end_cost, least_days, nurse_bound}
+use Rattle.rota_bound.specs.Periods.{history_after, sunday_shift}
 use Rattle.rota_core.specs.Prices.{Prices, ArePrices, max_price}
 use Rattle.rota_bound.proofs.Choices.{goes}
 use Rattle.rota_bound.proofs.DaySteps.{Follows, charge_on, charged-same, day_cost-is, paid_on, requested_on, weekends_on, work_run_before, worked_before}
 use Rattle.rota_bound.proofs.DaySteps.{off_run_before, shift_run_before}
-use Rattle.rota_bound.proofs.LeastCosts.{least_cost-end, least_cost-step}
+use Rattle.rota_bound.proofs.FirstBelow.{first-inside}
+use Rattle.rota_bound.proofs.LeastCosts.{least_days-end, least_days-step}
 use Rattle.rota_bound.proofs.Sums.{sum-same, sum-swap}
 use Rattle.rota_bound.specs.DayCharges.{weekend_charge}
 
@@ -48,6 +53,15 @@ sum-parts : (n : ℕ) (a b c r w : ℕ → ℕ) →
 unfolding sum_below
 sum-parts zero a b c r w = refl
 sum-parts (suc n) a b c r w = omega (arith, sum-parts n a b c r w)
+
+-- two pasts with the same numbers are one
+same-past : (one other : Past) → one.assignments ≡ other.assignments → one.weekends ≡ other.weekends → one.last ≡ other.last →
+    one.shift_run ≡ other.shift_run → one.work_run ≡ other.work_run → one.off_run ≡ other.off_run → one ≡ other
+same-past one other a w l s r o =
+    ap (λ (x : ℕ). record one { assignments = x }) a ∙ ap (λ (x : ℕ). record one { assignments = other.assignments; weekends = x }) w ∙
+    ap (λ (x : Option ℕ). record one { assignments = other.assignments; weekends = other.weekends; last = x }) l ∙
+    ap (λ (x : ℕ). record other { shift_run = x; work_run = one.work_run; off_run = one.off_run }) s ∙
+    ap (λ (x : ℕ). record other { work_run = x; off_run = one.off_run }) r ∙ ap (λ (x : ℕ). record other { off_run = x }) o
 
 module _ (problem : Problem) (prices : Prices) (roster : Roster) (n : ℕ) where
   abbrev start : Past
@@ -88,28 +102,53 @@ module _ (problem : Problem) (prices : Prices) (roster : Roster) (n : ℕ) where
       let off = run_cost-is (is_off problem roster n) start.off_run (problem.contract n).off in
       omega (arith, parts, shift_runs-are, work, off, weekends-are)
 
+  weekend-counted : sum_below DAYS (weekends_on problem prices roster n) ≡ cond (works problem roster n 5 || works problem roster n 6) 1 0
+  unfolding sum_below
+  weekend-counted = omega arith
+
+  -- the run on the last shift type
+  end-run : (past : Past) → Follows problem prices roster n DAYS past → (last : Option ℕ) → past.last ≡ last →
+      past.shift_run ≡ option_map_or (λ s. run_length (is_on problem roster n s) (history_on problem n s) DAYS) last 0
+  end-run past follows None is = follows.run is
+  end-run past follows (Some s) is =
+      let inside = first-inside problem.shifts (λ t. is_on problem roster n t 6) s (sym follows.last ∙ is) in
+      let here : run_on past s ≡ past.shift_run =
+      ap (λ (one : Option ℕ). cond (is_shift one s) past.shift_run 0) is ∙ cond-true (s == s) past.shift_run 0 (eq-eqb s s refl) in
+      sym here ∙ follows.on s inside
+
+  -- ---- the past at the end is the history after the week
+
+  pub follows-end : (past : Past) → Follows problem prices roster n DAYS past → past ≡ history_after problem roster n
+  follows-end past follows =
+      let last : past.last ≡ sunday_shift problem roster n = follows.last in
+      same-past past (history_after problem roster n)
+      (omega (arith, follows.assignments))
+      (omega (arith, follows.weekends, weekend-counted))
+      last
+      (end-run past follows past.last refl ∙ ap (λ (one : Option ℕ). option_map_or (λ s. run_length (is_on problem roster n s) (history_on problem n s) DAYS) one 0) last)
+      follows.work
+      follows.off
+
   -- ---- the totals at the end
 
-  module _ (past : Past) (follows : Follows problem prices roster n DAYS past) where
-    weekend-counted : sum_below DAYS (weekends_on problem prices roster n) ≡ cond (works problem roster n 5 || works problem roster n 6) 1 0
-    unfolding sum_below
-    weekend-counted = omega arith
+  end-after : end_charge problem n (history_after problem roster n) ≡ assignment_cost_of problem roster n + worked_weekend_cost_of problem roster n
+  end-after =
+      let added : start.assignments + assignments_of problem roster n - start.assignments ≡ assignments_of problem roster n = omega arith in
+      let worked : start.weekends + worked_weekend problem roster n - start.weekends ≡ worked_weekend problem roster n = omega arith in
+      rw (added, worked) refl
 
-    pub end-is : end_charge problem n past ≡ assignment_cost_of problem roster n + worked_weekend_cost_of problem roster n
-    end-is =
-        let added : past.assignments - start.assignments ≡ assignments_of problem roster n = omega (arith, follows.assignments) in
-        let worked : past.weekends - start.weekends ≡ cond (works problem roster n 5 || works problem roster n 6) 1 0 =
-        omega (arith, follows.weekends, weekend-counted) in
-        rw (added, worked, follows.assignments) refl
+  pub end-is : (past : Past) → Follows problem prices roster n DAYS past →
+      end_charge problem n past ≡ assignment_cost_of problem roster n + worked_weekend_cost_of problem roster n
+  end-is past follows = ap (end_charge problem n) (follows-end past follows) ∙ end-after
 
   -- ---- the bound, day by day
 
   -- before the day, with this number of days left: the bound is at most the charges so far and the minimum of the rest, less the prices so far
-  record Reached (unit d left : ℕ) : Type 0 where
+  record Reached (unit : ℕ) (rest : Past → ℕ) (d left : ℕ) : Type 0 where
     pub past : Past
     pub follows : Follows problem prices roster n d past
-    pub bounded : nurse_bound unit problem prices n + sum_below d (paid_on problem prices roster n) ≤
-        unit * sum_below d (charge_on problem prices roster n) + d * max_price + least_cost unit problem prices n left past
+    pub bounded : least_days unit problem prices n rest DAYS start + sum_below d (paid_on problem prices roster n) ≤
+        unit * sum_below d (charge_on problem prices roster n) + d * max_price + least_days unit problem prices n rest left past
 
   module _ (unit : ℕ) (within : ArePrices prices) (keeps : KeepsHardRules problem roster) (n_in : n < problem.nurses) where
     -- the history forbids no shift type of Monday
@@ -125,35 +164,45 @@ module _ (problem : Problem) (prices : Prices) (roster : Roster) (n : ℕ) where
       work = refl;
       off = refl;
       worked = refl;
+      last = refl;
+      run = tt;
       allows = λ d_in t t_in on. from_history start.last refl t t_in on;
       assignments = omega arith;
       weekends = omega arith;
     }
 
-    reached : (d left : ℕ) → d + left ≡ DAYS → Reached unit d left
+    reached : (rest : Past → ℕ) (d left : ℕ) → d + left ≡ DAYS → Reached unit rest d left
     unfolding sum_below
-    reached zero left all =
+    reached rest zero left all =
         let e : left ≡ DAYS = omega arith in
         record {
           past = start;
           follows = follows-start;
-          bounded = omega (arith, ap (λ l. least_cost unit problem prices n l start) e);
+          bounded = omega (arith, ap (λ l. least_days unit problem prices n rest l start) e);
         }
-    reached (suc d) left all =
-        let before = reached d (suc left) (omega arith) in
-        let go = goes unit problem prices roster n within keeps n_in d before.past (least_cost unit problem prices n left) (omega arith) before.follows in
+    reached rest (suc d) left all =
+        let before = reached rest d (suc left) (omega arith) in
+        let go = goes unit problem prices roster n within keeps n_in d before.past (least_days unit problem prices n rest left) (omega arith) before.follows in
         record {
           past = past_after d before.past go.choice;
           follows = go.follows;
           bounded =
-              let step = least_cost-step unit problem prices n left d before.past (omega arith) in
+              let step = least_days-step unit problem prices n rest left d before.past (omega arith) in
               let charge = ap (λ (c : ℕ). unit * c) (charged-same problem prices roster n d before.past go.choice before.follows go.chooses) in
               omega (arith, before.bounded, step, go.least, charge, go.chooses.worth);
         }
 
+    -- the days of the week, and the time after it
+    pub days-bounded : (rest : Past → ℕ) →
+        least_days unit problem prices n rest DAYS start + sum_below DAYS (paid_on problem prices roster n) ≤
+        unit * sum_below DAYS (charge_on problem prices roster n) + DAYS * max_price + rest (history_after problem roster n)
+    days-bounded rest =
+        let all = reached rest DAYS 0 (omega arith) in
+        let last = ap rest (follows-end all.past all.follows) in
+        omega (arith, all.bounded, least_days-end unit problem prices n rest all.past, last)
+
     pub nurse-bounded : nurse_bound unit problem prices n + sum_below DAYS (paid_on problem prices roster n) ≤ unit * nurse_cost + DAYS * max_price
     nurse-bounded =
-        let all = reached DAYS 0 (omega arith) in
-        let end = ap (λ (c : ℕ). unit * c) (end-is all.past all.follows) in
+        let end = ap (λ (c : ℕ). unit * c) end-after in
         let days = ap (λ (c : ℕ). unit * c) days-cost in
-        omega (arith, all.bounded, least_cost-end unit problem prices n all.past, end, days)
+        omega (arith, days-bounded (end_cost unit problem n), end, days)

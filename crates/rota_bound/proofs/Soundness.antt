@@ -37,7 +37,7 @@ weekend-fifth false = refl
 
 module _ (problem : Problem) (prices : Prices) (roster : Roster) where
   -- the penalty is the cost of the places and of the nurses
-  penalty-is : penalty problem roster ≡ optimum_cost problem roster + sum_below problem.nurses (nurse_cost problem prices roster)
+  pub penalty-is : penalty problem roster ≡ optimum_cost problem roster + sum_below problem.nurses (nurse_cost problem prices roster)
   penalty-is =
       let parts = sum-six problem.nurses (consecutive_assignment_cost_of problem roster) (consecutive_day_off_cost_of problem roster)
       (λ n. request_weight * sum_below DAYS (requested_on problem prices roster n)) (complete_weekend_cost_of problem roster)

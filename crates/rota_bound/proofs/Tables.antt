@@ -6,6 +6,7 @@ use Rattle.rota_core.specs.Sizes.{Numbers}
 use Rattle.rota_core.specs.InstanceTables.{InstanceTables, IsInstance, problem_of}
 use Rattle.rota_core.specs.Defaults.{no_past}
 use Rattle.rota_core.specs.WeekTables.{IsPast}
+use Rattle.rota_core.specs.declared.values.Past.{Past}
 use Rattle.rota_bound.specs.Nearness.{IsNear}
 use Rattle.rota_core.specs.Prices.{ArePrices, max_price}
 use Rattle.rota_core.specs.PriceTables.{IsPriceTables, PriceTables, prices_of}
@@ -19,6 +20,17 @@ all-or_default P (x ∷ xs) (suc i) default all holds = all-or_default P xs i de
 
 pub prices-within : (t : PriceTables) → IsPriceTables t → ArePrices (prices_of t)
 prices-within t is d s k = all-or_default (λ (price : ℕ). price ≤ max_price) t.prices _ 0 is.within (omega arith)
+
+-- a past that some days can lead to is near after more days, too
+pub near-more : (shifts day other : ℕ) (past : Past) → day ≤ other → IsNear shifts day past → IsNear shifts other past
+near-more shifts day other past more near = record {
+  assignments = omega (arith, near.assignments);
+  weekends = omega (arith, near.weekends);
+  last = near.last;
+  shift_run = omega (arith, near.shift_run);
+  work_run = omega (arith, near.work_run);
+  off_run = omega (arith, near.off_run);
+}
 
 -- the history is one that the week starts from
 pub history-near : (t : InstanceTables) → IsInstance t → (n : ℕ) → IsNear (problem_of t).shifts 0 ((problem_of t).past n)

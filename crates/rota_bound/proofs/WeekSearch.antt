@@ -11,7 +11,7 @@ use Rattle.rota_bound.specs.CheapestWeeks.{ComesBefore, ComesNoLater, Duties, Is
 use Rattle.rota_bound.specs.ChosenDuties.{best_choice, best_duties, best_duty, best_skill, first_below, or_zero, with_skill}
 use Rattle.rota_bound.specs.DayCharges.{day_charge, past_after}
 use Rattle.rota_bound.specs.Minimums.{least_below, not_allowed}
-use Rattle.rota_bound.specs.NurseBounds.{choice_value, day_rebate, is_barred, least_choice, least_cost, may_be_off, may_have, rebate}
+use Rattle.rota_bound.specs.NurseBounds.{choice_value, day_rebate, is_barred, least_choice, least_cost, least_days, may_be_off, may_have, rebate}
 use Rattle.rota_bound.specs.declared.weeks.Duty.{Duty}
 use Rattle.rota_bound.proofs.FirstBelow.{FirstIs, first-is}
 use Rattle.rota_bound.proofs.Sums.{least-at, least-found}
@@ -258,7 +258,7 @@ module _ (unit : ℕ) (problem : Problem) (prices : Prices) (n : ℕ) (within : 
   -- no week of hers is cheaper
   pub week-bounded : (left : ℕ) (past : Past) (duties : Duties) → left ≤ DAYS → IsWeekOf problem n left past duties →
       least_cost unit problem prices n left past + paid_for prices left duties ≤ unit * cost_of problem n left past duties + left * max_price
-  unfolding least_cost IsWeekOf cost_of paid_for
+  unfolding least_days IsWeekOf cost_of paid_for
   week-bounded zero past duties left_in is = omega arith
   week-bounded (suc left) past [] left_in is = absurd is
   week-bounded (suc left) past (duty ∷ duties) left_in is =
@@ -275,7 +275,7 @@ module _ (unit : ℕ) (problem : Problem) (prices : Prices) (n : ℕ) (within : 
 
   pub week-chosen : (left : ℕ) (past : Past) → least_cost unit problem prices n left past < not_allowed →
       IsLeastWeek left past (best_duties unit problem prices n left past)
-  unfolding least_cost IsWeekOf cost_of paid_for best_duties
+  unfolding least_days IsWeekOf cost_of paid_for best_duties
   week-chosen zero past small = record { is_week = refl; least_is = omega arith }
   week-chosen (suc left) past small =
       let d = DAYS - suc left in
@@ -289,7 +289,7 @@ module _ (unit : ℕ) (problem : Problem) (prices : Prices) (n : ℕ) (within : 
       IsWeekOf problem n left past others →
       least_cost unit problem prices n left past + paid_for prices left others ≡ unit * cost_of problem n left past others + left * max_price →
       ComesNoLater (best_duties unit problem prices n left past) others
-  unfolding least_cost IsWeekOf cost_of paid_for best_duties ComesNoLater
+  unfolding least_days IsWeekOf cost_of paid_for best_duties ComesNoLater
   week-first zero past others left_in small is same = tt
   week-first (suc left) past [] left_in small is same = absurd is
   week-first (suc left) past (other ∷ others) left_in small is same =

@@ -1,23 +1,14 @@
 -- The duties that the search for a nurse's cheapest week chooses, day by day.
-use Rattle.std.specs.Prelude.{ℕ, zero, suc, ◌-◌, ◌==◌, Bool, if◌then◌else◌, Option, Some, None, [], ◌∷◌}
+use Rattle.std.specs.Prelude.{ℕ, zero, suc, ◌-◌, ◌==◌, if◌then◌else◌, Option, Some, None, [], ◌∷◌}
 use Rattle.rota_core.specs.Sizes.{DAYS}
 use Rattle.rota_core.specs.Prices.{Prices}
 use Rattle.rota_core.specs.Problem.{Problem}
 use Rattle.rota_core.specs.declared.values.Past.{Past}
 use Rattle.rota_bound.specs.CheapestWeeks.{Duties, shift_of}
 use Rattle.rota_bound.specs.DayCharges.{past_after}
+pub use Rattle.rota_bound.specs.FirstBelow.{first_below, or_this}
 use Rattle.rota_bound.specs.NurseBounds.{choice_value, day_rebate, least_choice, least_cost, rebate}
 use Rattle.rota_bound.specs.declared.weeks.Duty.{Duty}
-
--- the number found, or this one if it passes
-abbrev pub or_this : Option ℕ → ℕ → Bool → Option ℕ
-or_this (Some found) i passes = Some found
-or_this None i passes = (if passes then Some i else None)
-
--- the first of the numbers 0 to n - 1 that passes the test, if any does
-unfoldable pub first_below : ℕ → (ℕ → Bool) → Option ℕ
-first_below zero test = None
-first_below (suc n) test = or_this (first_below n test) n (test n)
 
 -- the first choice whose value is the minimum
 abbrev pub best_choice : ℕ → Problem → Prices → (nurse day : ℕ) → Past → (rest : Past → ℕ) → Option ℕ

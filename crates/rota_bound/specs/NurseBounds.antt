@@ -33,7 +33,7 @@ abbrev pub is_barred : Problem → Past → Option ℕ → Bool
 is_barred problem past None = false
 is_barred problem past (Some s) = is_forbidden_after problem past.last s
 
--- the value of a choice for the day: the cost of the day, its rebate, and the minimum cost of the rest of the week, which depends on her past
+-- the value of a choice for the day: the cost of the day, its rebate, and the minimum cost of the time after it, which depends on her past
 -- after the day
 abbrev pub choice_value : ℕ → Problem → Prices → (nurse day : ℕ) → Past → (rest : Past → ℕ) → Option ℕ → ℕ
 choice_value unit problem prices n d past rest choice =
@@ -47,11 +47,20 @@ least_choice unit problem prices n d past rest =
     min (choice_value unit problem prices n d past rest None)
     (least_below problem.shifts not_allowed (λ s. choice_value unit problem prices n d past rest (Some s)))
 
--- the minimum cost of the last days of the week and of the totals; `left` is the number of these days, and `past` the past before them
-unfoldable pub least_cost : ℕ → Problem → Prices → (nurse left : ℕ) → Past → ℕ
-least_cost unit problem prices n zero past = unit * end_charge problem n past
-least_cost unit problem prices n (suc left) past =
-    least_choice unit problem prices n (DAYS - suc left) past (least_cost unit problem prices n left)
+-- the minimum cost of the last days of the week and of the time after it; `left` is the number of these days, `past` the past before them,
+-- and `rest` gives the cost after the week, which depends on the past at its end
+unfoldable pub least_days : ℕ → Problem → Prices → (nurse : ℕ) → (rest : Past → ℕ) → (left : ℕ) → Past → ℕ
+least_days unit problem prices n rest zero past = rest past
+least_days unit problem prices n rest (suc left) past =
+    least_choice unit problem prices n (DAYS - suc left) past (least_days unit problem prices n rest left)
+
+-- the cost of the totals at the end of the week, in the unit of the prices
+abbrev pub end_cost : ℕ → Problem → (nurse : ℕ) → Past → ℕ
+end_cost unit problem n past = unit * end_charge problem n past
+
+-- the minimum cost of the last days of the week and of the totals
+abbrev pub least_cost : ℕ → Problem → Prices → (nurse left : ℕ) → Past → ℕ
+least_cost unit problem prices n left past = least_days unit problem prices n (end_cost unit problem n) left past
 
 -- the minimum for the whole week, from the history on
 abbrev pub nurse_bound : ℕ → Problem → Prices → ℕ → ℕ

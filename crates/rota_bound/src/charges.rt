@@ -5,9 +5,7 @@ ghost use Rattle.rota_core.specs.InstanceTables.{problem_of};
 ghost use Rattle.rota_bound.specs.DayCharges.{day_charge, end_charge, past_after, requests_against, run_charge, run_on, weekend_charge, weekend_on};
 ghost use Rattle.rota_bound.specs.DayCharges.{shift_charges};
 ghost use Rattle.rota_bound.specs.ShiftCharges.{ended_charge, going_charge};
-ghost use Rattle.rota_bound.specs.Nearness.{IsNear};
-ghost use Rattle.rota_bound.specs.NurseBounds.{least_cost};
-ghost use Rattle.rota_core.specs.Prices.{Prices};
+ghost use Rattle.rota_bound.specs.Nearness.{IsNear, most_days};
 ghost use Rattle.rota_items.specs.CountedTotals.{added_excess, charged_excess};
 
 use rota_core::{DAYS, Instance, Past, Span};
@@ -131,9 +129,9 @@ fn weekend_on(day: u8, saturday: bool, sunday: bool) -> u16
 pub fn past_after(instance: &Instance, day: u8, past: Past, choice: Option<u8>) -> Past
     requires day_in { day < DAYS }
     requires choice_in { IfSome choice (λ s. s < (problem_of instance.now).shifts) }
-    requires near { IsNear (problem_of instance.now).shifts day past }
+    requires near { IsNear (problem_of instance.now).shifts most_days past }
     ensures past { result ≡ past_after day past choice }
-    ensures near { IsNear (problem_of instance.now).shifts (day + 1) result }
+    ensures near { (days : ℕ) → IsNear (problem_of instance.now).shifts days past → IsNear (problem_of instance.now).shifts (days + 1) result }
 {
     let worked = past.last.is_some();
     match choice {
@@ -156,33 +154,11 @@ pub fn past_after(instance: &Instance, day: u8, past: Past, choice: Option<u8>) 
     }
 }
 
-// Whether the week charges a nurse's totals.
-fn charges_totals(instance: &Instance) -> bool
+/// Whether the week charges a nurse's totals.
+pub fn charges_totals(instance: &Instance) -> bool
     ensures { result ≡ ((problem_of instance.now).is_early || (problem_of instance.now).is_last) }
 {
     instance.early() || instance.last_week()
-}
-
-/// The past before the last `left` days, without the totals if the week does not charge them.
-pub fn charged_past(instance: &Instance, left: u8, past: Past) -> Past
-    requires near { IsNear (problem_of instance.now).shifts (DAYS - left) past }
-    ensures same { (unit : ℕ) (prices : Prices) (n : ℕ) →
-        least_cost unit (problem_of instance.now) prices n left result ≡
-        least_cost unit (problem_of instance.now) prices n left past }
-    ensures near { IsNear (problem_of instance.now).shifts (DAYS - left) result }
-{
-    if charges_totals(instance) {
-        past
-    } else {
-        Past {
-            assignments: 0,
-            weekends: 0,
-            last: past.last,
-            shift_run: past.shift_run,
-            work_run: past.work_run,
-            off_run: past.off_run,
-        }
-    }
 }
 
 // The excess over a maximum for which the week pays.

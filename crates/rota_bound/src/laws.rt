@@ -1,5 +1,5 @@
 //! The laws of the bound. Each law holds for all weeks, prices and rosters, and does nothing when it runs.
-ghost use Rattle.std.specs.Prelude.{◌≡◌, ℕ, ◌*◌, ◌≤◌, ◌<◌};
+ghost use Rattle.std.specs.Prelude.{◌≡◌, ℕ, ◌*◌, ◌≤◌, ◌<◌, List, [], ◌∷◌};
 ghost use Rattle.rota_core.specs.HardRules.{KeepsHardRules};
 ghost use Rattle.rota_core.specs.Prices.{ArePrices, Prices};
 ghost use Rattle.rota_core.specs.Problem.{Problem};
@@ -8,6 +8,8 @@ ghost use Rattle.rota_items.specs.Penalty.{penalty};
 ghost use Rattle.rota_bound.specs.CheapestWeeks.{IsLeastOverWeeks};
 ghost use Rattle.rota_bound.specs.LowerBound.{BoundIsSound, lower_bound, minimums_bound};
 ghost use Rattle.rota_bound.specs.Optimality.{IsOptimal};
+ghost use Rattle.rota_bound.specs.PeriodBounds.{HavePrices, WeekPrices, period_bound, weeks_of};
+ghost use Rattle.rota_bound.specs.Periods.{AreOptimal, ArePeriod, KeepRules, period_cost};
 ghost use Rattle.rota_bound.specs.CheapestWeeks.{Duties};
 ghost use Rattle.rota_bound.specs.WeekRosters.{CostsByRules};
 
@@ -25,7 +27,8 @@ pub fn lower_bound_is_sound()
         lower_bound problem prices ≤ penalty problem roster }
 {}
 
-/// A roster that keeps the hard rules, and whose penalty is the lower bound, is optimal.
+/// For all prices up to 999,999,999, a roster that keeps the hard rules, and whose penalty is the lower bound, is
+/// optimal.
 pub fn bound_proves_optimality()
     ensures { (problem : Problem) (prices : Prices) (roster : Roster) →
         ArePrices prices →
@@ -34,7 +37,7 @@ pub fn bound_proves_optimality()
         IsOptimal problem roster }
 {}
 
-/// No roster keeps the hard rules if the bound without the soft rules is above 0.
+/// For all prices up to 999,999,999, no roster keeps the hard rules if the bound without the soft rules is above 0.
 pub fn minimums_prove_that_no_roster_exists()
     ensures { (problem : Problem) (prices : Prices) (roster : Roster) →
         ArePrices prices →
@@ -57,4 +60,29 @@ pub fn nurse_bound_is_the_least_over_her_weeks()
 /// The cost of a nurse's week is her cost in the roster of the week, by the rules S2 to S7.
 pub fn weeks_cost_what_the_rules_charge()
     ensures { (problem : Problem) (n : ℕ) (duties : Duties) → CostsByRules problem n duties }
+{}
+
+/// For all prices up to 999,999,999, no rosters of a period that keep the hard rules cost less than its lower bound.
+pub fn period_bound_is_sound()
+    ensures { (weeks : List WeekPrices) (rosters : List Roster) →
+        HavePrices weeks →
+        ArePeriod (weeks_of weeks) →
+        KeepRules (weeks_of weeks) rosters →
+        period_bound weeks ≤ period_cost (weeks_of weeks) rosters }
+{}
+
+/// For all prices up to 999,999,999, rosters of a period that keep the hard rules, and whose cost is the lower bound,
+/// are optimal.
+pub fn period_bound_proves_optimality()
+    ensures { (weeks : List WeekPrices) (rosters : List Roster) →
+        HavePrices weeks →
+        ArePeriod (weeks_of weeks) →
+        KeepRules (weeks_of weeks) rosters →
+        period_cost (weeks_of weeks) rosters ≡ period_bound weeks →
+        AreOptimal (weeks_of weeks) rosters }
+{}
+
+/// The bound of a period of one week is the bound of the week.
+pub fn a_week_is_a_period()
+    ensures { (one : WeekPrices) → period_bound (one ∷ []) ≡ lower_bound one.week one.prices }
 {}

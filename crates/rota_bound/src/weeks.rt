@@ -13,10 +13,12 @@ ghost use Rattle.rota_bound.specs.Minimums.{not_allowed};
 ghost use Rattle.rota_bound.specs.Nearness.{IsNear};
 ghost use Rattle.rota_bound.specs.NurseBounds.{least_cost, nurse_bound};
 
-use crate::charges::{day_charge, end_charge, past_after};
+use crate::charges::{charges_totals, day_charge, end_charge, past_after};
 use crate::known::Known;
-use crate::nurses::{choice_value, least_choice, nurse_bound};
+use crate::nurses::{least_choice_in, value_in};
+use crate::one_week::nurse_bound;
 use crate::rebates::{NOT_ALLOWED, day_rebate, may_be_off, rebate};
+use crate::stages::{LentWeek, Stage};
 use rota_core::{Cell, DAYS, Instance, Past, Prices};
 use rota_items::laws::instances_are_within_limits;
 use std::alloc::{AllocError, Global};
@@ -79,22 +81,22 @@ fn best_choice(
     ensures inside { IfSome result (λ s. s < (problem_of instance.now).shifts) }
     ensures right { AreRight unit (problem_of instance.now) (prices_of prices.now) known.new }
 {
-    let least = least_choice(instance, prices, unit, known, nurse, left, past);
-    let off = choice_value(instance, prices, unit, known, nurse, left, past, None);
+    let weeks = [LentWeek { instance, prices }];
+    let stage = Stage {
+        instance,
+        prices,
+        weeks: &weeks,
+        week: 0,
+        unit,
+        totals: charges_totals(instance),
+    };
+    let least = least_choice_in(&stage, known, nurse, left, past);
+    let off = value_in(&stage, known, nurse, left, past, None);
     if off == least {
         return None;
     }
     for shift in 0..instance.shifts() {
-        let on = choice_value(
-            instance,
-            prices,
-            unit,
-            known,
-            nurse,
-            left,
-            past,
-            Some(shift),
-        );
+        let on = value_in(&stage, known, nurse, left, past, Some(shift));
         if on == least {
             return Some(shift);
         }

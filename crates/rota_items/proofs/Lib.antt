@@ -24,6 +24,7 @@ pub mod LawProofs
 pub mod Lists
 pub mod ListsAre
 pub mod LiteralTaking
+pub mod LoopSteps
 pub mod ModelCounts
 pub mod ModelMeaning
 pub mod ModelRows
@@ -34,7 +35,6 @@ pub mod ObjectiveTaking
 pub mod Occurrence
 pub mod PatternItems
 pub mod RisingCells
-pub mod RowLoops
 pub mod RowTaking
 pub mod RuleSizes
 pub mod RunLaw

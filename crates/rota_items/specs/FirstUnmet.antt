@@ -1,8 +1,7 @@
 -- The first row that an assignment does not satisfy, and its rule.
 use Rattle.std.specs.Prelude.{◌+◌, if◌then◌else◌, ◌∷◌}
 use Rattle.rota_items.specs.Imports.{ℕ, Bool, Option, Some, None, MatchOption, List, [], Rule, Unit, H1, H2, H3, H4, H5, Roster, KeepsHeld}
-use Rattle.rota_items.specs.Imports.{Problem, KeepsOneCell, KeepsMinimum, KeepsSuccession, KeepsSkills, KeepsCompetitionRules}
-use Rattle.rota_items.specs.Imports.{KeepsHardRules}
+use Rattle.rota_items.specs.Imports.{Problem, KeepsOneCell, KeepsMinimum, KeepsSuccession, KeepsSkills, KeepsCompetitionRules, KeepsHardRules}
 use Rattle.rota_items.specs.Rows.{Part, Objective, Hard, Soft, LinearRow, is_satisfied}
 
 -- the rule of a constraint

@@ -1,11 +1,8 @@
 -- The rows that mean the hard rules, over cells.
-use Rattle.rota_core.specs.Sizes.{DAYS}
-use Rattle.rota_items.specs.Imports.{ℕ, pos, negsuc, nat_lt, Bool, false, not, List, [], map, flat_map, Option, Some, None, Cell, Problem}
-use Rattle.rota_items.specs.Imports.{Rule}
-use Rattle.rota_items.specs.Imports.{hard_rules, H1, H2, H3, H4, H5}
-use Rattle.rota_items.specs.Rows.{LinearRow, Hard, times, concat_below, singleton_if}
-use Rattle.rota_items.specs.Rows.{on_cells, work_cells, demand_cells, skill_cells, cells_of}
-use Rattle.std.specs.Prelude.{◌∷◌, ◌+◌, ◌-◌, ◌++◌}
+use Rattle.std.specs.Prelude.{◌∷◌, ◌+◌, ◌-◌, ◌++◌, ℕ, pos, negsuc, nat_lt, Bool, false, not}
+use Rattle.rota_items.specs.Imports.{DAYS, List, [], map, flat_map, Option, Some, None, Cell, Problem, Rule, hard_rules, H1, H2, H3, H4, H5}
+use Rattle.rota_items.specs.Rows.{LinearRow, Hard, times, concat_below, singleton_if, on_cells, work_cells, demand_cells, skill_cells}
+use Rattle.rota_items.specs.Rows.{cells_of}
 
 -- H1: at most one cell of a nurse on a day is in the roster
 abbrev pub h1_row : Problem → ℕ → ℕ → LinearRow Cell

@@ -12,4 +12,4 @@ pub use Rattle.rota_core.specs.Rules.{soft_rules, hard_rules}
 pub use Rattle.rota_core.specs.declared.values.Cell.{Cell}
 pub use Rattle.rota_core.specs.declared.values.Span.{Span}
 pub use Rattle.rota_core.specs.declared.rule.Rule.{Rule}
-pub use Rattle.rota_core.specs.declared.rule.Rule.TheVariants.{H1, H2, H3, H4, H5, Unit}
+pub use Rattle.rota_core.specs.declared.rule.Rule.TheVariants.{H1, H2, H3, H4, H5, S1, S2, S3, S4, S5, S6, S7, Unit}

@@ -1,6 +1,5 @@
 -- The cost of a roster in a week, by the soft rules.
-use Rattle.rota_items.specs.Imports.{ℕ, sum_below, sum_by, Roster, Rule, Problem, soft_rules}
-use Rattle.rota_core.specs.declared.rule.Rule.TheVariants.{S1, S2, S3, S4, S5, S6, S7}
+use Rattle.rota_items.specs.Imports.{ℕ, sum_below, sum_by, Roster, Rule, Problem, soft_rules, S1, S2, S3, S4, S5, S6, S7}
 use Rattle.rota_items.specs.rules.CompleteWeekends.Cost.{complete_weekend_cost_of}
 use Rattle.rota_items.specs.rules.ConsecutiveAssignments.Cost.{consecutive_assignment_cost_of}
 use Rattle.rota_items.specs.rules.ConsecutiveDaysOff.Cost.{consecutive_day_off_cost_of}

@@ -1,7 +1,6 @@
 -- The charges of the model for the soft rules: items, the constant, and terms on cells.
-use Rattle.rota_items.specs.Imports.{ℕ, List, [], flat_map, sum_by, Rule, Cell, Problem, sum_below, soft_rules}
-use Rattle.std.specs.Prelude.{◌++◌, Option, Some, None}
-use Rattle.rota_core.specs.declared.rule.Rule.TheVariants.{S1, S2, S3, S4, S5, S6, S7}
+use Rattle.std.specs.Prelude.{◌++◌, ℕ, List, [], flat_map}
+use Rattle.rota_items.specs.Imports.{sum_by, Rule, Cell, Problem, sum_below, soft_rules, Option, Some, None, S1, S2, S3, S4, S5, S6, S7}
 use Rattle.rota_items.specs.Rows.{concat_below, Item, Term}
 use Rattle.rota_items.specs.rules.CompleteWeekends.Items.{complete_weekends_of}
 use Rattle.rota_items.specs.rules.ConsecutiveAssignments.Items.{assignment_runs_of}

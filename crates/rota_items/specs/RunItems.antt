@@ -1,9 +1,8 @@
 -- The windows and patterns that charge runs, as days that must have a property or must not, and their items.
-use Rattle.std.specs.Prelude.{◌+◌, ◌-◌, ◌*◌, ◌&&◌, ◌-ℤ◌, if◌then◌else◌, ◌∷◌, ◌++◌}
-use Rattle.rota_core.specs.Sizes.{DAYS}
-use Rattle.rota_items.specs.Imports.{ℕ, pos, negsuc, Bool, true, false, not, nat_le, nat_lt, List, [], map, flat_map, range_with_len}
-use Rattle.rota_items.specs.Imports.{count_by, Cell, Rule, Span, Problem}
-use Rattle.rota_items.specs.Rows.{Term, times, Item, concat_below, singleton_if, work_cells}
+use Rattle.std.specs.Prelude.{◌+◌, ◌-◌, ◌*◌, ◌&&◌, ◌-ℤ◌, if◌then◌else◌, ◌∷◌, ◌++◌, ℕ, pos, negsuc, Bool, true, false}
+pub use Rattle.rota_items.specs.Imports.{DAYS, not, nat_le, nat_lt, List, [], map, flat_map, range_with_len, count_by, Cell, Rule, Span}
+pub use Rattle.rota_items.specs.Imports.{Problem, S2, ℕ, S3, S5, true, S7, false}
+pub use Rattle.rota_items.specs.Rows.{Term, times, Item, concat_below, singleton_if, work_cells, on_cells}
 
 -- a day, and whether it must have the property
 pub record PatternDay : Type 0 where

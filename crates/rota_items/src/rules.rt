@@ -55,7 +55,7 @@ fn visit_nurse<T: RunTaker>(
 }
 
 // Sends the taker the items of a rule that charges each nurse.
-#[tactic(auto, using(crate::proofs::Taking::taking), unfolding(crate::specs::SentItems::numbered_list))]
+#[tactic(auto, using(crate::proofs::LoopSteps::item_loops))]
 fn visit_nurses<T: RunTaker>(instance: &Instance, taker: &mut T, rule: Rule) -> Result<(), T::Fault>
     ensures { let problem = problem_of instance.now in
         TakesItems T.ItemTaker problem (concat_below problem.nurses (nurse_items problem rule))

@@ -7,7 +7,8 @@ use Rattle.rota_pb.specs.AnswerPieces.{read_answer}
 use Rattle.rota_pb.specs.Decoded.{find_roster}
 use Rattle.rota_pb.specs.RunPorts.{Reader, WeekReaders, Writer}
 use Rattle.rota_pb.specs.Report.{report_text}
-use Rattle.rota_pb.specs.Steps.{Step, ◌>>=◌, ◌>>◌, send}
+use Rattle.rota_pb.specs.Steps.{Step, ◌>>=◌, send}
+use Rattle.rota_pb.specs.StepsInTurn.{◌>>◌}
 use Rattle.rota_pb.specs.WeekFiles.{read_week}
 
 -- the number of the variables of a week's model

@@ -12,7 +12,8 @@ use Rattle.solver_text.specs.declared.outcome.Status.TheVariants.{Satisfiable}
 use Rattle.solver_text.specs.Answers.{outcome}
 use Rattle.solver_text.specs.AnswerText.{answer_text}
 use Rattle.rota_pb.specs.RunPorts.{Reader, WeekReaders, Writer}
-use Rattle.rota_pb.specs.Steps.{Step, ◌>>=◌, ◌>>◌, check, send}
+use Rattle.rota_pb.specs.Steps.{Step, ◌>>=◌, check, send}
+use Rattle.rota_pb.specs.StepsInTurn.{◌>>◌}
 use Rattle.rota_pb.specs.WeekFiles.{read_roster, read_week}
 
 -- the answer of the roster's extension with this objective

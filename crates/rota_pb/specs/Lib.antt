@@ -12,6 +12,7 @@ pub mod Report
 pub mod RunParts
 pub mod RunPorts
 pub mod Steps
+pub mod StepsInTurn
 pub mod Statuses
 pub mod WeekFiles
 pub mod Imports

@@ -21,11 +21,6 @@ infixl 10 ◌>>=◌
 abbrev pub ◌>>=◌ : {A B : Type 0} → Step A → (A → Step B) → Step B
 ◌>>=◌ {A} step next = record { ends = EndsInTurn step next; untouched = step.untouched × ((found : A) → (next found).untouched) }
 
-infixl 10 ◌>>◌
--- the step, and then the next one, which does not depend on a value of the first one
-abbrev pub ◌>>◌ : {B : Type 0} → Step (Unit {0}) → Step B → Step B
-step >> next = step >>= λ _. next
-
 -- the only step of a run at this port: the result is a value for which `Finds` holds, or a fault for which `Stops` holds
 abbrev pub call : {Ghosts : Type 0 → Type 1} {A : Type 0} → RunPort Ghosts → (A → Type 0) → (Fault → Type 0) → Step A
 call port Finds Stops = record { ends = λ result. MatchResult result Finds Stops; untouched = IsUntouched port }

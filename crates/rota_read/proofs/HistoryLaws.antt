@@ -10,8 +10,8 @@ use Rattle.rota_core.specs.ScenarioTables.{ScenarioTables, numbers_of}
 use Rattle.rota_core.specs.Defaults.{no_past}
 use Rattle.rota_core.specs.WeekTables.{HistoryTables, IsHistory, IsPast}
 use Rattle.rota_read.specs.Tokens.{Token, tokens}
-use Rattle.rota_read.specs.Layout.{has_row, repeat}
-use Rattle.rota_read.specs.HistoryLayout.{past, past_row, past_rows, history}
+use Rattle.rota_read.specs.Layout.{has_row, known_row, repeat, value_of_each}
+use Rattle.rota_read.specs.HistoryLayout.{past, history}
 use Rattle.rota_read.specs.HistoryRows.{GivesEachPast}
 use Rattle.rota_read.specs.Files.{Fills, Spells}
 use Rattle.rota_read.proofs.SlotLaws.{number-within, known_name-below, known_name-free, shift_or-below}
@@ -62,9 +62,9 @@ one_more pasts nurse one lt free =
     omega (arith, e, none)
 
 past_row-keeps : (tables : ScenarioTables) (i : ℕ) (pasts : List (Option Past)) (front : List Token) (next : List (Option Past)) →
-    Fills (past_row tables pasts) front next →
+    Fills (known_row tables.nurses (past tables.shifts) pasts) front next →
     Kept (length tables.nurses) (length tables.shifts) i pasts → Kept (length tables.nurses) (length tables.shifts) (suc i) next
-unfolding Fills past_row
+unfolding Fills known_row
 past_row-keeps tables i pasts front next h k =
     let nurse = h.0 in
     let one = h.5.0 in
@@ -94,7 +94,7 @@ none_counted (suc n) = none_counted n
 
 -- a property that each row keeps holds after all of them
 rows-keep : (tables : ScenarioTables) (n i : ℕ) (pasts : List (Option Past)) (front : List Token) (last : List (Option Past)) →
-    Fills (repeat n (past_row tables) pasts) front last →
+    Fills (repeat n (known_row tables.nurses (past tables.shifts)) pasts) front last →
     Kept (length tables.nurses) (length tables.shifts) i pasts → Kept (length tables.nurses) (length tables.shifts) (n + i) last
 unfolding Fills repeat
 rows-keep tables zero i pasts front last h k =
@@ -105,9 +105,10 @@ rows-keep tables (suc n) i pasts front last h k =
     let e : n + suc i ≡ suc n + i = omega arith in
     subst (λ j. Kept (length tables.nurses) (length tables.shifts) j last) e (rows-keep tables n (suc i) h.0 h.2 last h.5 one)
 
-past_rows-kept : (tables : ScenarioTables) (front : List Token) (pasts : List (Option Past)) → Fills (past_rows tables) front pasts →
+past_rows-kept : (tables : ScenarioTables) (front : List Token) (pasts : List (Option Past)) →
+    Fills (value_of_each tables.nurses (past tables.shifts)) front pasts →
     Kept (length tables.nurses) (length tables.shifts) (length tables.nurses) pasts
-unfolding past_rows
+unfolding value_of_each
 past_rows-kept tables front pasts h =
     let nurses = length tables.nurses in
     let shifts = length tables.shifts in

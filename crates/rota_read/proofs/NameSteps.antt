@@ -1,14 +1,15 @@
 -- Reading a name: a word, and the index that it names.
-use Rattle.std.proofs.Common.{◌≡◌, ℕ, Bool, true, false, if◌then◌else◌, refl, ap}
-use Rattle.std.proofs.Common.{List, [], ◌∷◌, Option, Some, None, unwrap_or, Result, Ok, Err}
+use Rattle.std.proofs.Common.{◌≡◌, ℕ, Bool, true, false, if◌then◌else◌, refl}
+use Rattle.std.proofs.Common.{List, [], ◌∷◌, Option, Some, None, Result, Ok, Err}
 use Rattle.std.specs.Option.{option_map_or}
+use Rattle.std.specs.Str.{bytes_eq}
 use Rattle.rota_core.specs.Words.{is_among, index_of}
 use Rattle.rota_core.specs.declared.fault.Kind.{Kind}
 use Rattle.rota_core.specs.declared.fault.Kind.TheVariants as kinds
 use Rattle.rota_read.specs.declared.fault.Fault.{Fault}
 use Rattle.rota_read.specs.Tokens.{Token}
 use Rattle.rota_read.specs.Reading.{Reading, then_read, read_layout}
-use Rattle.rota_read.specs.Layout.{any_word, is_sign_token, known_name, new_name, none_taken}
+use Rattle.rota_read.specs.Layout.{any_word, is_sign_token, known_name, new_name, none_taken, shift_or}
 
 -- the fault of the previous token
 abbrev pub refused : {V : Type 0} → Kind → Reading → Result V Fault
@@ -35,8 +36,7 @@ known_some : (names : List (List ℕ)) (taken : ℕ → Bool) (last : ℕ) (t : 
     KnownByWord names taken (record { last = last; rest = t ∷ rest })
 unfolding known_name any_word read_layout
 known_some names taken last t rest index true s p e = rw (s, p, e) refl
-known_some names taken last t rest index false s p e =
-    rw (s, p, e) (ap (λ (q : Option ℕ). Ok (unwrap_or q 0, record { last = t.line; rest = rest })) p)
+known_some names taken last t rest index false s p e = rw (s, p, e) refl
 
 known_at : (names : List (List ℕ)) (taken : ℕ → Bool) (last : ℕ) (t : Token) (rest : List Token) (sign : Bool) (index : Option ℕ) →
     is_sign_token t.word ≡ sign → index_of names t.word ≡ index → KnownByWord names taken (record { last = last; rest = t ∷ rest })
@@ -90,3 +90,33 @@ new_from names last (t ∷ rest) = new_at names last t rest (is_sign_token t.wor
 
 pub new_by_word : (names : List (List ℕ)) (left : Reading) → read_layout (new_name names) left ≡ then_read (read_layout any_word left) (unnamed names)
 new_by_word names left = new_from names left.last left.rest
+
+-- the shift type that a word names, or `None` for this word
+abbrev pub shift_named : List ℕ → List (List ℕ) → List ℕ × Reading → Result (Option ℕ × Reading) Fault
+shift_named none shifts x =
+    if bytes_eq x.0 none then Ok (None, x.1)
+    else option_map_or (λ shift. Ok (Some shift, x.1)) (index_of shifts x.0) (refused kinds.Unknown x.1)
+
+-- reading a shift type or this word is reading a word, and then the shift type that it names
+abbrev ShiftByWord : List ℕ → List (List ℕ) → Reading → Type 0
+ShiftByWord none shifts left = read_layout (shift_or none shifts) left ≡ then_read (read_layout any_word left) (shift_named none shifts)
+
+shift_at : (none : List ℕ) (shifts : List (List ℕ)) (last : ℕ) (t : Token) (rest : List Token) (sign is : Bool) (index : Option ℕ) →
+    is_sign_token t.word ≡ sign → bytes_eq t.word none ≡ is → index_of shifts t.word ≡ index →
+    ShiftByWord none shifts (record { last = last; rest = t ∷ rest })
+unfolding shift_or any_word read_layout
+shift_at none shifts last t rest true is index s e p = rw s refl
+shift_at none shifts last t rest false true index s e p = rw (s, e) refl
+shift_at none shifts last t rest false false None s e p = rw (s, e, p) refl
+shift_at none shifts last t rest false false (Some index) s e p = rw (s, e, p) refl
+
+shift_from : (none : List ℕ) (shifts : List (List ℕ)) (last : ℕ) (rest : List Token) →
+    ShiftByWord none shifts (record { last = last; rest = rest })
+unfolding shift_or any_word read_layout
+shift_from none shifts last [] = refl
+shift_from none shifts last (t ∷ rest) =
+    shift_at none shifts last t rest (is_sign_token t.word) (bytes_eq t.word none) (index_of shifts t.word) refl refl refl
+
+pub shift_by_word : (none : List ℕ) (shifts : List (List ℕ)) (left : Reading) →
+    read_layout (shift_or none shifts) left ≡ then_read (read_layout any_word left) (shift_named none shifts)
+shift_by_word none shifts left = shift_from none shifts left.last left.rest

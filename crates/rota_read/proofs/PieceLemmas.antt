@@ -1,17 +1,17 @@
 -- Pieces of a text that fill parts of a layout, for any bytes after them.
 use Rattle.std.proofs.Common.{◌≡◌, ℕ, ◌≤◌, Bool, true, false, ◌||◌, refl, sym, ap, ◌∙◌, subst, arith, append_assoc}
-use Rattle.std.proofs.Common.{List, [], ◌∷◌, ◌++◌, Some, None}
-use Rattle.std.specs.Prelude.{nat_le, unwrap_or}
+use Rattle.std.proofs.Common.{List, [], ◌∷◌, ◌++◌, Some}
+use Rattle.std.specs.Prelude.{nat_le, Result, Ok, bytes_eq}
+use Rattle.rota_core.specs.declared.fault.Kind.{Kind}
 use Rattle.std.specs.List.{list_all}
 use Rattle.std.proofs.lemmas.Bool.{and_parts, or_parts, not-true}
 use Rattle.std.proofs.lemmas.Bool.Decides.{nat_tests}
 use Rattle.std.proofs.lemmas.List.{append-nil}
 use Rattle.rota_core.specs.Words.{index_of, is_whitespace, is_sign, is_word_byte, IsWord}
 use Rattle.rota_core.specs.Numeral.{numeral}
-use Rattle.rota_core.specs.Decimal.{decimal}
-use Rattle.rota_read.specs.Tokens.{Token, tokens_from, next_line}
-use Rattle.rota_read.specs.Layout.{Slot, wants_exactly, wants_number, wants_word, wants_known, Layout, end, slot, ◌>>=◌}
-use Rattle.rota_read.specs.Layout.{misfit, is_sign_token, exactly, number, any_word, known_name}
+use Rattle.rota_read.specs.Tokens.{Token, next_line}
+use Rattle.rota_read.specs.TokenLines.{tokens_from}
+use Rattle.rota_read.specs.Layout.{Layout, end, slot, ◌>>=◌, is_sign_token, exactly, number, any_word, known_name}
 use Rattle.rota_read.specs.Files.{Fills}
 use Rattle.rota_core.specs.NumeralLaws.{ReadsBack}
 use Rattle.rota_read.proofs.TokenLemmas.{tokens_from-sign, one_blank, word_goes_on, word_ends}
@@ -70,24 +70,24 @@ tokens_from-word_and_blank (x ∷ xs) b line rest is_word blank =
     ∙ ap (λ tokens. record { word = x ∷ xs; line = line } ∷ tokens) (one_blank b line rest blank)
 
 -- a word and a blank
-pub piece-word : (s : Slot) (word : List ℕ) (b : ℕ) → IsWord word → is_whitespace b ≡ true → misfit s word ≡ None →
-    FillsAsPiece (slot s) (word ++ b ∷ []) word
+pub piece-word : {V : Type 0} (read : List ℕ → Result V Kind) (value : V) (word : List ℕ) (b : ℕ) → IsWord word → is_whitespace b ≡ true →
+    read word ≡ Ok value → FillsAsPiece (slot read) (word ++ b ∷ []) value
 unfolding Fills
-piece-word s word b is_word blank fits = λ line. (
+piece-word read value word b is_word blank fits = λ line. (
   record { word = word; line = line } ∷ [],
   next_line b line,
-  (record { word = word; line = line }, refl, fits, refl),
+  (record { word = word; line = line }, refl, fits),
   λ rest. ap (tokens_from line) (append_assoc word (b ∷ []) rest) ∙ tokens_from-word_and_blank word b line rest is_word blank,
 )
 
 -- a sign
-pub piece-sign : (b : ℕ) → is_whitespace b ≡ false → is_sign b ≡ true → misfit (wants_exactly (b ∷ [])) (b ∷ []) ≡ None →
+pub piece-sign : (b : ℕ) → is_whitespace b ≡ false → is_sign b ≡ true → bytes_eq (b ∷ []) (b ∷ []) ≡ true →
     FillsAsPiece (exactly (b ∷ [])) (b ∷ []) (b ∷ [])
 unfolding Fills exactly
 piece-sign b no_blank sign fits = λ line. (
   record { word = b ∷ []; line = line } ∷ [],
   line,
-  (record { word = b ∷ []; line = line }, refl, fits, refl),
+  (record { word = b ∷ []; line = line }, refl, rw fits refl),
   λ rest. tokens_from-sign b line rest no_blank sign,
 )
 
@@ -99,37 +99,30 @@ no_sign (x ∷ xs) is_word =
     let first = and_parts (is_word_byte x) (list_all is_word_byte xs) is_word.1 in
     (or_parts (is_whitespace x) (is_sign x) (not-true (is_whitespace x || is_sign x) first.0)).1
 
-pub piece-exactly : (word : List ℕ) (b : ℕ) → IsWord word → is_whitespace b ≡ true → misfit (wants_exactly word) word ≡ None →
+pub piece-exactly : (word : List ℕ) (b : ℕ) → IsWord word → is_whitespace b ≡ true → bytes_eq word word ≡ true →
     FillsAsPiece (exactly word) (word ++ b ∷ []) word
 unfolding exactly
-piece-exactly word b is_word blank fits = piece-word (wants_exactly word) word b is_word blank fits
+piece-exactly word b is_word blank fits = piece-word _ word word b is_word blank (rw fits refl)
 
 pub piece-any_word : (word : List ℕ) (b : ℕ) → IsWord word → is_whitespace b ≡ true → FillsAsPiece any_word (word ++ b ∷ []) word
 unfolding any_word
-piece-any_word word b is_word blank = piece-word wants_word word b is_word blank (rw (no_sign word is_word) refl)
+piece-any_word word b is_word blank = piece-word _ word word b is_word blank (rw (no_sign word is_word) refl)
 
 -- a numeral whose value is its number
 module _ (reads_back : (n : ℕ) → ReadsBack n) where
-  fits-number : (low high n : ℕ) → low ≤ n → n ≤ high → misfit (wants_number low high) (numeral n) ≡ None
-  fits-number low high n from up_to =
-      rw ((reads_back n).decimal_only, (reads_back n).number, below low n from, below n high up_to) refl
-    where
-      below : (a b : ℕ) → a ≤ b → nat_le a b ≡ true
-      below a b h = grind (arith, nat_tests)
+  below : (a b : ℕ) → a ≤ b → nat_le a b ≡ true
+  below a b h = grind (arith, nat_tests)
 
   pub piece-number : (low high n b : ℕ) → low ≤ n → n ≤ high → is_whitespace b ≡ true →
       FillsAsPiece (number low high) (numeral n ++ b ∷ []) n
   unfolding number
   piece-number low high n b from up_to blank =
-      subst (FillsAsPiece (number low high) (numeral n ++ b ∷ [])) (reads_back n).number
-      (piece-map (slot (wants_number low high)) decimal (numeral n ++ b ∷ []) (numeral n)
-      (piece-word (wants_number low high) (numeral n) b (reads_back n).word blank (fits-number low high n from up_to)))
+      piece-word _ n (numeral n) b (reads_back n).word blank
+      (rw ((reads_back n).decimal_only, (reads_back n).number, below low n from, below n high up_to) refl)
 
 pub piece-known_name : (names : List (List ℕ)) (is_taken : ℕ → Bool) (name : List ℕ) (index b : ℕ) → IsWord name →
     is_whitespace b ≡ true → index_of names name ≡ Some index → is_taken index ≡ false →
     FillsAsPiece (known_name names is_taken) (name ++ b ∷ []) index
 unfolding known_name
 piece-known_name names is_taken name index b is_word blank found free =
-    subst (FillsAsPiece (known_name names is_taken) (name ++ b ∷ [])) (ap (λ o. unwrap_or o 0) found)
-    (piece-map (slot (wants_known names is_taken)) (λ word. unwrap_or (index_of names word) 0) (name ++ b ∷ []) name
-    (piece-word (wants_known names is_taken) name b is_word blank (rw (no_sign name is_word, found, free) refl)))
+    piece-word _ index name b is_word blank (rw (no_sign name is_word, found, free) refl)

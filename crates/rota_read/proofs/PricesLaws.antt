@@ -5,7 +5,8 @@ use Rattle.rota_core.specs.PriceTables.{PriceTables, IsPriceTables}
 use Rattle.rota_core.specs.ScenarioTables.{ScenarioTables}
 use Rattle.rota_read.specs.Tokens.{Token}
 use Rattle.rota_read.specs.Layout.{number, repeat}
-use Rattle.rota_read.specs.PricesLayout.{PriceRows, price_row, no_prices, prices}
+use Rattle.rota_read.specs.PricesLayout.{price_row, prices}
+use Rattle.rota_read.specs.DayRows.{DayRows, no_day_rows, day_row, pair_index}
 use Rattle.rota_read.specs.Files.{Fills, Spells}
 use Rattle.rota_read.proofs.DayTables.{days-all, RowsAll, no_rows-all, row_set-all, day_table-all}
 use Rattle.rota_read.proofs.SlotLaws.{number-within}
@@ -13,17 +14,17 @@ use Rattle.rota_read.proofs.SlotLaws.{number-within}
 abbrev IsPrice : ℕ → Type 0
 IsPrice price = price ≤ max_price
 
-price_row-keeps : (pairs : ℕ) (t : ScenarioTables) (rows : PriceRows) (front : List Token) (next : PriceRows) →
+price_row-keeps : (pairs : ℕ) (t : ScenarioTables) (rows : DayRows ℕ) (front : List Token) (next : DayRows ℕ) →
     Fills (price_row t rows) front next → RowsAll IsPrice pairs rows → RowsAll IsPrice pairs next
-unfolding Fills price_row
+unfolding Fills price_row day_row
 price_row-keeps pairs t rows front next h k =
-    -- the shift type, the pair, the prices
-    let pair = h.5 in
-    let days = pair.5 in
+    -- the shift type, the skill, the prices
+    let skill = h.5 in
+    let days = skill.5 in
     let within = days-all (number 0 max_price) IsPrice (λ front price h. (number-within 0 max_price front price h).1) days.1 days.0 days.4 in
-    rw days.5.1 (row_set-all IsPrice pairs rows pair.0 days.0 within k)
+    rw days.5.1 (row_set-all IsPrice pairs rows (pair_index (length t.skills) h.0 skill.0) days.0 within k)
 
-price_rows-keep : (pairs : ℕ) (t : ScenarioTables) (n : ℕ) (rows : PriceRows) (front : List Token) (last : PriceRows) →
+price_rows-keep : (pairs : ℕ) (t : ScenarioTables) (n : ℕ) (rows : DayRows ℕ) (front : List Token) (last : DayRows ℕ) →
     Fills (repeat n (price_row t) rows) front last → RowsAll IsPrice pairs rows → RowsAll IsPrice pairs last
 unfolding Fills repeat
 price_rows-keep pairs t zero rows front last h k = rw h.1 k
@@ -35,7 +36,7 @@ unfolding Fills prices
 spells-is_prices t text table h =
     -- the word, any word, the number of rows, the rows
     let rows = h.filled.5.5.5 in
-    let kept = price_rows-keep (length t.shifts * length t.skills) t _ (no_prices t) rows.1 rows.0 rows.4
+    let kept = price_rows-keep (length t.shifts * length t.skills) t _ (no_day_rows t) rows.1 rows.0 rows.4
     (no_rows-all IsPrice (length t.shifts * length t.skills)) in
     let all = day_table-all IsPrice 0 (omega arith) (length t.shifts) (length t.skills) rows.0 kept in
     rw rows.5.1 (record { prices = all.0; within = all.1 })

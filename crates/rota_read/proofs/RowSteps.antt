@@ -6,7 +6,9 @@ use Rattle.rota_read.specs.declared.fault.Stop.{Stop}
 use Rattle.rota_read.specs.Reading.{Reading, then_read, read_layout, Fails}
 use Rattle.rota_read.specs.Layout.{Layout, ◌>>=◌, repeat, shift_or}
 use Rattle.rota_read.proofs.EndLemmas.{front_fails}
-use Rattle.rota_read.specs.WeekLayout.{Requirements, part_or, requirement, requirement_rows}
+use Rattle.rota_core.specs.declared.values.Demand.{Demand}
+use Rattle.rota_read.specs.DayRows.{DayRows, day_row}
+use Rattle.rota_read.specs.WeekLayout.{demand, part_or, requirement_rows}
 
 module _ {S : Type 0} (row : S → Layout S) (state : S) (count i : ℕ) (left : Reading) where
   -- a row, and the rows after it
@@ -31,10 +33,10 @@ module _ {S : Type 0} (row : S → Layout S) (state : S) (count i : ℕ) (left :
 
 pub ruleset row_steps = (next_row, no_row, row_fails)
 
-module _ (t : ScenarioTables) (rows : Requirements) (count i : ℕ) (left : Reading) where
+module _ (t : ScenarioTables) (rows : DayRows Demand) (count i : ℕ) (left : Reading) where
   -- the rows after a shift type, or none after the word
-  abbrev pub more_rows : Option ℕ × Reading → Result (Requirements × Reading) Fault
-  more_rows x = read_layout (part_or (λ shift. requirement t.skills shift rows >>= requirement_rows t (count - (i + 1))) x.0 rows) x.1
+  abbrev pub more_rows : Option ℕ × Reading → Result (DayRows Demand × Reading) Fault
+  more_rows x = read_layout (part_or (λ shift. day_row demand t.skills shift rows >>= requirement_rows t (count - (i + 1))) x.0 rows) x.1
 
   pub next_requirement : i < count → read_layout (requirement_rows t (count - i) rows) left ≡
       then_read (read_layout (shift_or (codes "SHIFT_OFF_REQUESTS") t.shifts) left) more_rows

@@ -1,8 +1,8 @@
 -- The scenario that a text spells is within the limits.
 use Rattle.std.proofs.Common.{◌≡◌, ℕ, suc, ◌+◌, ◌*◌, ◌<◌, ◌≤◌, Bool, true, false, ◌||◌, refl, sym, ap, ◌∙◌, subst, arith}
-use Rattle.std.proofs.Common.{List, [], ◌∷◌, ◌++◌, length, codes, replicate, Some, None, unwrap_or}
+use Rattle.std.proofs.Common.{List, [], ◌∷◌, ◌++◌, length, map, codes, replicate, Option, Some, None, unwrap_or}
 use Rattle.std.specs.List.{AllByRecursion, IsDistinct, flat_map}
-use Rattle.std.proofs.lemmas.List.{length-append, length-replicate, length-set}
+use Rattle.std.proofs.lemmas.List.{length-append, length-map, length-replicate, length-set}
 use Rattle.std.proofs.lemmas.List.FromFn.{length-map-range_with_len}
 use Rattle.std.specs.Str.{bytes_eq}
 use Rattle.std.specs.Cmp.Lexicographic.{nat_list_eq_equiv}
@@ -14,9 +14,9 @@ use Rattle.rota_core.specs.ScenarioTables.{ScenarioTables, IsScenario, AreLimits
 use Rattle.rota_core.specs.declared.values.Span.{Span}
 use Rattle.rota_core.specs.declared.values.Contract.{Contract}
 use Rattle.rota_read.specs.Tokens.{Token, tokens}
-use Rattle.rota_read.specs.ScenarioLayout.{section, marks, Shifts, no_shift_types, shift_row, Successions, succession_row, succession_rows, successions}
-use Rattle.rota_read.specs.ScenarioLayout.{contract, Contracts, no_contracts, contract_row, Nurses, no_nurses, nurse_row, scenario}
-use Rattle.rota_read.specs.Layout.{Layout, new_name, one_more, pair, setting, is_one_of, none_taken}
+use Rattle.rota_read.specs.ScenarioLayout.{section, known_names, marks, successions, Named, none_named, new_row, contract}
+use Rattle.rota_read.specs.ScenarioLayout.{Nurse, nurse, scenario}
+use Rattle.rota_read.specs.Layout.{Layout, new_name, one_more, pair, setting, is_one_of, none_taken, known_row, value_of_each}
 use Rattle.rota_read.specs.Files.{Fills, Spells}
 use Rattle.rota_read.proofs.WordLaws.{IsToken, AreTokens, tokens-are_tokens}
 use Rattle.rota_read.proofs.SlotLaws.{all_push, length_push, repeat-keeps}
@@ -64,19 +64,19 @@ name_row-keeps i names front next all h k =
     rw h.5.1 (length_push names h.0 i k.0, all_push IsWord names h.0 k.1 w.0, one_more_name names h.0 k.2 w.1)
 
 -- shift types and their limits
-abbrev ShiftsKept : ℕ → Shifts → Type 0
+abbrev ShiftsKept : ℕ → Named Span → Type 0
 ShiftsKept i s =
     (length s.names ≡ i) × AllByRecursion IsShiftName s.names × AreDistinct s.names
-    × (length s.limits ≡ i) × AllByRecursion AreLimits s.limits
+    × (length s.values ≡ i) × AllByRecursion AreLimits s.values
 
 neither : (x y z : Bool) → (x || (y || z)) ≡ false → ((x || (y || false)) ≡ false) × (z ≡ false)
 neither true y z h = absurd (cc)
 neither false true z h = absurd (cc)
 neither false false z h = (refl, h)
 
-shift_row-keeps : (i : ℕ) (s : Shifts) (front : List Token) (next : Shifts) →
-    AreTokens front → Fills (shift_row s) front next → ShiftsKept i s → ShiftsKept (suc i) next
-unfolding Fills shift_row
+shift_row-keeps : (i : ℕ) (s : Named Span) (front : List Token) (next : Named Span) →
+    AreTokens front → Fills (new_row reserved pair s) front next → ShiftsKept i s → ShiftsKept (suc i) next
+unfolding Fills new_row
 shift_row-keeps i s front next all h k =
     let w = new_name-is_new (reserved ++ s.names) h.1 h.0 (left front h.1 h.2 h.3 all) h.4 in
     let new = neither (bytes_eq h.0 (codes "None")) (bytes_eq h.0 (codes "Any")) (is_among s.names h.0) w.1 in
@@ -85,8 +85,8 @@ shift_row-keeps i s front next all h k =
       length_push s.names h.0 i k.0,
       all_push IsShiftName s.names h.0 k.1 (w.0, new.0),
       one_more_name s.names h.0 k.2 new.1,
-      length_push s.limits limit.0 i k.3,
-      all_push AreLimits s.limits limit.0 k.4 (pair-limits limit.1 limit.0 limit.4),
+      length_push s.values limit.0 i k.3,
+      all_push AreLimits s.values limit.0 k.4 (pair-limits limit.1 limit.0 limit.4),
     )
 
 contract-limits : (front : List Token) (c : Contract) → Fills contract front c → IsContract c
@@ -103,49 +103,49 @@ contract-limits front c h =
       (number-within 0 max_number weekends.1 weekends.0 weekends.4).1,
     )
 
-abbrev ContractsKept : ℕ → Contracts → Type 0
-ContractsKept i c = (length c.names ≡ i) × (length c.contracts ≡ i) × AllByRecursion IsContract c.contracts
+abbrev ContractsKept : ℕ → Named Contract → Type 0
+ContractsKept i c = (length c.names ≡ i) × (length c.values ≡ i) × AllByRecursion IsContract c.values
 
-contract_row-keeps : (i : ℕ) (c : Contracts) (front : List Token) (next : Contracts) →
-    AreTokens front → Fills (contract_row c) front next → ContractsKept i c → ContractsKept (suc i) next
-unfolding Fills contract_row
+contract_row-keeps : (i : ℕ) (c : Named Contract) (front : List Token) (next : Named Contract) →
+    AreTokens front → Fills (new_row [] contract c) front next → ContractsKept i c → ContractsKept (suc i) next
+unfolding Fills new_row
 contract_row-keeps i c front next all h k =
     let one = h.5 in
     rw one.5.1 (
       length_push c.names h.0 i k.0,
-      length_push c.contracts one.0 i k.1,
-      all_push IsContract c.contracts one.0 k.2 (contract-limits one.1 one.0 one.4),
+      length_push c.values one.0 i k.1,
+      all_push IsContract c.values one.0 k.2 (contract-limits one.1 one.0 one.4),
     )
 
-abbrev NursesKept : ℕ → ℕ → ℕ → Nurses → Type 0
-NursesKept contracts skills i n =
+abbrev NursesKept : ℕ → ℕ → Named Nurse → Type 0
+NursesKept contracts i n =
     (length n.names ≡ i) × AllByRecursion IsWord n.names × AreDistinct n.names
-    × (length n.contract_of ≡ i) × AllByRecursion (λ c. c < contracts) n.contract_of
-    × (length n.has_skill ≡ i * skills)
+    × (length n.values ≡ i) × AllByRecursion (λ (one : Nurse). one.contract < contracts) n.values
 
-more_marks : (before row : List Bool) (i skills : ℕ) → length before ≡ i * skills → length row ≡ skills →
-    length (before ++ row) ≡ suc i * skills
-more_marks before row i skills h g =
-    let e : suc i * skills ≡ skills + i * skills = omega arith in
-    length-append before row ∙ omega (arith, h, g, e)
+nurse-contract : (contracts skills : List (List ℕ)) (front : List Token) (one : Nurse) → Fills (nurse contracts skills) front one →
+    one.contract < length contracts
+unfolding Fills nurse
+nurse-contract contracts skills front one h = rw h.5.5.1 (known_name-below contracts none_taken h.1 h.0 h.4)
 
-nurse_row-keeps : (contracts skills : List (List ℕ)) (i : ℕ) (n : Nurses) (front : List Token) (next : Nurses) →
-    AreTokens front → Fills (nurse_row contracts skills n) front next →
-    NursesKept (length contracts) (length skills) i n → NursesKept (length contracts) (length skills) (suc i) next
-unfolding Fills nurse_row
+nurse_row-keeps : (contracts skills : List (List ℕ)) (i : ℕ) (n : Named Nurse) (front : List Token) (next : Named Nurse) →
+    AreTokens front → Fills (new_row [] (nurse contracts skills) n) front next →
+    NursesKept (length contracts) i n → NursesKept (length contracts) (suc i) next
+unfolding Fills new_row
 nurse_row-keeps contracts skills i n front next all h k =
     let w = new_name-is_new n.names h.1 h.0 (left front h.1 h.2 h.3 all) h.4 in
-    let of = h.5 in
-    let has = of.5 in
-    let size = length skills in
-    rw has.5.1 (
+    let one = h.5 in
+    rw one.5.1 (
       length_push n.names h.0 i k.0,
       all_push IsWord n.names h.0 k.1 w.0,
       one_more_name n.names h.0 k.2 w.1,
-      length_push n.contract_of of.0 i k.3,
-      all_push (λ c. c < length contracts) n.contract_of of.0 k.4 (known_name-below contracts none_taken of.1 of.0 of.4),
-      more_marks n.has_skill (marks size has.0) i size k.5 (length-map-range_with_len (is_one_of has.0) 0 size),
+      length_push n.values one.0 i k.3,
+      all_push (λ (one : Nurse). one.contract < length contracts) n.values one.0 k.4 (nurse-contract contracts skills one.1 one.0 one.4),
     )
+
+all_contracts : (contracts : ℕ) (nurses : List Nurse) → AllByRecursion (λ (one : Nurse). one.contract < contracts) nurses →
+    AllByRecursion (λ c. c < contracts) (map (λ (one : Nurse). one.contract) nurses)
+all_contracts contracts [] h = tt
+all_contracts contracts (one ∷ nurses) h = (h.0, all_contracts contracts nurses h.1)
 
 -- ---- the parts
 
@@ -168,19 +168,20 @@ rows_length row len each (x ∷ xs) =
     let e : suc (length xs) * len ≡ len + length xs * len = omega arith in
     length-append (row x) (flat_map row xs) ∙ omega (arith, each x, rows_length row len each xs, e)
 
-succession_row-keeps : (names : List (List ℕ)) (i : ℕ) (rows : Successions) (front : List Token) (next : Successions) →
-    AreTokens front → Fills (succession_row names rows) front next → length rows ≡ length names → length next ≡ length names
-unfolding Fills succession_row
-succession_row-keeps names i rows front next all h k = rw h.5.5.1 (length-set rows h.0 (Some h.5.0) ∙ k)
+value_row-keeps : {A : Type 0} (names : List (List ℕ)) (value : Layout A) (i : ℕ) (rows : List (Option A)) (front : List Token) (next : List (Option A)) →
+    AreTokens front → Fills (known_row names value rows) front next → length rows ≡ length names → length next ≡ length names
+unfolding Fills known_row
+value_row-keeps names value i rows front next all h k = rw h.5.5.1 (length-set rows h.0 (Some h.5.0) ∙ k)
 
 successions-length : (names : List (List ℕ)) (front : List Token) (table : List Bool) → AreTokens front →
     Fills (successions names) front table → length table ≡ length names * length names
-unfolding Fills successions succession_rows
+unfolding Fills successions value_of_each
 successions-length names front table all h =
     let rows = h.5 in
     let count = length names in
+    let row = known_row names (known_names names) in
     let kept =
-    repeat-keeps (succession_row names) (λ _ rows. length rows ≡ count) (succession_row-keeps names) count 0 (replicate count None)
+    repeat-keeps row (λ _ rows. length rows ≡ count) (value_row-keeps names (known_names names)) count 0 (replicate count None)
     rows.1 rows.0 (left h.2 rows.1 rows.2 rows.3 (right front h.1 h.2 h.3 all)) rows.4 (length-replicate count None) in
     ap length rows.5.1
     ∙ rows_length (λ row. marks count (unwrap_or row [])) count
@@ -217,17 +218,17 @@ scenario-is_scenario front tables all h =
     section-kept (codes "SKILLS") max_skills (one_more new_name) [] Names name_row-keeps sk.1 sk.0
     (left we.2 sk.1 sk.2 sk.3 after_weeks) sk.4 (refl, tt, none_distinct) in
     let shifts =
-    section-kept (codes "SHIFT_TYPES") max_shifts shift_row no_shift_types ShiftsKept shift_row-keeps sh.1 sh.0
+    section-kept (codes "SHIFT_TYPES") max_shifts (new_row reserved pair) none_named ShiftsKept shift_row-keeps sh.1 sh.0
     (left sk.2 sh.1 sh.2 sh.3 after_skills) sh.4 (refl, tt, none_distinct, refl, tt) in
     let forbidden = successions-length sh.0.names fo.1 fo.0 (left sh.2 fo.1 fo.2 fo.3 after_shifts) fo.4 in
     let contracts =
-    section-kept (codes "CONTRACTS") max_contracts contract_row no_contracts ContractsKept contract_row-keeps co.1 co.0
+    section-kept (codes "CONTRACTS") max_contracts (new_row [] contract) none_named ContractsKept contract_row-keeps co.1 co.0
     (left fo.2 co.1 co.2 co.3 after_successions) co.4 (refl, refl, tt) in
-    let none : length {A = Bool} [] ≡ 0 * length sk.0 = omega arith in
     let nurses =
-    section-kept (codes "NURSES") max_nurses (nurse_row co.0.names sk.0) no_nurses (NursesKept (length co.0.names) (length sk.0))
+    section-kept (codes "NURSES") max_nurses (new_row [] (nurse co.0.names sk.0)) none_named (NursesKept (length co.0.names))
     (nurse_row-keeps co.0.names sk.0) nu.1 nu.0 (left co.2 nu.1 nu.2 nu.3 after_contracts) nu.4
-    (refl, tt, none_distinct, refl, tt, none) in
+    (refl, tt, none_distinct, refl, tt) in
+    let counts = length-map nu.0.values (λ (one : Nurse). one.contract) in
     rw nu.5.1 (record {
       name = name;
       weeks = weeks;
@@ -235,13 +236,17 @@ scenario-is_scenario front tables all h =
       shifts = (counted max_shifts shifts.0 (length sh.0.names) shifts.1 shifts.2.0, shifts.2.1, shifts.2.2);
       limits = (shifts.2.3 ∙ sym shifts.2.0, shifts.2.4);
       forbidden = forbidden;
-      contracts = (counted max_contracts contracts.0 (length co.0.contracts) contracts.1 contracts.2.1, contracts.2.2);
+      contracts = (counted max_contracts contracts.0 (length co.0.values) contracts.1 contracts.2.1, contracts.2.2);
       nurses = (counted max_nurses nurses.0 (length nu.0.names) nurses.1 nurses.2.0, nurses.2.1, nurses.2.2);
       contract_of = (
-        nurses.2.3 ∙ sym nurses.2.0,
-        subst (λ n. AllByRecursion (λ c. c < n) nu.0.contract_of) (contracts.2.0 ∙ sym contracts.2.1) nurses.2.4,
+        counts ∙ nurses.2.3 ∙ sym nurses.2.0,
+        subst (λ n. AllByRecursion (λ c. c < n) (map (λ (one : Nurse). one.contract) nu.0.values)) (contracts.2.0 ∙ sym contracts.2.1)
+            (all_contracts (length co.0.names) nu.0.values nurses.2.4),
       );
-      has_skill = nurses.2.5 ∙ ap (λ n. n * length sk.0) (sym nurses.2.0);
+      has_skill =
+          rows_length (λ (one : Nurse). marks (length sk.0) one.skills) (length sk.0)
+          (λ one. length-map-range_with_len (is_one_of one.skills) 0 (length sk.0)) nu.0.values
+          ∙ ap (λ n. n * length sk.0) (nurses.2.3 ∙ sym nurses.2.0);
     })
 
 -- a text spells scenarios only

@@ -1,6 +1,6 @@
 -- The meaning of a token that fits a slot.
 use Rattle.std.proofs.Common.{◌≡◌, ℕ, zero, suc, ◌+◌, ◌<◌, ◌≤◌, nat_le, Bool, true, false, ◌&&◌, if◌then◌else◌}
-use Rattle.std.proofs.Common.{List, [], ◌∷◌, ◌++◌, length, Option, Some, None, unwrap_or, refl, ap, ◌∙◌, subst, arith}
+use Rattle.std.proofs.Common.{List, [], ◌∷◌, ◌++◌, length, Option, Some, None, Result, Ok, Err, refl, ap, ◌∙◌, subst, arith}
 use Rattle.std.specs.List.{AllByRecursion}
 use Rattle.std.specs.Option.{ForSome, option_map_or}
 use Rattle.std.proofs.lemmas.Bool.{and_parts}
@@ -14,7 +14,7 @@ use Rattle.rota_core.specs.declared.fault.Kind.{Kind}
 use Rattle.rota_core.specs.declared.fault.Kind.TheVariants as kinds
 use Rattle.rota_read.specs.Tokens.{Token}
 use Rattle.rota_core.specs.Decimal.{decimal, is_decimal}
-use Rattle.rota_read.specs.Layout.{Layout, is_sign_token, number, any_word, new_name, known_name, none_taken, repeat, shift_at, shift_or}
+use Rattle.rota_read.specs.Layout.{Layout, is_sign_token, number, any_word, new_name, known_name, repeat, shift_or}
 use Rattle.rota_read.specs.Files.{Fills}
 use Rattle.rota_read.proofs.WordLaws.{IsToken, AreTokens}
 
@@ -25,62 +25,65 @@ all_push P xs x h p = AllByRecursion-append P xs (x ∷ []) h (p, tt)
 pub length_push : {X : Type 0} (xs : List X) (x : X) (n : ℕ) → length xs ≡ n → length (xs ++ x ∷ []) ≡ suc n
 length_push xs x n h = length-append xs (x ∷ []) ∙ omega arith
 
-in_limits : (b c : Bool) → (if b then (if c then None else Some kinds.Limit) else Some kinds.NoNumber) ≡ None → c ≡ true
-in_limits true true h = refl
-in_limits true false h = absurd (cc)
-in_limits false c h = absurd (cc)
+in_limits : (b c : Bool) (v n : ℕ) → (if b then (if c then Ok v else Err kinds.Limit) else Err kinds.NoNumber) ≡ Ok n → (c ≡ true) × (v ≡ n)
+in_limits true true v n h = (refl, cc)
+in_limits true false v n h = absurd (cc)
+in_limits false c v n h = absurd (cc)
 
 le_from : (m n : ℕ) → nat_le m n ≡ true → m ≤ n
 le_from m n h = grind (arith, nat_tests)
 
-is_new : (b c : Bool) → (if b then Some kinds.OtherWord else (if c then Some kinds.Repeated else None)) ≡ None →
-    (b ≡ false) × (c ≡ false)
-is_new true c h = absurd (cc)
-is_new false true h = absurd (cc)
-is_new false false h = (refl, refl)
+is_new : (b c : Bool) (w v : List ℕ) → (if b then Err kinds.OtherWord else (if c then Err kinds.Repeated else Ok w)) ≡ Ok v →
+    (b ≡ false) × (c ≡ false) × (w ≡ v)
+is_new true c w v h = absurd (cc)
+is_new false true w v h = absurd (cc)
+is_new false false w v h = (refl, refl, cc)
 
-any_fits : (b : Bool) → (if b then Some kinds.OtherWord else None) ≡ None → b ≡ false
-any_fits true h = absurd (cc)
-any_fits false h = refl
+any_fits : (b : Bool) (w v : List ℕ) → (if b then Err kinds.OtherWord else Ok w) ≡ Ok v → (b ≡ false) × (w ≡ v)
+any_fits true w v h = absurd (cc)
+any_fits false w v h = (refl, cc)
 
--- why a token is no known name: it is a sign, it names nothing, or its index is taken
-abbrev no_known : Bool → Option ℕ → (ℕ → Bool) → Option Kind
-no_known sign index is_taken =
-    if sign then Some kinds.OtherWord
-    else option_map_or (λ p. if is_taken p then Some kinds.Repeated else None) index (Some kinds.Unknown)
+-- the index of a known name, or why a token is none: it is a sign, it names nothing, or its index is taken
+abbrev known_or_not : Bool → Option ℕ → (ℕ → Bool) → Result ℕ Kind
+known_or_not sign index is_taken =
+    if sign then Err kinds.OtherWord
+    else option_map_or (λ p. if is_taken p then Err kinds.Repeated else Ok p) index (Err kinds.Unknown)
 
-is_known : (sign : Bool) (index : Option ℕ) (is_taken : ℕ → Bool) → no_known sign index is_taken ≡ None →
-    (p : ℕ) × (index ≡ Some p) × (is_taken p ≡ false)
-is_known true index is_taken h = absurd (cc)
-is_known false None is_taken h = absurd (cc)
-is_known false (Some p) is_taken h = (p, refl, free (is_taken p) h)
+is_known : (sign : Bool) (index : Option ℕ) (is_taken : ℕ → Bool) (p : ℕ) → known_or_not sign index is_taken ≡ Ok p →
+    (index ≡ Some p) × (is_taken p ≡ false)
+is_known true index is_taken p h = absurd (cc)
+is_known false None is_taken p h = absurd (cc)
+is_known false (Some q) is_taken p h =
+    let e = free (is_taken q) h in
+    (ap Some e.1, subst (λ k. is_taken k ≡ false) e.1 e.0)
   where
-    free : (taken : Bool) → (if taken then Some kinds.Repeated else None) ≡ None → taken ≡ false
+    free : (taken : Bool) → (if taken then Err kinds.Repeated else Ok q) ≡ Ok p → (taken ≡ false) × (q ≡ p)
     free true e = absurd (cc)
-    free false e = refl
+    free false e = (refl, cc)
 
 pub number-within : (low high : ℕ) (front : List Token) (n : ℕ) → Fills (number low high) front n → (low ≤ n) × (n ≤ high)
 unfolding Fills number
 number-within low high front n h =
-    let t = h.4.0 in
-    let same : n ≡ decimal t.word = h.5.1 ∙ ap decimal h.4.3 in
-    let fits = nat_le low (decimal t.word) && nat_le (decimal t.word) high in
-    let e = and_parts (nat_le low (decimal t.word)) (nat_le (decimal t.word) high) (in_limits (is_decimal t.word) fits h.4.2) in
-    rw same (le_from low (decimal t.word) e.0, le_from (decimal t.word) high e.1)
+    let value = decimal h.0.word in
+    let e = in_limits (is_decimal h.0.word) (nat_le low value && nat_le value high) value n h.2 in
+    let parts = and_parts (nat_le low value) (nat_le value high) e.0 in
+    rw (← e.1) (le_from low value parts.0, le_from value high parts.1)
 
 one_token : (t : Token) (front : List Token) → front ≡ t ∷ [] → AreTokens front → IsToken t
 one_token t front e all = (subst AreTokens e all).0
 
 pub any_word-is_word : (front : List Token) (word : List ℕ) → AreTokens front → Fills any_word front word → IsWord word
 unfolding Fills any_word
-any_word-is_word front word all h = rw h.3 (one_token h.0 front h.1 all (any_fits (is_sign_token h.0.word) h.2))
+any_word-is_word front word all h =
+    let e = any_fits (is_sign_token h.0.word) h.0.word word h.2 in
+    subst IsWord e.1 (one_token h.0 front h.1 all e.0)
 
 pub new_name-is_new : (names : List (List ℕ)) (front : List Token) (word : List ℕ) → AreTokens front →
     Fills (new_name names) front word → IsWord word × (is_among names word ≡ false)
 unfolding Fills new_name
 new_name-is_new names front word all h =
-    let e = is_new (is_sign_token h.0.word) (is_among names h.0.word) h.2 in
-    rw h.3 (one_token h.0 front h.1 all e.0, e.1)
+    let e = is_new (is_sign_token h.0.word) (is_among names h.0.word) h.0.word word h.2 in
+    subst (λ w. IsWord w × (is_among names w ≡ false)) e.2 (one_token h.0 front h.1 all e.0, e.1)
 
 -- a known name is a word that names the index, which is not taken
 known_name-names : (names : List (List ℕ)) (is_taken : ℕ → Bool) (front : List Token) (index : ℕ) →
@@ -88,10 +91,8 @@ known_name-names : (names : List (List ℕ)) (is_taken : ℕ → Bool) (front : 
     (word : List ℕ) × (index_of names word ≡ Some index) × (is_taken index ≡ false)
 unfolding Fills known_name
 known_name-names names is_taken front index h =
-    let t = h.4.0 in
-    let known = is_known (is_sign_token t.word) (index_of names t.word) is_taken h.4.2 in
-    let same : index ≡ known.0 = h.5.1 ∙ ap (λ w. unwrap_or (index_of names w) 0) h.4.3 ∙ ap (λ o. unwrap_or o 0) known.1 in
-    rw same (t.word, known.1, known.2)
+    let known = is_known (is_sign_token h.0.word) (index_of names h.0.word) is_taken index h.2 in
+    (h.0.word, known.0, known.1)
 
 pub known_name-below : (names : List (List ℕ)) (is_taken : ℕ → Bool) (front : List Token) (index : ℕ) →
     Fills (known_name names is_taken) front index → index < length names
@@ -104,16 +105,26 @@ pub known_name-free : (names : List (List ℕ)) (is_taken : ℕ → Bool) (front
     Fills (known_name names is_taken) front index → is_taken index ≡ false
 known_name-free names is_taken front index h = (known_name-names names is_taken front index h).2
 
-below_shifts : (n index : ℕ) → index < suc n → ForSome (shift_at index) (λ s. s < n)
-below_shifts n zero lt s e = absurd (cc)
-below_shifts n (suc shift) lt s e = let same : shift ≡ s = cc in subst (λ k. k < n) same (omega arith)
+-- the shift type that a token names, `None` for the word, or why it is neither
+abbrev shift_or_not : Bool → Bool → Option ℕ → Result (Option ℕ) Kind
+shift_or_not sign none index =
+    if sign then Err kinds.OtherWord
+    else (if none then Ok None else option_map_or (λ shift. Ok (Some shift)) index (Err kinds.Unknown))
+
+is_shift : (sign none : Bool) (index shift : Option ℕ) (s : ℕ) → shift_or_not sign none index ≡ Ok shift → shift ≡ Some s → index ≡ Some s
+is_shift true none index shift s h e = absurd (cc)
+is_shift false true index shift s h e = absurd (cc)
+is_shift false false None shift s h e = absurd (cc)
+is_shift false false (Some p) shift s h e = cc
 
 -- a shift type in the position of the word is a known shift type
 pub shift_or-below : (word : List ℕ) (shifts : List (List ℕ)) (front : List Token) (shift : Option ℕ) →
     Fills (shift_or word shifts) front shift → ForSome shift (λ s. s < length shifts)
 unfolding Fills shift_or
-shift_or-below word shifts front shift h =
-    rw h.5.1 (below_shifts (length shifts) h.0 (known_name-below (word ∷ shifts) none_taken h.1 h.0 h.4))
+shift_or-below word shifts front shift h s is =
+    let token = h.0.word in
+    let found = is_shift (is_sign_token token) (bytes_eq token word) (index_of shifts token) shift s h.2 is in
+    (position-Some (bytes_eq token) shifts s [] found).0
 
 -- a property that each row keeps holds after all of them
 pub repeat-keeps : {S : Type 0} (row : S → Layout S) (Keeps : ℕ → S → Type 0) →

@@ -13,7 +13,8 @@ use Rattle.rota_core.specs.declared.values.Demand.{Demand}
 use Rattle.rota_read.specs.declared.week.RequestRow.{RequestRow}
 use Rattle.rota_read.specs.Tokens.{Token, tokens}
 use Rattle.rota_read.specs.Layout.{◌>>=◌, one_more, many}
-use Rattle.rota_read.specs.WeekLayout.{demand, Requirements, requirement, part_or, max_rows, no_requirements, requirement_rows}
+use Rattle.rota_read.specs.DayRows.{DayRows, no_day_rows, day_row, pair_index}
+use Rattle.rota_read.specs.WeekLayout.{demand, part_or, max_rows, requirement_rows}
 use Rattle.rota_read.specs.WeekLayout.{request, asks, request_table, week}
 use Rattle.rota_read.specs.Files.{Fills, Spells}
 use Rattle.rota_read.proofs.WordLaws.{AreTokens, tokens-are_tokens}
@@ -32,35 +33,35 @@ demands_of_days-limits : (front : List Token) (days : List Demand) → Fills (ma
 demands_of_days-limits = days-all demand IsDemand demand-limits
 
 -- the demands of the rows are within the limits, and there is a row or none for each of this number of pairs
-abbrev RowsKept : ℕ → Requirements → Type 0
+abbrev RowsKept : ℕ → DayRows Demand → Type 0
 RowsKept = RowsAll IsDemand
 
-requirement-keeps : (pairs : ℕ) (skills : List (List ℕ)) (shift : ℕ) (rows : Requirements) (front : List Token) (next : Requirements) →
-    Fills (requirement skills shift rows) front next → RowsKept pairs rows → RowsKept pairs next
-unfolding Fills requirement
+requirement-keeps : (pairs : ℕ) (skills : List (List ℕ)) (shift : ℕ) (rows : DayRows Demand) (front : List Token) (next : DayRows Demand) →
+    Fills (day_row demand skills shift rows) front next → RowsKept pairs rows → RowsKept pairs next
+unfolding Fills day_row
 requirement-keeps pairs skills shift rows front next h k =
     let days = h.5 in
-    rw days.5.1 (row_set-all IsDemand pairs rows h.0 days.0 (demands_of_days-limits days.1 days.0 days.4) k)
+    rw days.5.1 (row_set-all IsDemand pairs rows (pair_index (length skills) shift h.0) days.0 (demands_of_days-limits days.1 days.0 days.4) k)
 
-requirement_rows-keep : (pairs : ℕ) (t : ScenarioTables) (n : ℕ) (rows : Requirements) (front : List Token) (last : Requirements) →
+requirement_rows-keep : (pairs : ℕ) (t : ScenarioTables) (n : ℕ) (rows : DayRows Demand) (front : List Token) (last : DayRows Demand) →
     Fills (requirement_rows t n rows) front last → RowsKept pairs rows → RowsKept pairs last
 unfolding Fills requirement_rows
 requirement_rows-keep pairs t zero rows front last h k = rw h.1 k
 requirement_rows-keep pairs t (suc n) rows front last h k =
     by (λ rows front h k. requirement_rows-keep pairs t n rows front last h k) h.0 h.2 h.5
   where
-    by : ((rows : Requirements) (front : List Token) → Fills (requirement_rows t n rows) front last → RowsKept pairs rows → RowsKept pairs last) →
+    by : ((rows : DayRows Demand) (front : List Token) → Fills (requirement_rows t n rows) front last → RowsKept pairs rows → RowsKept pairs last) →
         (shift : Option ℕ) (front : List Token) →
-        Fills (part_or (λ shift. requirement t.skills shift rows >>= requirement_rows t n) shift rows) front last →
+        Fills (part_or (λ shift. day_row demand t.skills shift rows >>= requirement_rows t n) shift rows) front last →
         RowsKept pairs last
     by later None front h = rw h.1 k
     by later (Some shift) front h = later h.0 h.2 h.5 (requirement-keeps pairs t.skills shift rows h.1 h.0 h.4 k)
 
-requirements-kept : (t : ScenarioTables) (front : List Token) (rows : Requirements) →
-    Fills (requirement_rows t (max_rows t) (no_requirements t)) front rows → RowsKept (length t.shifts * length t.skills) rows
+requirements-kept : (t : ScenarioTables) (front : List Token) (rows : DayRows Demand) →
+    Fills (requirement_rows t (max_rows t) (no_day_rows t)) front rows → RowsKept (length t.shifts * length t.skills) rows
 requirements-kept t front rows h =
     let pairs = length t.shifts * length t.skills in
-    requirement_rows-keep pairs t (max_rows t) (no_requirements t) front rows h
+    requirement_rows-keep pairs t (max_rows t) (no_day_rows t) front rows h
     (no_rows-all IsDemand pairs)
 
 -- ---- the requests

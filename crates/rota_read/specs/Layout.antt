@@ -1,72 +1,54 @@
--- A file as a list of slots, which its tokens fill in order; and the slots that several files share.
-use Rattle.std.specs.Prelude.{ℕ, zero, suc, ◌==◌, nat_le, Bool, false, ◌&&◌, if◌then◌else◌}
-use Rattle.std.specs.Prelude.{List, [], ◌∷◌, ◌++◌, Option, Some, None, is_some, unwrap_or, codes, bytes_eq, slice_index_or}
-use Rattle.std.specs.List.{list_any}
-use Rattle.std.specs.Option.{option_map_or}
-use Rattle.rota_core.specs.Limits.{max_number}
+-- Names for the layouts of files; a file as a list of slots, which its tokens fill in order; and the slots that several files share.
+pub use Rattle.std.specs.Prelude.{ℕ, zero, suc, ◌+◌, ◌*◌, ◌==◌, Bool, true, false, ◌&&◌, Option, Some, None, is_some, unwrap_or}
+pub use Rattle.std.specs.Prelude.{List, [], ◌∷◌, ◌++◌, length, map, flat_map, count_by, replicate, slice_index_or, slice_set, codes}
+pub use Rattle.std.specs.List.{list_any, range_with_len}
+pub use Rattle.std.specs.Option.{option_map_or}
+pub use Rattle.rota_core.specs.Limits.{max_number}
+pub use Rattle.rota_core.specs.Sizes.{DAYS}
+pub use Rattle.rota_core.specs.ScenarioTables.{ScenarioTables, numbers_of}
+use Rattle.std.specs.Prelude.{nat_le, bytes_eq, if◌then◌else◌, Result, Ok, Err}
 use Rattle.rota_core.specs.Words.{is_among, index_of, is_sign}
 use Rattle.rota_core.specs.Decimal.{is_decimal, decimal}
 use Rattle.rota_core.specs.declared.fault.Kind.{Kind}
 use Rattle.rota_core.specs.declared.fault.Kind.TheVariants as kinds
 use Rattle.rota_core.specs.declared.values.Span.{Span}
 
--- the tokens that are allowed at one position of a file
-pub data Slot : Type 0 where
-  -- this word or sign
-  wants_exactly : List ℕ → Slot
-  -- a number from the first to the second, inclusive
-  wants_number : ℕ → ℕ → Slot
-  -- any word: a token that is no sign
-  wants_word : Slot
-  -- a word that is none of these names
-  wants_new : List (List ℕ) → Slot
-  -- one of these names, if its index is not taken
-  wants_known : List (List ℕ) → (ℕ → Bool) → Slot
-
 -- whether a token is a sign
 abbrev pub is_sign_token : List ℕ → Bool
 is_sign_token [] = false
 is_sign_token (b ∷ bytes) = is_sign b
 
--- why a token does not fit a slot, or `None` if it fits
-abbrev pub misfit : Slot → List ℕ → Option Kind
-misfit (wants_exactly wanted) word = if bytes_eq wanted word then None else Some kinds.OtherWord
-misfit (wants_number low high) word =
-    if is_decimal word then (if nat_le low (decimal word) && nat_le (decimal word) high then None else Some kinds.Limit)
-    else Some kinds.NoNumber
-misfit wants_word word = if is_sign_token word then Some kinds.OtherWord else None
-misfit (wants_new names) word =
-    if is_sign_token word then Some kinds.OtherWord else (if is_among names word then Some kinds.Repeated else None)
-misfit (wants_known names is_taken) word =
-    if is_sign_token word then Some kinds.OtherWord
-    else option_map_or (λ index. if is_taken index then Some kinds.Repeated else None) (index_of names word) (Some kinds.Unknown)
-
 -- The slots of a part of a file, one after the other, and the value that they spell. The slots that follow may depend on the value
 -- spelled before them.
 infixl 10 ◌>>=◌
--- a value without a slot; or one slot, whose value is its token; or a part, and then the part that follows for its value
+-- A value without a slot; or one slot, which gives the value of its token, or says why the token does not fit; or a part, and then the
+-- part that follows for its value.
 pub data Layout : Type 0 → Type 1 where
   end : {V : Type 0} → V → Layout V
-  slot : Slot → Layout (List ℕ)
+  slot : {V : Type 0} → (List ℕ → Result V Kind) → Layout V
   ◌>>=◌ : {A B : Type 0} → Layout A → (A → Layout B) → Layout B
 
 -- this word or sign
 unfoldable pub exactly : List ℕ → Layout (List ℕ)
-exactly word = slot (wants_exactly word)
+exactly wanted = slot (λ word. if bytes_eq wanted word then Ok word else Err kinds.OtherWord)
 
 -- a number from low to high
 unfoldable pub number : ℕ → ℕ → Layout ℕ
-number low high = do
-  digits ← slot (wants_number low high)
-  end (decimal digits)
+number low high = slot (λ word.
+    if is_decimal word then (if nat_le low (decimal word) && nat_le (decimal word) high then Ok (decimal word) else Err kinds.Limit)
+    else Err kinds.NoNumber)
+
+-- a word, which is a token that is no sign, with this value or fault
+abbrev pub word_slot : {V : Type 0} → (List ℕ → Result V Kind) → Layout V
+word_slot read = slot (λ word. if is_sign_token word then Err kinds.OtherWord else read word)
 
 -- any word
 unfoldable pub any_word : Layout (List ℕ)
-any_word = slot wants_word
+any_word = word_slot (λ word. Ok word)
 
 -- a word that is none of these names
 unfoldable pub new_name : List (List ℕ) → Layout (List ℕ)
-new_name names = slot (wants_new names)
+new_name names = word_slot (λ word. if is_among names word then Err kinds.Repeated else Ok word)
 
 -- whether an index is among these
 abbrev pub is_one_of : List ℕ → ℕ → Bool
@@ -78,13 +60,8 @@ none_taken index = false
 
 -- one of these names, if its index is not taken; the value is the index
 unfoldable pub known_name : List (List ℕ) → (ℕ → Bool) → Layout ℕ
-known_name names is_taken = do
-  name ← slot (wants_known names is_taken)
-  end (unwrap_or (index_of names name) 0)
-
--- the index of a known name that is none of these indices, so that each name occurs once
-unfoldable pub known_once : List (List ℕ) → List ℕ → Layout ℕ
-known_once names indices = known_name names (is_one_of indices)
+known_name names is_taken = word_slot (λ word.
+    option_map_or (λ index. if is_taken index then Err kinds.Repeated else Ok index) (index_of names word) (Err kinds.Unknown))
 
 -- n rows, one after the other: each is given the state that the rows before it leave, and its value is the next state
 unfoldable pub repeat : {S : Type 0} → ℕ → (S → Layout S) → S → Layout S
@@ -105,6 +82,17 @@ many count row = repeat count (one_more row) []
 abbrev pub has_row : {A : Type 0} → List (Option A) → ℕ → Bool
 has_row rows index = is_some (slice_index_or rows index None)
 
+-- One more row: one of these names, which has no row yet, and its value. At the index of each name is its value, if a row has given it.
+unfoldable pub known_row : {A : Type 0} → List (List ℕ) → Layout A → List (Option A) → Layout (List (Option A))
+known_row names value rows = do
+  index ← known_name names (has_row rows)
+  one ← value
+  end (slice_set rows index (Some one))
+
+-- a row for each of these names, in any order, so that each has a value in the end
+unfoldable pub value_of_each : {A : Type 0} → List (List ℕ) → Layout A → Layout (List (Option A))
+value_of_each names value = repeat (length names) (known_row names value) (replicate (length names) None)
+
 -- `(`, a minimum, `,`, a maximum and `)`
 unfoldable pub pair : Layout Span
 pair = do
@@ -122,16 +110,11 @@ setting name low high = do
   _ ← exactly (codes "=")
   number low high
 
--- the value of an index in the names of `shift_or`: `None` for 0, which is the word, and shift type s for s + 1
-abbrev pub shift_at : ℕ → Option ℕ
-shift_at zero = None
-shift_at (suc shift) = Some shift
-
--- a shift type, or `None` for this word (which wins over a shift type of that name)
+-- a shift type, or `None` for this other word (which wins over a shift type of that name)
 unfoldable pub shift_or : List ℕ → List (List ℕ) → Layout (Option ℕ)
-shift_or word shifts = do
-  index ← known_name (word ∷ shifts) none_taken
-  end (shift_at index)
+shift_or other shifts = word_slot (λ word.
+    if bytes_eq word other then Ok None
+    else option_map_or (λ shift. Ok (Some shift)) (index_of shifts word) (Err kinds.Unknown))
 
 -- the names of the days, from Monday to Sunday
 abbrev pub day_names : List (List ℕ)

@@ -1,3 +1,4 @@
+pub mod DayPairs
 pub mod DayRows
 pub mod FileAnswers
 pub mod FileFaults
@@ -13,6 +14,7 @@ pub mod ScenarioLayout
 pub mod ScenarioRows
 pub mod SolutionLayout
 pub mod SolutionText
+pub mod TokenLines
 pub mod Tokens
 pub mod WeekBound
 pub mod WeekLayout

@@ -1,13 +1,13 @@
 -- Reading a layout from left to right, up to the first fault.
 use Rattle.std.specs.Prelude.{◌≡◌, ℕ, List, [], ◌∷◌, Result, Ok, Err, length, nat_lt, if◌then◌else◌}
-use Rattle.std.specs.Option.{option_map_or}
 use Rattle.rota_core.specs.Limits.{max_file_len}
+use Rattle.rota_core.specs.declared.fault.Kind.{Kind}
 use Rattle.rota_core.specs.declared.fault.Kind.TheVariants as kinds
 use Rattle.rota_read.specs.declared.fault.Fault.{Fault}
 use Rattle.rota_read.specs.declared.fault.Stop.{Stop}
 use Rattle.rota_read.specs.declared.fault.Stop.TheVariants as stops
 use Rattle.rota_read.specs.Tokens.{Token, tokens}
-use Rattle.rota_read.specs.Layout.{Slot, Layout, end, slot, ◌>>=◌, misfit}
+use Rattle.rota_read.specs.Layout.{Layout, end, slot, ◌>>=◌}
 
 abbrev pub then_read : {A B : Type 0} → Result A Fault → (A → Result B Fault) → Result B Fault
 then_read (Ok a) f = f a
@@ -18,16 +18,19 @@ pub record Reading : Type 0 where
   pub last : ℕ
   pub rest : List Token
 
--- the token that fills a slot, and the rest after it
-abbrev pub fill : Slot → ℕ → List Token → Result (List ℕ × Reading) Fault
-fill s last [] = Err (record { kind = kinds.Ended; line = last })
-fill s last (t ∷ tokens) =
-    option_map_or (λ kind. Err (record { kind = kind; line = t.line })) (misfit s t.word)
-    (Ok (t.word, record { last = t.line; rest = tokens }))
+-- the value of a token and the rest after it, or the token's fault
+abbrev pub filled_by : {V : Type 0} → Result V Kind → Token → List Token → Result (V × Reading) Fault
+filled_by (Ok value) t rest = Ok (value, record { last = t.line; rest = rest })
+filled_by (Err kind) t rest = Err (record { kind = kind; line = t.line })
+
+-- the value of the next token, and the rest after it, or a fault
+abbrev pub fill : {V : Type 0} → (List ℕ → Result V Kind) → ℕ → List Token → Result (V × Reading) Fault
+fill read last [] = Err (record { kind = kinds.Ended; line = last })
+fill read last (t ∷ tokens) = filled_by (read t.word) t tokens
 
 unfoldable pub read_layout : {V : Type 0} → Layout V → Reading → Result (V × Reading) Fault
 read_layout (end v) left = Ok (v, left)
-read_layout (slot s) left = fill s left.last left.rest
+read_layout (slot read) left = fill read left.last left.rest
 read_layout (l >>= f) left = then_read (read_layout l left) (λ x. read_layout (f x.0) x.1)
 
 -- a function stops with the fault that reading finds, unless memory ran out

@@ -1,13 +1,10 @@
--- The slots of a scenario file. Each section gives a list for each column of its rows.
-use Rattle.std.specs.Prelude.{◌==◌, ℕ, Bool, List, [], ◌∷◌, ◌++◌, codes, length, map, Option, Some, None, unwrap_or}
-use Rattle.std.specs.Prelude.{replicate, slice_set}
-use Rattle.std.specs.List.{flat_map, range_with_len}
-use Rattle.rota_core.specs.Limits.{max_contracts, max_nurses, max_number, max_shifts, max_skills, max_weeks}
+-- The slots of a scenario file. Each section gives the names of its rows; all but that of the skills give a value for each.
+use Rattle.std.specs.Prelude.{◌==◌, ◌∷◌, ◌++◌, ℕ, Bool, List, [], codes, length, map, flat_map}
+use Rattle.rota_read.specs.Layout.{unwrap_or, range_with_len, max_number, ScenarioTables, Layout, end, ◌>>=◌, exactly, number, any_word}
+use Rattle.rota_read.specs.Layout.{new_name, known_name, none_taken, is_one_of, many, one_more, repeat, value_of_each, pair, setting}
+use Rattle.rota_core.specs.Limits.{max_contracts, max_nurses, max_shifts, max_skills, max_weeks}
 use Rattle.rota_core.specs.declared.values.Contract.{Contract}
-use Rattle.rota_core.specs.declared.values.Span.{Span}
-use Rattle.rota_core.specs.ScenarioTables.{ScenarioTables, reserved}
-use Rattle.rota_read.specs.Layout.{Layout, end, ◌>>=◌, exactly, number, any_word, new_name, known_name, none_taken, known_once}
-use Rattle.rota_read.specs.Layout.{has_row, is_one_of, many, one_more, pair, repeat, setting}
+use Rattle.rota_core.specs.ScenarioTables.{reserved}
 
 -- the number of rows as a setting, and the rows; `none` is the state before the first row
 unfoldable pub section : {S : Type 0} → List ℕ → ℕ → (S → Layout S) → S → Layout S
@@ -19,53 +16,35 @@ section name maximum row none = do
 unfoldable pub known_names : List (List ℕ) → Layout (List ℕ)
 known_names names = do
   count ← number 0 (length names)
-  many count (known_once names)
+  many count (λ indices. known_name names (is_one_of indices))
 
 -- for each number below size, whether it is one of the indices
 abbrev pub marks : ℕ → List ℕ → List Bool
 marks size indices = map (is_one_of indices) (range_with_len 0 size)
 
--- shift types, and the limits of each
-pub record Shifts : Type 0 where
+-- names, and the value of each
+pub record Named (A : Type 0) : Type 0 where
   pub names : List (List ℕ)
-  pub limits : List Span
+  pub values : List A
 
--- no shift type yet
-abbrev pub no_shift_types : Shifts
-no_shift_types = record { names = []; limits = [] }
+-- no name yet
+abbrev pub none_named : {A : Type 0} → Named A
+none_named = record { names = []; values = [] }
 
--- one more shift type: a name that is neither reserved nor the name of a shift type before, and its limits
-unfoldable pub shift_row : Shifts → Layout Shifts
-shift_row shifts = do
-  name ← new_name (reserved ++ shifts.names)
-  limit ← pair
-  end (record { names = shifts.names ++ name ∷ []; limits = shifts.limits ++ limit ∷ [] })
+-- one more name, which is neither one of these words nor a name before, and its value
+unfoldable pub new_row : {A : Type 0} → List (List ℕ) → Layout A → Named A → Layout (Named A)
+new_row words value rows = do
+  name ← new_name (words ++ rows.names)
+  one ← value
+  end (record { names = rows.names ++ name ∷ []; values = rows.values ++ one ∷ [] })
 
--- at index s the shift types that may not follow shift type s, if a row has given them
-abbrev pub Successions : Type 0
-Successions = List (Option (List ℕ))
-
--- one more row of successions: a shift type that has no row yet, and the shift types that may not follow it
-unfoldable pub succession_row : List (List ℕ) → Successions → Layout Successions
-succession_row shifts rows = do
-  shift ← known_name shifts (has_row rows)
-  after ← known_names shifts
-  end (slice_set rows shift (Some after))
-
--- at index s * S + t, for S shift types, whether shift type t may not follow shift type s
-abbrev pub forbidden_table : ℕ → Successions → List Bool
-forbidden_table shifts rows = flat_map (λ row. marks shifts (unwrap_or row [])) rows
-
--- a row for each shift type, in any order, so that each has one in the end
-unfoldable pub succession_rows : List (List ℕ) → Layout Successions
-succession_rows shifts = repeat (length shifts) (succession_row shifts) (replicate (length shifts) None)
-
--- the word, and the rows, whose value is the table of the forbidden successions
+-- A word, and for each shift type a row with those that may not follow it. At index s * S + t of the value, for S shift types, is whether
+-- shift type t may not follow shift type s.
 unfoldable pub successions : List (List ℕ) → Layout (List Bool)
 successions shifts = do
   _ ← exactly (codes "FORBIDDEN_SHIFT_TYPES_SUCCESSIONS")
-  rows ← succession_rows shifts
-  end (forbidden_table (length shifts) rows)
+  rows ← value_of_each shifts (known_names shifts)
+  end (flat_map (λ row. marks (length shifts) (unwrap_or row [])) rows)
 
 -- the limits of assignments, working days and days off, the maximum of worked weekends, and whether weekends must be complete
 unfoldable pub contract : Layout Contract
@@ -77,43 +56,17 @@ contract = do
   complete ← number 0 1
   end (record { total = total; work = work; off = off; weekends = weekends; complete = complete == 1 })
 
--- contracts by their names
-pub record Contracts : Type 0 where
-  pub names : List (List ℕ)
-  pub contracts : List Contract
+-- a nurse's contract and her skills, as indices
+pub record Nurse : Type 0 where
+  pub contract : ℕ
+  pub skills : List ℕ
 
--- no contract yet
-abbrev pub no_contracts : Contracts
-no_contracts = record { names = []; contracts = [] }
-
--- one more contract
-unfoldable pub contract_row : Contracts → Layout Contracts
-contract_row rows = do
-  name ← new_name rows.names
-  contract ← contract
-  end (record { names = rows.names ++ name ∷ []; contracts = rows.contracts ++ contract ∷ [] })
-
--- nurses, the contract of each, and for each nurse and skill whether she has it
-pub record Nurses : Type 0 where
-  pub names : List (List ℕ)
-  pub contract_of : List ℕ
-  pub has_skill : List Bool
-
--- no nurse yet
-abbrev pub no_nurses : Nurses
-no_nurses = record { names = []; contract_of = []; has_skill = [] }
-
--- one more nurse: a new name, a known contract and known skills
-unfoldable pub nurse_row : List (List ℕ) → List (List ℕ) → Nurses → Layout Nurses
-nurse_row contracts skills nurses = do
-  name ← new_name nurses.names
+-- a known contract and known skills
+unfoldable pub nurse : List (List ℕ) → List (List ℕ) → Layout Nurse
+nurse contracts skills = do
   contract ← known_name contracts none_taken
-  skilled ← known_names skills
-  end (record {
-    names = nurses.names ++ name ∷ [];
-    contract_of = nurses.contract_of ++ contract ∷ [];
-    has_skill = nurses.has_skill ++ marks (length skills) skilled;
-  })
+  known ← known_names skills
+  end (record { contract = contract; skills = known })
 
 -- the slots of the whole file
 unfoldable pub scenario : Layout ScenarioTables
@@ -123,19 +76,19 @@ scenario = do
   name ← any_word
   weeks ← setting (codes "WEEKS") 1 max_weeks
   skills ← section (codes "SKILLS") max_skills (one_more new_name) []
-  shifts ← section (codes "SHIFT_TYPES") max_shifts shift_row no_shift_types
+  shifts ← section (codes "SHIFT_TYPES") max_shifts (new_row reserved pair) none_named
   forbidden ← successions shifts.names
-  contracts ← section (codes "CONTRACTS") max_contracts contract_row no_contracts
-  nurses ← section (codes "NURSES") max_nurses (nurse_row contracts.names skills) no_nurses
+  contracts ← section (codes "CONTRACTS") max_contracts (new_row [] contract) none_named
+  nurses ← section (codes "NURSES") max_nurses (new_row [] (nurse contracts.names skills)) none_named
   end (record {
     name = name;
     weeks = weeks;
     skills = skills;
     shifts = shifts.names;
-    limits = shifts.limits;
+    limits = shifts.values;
     forbidden = forbidden;
-    contracts = contracts.contracts;
+    contracts = contracts.values;
     nurses = nurses.names;
-    contract_of = nurses.contract_of;
-    has_skill = nurses.has_skill;
+    contract_of = map (λ (one : Nurse). one.contract) nurses.values;
+    has_skill = flat_map (λ (one : Nurse). marks (length skills) one.skills) nurses.values;
   })

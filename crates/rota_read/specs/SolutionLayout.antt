@@ -1,14 +1,12 @@
 -- The slots of a solution file, and the roster that it spells.
-use Rattle.std.specs.Prelude.{◌≡◌, ℕ, ◌==◌, ◌&&◌, Bool, List, codes}
-use Rattle.std.specs.List.{list_any}
-use Rattle.rota_core.specs.Limits.{max_number}
+use Rattle.std.specs.Prelude.{◌==◌, ◌&&◌, ◌≡◌}
+use Rattle.rota_read.specs.Layout.{ℕ, Bool, List, codes, list_any, max_number, ScenarioTables, Layout, end, ◌>>=◌}
+use Rattle.rota_read.specs.Layout.{exactly, number, any_word, known_name, none_taken, day_names, many, setting}
 use Rattle.rota_core.specs.declared.values.Cell.{Cell}
-use Rattle.rota_core.specs.Roster.{cell, InWeek}
-use Rattle.rota_core.specs.ScenarioTables.{ScenarioTables}
-use Rattle.rota_read.specs.Layout.{day_names, setting, Layout, end, ◌>>=◌, exactly, number, any_word, known_name, none_taken, many}
-use Rattle.rota_core.specs.InstanceTables.{InstanceTables, problem_of}
-use Rattle.rota_core.specs.RosterTables.{RosterTables, HasShapeOf, set_of}
 use Rattle.rota_core.specs.Problem.{Problem}
+use Rattle.rota_core.specs.Roster.{cell, InWeek}
+use Rattle.rota_core.specs.RosterTables.{RosterTables, HasShapeOf, set_of}
+use Rattle.rota_core.specs.InstanceTables.{InstanceTables, problem_of}
 use Rattle.rota_read.specs.Files.{Spells}
 
 -- whether two cells have the same nurse, day, shift type and skill

@@ -1,18 +1,12 @@
 -- The slots of a week's file.
-use Rattle.std.specs.Prelude.{ℕ, zero, suc, ◌==◌, ◌+◌, ◌*◌, Bool, true, ◌&&◌, Option, Some, None}
-use Rattle.std.specs.Prelude.{List, codes, length, map, replicate, count_by, slice_set}
-use Rattle.std.specs.List.{flat_map, range_with_len}
-use Rattle.std.specs.Option.{option_map_or}
-use Rattle.rota_core.specs.Limits.{max_number}
-use Rattle.rota_core.specs.Sizes.{DAYS}
+use Rattle.std.specs.Prelude.{◌==◌, ◌+◌, ◌*◌, ◌&&◌, ℕ, zero, suc, Bool, true, Option, Some, None, List, codes, length}
+use Rattle.rota_read.specs.Layout.{map, flat_map, count_by, range_with_len, option_map_or, max_number, DAYS, ScenarioTables, numbers_of}
+use Rattle.rota_read.specs.Layout.{Layout, end, ◌>>=◌, exactly, number, any_word, known_name, none_taken, day_names, many, pair, shift_or}
 use Rattle.rota_core.specs.declared.values.Demand.{Demand}
-use Rattle.rota_core.specs.ScenarioTables.{ScenarioTables, numbers_of}
 use Rattle.rota_core.specs.Defaults.{no_demand}
 use Rattle.rota_core.specs.WeekTables.{WeekTables}
 use Rattle.rota_read.specs.declared.week.RequestRow.{RequestRow}
-use Rattle.rota_read.specs.Layout.{Layout, end, ◌>>=◌, many}
-use Rattle.rota_read.specs.Layout.{exactly, number, any_word, known_name, none_taken, day_names, pair, shift_or}
-use Rattle.rota_read.specs.DayRows.{new_pair, day_table}
+use Rattle.rota_read.specs.DayRows.{DayRows, no_day_rows, day_row, day_table}
 
 -- a minimum and an optimal number
 unfoldable pub demand : Layout Demand
@@ -20,37 +14,22 @@ demand = do
   numbers ← pair
   end (record { minimum = numbers.min; optimal = numbers.max })
 
--- at the index of a shift type and a skill, the demands of Monday to Sunday, if a row has the two
-abbrev pub Requirements : Type 0
-Requirements = List (Option (List Demand))
-
--- the rest of a row of requirements after its shift type: a skill that no earlier row has with it, and the demands of Monday to Sunday
-unfoldable pub requirement : List (List ℕ) → ℕ → Requirements → Layout Requirements
-requirement skills shift rows = do
-  pair ← new_pair skills shift rows
-  demands ← many DAYS (λ _. demand)
-  end (slice_set rows pair (Some demands))
-
 -- the part that follows for the value; for `None`, no slot, and this result
 abbrev pub part_or : {A B : Type 0} → (A → Layout B) → Option A → B → Layout B
 part_or part None result = end result
 part_or part (Some a) result = part a
 
 -- at most this number of rows of requirements, until the word that ends them
-unfoldable pub requirement_rows : ScenarioTables → ℕ → Requirements → Layout Requirements
+unfoldable pub requirement_rows : ScenarioTables → ℕ → DayRows Demand → Layout (DayRows Demand)
 requirement_rows t zero rows = end rows
 requirement_rows t (suc maximum) rows = do
   next ← shift_or (codes "SHIFT_OFF_REQUESTS") t.shifts
-  part_or (λ shift. requirement t.skills shift rows >>= requirement_rows t maximum) next rows
+  part_or (λ shift. day_row demand t.skills shift rows >>= requirement_rows t maximum) next rows
 
 -- One row more than there are pairs of a shift type and a skill. No text has this number of rows: if each pair has a row, one more row
 -- names a pair that an earlier row has. So the bound cuts off no row.
 abbrev pub max_rows : ScenarioTables → ℕ
 max_rows t = length t.shifts * length t.skills + 1
-
--- no pair has a row
-abbrev pub no_requirements : ScenarioTables → Requirements
-no_requirements t = replicate (length t.shifts * length t.skills) None
 
 -- a row of requests: a nurse, a shift type or `Any`, and a day
 unfoldable pub request : ScenarioTables → Layout RequestRow
@@ -76,7 +55,7 @@ week t = do
   _ ← exactly (codes "WEEK_DATA")
   _ ← any_word
   _ ← exactly (codes "REQUIREMENTS")
-  requirements ← requirement_rows t (max_rows t) (no_requirements t)
+  requirements ← requirement_rows t (max_rows t) (no_day_rows t)
   _ ← exactly (codes "=")
   count ← number 0 max_number
   requests ← many count (λ _. request t)

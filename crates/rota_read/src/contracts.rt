@@ -1,10 +1,10 @@
 //! Reads the contracts of a scenario file.
 
-ghost use Rattle.std.specs.Prelude.{◌≡◌, ◌≤◌, ◌+◌, codes, length, OnOk};
+ghost use Rattle.std.specs.Prelude.{◌≡◌, ◌≤◌, ◌+◌, [], codes, length, OnOk};
 ghost use Rattle.rota_core.specs.Parts.{bytes_of};
 ghost use Rattle.rota_read.specs.Layout.{repeat};
 ghost use Rattle.rota_read.specs.Reading.{read_layout, Reads};
-ghost use Rattle.rota_read.specs.ScenarioLayout.{contract, contract_row, no_contracts, section};
+ghost use Rattle.rota_read.specs.ScenarioLayout.{contract, new_row, none_named, section};
 ghost use Rattle.rota_read.specs.ScenarioRows.{contracts_of};
 
 use crate::cursor::Cursor;
@@ -39,9 +39,9 @@ impl<'a> Cursor<'a> {
         })
     }
 
-    #[tactic(auto, unfolding(crate::specs::ScenarioLayout::contract_row, crate::specs::Reading::read_layout))]
+    #[tactic(auto, unfolding(crate::specs::ScenarioLayout::new_row, crate::specs::Reading::read_layout))]
     fn contract_row(&mut self, alloc: Global, rows: &mut ContractRows) -> Result<(), Stop>
-        ensures read { Reads (λ _. contracts_of rows.new) result self.new (read_layout (contract_row (contracts_of rows.old)) self.old) }
+        ensures read { Reads (λ _. contracts_of rows.new) result self.new (read_layout (new_row [] contract (contracts_of rows.old)) self.old) }
         ensures longer { OnOk result (length (bytes_of rows.new.names) ≡ length (bytes_of rows.old.names) + 1) }
     {
         let name = self.new_name(&rows.names)?;
@@ -57,7 +57,7 @@ impl<'a> Cursor<'a> {
         count: u16,
         rows: &mut ContractRows,
     ) -> Result<(), Stop>
-        ensures read { Reads (λ _. contracts_of rows.new) result self.new (read_layout (repeat count contract_row (contracts_of rows.old)) self.old) }
+        ensures read { Reads (λ _. contracts_of rows.new) result self.new (read_layout (repeat count (new_row [] contract) (contracts_of rows.old)) self.old) }
         ensures longer { OnOk result (length (bytes_of rows.new.names) ≡ length (bytes_of rows.old.names) + count) }
     {
         for _ in 0..count {
@@ -68,8 +68,8 @@ impl<'a> Cursor<'a> {
 
     #[tactic(auto, unfolding(crate::specs::ScenarioLayout::section, crate::specs::Reading::read_layout))]
     pub fn contracts_part(&mut self, alloc: Global, rows: &mut ContractRows) -> Result<(), Stop>
-        requires { contracts_of rows.old ≡ no_contracts }
-        ensures read { Reads (λ _. contracts_of rows.new) result self.new (read_layout (section (codes "CONTRACTS") MAX_CONTRACTS contract_row no_contracts) self.old) }
+        requires { contracts_of rows.old ≡ none_named }
+        ensures read { Reads (λ _. contracts_of rows.new) result self.new (read_layout (section (codes "CONTRACTS") MAX_CONTRACTS (new_row [] contract) none_named) self.old) }
         ensures few { OnOk result (length (bytes_of rows.new.names) ≤ MAX_CONTRACTS) }
     {
         let count = self.setting(b"CONTRACTS", 1, MAX_CONTRACTS)?;
@@ -79,7 +79,7 @@ impl<'a> Cursor<'a> {
 
 /// The rows before the first contract.
 pub fn no_contracts(alloc: Global) -> ContractRows
-    ensures { contracts_of result ≡ no_contracts }
+    ensures { contracts_of result ≡ none_named }
 {
     ContractRows {
         names: IndexSet::new(alloc),

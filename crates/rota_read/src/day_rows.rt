@@ -1,7 +1,8 @@
 //! Rows of a pair of a shift type and a skill, with a value for each day.
 
 ghost use Rattle.std.specs.Prelude.{◌≡◌, ◌*◌, ◌<◌, length, IfOk};
-ghost use Rattle.rota_read.specs.DayRows.{day_table, new_pair};
+ghost use Rattle.rota_read.specs.DayPairs.{new_pair};
+ghost use Rattle.rota_read.specs.DayRows.{day_table};
 ghost use Rattle.rota_read.specs.Reading.{read_layout, Reads};
 
 use crate::cursor::Cursor;
@@ -11,7 +12,7 @@ use std::alloc::{AllocError, Global};
 
 impl<'a> Cursor<'a> {
     /// Reads a skill that no row has with the shift type, and returns the index of the two.
-    #[tactic(auto, using(crate::proofs::NameSteps::known_taken), unfolding(crate::specs::DayRows::new_pair, crate::specs::Reading::read_layout))]
+    #[tactic(auto, using(crate::proofs::NameSteps::known_taken), unfolding(crate::specs::DayPairs::new_pair, crate::specs::Reading::read_layout))]
     pub fn new_pair<T>(
         &mut self,
         scenario: &Scenario,

@@ -8,8 +8,8 @@ ghost use Rattle.rota_core.specs.ScenarioTables.{numbers_of};
 ghost use Rattle.rota_core.specs.declared.fault.FileName.TheVariants as files;
 ghost use Rattle.rota_read.specs.Files.{Spells};
 ghost use Rattle.rota_read.specs.FileAnswers.{IsFaultOf};
-ghost use Rattle.rota_read.specs.HistoryLayout.{past, past_row, past_rows, history};
-ghost use Rattle.rota_read.specs.Layout.{repeat};
+ghost use Rattle.rota_read.specs.HistoryLayout.{past, history};
+ghost use Rattle.rota_read.specs.Layout.{known_row, repeat, value_of_each};
 ghost use Rattle.rota_read.specs.Reading.{read_layout, Reads, read_text, ReadsFile};
 
 use crate::cursor::Cursor;
@@ -48,10 +48,10 @@ impl<'a> Cursor<'a> {
         })
     }
 
-    #[tactic(auto, using(crate::proofs::NameSteps::known_taken), unfolding(crate::specs::HistoryLayout::past_row, crate::specs::Reading::read_layout))]
+    #[tactic(auto, using(crate::proofs::NameSteps::known_taken), unfolding(crate::specs::Layout::known_row, crate::specs::Reading::read_layout))]
     fn past_row(&mut self, scenario: &Scenario, pasts: &mut [Option<Past>]) -> Result<(), Stop>
         requires { length pasts.old ≡ length scenario.now.nurses }
-        ensures { Reads (λ _. pasts.new) result self.new (read_layout (past_row scenario.now pasts.old) self.old) }
+        ensures { Reads (λ _. pasts.new) result self.new (read_layout (known_row scenario.now.nurses (past scenario.now.shifts) pasts.old) self.old) }
     {
         let nurse = self.nurse(scenario)?;
         let row = usize::from(nurse);
@@ -69,7 +69,7 @@ impl<'a> Cursor<'a> {
         pasts: &mut [Option<Past>],
     ) -> Result<(), Stop>
         requires { length pasts.old ≡ length scenario.now.nurses }
-        ensures { Reads (λ _. pasts.new) result self.new (read_layout (repeat count (past_row scenario.now) pasts.old) self.old) }
+        ensures { Reads (λ _. pasts.new) result self.new (read_layout (repeat count (known_row scenario.now.nurses (past scenario.now.shifts)) pasts.old) self.old) }
     {
         for _ in 0..count {
             self.past_row(scenario, pasts)?;
@@ -78,9 +78,9 @@ impl<'a> Cursor<'a> {
     }
 
     // The row of each nurse, ordered by nurse.
-    #[tactic(auto, unfolding(crate::specs::HistoryLayout::past_rows))]
+    #[tactic(auto, unfolding(crate::specs::Layout::value_of_each))]
     fn past_rows(&mut self, alloc: Global, scenario: &Scenario) -> Result<Vec<Option<Past>>, Stop>
-        ensures { Reads (λ v. v.items) result self.new (read_layout (past_rows scenario.now) self.old) }
+        ensures { Reads (λ v. v.items) result self.new (read_layout (value_of_each scenario.now.nurses (past scenario.now.shifts)) self.old) }
     {
         let count = scenario.nurses();
         let mut pasts = no_rows(alloc, count)?;

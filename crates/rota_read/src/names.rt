@@ -111,7 +111,7 @@ impl<'a> Cursor<'a> {
     }
 
     /// The number of a shift type, or `None` if the token is this word.
-    #[tactic(auto, using(crate::proofs::NameSteps::known_by_word), unfolding(crate::specs::Layout::shift_or, crate::specs::Reading::read_layout))]
+    #[tactic(auto, using(crate::proofs::NameSteps::shift_by_word))]
     pub fn shift_or(&mut self, word: &[u8], scenario: &Scenario) -> Result<Option<u8>, Stop>
         ensures read { Reads (λ s. s) result self.new (read_layout (shift_or word.now scenario.now.shifts) self.old) }
         ensures below { IfOk result (λ s. ForSome s (λ n. n < length scenario.now.shifts)) }

@@ -6,7 +6,8 @@ ghost use Rattle.rota_core.specs.Limits.{max_price};
 ghost use Rattle.rota_read.specs.FileAnswers.{IsFaultOf};
 ghost use Rattle.rota_read.specs.Files.{Spells};
 ghost use Rattle.rota_read.specs.Layout.{many, number, repeat};
-ghost use Rattle.rota_read.specs.PricesLayout.{no_prices, price_row, prices, table_for};
+ghost use Rattle.rota_read.specs.DayRows.{no_day_rows};
+ghost use Rattle.rota_read.specs.PricesLayout.{price_row, prices, table_for};
 ghost use Rattle.rota_read.specs.Reading.{read_layout, read_text, Reads, ReadsFile};
 
 use crate::cursor::Cursor;
@@ -43,7 +44,7 @@ impl<'a> Cursor<'a> {
     }
 
     // Reads one more row.
-    #[tactic(auto, unfolding(crate::specs::PricesLayout::price_row, crate::specs::Reading::read_layout))]
+    #[tactic(auto, using(crate::proofs::DaySteps::day_by_pair), unfolding(crate::specs::PricesLayout::price_row, crate::specs::Reading::read_layout))]
     fn price_row(&mut self, scenario: &Scenario, rows: &mut [PriceRow]) -> Result<(), Stop>
         requires { length rows.old ≡ length scenario.now.shifts * length scenario.now.skills }
         ensures { Reads (λ _. rows.new) result self.new (read_layout (price_row scenario.now rows.old) self.old) }
@@ -73,7 +74,7 @@ impl<'a> Cursor<'a> {
 }
 
 fn no_rows(alloc: Global, scenario: &Scenario) -> Result<Vec<PriceRow>, AllocError>
-    ensures { IfOk result (λ v. v.items ≡ no_prices scenario.now) }
+    ensures { IfOk result (λ v. v.items ≡ no_day_rows scenario.now) }
 {
     let pairs = usize::from(scenario.shifts()) * usize::from(scenario.skills());
     vec![in alloc; None; pairs]

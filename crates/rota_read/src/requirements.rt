@@ -3,7 +3,8 @@
 ghost use Rattle.std.specs.Prelude.{◌≡◌, ◌<◌, ◌*◌, length};
 ghost use Rattle.rota_read.specs.Layout.{many};
 ghost use Rattle.rota_read.specs.Reading.{read_layout, Reads};
-ghost use Rattle.rota_read.specs.WeekLayout.{demand, requirement, requirement_rows, max_rows, no_requirements};
+ghost use Rattle.rota_read.specs.DayRows.{day_row, no_day_rows};
+ghost use Rattle.rota_read.specs.WeekLayout.{demand, requirement_rows, max_rows};
 
 use crate::cursor::Cursor;
 use crate::fault::Stop;
@@ -41,7 +42,7 @@ impl<'a> Cursor<'a> {
     }
 
     // Reads the rest of a row of requirements, after its shift type.
-    #[tactic(auto, unfolding(crate::specs::WeekLayout::requirement, crate::specs::Reading::read_layout))]
+    #[tactic(auto, using(crate::proofs::DaySteps::day_by_pair), unfolding(crate::specs::Reading::read_layout))]
     fn requirement(
         &mut self,
         scenario: &Scenario,
@@ -50,7 +51,7 @@ impl<'a> Cursor<'a> {
     ) -> Result<(), Stop>
         requires shift { shift < length scenario.now.shifts }
         requires rows { length rows.old.items ≡ length scenario.now.shifts * length scenario.now.skills }
-        ensures read { Reads (λ _. rows.new.items) result self.new (read_layout (requirement scenario.now.skills shift rows.old.items) self.old) }
+        ensures read { Reads (λ _. rows.new.items) result self.new (read_layout (day_row demand scenario.now.skills shift rows.old.items) self.old) }
         ensures rows { length rows.new.items ≡ length rows.old.items }
     {
         let pair = self.new_pair(scenario, shift, rows)?;
@@ -64,7 +65,7 @@ impl<'a> Cursor<'a> {
         alloc: Global,
         scenario: &Scenario,
     ) -> Result<Vec<Option<[Demand; DAYS as usize]>>, Stop>
-        ensures { Reads (λ v. v.items) result self.new (read_layout (requirement_rows scenario.now (max_rows scenario.now) (no_requirements scenario.now)) self.old) }
+        ensures { Reads (λ v. v.items) result self.new (read_layout (requirement_rows scenario.now (max_rows scenario.now) (no_day_rows scenario.now)) self.old) }
     {
         // one row more than there are pairs of a shift type and a skill
         let pairs = usize::from(scenario.shifts()) * usize::from(scenario.skills());

@@ -13,11 +13,11 @@ ghost use Rattle.rota_read.specs.ScenarioLayout.{section, scenario};
 use crate::contracts::{ContractRows, no_contracts};
 use crate::cursor::Cursor;
 use crate::fault::Stop;
-use crate::nurses::{NurseRows, no_nurses};
+use crate::nurses::{NurseRows, contract_column, no_nurses, skill_table};
 use crate::shift_types::{ShiftRows, no_shift_types};
 use indexmap::IndexSet;
 use rota_core::{FileFault, FileName, MAX_SKILLS, MAX_WEEKS, Scenario, ScenarioParts};
-use std::alloc::Global;
+use std::alloc::{AllocError, Global};
 
 // The contents of the sections of a scenario file.
 pub struct ScenarioRows {
@@ -61,9 +61,11 @@ impl ScenarioRows {
     }
 
     // The parts of the scenario that the sections make.
-    fn into_parts(self) -> ScenarioParts
-        ensures { scenario_of result ≡ tables_of self }
+    fn into_parts(self, alloc: Global) -> Result<ScenarioParts, AllocError>
+        ensures { IfOk result (λ parts. scenario_of parts ≡ tables_of self) }
     {
+        let contract_of = contract_column(alloc, &self.nurses.rows)?;
+        let has_skill = skill_table(alloc, self.skills.len(), &self.nurses.rows)?;
         let ScenarioRows {
             name,
             weeks,
@@ -73,7 +75,7 @@ impl ScenarioRows {
             contracts,
             nurses,
         } = self;
-        ScenarioParts {
+        Ok(ScenarioParts {
             name,
             weeks,
             skills,
@@ -82,9 +84,9 @@ impl ScenarioRows {
             limits: shifts.limits,
             forbidden,
             contracts: contracts.contracts,
-            contract_of: nurses.contract_of,
-            has_skill: nurses.has_skill,
-        }
+            contract_of,
+            has_skill,
+        })
     }
 }
 
@@ -127,7 +129,7 @@ fn scenario_parts(alloc: Global, text: &[u8]) -> Result<ScenarioParts, Stop>
     let mut rows = ScenarioRows::new(alloc);
     cursor.sections(alloc, &mut rows)?;
     cursor.finish()?;
-    Ok(rows.into_parts())
+    Ok(rows.into_parts(alloc)?)
 }
 
 /// Returns the scenario that the text spells.

@@ -3,11 +3,11 @@
 ghost use Rattle.std.specs.Prelude.{◌≡◌, ◌≤◌, ◌+◌, [], codes, length, None, replicate, unwrap_or, IfOk, OnOk};
 ghost use Rattle.std.specs.Option.{option_map};
 ghost use Rattle.rota_core.specs.Parts.{bytes_of};
-ghost use Rattle.rota_read.specs.Layout.{repeat};
+ghost use Rattle.rota_core.specs.ScenarioTables.{reserved};
+ghost use Rattle.rota_read.specs.Layout.{known_row, pair, repeat, value_of_each};
 ghost use Rattle.rota_read.specs.Reading.{read_layout, Reads};
-ghost use Rattle.rota_read.specs.ScenarioLayout.{section, shift_row, no_shift_types, succession_row, succession_rows};
-ghost use Rattle.rota_read.specs.ScenarioLayout.{successions, forbidden_table};
-ghost use Rattle.rota_read.specs.ScenarioRows.{shifts_of, successions_of};
+ghost use Rattle.rota_read.specs.ScenarioLayout.{section, new_row, none_named, known_names, successions};
+ghost use Rattle.rota_read.specs.ScenarioRows.{shifts_of, successions_of, forbidden_table};
 
 use crate::cursor::Cursor;
 use crate::fault::Stop;
@@ -26,9 +26,9 @@ pub struct ShiftRows {
 type SuccessionRow = Option<Vec<usize>>;
 
 impl<'a> Cursor<'a> {
-    #[tactic(auto, unfolding(crate::specs::ScenarioLayout::shift_row, crate::specs::Reading::read_layout))]
+    #[tactic(auto, unfolding(crate::specs::ScenarioLayout::new_row, crate::specs::Reading::read_layout))]
     fn shift_row(&mut self, alloc: Global, rows: &mut ShiftRows) -> Result<(), Stop>
-        ensures read { Reads (λ _. shifts_of rows.new) result self.new (read_layout (shift_row (shifts_of rows.old)) self.old) }
+        ensures read { Reads (λ _. shifts_of rows.new) result self.new (read_layout (new_row reserved pair (shifts_of rows.old)) self.old) }
         ensures longer { OnOk result (length (bytes_of rows.new.names) ≡ length (bytes_of rows.old.names) + 1) }
     {
         let name = self.new_shift_name(&rows.names)?;
@@ -39,7 +39,7 @@ impl<'a> Cursor<'a> {
 
     #[tactic(auto, using(crate::proofs::RowSteps::row_steps))]
     fn shift_rows(&mut self, alloc: Global, count: u16, rows: &mut ShiftRows) -> Result<(), Stop>
-        ensures read { Reads (λ _. shifts_of rows.new) result self.new (read_layout (repeat count shift_row (shifts_of rows.old)) self.old) }
+        ensures read { Reads (λ _. shifts_of rows.new) result self.new (read_layout (repeat count (new_row reserved pair) (shifts_of rows.old)) self.old) }
         ensures longer { OnOk result (length (bytes_of rows.new.names) ≡ length (bytes_of rows.old.names) + count) }
     {
         for _ in 0..count {
@@ -50,15 +50,15 @@ impl<'a> Cursor<'a> {
 
     #[tactic(auto, unfolding(crate::specs::ScenarioLayout::section, crate::specs::Reading::read_layout))]
     pub fn shifts_part(&mut self, alloc: Global, rows: &mut ShiftRows) -> Result<(), Stop>
-        requires { shifts_of rows.old ≡ no_shift_types }
-        ensures read { Reads (λ _. shifts_of rows.new) result self.new (read_layout (section (codes "SHIFT_TYPES") MAX_SHIFTS shift_row no_shift_types) self.old) }
+        requires { shifts_of rows.old ≡ none_named }
+        ensures read { Reads (λ _. shifts_of rows.new) result self.new (read_layout (section (codes "SHIFT_TYPES") MAX_SHIFTS (new_row reserved pair) none_named) self.old) }
         ensures few { OnOk result (length (bytes_of rows.new.names) ≤ MAX_SHIFTS) }
     {
         let count = self.setting(b"SHIFT_TYPES", 1, MAX_SHIFTS)?;
         self.shift_rows(alloc, count, rows)
     }
 
-    #[tactic(auto, using(crate::proofs::SuccessionRows::succession_steps), unfolding(crate::specs::ScenarioLayout::succession_row, crate::specs::Reading::read_layout))]
+    #[tactic(auto, using(crate::proofs::SuccessionRows::succession_steps), unfolding(crate::specs::Layout::known_row, crate::specs::Reading::read_layout))]
     fn succession_row(
         &mut self,
         alloc: Global,
@@ -67,7 +67,7 @@ impl<'a> Cursor<'a> {
     ) -> Result<(), Stop>
         requires few { length (bytes_of names.now) ≤ MAX_SHIFTS }
         requires rows { length rows.old ≡ length (bytes_of names.now) }
-        ensures { Reads (λ _. successions_of rows.new) result self.new (read_layout (succession_row (bytes_of names.now) (successions_of rows.old)) self.old) }
+        ensures { Reads (λ _. successions_of rows.new) result self.new (read_layout (known_row (bytes_of names.now) (known_names (bytes_of names.now)) (successions_of rows.old)) self.old) }
     {
         let shift = self.known_name(names)?;
         self.unless_taken(rows[shift].is_some())?;
@@ -84,7 +84,7 @@ impl<'a> Cursor<'a> {
     ) -> Result<(), Stop>
         requires few { length (bytes_of names.now) ≤ MAX_SHIFTS }
         requires rows { length rows.old ≡ length (bytes_of names.now) }
-        ensures { Reads (λ _. successions_of rows.new) result self.new (read_layout (repeat (length rows.old) (succession_row (bytes_of names.now)) (successions_of rows.old)) self.old) }
+        ensures { Reads (λ _. successions_of rows.new) result self.new (read_layout (repeat (length rows.old) (known_row (bytes_of names.now) (known_names (bytes_of names.now))) (successions_of rows.old)) self.old) }
     {
         for _ in 0..rows.len() {
             self.succession_row(alloc, names, rows)?;
@@ -93,14 +93,14 @@ impl<'a> Cursor<'a> {
     }
 
     // The row of each shift type, ordered by shift type.
-    #[tactic(auto, unfolding(crate::specs::ScenarioLayout::succession_rows))]
+    #[tactic(auto, unfolding(crate::specs::Layout::value_of_each))]
     fn succession_rows(
         &mut self,
         alloc: Global,
         names: &IndexSet<Vec<u8>>,
     ) -> Result<Vec<SuccessionRow>, Stop>
         requires few { length (bytes_of names.now) ≤ MAX_SHIFTS }
-        ensures { Reads (λ v. successions_of v.items) result self.new (read_layout (succession_rows (bytes_of names.now)) self.old) }
+        ensures { Reads (λ v. successions_of v.items) result self.new (read_layout (value_of_each (bytes_of names.now) (known_names (bytes_of names.now))) self.old) }
     {
         let mut rows = no_successions(alloc, names.len())?;
         self.rows_of_shifts(alloc, names, &mut rows)?;
@@ -126,7 +126,7 @@ impl<'a> Cursor<'a> {
 
 /// The rows before the first shift type.
 pub fn no_shift_types(alloc: Global) -> ShiftRows
-    ensures { shifts_of result ≡ no_shift_types }
+    ensures { shifts_of result ≡ none_named }
 {
     ShiftRows {
         names: IndexSet::new(alloc),

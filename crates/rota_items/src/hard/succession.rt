@@ -1,7 +1,8 @@
 //! H3: no shift type after one that it may not follow.
-ghost use Rattle.std.specs.Prelude.{◌≡◌, ◌<◌, ◌+◌};
+ghost use Rattle.std.specs.Prelude.{◌≡◌, ◌<◌, ◌+◌, ◌-◌};
 ghost use Rattle.rota_core.specs.InstanceTables.{problem_of};
-ghost use Rattle.rota_items.specs.HardRows.{h3_monday_rows, h3_rows, h3_rows_between, h3_rows_of, is_forbidden_after};
+ghost use Rattle.rota_core.specs.Lists.{concat_below};
+ghost use Rattle.rota_items.specs.HardRows.{h3_monday_rows, h3_rows, h3_rows_at, h3_rows_between, h3_rows_of, is_forbidden_after};
 ghost use Rattle.rota_items.specs.Takes.{TakesRows};
 
 use crate::cell_sum::CellSum;
@@ -23,7 +24,7 @@ fn forbidden_on_monday(instance: &Instance, nurse: u16, shift: u8) -> bool
 }
 
 // The shift types that a nurse may not have on Monday, after the last one of the history.
-#[tactic(auto, using(crate::proofs::Taking::taking, crate::proofs::RowLoops::row_loops), unfolding(crate::specs::SentItems::numbered_rows))]
+#[tactic(auto, using(crate::proofs::LoopSteps::row_loops))]
 fn visit_monday<T: RowTaker>(instance: &Instance, taker: &mut T, nurse: u16) -> Result<(), T::Fault>
     requires nurse_in { nurse < (problem_of instance.now).nurses }
     ensures { let problem = problem_of instance.now in
@@ -49,8 +50,40 @@ fn visit_monday<T: RowTaker>(instance: &Instance, taker: &mut T, nurse: u16) -> 
     Ok(())
 }
 
+// Not both the shift type on a day and another on the next, if the other may not follow it.
+#[tactic(auto, using(crate::proofs::LoopSteps::row_loops))]
+fn visit_after<T: RowTaker>(
+    instance: &Instance,
+    taker: &mut T,
+    nurse: u16,
+    day: u8,
+    first: u8,
+) -> Result<(), T::Fault>
+    requires nurse_in { nurse < (problem_of instance.now).nurses }
+    requires day_in { day + 1 < DAYS }
+    requires first_in { first < (problem_of instance.now).shifts }
+    ensures { let problem = problem_of instance.now in
+        TakesRows T.RowTaker problem (concat_below problem.shifts (h3_rows_at problem nurse day first))
+        taker.old taker.new result }
+{
+    for second in 0..instance.shifts() {
+        let row = HardRow {
+            rule: Rule::H3,
+            sum: CellSum::ShiftPair {
+                nurse,
+                day,
+                first,
+                second,
+            },
+            degree: -1,
+        };
+        emit_row_if(instance, taker, instance.forbidden(first, second), row)?;
+    }
+    Ok(())
+}
+
 // Not both shift types on a day and the next, if the second may not follow the first.
-#[tactic(auto, using(crate::proofs::Taking::taking), unfolding(crate::specs::SentItems::numbered_rows))]
+#[tactic(auto, using(crate::proofs::LoopSteps::row_loops))]
 fn visit_between<T: RowTaker>(
     instance: &Instance,
     taker: &mut T,
@@ -63,39 +96,38 @@ fn visit_between<T: RowTaker>(
         TakesRows T.RowTaker problem (h3_rows_between problem nurse day) taker.old taker.new result }
 {
     for first in 0..instance.shifts() {
-        for second in 0..instance.shifts() {
-            let row = HardRow {
-                rule: Rule::H3,
-                sum: CellSum::ShiftPair {
-                    nurse,
-                    day,
-                    first,
-                    second,
-                },
-                degree: -1,
-            };
-            emit_row_if(instance, taker, instance.forbidden(first, second), row)?;
-        }
+        visit_after(instance, taker, nurse, day, first)?;
     }
     Ok(())
 }
 
-// The forbidden successions of a nurse.
-#[tactic(auto, using(crate::proofs::Taking::taking), unfolding(crate::specs::SentItems::numbered_rows))]
-fn visit_nurse<T: RowTaker>(instance: &Instance, taker: &mut T, nurse: u16) -> Result<(), T::Fault>
+// The forbidden successions of a nurse within the week.
+#[tactic(auto, using(crate::proofs::LoopSteps::row_loops))]
+fn visit_days<T: RowTaker>(instance: &Instance, taker: &mut T, nurse: u16) -> Result<(), T::Fault>
     requires nurse_in { nurse < (problem_of instance.now).nurses }
     ensures { let problem = problem_of instance.now in
-        TakesRows T.RowTaker problem (h3_rows_of problem nurse) taker.old taker.new result }
+        TakesRows T.RowTaker problem (concat_below (DAYS - 1) (h3_rows_between problem nurse))
+        taker.old taker.new result }
 {
-    visit_monday(instance, taker, nurse)?;
     for day in 0..DAYS - 1 {
         visit_between(instance, taker, nurse, day)?;
     }
     Ok(())
 }
 
+// The forbidden successions of a nurse.
+#[tactic(auto, using(crate::proofs::Taking::calling), unfolding(crate::specs::SentItems::numbered_rows))]
+fn visit_nurse<T: RowTaker>(instance: &Instance, taker: &mut T, nurse: u16) -> Result<(), T::Fault>
+    requires nurse_in { nurse < (problem_of instance.now).nurses }
+    ensures { let problem = problem_of instance.now in
+        TakesRows T.RowTaker problem (h3_rows_of problem nurse) taker.old taker.new result }
+{
+    visit_monday(instance, taker, nurse)?;
+    visit_days(instance, taker, nurse)
+}
+
 /// No forbidden succession of shift types.
-#[tactic(auto, using(crate::proofs::Taking::taking, crate::proofs::RowLoops::row_loops), unfolding(crate::specs::SentItems::numbered_rows))]
+#[tactic(auto, using(crate::proofs::LoopSteps::row_loops))]
 pub fn visit<T: RowTaker>(instance: &Instance, taker: &mut T) -> Result<(), T::Fault>
     ensures { let problem = problem_of instance.now in
         TakesRows T.RowTaker problem (h3_rows problem) taker.old taker.new result }

@@ -2,6 +2,7 @@
 //! they have no items.
 ghost use Rattle.std.specs.Prelude.{◌≡◌, ◌*◌, ◌<◌, length, nat_lt};
 ghost use Rattle.rota_core.specs.InstanceTables.{problem_of};
+ghost use Rattle.rota_core.specs.Lists.{concat_below};
 ghost use Rattle.rota_items.specs.CellEvents.{cell_term_events};
 ghost use Rattle.rota_items.specs.Takes.{Takes};
 ghost use Rattle.rota_items.specs.rules.ShiftOffRequests.Cost.{request_weight};
@@ -52,18 +53,53 @@ fn emit_terms_on<T: Taker>(
     )
 }
 
+// The terms of a nurse's day, for each shift type.
+#[tactic(auto, using(crate::proofs::LoopSteps::term_loops))]
+fn emit_terms_of_day<T: Taker>(
+    instance: &Instance,
+    taker: &mut T,
+    nurse: u16,
+    day: u8,
+) -> Result<(), T::Fault>
+    requires nurse_in { nurse < (problem_of instance.now).nurses }
+    requires day_in { day < DAYS }
+    ensures { let problem = problem_of instance.now in
+        Takes T.Taker (cell_term_events problem (concat_below problem.shifts (request_terms_on problem nurse day)))
+        taker.old taker.new result }
+{
+    for shift in 0..instance.shifts() {
+        emit_terms_on(instance, taker, nurse, day, shift)?;
+    }
+    Ok(())
+}
+
+// The terms of a nurse, for each day and shift type.
+#[tactic(auto, using(crate::proofs::LoopSteps::term_loops))]
+fn emit_terms_of_nurse<T: Taker>(
+    instance: &Instance,
+    taker: &mut T,
+    nurse: u16,
+) -> Result<(), T::Fault>
+    requires nurse_in { nurse < (problem_of instance.now).nurses }
+    ensures { let problem = problem_of instance.now in
+        Takes T.Taker (cell_term_events problem
+        (concat_below DAYS (λ day. concat_below problem.shifts (request_terms_on problem nurse day))))
+        taker.old taker.new result }
+{
+    for day in 0..DAYS {
+        emit_terms_of_day(instance, taker, nurse, day)?;
+    }
+    Ok(())
+}
+
 /// The terms of the request rows, in ascending order of the cells.
-#[tactic(auto, using(crate::proofs::Taking::taking), unfolding(crate::specs::CellEvents::cell_term_events, crate::specs::Events::term_events))]
+#[tactic(auto, using(crate::proofs::LoopSteps::term_loops))]
 pub fn emit_terms<T: Taker>(instance: &Instance, taker: &mut T) -> Result<(), T::Fault>
     ensures { let problem = problem_of instance.now in
         Takes T.Taker (cell_term_events problem (request_terms problem)) taker.old taker.new result }
 {
     for nurse in 0..instance.nurses() {
-        for day in 0..DAYS {
-            for shift in 0..instance.shifts() {
-                emit_terms_on(instance, taker, nurse, day, shift)?;
-            }
-        }
+        emit_terms_of_nurse(instance, taker, nurse)?;
     }
     Ok(())
 }

@@ -29,7 +29,7 @@ loop-day-preserved c =
           c.in_ok-push.ensures.items step c.loop-day.invariant.duties;
       cost = omega (arith, c.loop-day.invariant.cost, cost, charge);
       paid = omega (arith, c.loop-day.invariant.paid, paid, c.price_of-paid.ensures.price);
-      near = c.past_after-past.ensures.near;
+      near = c.past_after-past.ensures.near c.loop-day.day c.loop-day.invariant.near;
       right = c.best_duty-duty.ensures.right;
       small_cost = omega (arith, c.loop-day.invariant.small_cost, c.day_charge-cost.ensures.small);
       small_paid = omega (arith, c.loop-day.invariant.small_paid, c.price_of-paid.ensures.small);

@@ -1,9 +1,6 @@
 -- How the model charges S5: the items of a nurse's weekend.
 use Rattle.std.specs.Prelude.{if◌then◌else◌}
-use Rattle.rota_core.specs.declared.rule.Rule.TheVariants.{S5}
-use Rattle.rota_items.specs.Imports.{ℕ, true, List, [], Cell, Problem}
-use Rattle.rota_items.specs.Rows.{Item}
-use Rattle.rota_items.specs.RunItems.{weekend_items}
+use Rattle.rota_items.specs.RunItems.{S5, ℕ, true, List, [], Cell, Problem, Item, weekend_items}
 use Rattle.rota_items.specs.rules.CompleteWeekends.Cost.{complete_weekend_weight}
 
 -- the items of the nurse's weekend, if her contract asks for complete weekends

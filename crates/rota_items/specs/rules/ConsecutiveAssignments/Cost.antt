@@ -1,7 +1,7 @@
 -- S2, consecutive assignments: runs on a shift type and runs of working days that are too long or too short.
 use Rattle.std.specs.Prelude.{◌+◌, ◌*◌, ◌==◌, if◌then◌else◌}
-use Rattle.std.specs.Option.{option_map_or}
 use Rattle.rota_items.specs.Imports.{ℕ, false, sum_below, is_on, works, Roster, Problem}
+use Rattle.std.specs.Option.{option_map_or}
 use Rattle.rota_items.specs.Runs.{run_cost}
 
 -- the weight of each day too many or too few in a run on a shift type

@@ -1,9 +1,6 @@
 -- How the model charges S2: the items of a nurse's runs.
 use Rattle.std.specs.Prelude.{◌++◌}
-use Rattle.rota_core.specs.declared.rule.Rule.TheVariants.{S2}
-use Rattle.rota_items.specs.Imports.{ℕ, List, Cell, Problem}
-use Rattle.rota_items.specs.Rows.{concat_below, on_cells, work_cells, Item}
-use Rattle.rota_items.specs.RunItems.{Runs, Present, run_items}
+use Rattle.rota_items.specs.RunItems.{S2, ℕ, List, Cell, Problem, concat_below, on_cells, work_cells, Item, Runs, Present, run_items}
 use Rattle.rota_items.specs.rules.ConsecutiveAssignments.Cost.{shift_run_weight, work_run_weight, history_on}
 
 -- a nurse's runs of days on a shift type

@@ -1,8 +1,5 @@
 -- How the model charges S3: the items of a nurse's runs of days off.
-use Rattle.rota_core.specs.declared.rule.Rule.TheVariants.{S3}
-use Rattle.rota_items.specs.Imports.{ℕ, List, Cell, Problem}
-use Rattle.rota_items.specs.Rows.{work_cells, Item}
-use Rattle.rota_items.specs.RunItems.{Runs, Absent, run_items}
+use Rattle.rota_items.specs.RunItems.{S3, ℕ, List, Cell, Problem, work_cells, Item, Runs, Absent, run_items}
 use Rattle.rota_items.specs.rules.ConsecutiveDaysOff.Cost.{off_run_weight}
 
 -- a nurse's runs of days off

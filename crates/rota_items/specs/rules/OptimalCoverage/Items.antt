@@ -1,9 +1,6 @@
 -- How the model charges S1: an item for each day, shift type and skill.
 use Rattle.std.specs.Prelude.{◌-◌}
-use Rattle.rota_core.specs.Sizes.{DAYS}
-use Rattle.rota_core.specs.declared.rule.Rule.TheVariants.{S1}
-use Rattle.rota_items.specs.Imports.{ℕ, pos, nat_lt, List, Cell, Problem}
-use Rattle.rota_items.specs.Rows.{concat_below, singleton_if, demand_cells, Item, times}
+use Rattle.rota_items.specs.Rows.{DAYS, S1, ℕ, pos, nat_lt, List, Cell, Problem, concat_below, singleton_if, demand_cells, Item, times}
 use Rattle.rota_items.specs.rules.OptimalCoverage.Cost.{optimum_weight}
 
 -- the item of a demand: its shortage is the number of nurses that lack up to the optimal number

@@ -1,8 +1,6 @@
 -- How the model charges S4: by terms of the objective on the cells, with no item.
 use Rattle.std.specs.Prelude.{◌*◌}
-use Rattle.rota_core.specs.Sizes.{DAYS}
-use Rattle.rota_items.specs.Imports.{ℕ, pos, nat_lt, List, Cell, cell, Problem}
-use Rattle.rota_items.specs.Rows.{concat_below, singleton_if, Term}
+use Rattle.rota_items.specs.Rows.{DAYS, ℕ, pos, nat_lt, List, Cell, cell, Problem, concat_below, singleton_if, Term}
 use Rattle.rota_items.specs.rules.ShiftOffRequests.Cost.{request_weight}
 
 -- the terms of a nurse's day on a shift type

@@ -1,9 +1,6 @@
 -- How the model charges S6: the items of a nurse's total, and her part of the constant.
 use Rattle.std.specs.Prelude.{◌+◌, ◌-◌, ◌*◌, ◌-ℤ◌, ◌&&◌, if◌then◌else◌, ◌++◌}
-use Rattle.rota_core.specs.Sizes.{DAYS}
-use Rattle.rota_core.specs.declared.rule.Rule.TheVariants.{S6}
-use Rattle.rota_items.specs.Imports.{ℕ, pos, negsuc, nat_lt, min, List, Cell, Problem}
-use Rattle.rota_items.specs.Rows.{singleton_if, nurse_cells, Item, times}
+use Rattle.rota_items.specs.Rows.{DAYS, S6, ℕ, pos, negsuc, nat_lt, min, List, Cell, Problem, singleton_if, nurse_cells, Item, times}
 use Rattle.rota_items.specs.CountedItems.{excess_before_counts, max_totals_count}
 use Rattle.rota_items.specs.rules.TotalAssignments.Cost.{assignment_weight}
 

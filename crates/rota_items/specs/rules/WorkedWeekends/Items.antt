@@ -1,10 +1,7 @@
 -- How the model charges S7: the items of a nurse's weekend, and her part of the constant.
 use Rattle.std.specs.Prelude.{◌-◌, ◌*◌, ◌&&◌, if◌then◌else◌}
-use Rattle.rota_core.specs.declared.rule.Rule.TheVariants.{S7}
-use Rattle.rota_items.specs.Imports.{ℕ, nat_le, false, List, [], Cell, Problem}
-use Rattle.rota_items.specs.Rows.{Item}
 use Rattle.rota_items.specs.CountedItems.{excess_before_counts, max_totals_count}
-use Rattle.rota_items.specs.RunItems.{weekend_items}
+use Rattle.rota_items.specs.RunItems.{S7, ℕ, nat_le, false, List, [], Cell, Problem, Item, weekend_items}
 use Rattle.rota_items.specs.rules.WorkedWeekends.Cost.{worked_weekend_weight}
 
 -- the items of the nurse's weekend, if she has worked the maximum number of weekends before the week

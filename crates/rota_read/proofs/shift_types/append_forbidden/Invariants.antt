@@ -1,6 +1,5 @@
 use Rattle.std.proofs.Common.{◌≡◌, take}
-use Rattle.rota_read.specs.ScenarioLayout.{forbidden_table}
-use Rattle.rota_read.specs.ScenarioRows.{successions_of}
+use Rattle.rota_read.specs.ScenarioRows.{forbidden_table, successions_of}
 use Rattle.rota_read.proofs.shift_types.append_forbidden.Given as goal
 
 abbrev pub invariant-loop-row : goal.invariant-loop-row

@@ -1,6 +1,6 @@
-use Rattle.std.proofs.Common.{◌≡◌, ◌-◌, ◌+◌, length}
+use Rattle.std.proofs.Common.{◌≡◌, ◌-◌, ◌+◌, [], length}
 use Rattle.rota_core.specs.Parts.{bytes_of}
-use Rattle.rota_read.specs.ScenarioLayout.{contract_row}
+use Rattle.rota_read.specs.ScenarioLayout.{contract, new_row}
 use Rattle.rota_read.specs.ScenarioRows.{contracts_of}
 use Rattle.rota_read.specs.Layout.{repeat}
 use Rattle.rota_read.specs.Reading.{read_layout}
@@ -9,7 +9,7 @@ use Rattle.rota_read.proofs.cursor.Cursor.contract_rows.Given as goal
 abbrev pub invariant-loop : goal.invariant-loop
 invariant-loop l = record {
   read :
-      read_layout (repeat (l.count - l.counter) contract_row (contracts_of l.rows)) l.self ≡
-      read_layout (repeat l.count contract_row (contracts_of l.fn.rows)) l.fn.self;
+      read_layout (repeat (l.count - l.counter) (new_row [] contract) (contracts_of l.rows)) l.self ≡
+      read_layout (repeat l.count (new_row [] contract) (contracts_of l.fn.rows)) l.fn.self;
   longer : length (bytes_of l.rows.names) ≡ length (bytes_of l.fn.rows.names) + l.counter;
 }

@@ -1,6 +1,7 @@
 use Rattle.std.proofs.Common.{rules, ◌≡◌, ◌+◌, ◌*◌, ◌<◌, true, None, is_some, length, get_or, refl, ap, sym, ◌∙◌, arith}
 use Rattle.std.proofs.lemmas.List.{get_or_default}
-use Rattle.rota_read.specs.DayRows.{new_pair, pair_index}
+use Rattle.rota_read.specs.DayPairs.{new_pair}
+use Rattle.rota_read.specs.DayRows.{pair_index}
 use Rattle.rota_read.specs.Layout.{has_row}
 use Rattle.rota_read.specs.Reading.{read_layout}
 use Rattle.rota_read.proofs.NameSteps.{known_taken}

@@ -1,6 +1,8 @@
 use Rattle.std.proofs.Common.{rules, ◌≡◌, ◌∙◌, ◌+◌, ◌*◌, ◌-◌, ap, refl, length, None, arith}
 use Rattle.std.proofs.lemmas.List.{length-replicate}
-use Rattle.rota_read.specs.WeekLayout.{Requirements, max_rows, no_requirements}
+use Rattle.rota_core.specs.declared.values.Demand.{Demand}
+use Rattle.rota_read.specs.DayRows.{DayRows, no_day_rows}
+use Rattle.rota_read.specs.WeekLayout.{max_rows}
 use Rattle.rota_read.specs.Reading.{read_layout}
 use Rattle.rota_read.proofs.EndLemmas.{front_fails}
 use Rattle.rota_read.proofs.RowSteps.{next_requirement, requirement_fails, no_requirement}
@@ -8,10 +10,10 @@ use Rattle.rota_read.proofs.cursor.Cursor.requirement_rows.Goals as goal
 
 pub loop-init : goal.loop-init
 loop-init c =
-    let none : c.in_ok-rows.rows.items ≡ no_requirements c.args.scenario.now = search rules in
+    let none : c.in_ok-rows.rows.items ≡ no_day_rows c.args.scenario.now = search rules in
     let all : max_rows c.args.scenario.now - 0 ≡ max_rows c.args.scenario.now = omega arith in
     let pairs = length c.args.scenario.now.shifts * length c.args.scenario.now.skills in
-    record { read = rw (all, none) refl; rows = ap (λ (rows : Requirements). length rows) none ∙ length-replicate pairs None }
+    record { read = rw (all, none) refl; rows = ap (λ (rows : DayRows Demand). length rows) none ∙ length-replicate pairs None }
 
 pub returns-in_err-shift : goal.returns-in_err-shift
 returns-in_err-shift c =

@@ -1,13 +1,13 @@
 use Rattle.std.proofs.Common.{◌≡◌, ◌-◌, length}
 use Rattle.rota_core.specs.Parts.{bytes_of}
-use Rattle.rota_read.specs.ScenarioLayout.{succession_row}
+use Rattle.rota_read.specs.ScenarioLayout.{known_names}
 use Rattle.rota_read.specs.ScenarioRows.{successions_of}
-use Rattle.rota_read.specs.Layout.{repeat}
+use Rattle.rota_read.specs.Layout.{known_row, repeat}
 use Rattle.rota_read.specs.Reading.{read_layout}
 use Rattle.rota_read.proofs.cursor.Cursor.rows_of_shifts.Given as goal
 
 abbrev pub invariant-loop : goal.invariant-loop
 invariant-loop l =
-    let row = succession_row (bytes_of l.names) in
+    let row = known_row (bytes_of l.names) (known_names (bytes_of l.names)) in
     read_layout (repeat (length l.fn.rows - l.counter) row (successions_of l.rows)) l.self ≡
     read_layout (repeat (length l.fn.rows) row (successions_of l.fn.rows)) l.fn.self

@@ -1,15 +1,14 @@
 use Rattle.std.proofs.Common.{rules, ◌≡◌, true, None, is_some, ap, sym, ◌∙◌, arith}
 use Rattle.std.proofs.lemmas.List.{get_or_default}
-use Rattle.rota_read.specs.Layout.{has_row}
+use Rattle.rota_read.specs.Layout.{has_row, known_row}
 use Rattle.rota_read.specs.Reading.{read_layout}
-use Rattle.rota_read.specs.ScenarioLayout.{succession_row}
 use Rattle.rota_read.specs.ScenarioRows.{successions_of}
 use Rattle.rota_read.proofs.NameSteps.{known_taken}
 use Rattle.rota_read.proofs.SuccessionRows.{has_row-kept}
 use Rattle.rota_read.proofs.cursor.Cursor.succession_row.Goals as goal
 
 pub returns-in_err-unless_taken : goal.returns-in_err-unless_taken
-unfolding succession_row read_layout
+unfolding known_row read_layout
 returns-in_err-unless_taken c =
     let rows = c.args.rows.now in
     let shift = c.in_ok-shift.shift in

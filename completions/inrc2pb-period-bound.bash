@@ -1,0 +1,21 @@
+# shellcheck shell=bash
+# Completion of inrc2pb-period-bound's options and file names, for bash. Written by completions/write.py.
+_inrc2pb_period_bound() {
+    local word=${COMP_WORDS[COMP_CWORD]} before=${COMP_WORDS[COMP_CWORD - 1]} given choices='--sce --his --week --prices --early --help --version'
+    COMPREPLY=()
+    case $before in
+        --sce | --his | --week | --prices)
+            compopt -o filenames 2> /dev/null
+            mapfile -t COMPREPLY < <(compgen -f -- "$word")
+            return
+            ;;
+    esac
+    # An option that was given already is not offered again, but --week and --prices are.
+    for given in "${COMP_WORDS[@]:1:COMP_CWORD-1}"; do
+        case $given in --week | --prices) continue ;; esac
+        choices=" $choices "
+        choices=${choices/ "$given" / }
+    done
+    mapfile -t COMPREPLY < <(compgen -W "$choices" -- "$word")
+}
+complete -F _inrc2pb_period_bound inrc2pb-period-bound

@@ -1,0 +1,8 @@
+use Rattle.rota_items.proofs.Common.{problem_of, h2_rows_at}
+use Rattle.rota_items.proofs.LoopSteps.{RowSteps}
+use Rattle.rota_items.proofs.hard.minimum.visit_shift.Given as goal
+
+abbrev pub invariant-loop-skill : goal.invariant-loop-skill
+invariant-loop-skill g l =
+    let problem = problem_of l.fn.instance in
+    RowSteps g.T.RowTaker problem l.skill problem.skills (h2_rows_at problem l.fn.day l.fn.shift) l.fn.taker l.taker
