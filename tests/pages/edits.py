@@ -5,8 +5,8 @@ usage: edits.py [map | many | none | stale] [CRATE..]
 
   map     each function that an edit changes, its promises, and its edits
   many    the same, for functions with two edits or more
-  none    the public functions that no edit changes, without the laws, whose bodies call laws or nothing, and the drops,
-          which promise nothing
+  none    the public functions that no edit changes, without those that need none: the laws, whose bodies call laws or nothing,
+          the drops, which promise nothing, and functions whose only promise fixes the result
   stale   the edits whose old text is not in its file exactly once; the word may be left out
 
 A promise is shown by its label, or by its text if it has none; `=` precedes one that fixes the whole result.
@@ -139,10 +139,16 @@ def edits_by_function(crate, tables):
     return edits_of, stale
 
 
+def needs_edit(one):
+    """Whether a public function has a promise that some wrong body might keep."""
+    fixed = len(one.promises) == 1 and one.promises[0].startswith("=")
+    return one.public and not one.law and not one.name.endswith("::drop") and not fixed
+
+
 def tell(asked, path, one, edits):
     """Prints the function where it is asked for."""
     line = f"{path}: {one.name} [{', '.join(one.promises)}]"
-    if asked == "none" and one.public and not one.law and not one.name.endswith("::drop") and not edits:
+    if asked == "none" and needs_edit(one) and not edits:
         print(line)
     if asked == "map" and edits or asked == "many" and len(edits) > 1:
         print(f"{line}\n    {' '.join(edits)}")
