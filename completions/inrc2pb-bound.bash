@@ -1,10 +1,10 @@
 # shellcheck shell=bash
 # Completion of inrc2pb-bound's options and file names, for bash. Written by completions/write.py.
 _inrc2pb_bound() {
-    local word=${COMP_WORDS[COMP_CWORD]} before=${COMP_WORDS[COMP_CWORD - 1]} given choices='--sce --his --week --fix --early --prices --roster --minimums --rows --help --version'
+    local word=${COMP_WORDS[COMP_CWORD]} before=${COMP_WORDS[COMP_CWORD - 1]} given choices='--sce --his --week --fix --early --prices --cases --roster --minimums --rows --help --version'
     COMPREPLY=()
     case $before in
-        --sce | --his | --week | --fix | --prices | --roster)
+        --sce | --his | --week | --fix | --prices | --cases | --roster)
             compopt -o filenames 2> /dev/null
             mapfile -t COMPREPLY < <(compgen -f -- "$word")
             return

@@ -37,6 +37,7 @@ COMMANDS: Dict[str, Tuple[str, Options]] = {
 BOUND: Options = {
     **WEEK,
     "--prices": ("file", "The price of each place, in thousandths of a point"),
+    "--cases": ("file", "The cases with their prices, which prove a higher bound than prices alone"),
     "--roster": ("file", "A roster to judge, as a solution file"),
     "--minimums": ("", "Leave out the soft rules, to prove that no roster exists"),
     "--rows": ("", "Print the cheapest week of each nurse, too"),

@@ -1,6 +1,6 @@
 #!/usr/bin/env bash
 # Runs `inrc2pb-bound`, and checks its exit status and its output: bounds of weeks whose optimum solvers proved, faults in
-# the order of the checks, its words, and each allocation refused in turn. Then compares it with a plain program on small weeks.
+# the order of the checks, its words, and each allocation refused in turn. Then compares it with plain programs on small weeks.
 #
 #   tests/program/bound.sh [llvm | rattle | PROGRAM]
 #
@@ -24,6 +24,9 @@ prices() {
         [ $# = 1 ] || printf '%s\n' "${@:2}"
     } > "$room/$1"
 }
+
+# cases NAME LINE..: a cases' file of the base's week: these are its lines after the name.
+cases() { printf '%s\n' CASES s1 '' "${@:2}" > "$room/$1"; }
 
 # says WHAT LINES WORD..: the program prints these lines.
 says() {
@@ -63,6 +66,40 @@ bounds_the_base() {
         --sce no_two.txt --his history.txt --week week.txt --fix two_days --minimums
 }
 
+# A shift on Monday costs Ann 15, and 30 are charged if nobody works there: 30 if she is off there, and 15 if she works.
+bounds_by_cases() {
+    local closed=(--sce closed.txt --his history.txt --week wanted.txt) table many number
+    changed week.txt wanted.txt 3 'REQUIREMENTS\nDay Nurse (0,1) (0,0) (0,0) (0,0) (0,0) (0,0) (0,0)'
+    cases free 'OFF = 0' REST 'ROWS = 0'
+    cases off_or_not 'OFF = 1' 'Ann Mon' 'ROWS = 1' 'Day Nurse 30000 0 0 0 0 0 0' REST 'ROWS = 0'
+    cases twice_off 'OFF = 2' 'Ann Mon' 'ROWS = 1' 'Day Nurse 30000 0 0 0 0 0 0' 'Ann Mon' 'ROWS = 1' 'Day Nurse 40000 0 0 0 0 0 0' REST 'ROWS = 0'
+    mapfile -t many < <(for ((number = 0; number < 250; number++)); do printf '%s\n' 'Ann Mon' 'ROWS = 1' 'Day Nurse 30000 0 0 0 0 0 0'; done)
+    cases often_off 'OFF = 250' "${many[@]}" REST 'ROWS = 0'
+    cases tuesday 'OFF = 1' 'Ann Tue' 'ROWS = 1' 'Day Nurse 30000 0 0 0 0 0 0' REST 'ROWS = 0'
+    cases no_price 'OFF = 1' 'Ann Mon' 'ROWS = 0' REST 'ROWS = 1' 'Day Nurse 30000 0 0 0 0 0 0'
+    says 'no prices' 'lower bound 0\npenalty 15\n' "${closed[@]}" --roster monday
+    says 'no case' 'lower bound 0\npenalty 15\n' "${closed[@]}" --cases free --roster monday
+    says 'a day off, or not' 'lower bound 15\npenalty 15\noptimal\n' "${closed[@]}" --cases off_or_not --roster monday
+    says 'a day off, or not, and a roster without a shift' 'lower bound 15\npenalty 30\n' "${closed[@]}" --cases off_or_not --roster nobody
+    says 'a case twice' 'lower bound 15\n' "${closed[@]}" --cases twice_off
+    says 'a case 250 times' 'lower bound 15\n' "${closed[@]}" --cases often_off
+    says 'another day off' 'lower bound 15\n' "${closed[@]}" --cases tuesday
+    says 'a day off without prices' 'lower bound 0\n' "${closed[@]}" --cases no_price
+    table=$(sed -n '/^ROWS/,$p' "$examples/n005w4/prices.txt")
+    cases patrick 'OFF = 1' 'Patrick Sat' "$table" REST "$table"
+    says 'five nurses, and the same prices in both cases' 'lower bound 320\npenalty 320\noptimal\n' "${five[@]}" --cases patrick --roster five
+}
+
+# Two nurses are wanted on Monday, and the ward has one.
+proves_by_cases() {
+    local short=(--sce scenario.txt --his history.txt --week two.txt)
+    changed week.txt two.txt 3 'REQUIREMENTS\nDay Nurse (2,0) (0,0) (0,0) (0,0) (0,0) (0,0) (0,0)'
+    cases paid 'OFF = 1' 'Ann Mon' 'ROWS = 1' 'Day Nurse 1 0 0 0 0 0 0' REST 'ROWS = 1' 'Day Nurse 1 0 0 0 0 0 0'
+    cases rest_unpaid 'OFF = 1' 'Ann Mon' 'ROWS = 1' 'Day Nurse 1 0 0 0 0 0 0' REST 'ROWS = 0'
+    says 'no roster in both cases' 'no roster exists\n' "${short[@]}" --cases paid --minimums
+    says 'no roster with a day off' 'no proof that no roster exists\n' "${short[@]}" --cases rest_unpaid --minimums
+}
+
 # Each nurse's cheapest week; of weeks that are equally cheap the first: a day off comes before a shift.
 prints_rows() {
     prices days 'Day Nurse 0 40000 0 0 0 0 0'
@@ -92,6 +129,16 @@ refuses_files() {
     refuses 'a file that is too long' 1 'prices: out of limits' "${week[@]}" --prices long
     refuses 'an empty file' 1 'prices line 1: end of file' "${week[@]}" --prices nothing
     refuses 'no such prices' 3 'read failed' "${week[@]}" --prices missing
+    cases nobody_off 'OFF = 1' 'Bob Mon' 'ROWS = 0' REST 'ROWS = 0'
+    cases no_day 'OFF = 1' 'Ann Day' 'ROWS = 0' REST 'ROWS = 0'
+    cases no_rest 'OFF = 1' 'Ann Mon' 'ROWS = 0'
+    cases high_rest 'OFF = 0' REST 'ROWS = 1' 'Day Nurse 1 1 1 1 1 1 1000000000'
+    refuses 'an unknown nurse off' 1 'cases line 5: unknown name' "${week[@]}" --cases nobody_off
+    refuses 'an unknown day off' 1 'cases line 5: unknown name' "${week[@]}" --cases no_day
+    refuses 'cases without the rest' 1 'cases line 6: end of file' "${week[@]}" --cases no_rest
+    refuses 'a price of the rest beyond the limit' 1 'cases line 7: out of limits' "${week[@]}" --cases high_rest
+    refuses 'prices as cases' 1 'cases line 1: another word expected' "${week[@]}" --cases none
+    refuses 'no such cases' 3 'read failed' "${week[@]}" --cases missing
     refuses 'no such roster' 3 'read failed' "${week[@]}" --roster missing
     refuses 'a folder as prices' 3 'read failed' "${week[@]}" --prices .
     refuses 'two shift types on a day' 6 'roster breaks H1' --sce two_shifts.txt --his history.txt --week week.txt --roster both_shifts
@@ -115,6 +162,8 @@ checks_in_order() {
     refuses 'then the prices' 1 'prices line 6: repeated' "${files[@]}"
     files[9]=none
     refuses 'then the roster' 1 'solution line 1: another word expected' "${files[@]}"
+    files[8]=--cases
+    refuses 'the cases before the roster' 1 'cases line 1: another word expected' "${files[@]}"
 }
 
 checks_words() {
@@ -128,6 +177,9 @@ checks_words() {
     misused 'a command' "unexpected argument 'encode' found" encode "${week[@]}"
     misused 'prices twice' "the argument '--prices <FILE>' cannot be used multiple times" "${week[@]}" --prices none --prices none
     misused 'the minimums and a roster' '--minimums excludes --roster' "${week[@]}" --minimums --roster nobody
+    misused 'cases twice' "the argument '--cases <FILE>' cannot be used multiple times" "${week[@]}" --cases free --cases free
+    misused 'prices and cases' '--prices excludes --cases' "${week[@]}" --prices none --cases free
+    misused 'the rows and cases' '--rows excludes --cases' "${week[@]}" --rows --cases free
     misused 'the rows and a roster' '--rows excludes --roster' "${week[@]}" --rows --roster nobody
     out=/dev/full
     line fault 'inrc2pb-bound: write failed'
@@ -140,10 +192,14 @@ solution two_days "${all_days[@]:0:2}"
 changed scenario.txt no_two.txt 8 'Day 1 Day'
 proves_optima
 bounds_the_base
+bounds_by_cases
+proves_by_cases
 prints_rows
 refuses_files
 checks_in_order
 checks_words
-begins_case 'small weeks against a plain program'
-tests/random/every_week.py "$program" || complain 'tests/random/every_week.py fails'
+for plain in every_week every_case; do
+    begins_case "small weeks against $plain.py"
+    "tests/random/$plain.py" "$program" || complain "tests/random/$plain.py fails"
+done
 finish

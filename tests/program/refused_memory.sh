@@ -176,6 +176,9 @@ program=$bound
 line out_of_memory 'inrc2pb-bound: out of memory'
 sweep_program 'a bound, and a roster' 2 0 text nothing "${five[@]}" --prices prices.txt --roster roster
 sweep_program 'the minimums of held cells, and rows' 2 0 text nothing "${week[@]}" --fix wednesday --minimums --rows
+printf '%s\n' CASES s1 'OFF = 1' 'Ann Mon' 'ROWS = 0' 'REST ROWS = 1' 'Day Nurse 1 1 1 1 1 1 1' > "$room/cases"
+sweep_program 'a bound by cases, and a roster' 2 0 text nothing "${week[@]}" --cases cases --roster monday
+sweep_program 'the minimums by cases' 2 0 text nothing "${week[@]}" --cases cases --minimums
 sweep_program 'prices with text after their end' 2 1 nothing nothing "${five[@]}" --prices more_week.txt
 program=$period_bound
 line out_of_memory 'inrc2pb-period-bound: out of memory'
@@ -205,6 +208,7 @@ if [ -z "$ending" ]; then
     table history_read 1
     table week_read 7
     table prices_read 22500
+    table cases_read 2
     table solution_read 1
     table new_roster 0
     table rosters_held_in_turn 0

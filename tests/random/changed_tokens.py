@@ -3,9 +3,9 @@
 
 usage: changed_tokens.py [--fix]
 
-The test replaces, precedes or cuts off each token of five files by each of its words, and counts the faults by their kind. This
+The test replaces, precedes or cuts off each token of six files by each of its words, and counts the faults by their kind. This
 script makes the same texts from the constants of that file, and compares its own counts with the numbers there. With --fix it
-writes them. The prices' file has no reader among the helpers, so this script has one.
+writes them. The files of prices and cases have no reader among the helpers, so this script has one of each.
 """
 
 import re
@@ -20,11 +20,8 @@ KINDS = ["end of file", "another word expected", "number expected", "out of limi
 MAX_PRICE = 999999999
 
 
-def read_prices(path: str, ward: files.Scenario, text: str) -> None:
-    """Reads the prices' file of a scenario."""
-    slots = Slots(path, text)
-    slots.words("PRICES")
-    slots.any_word("the scenario's name")
+def rows_of_prices(slots: Slots, ward: files.Scenario) -> None:
+    """Reads the number of rows of prices, and the rows."""
     slots.words("ROWS", "=")
     known: Set[Tuple[str, str]] = set()
     for _ in range(slots.number("the number of rows")):
@@ -35,6 +32,29 @@ def read_prices(path: str, ward: files.Scenario, text: str) -> None:
         known.add((shift.text, skill.text))
         for _ in range(7):
             slots.number("a price", 0, MAX_PRICE)
+
+
+def read_prices(path: str, ward: files.Scenario, text: str) -> None:
+    """Reads the prices' file of a scenario."""
+    slots = Slots(path, text)
+    slots.words("PRICES")
+    slots.any_word("the scenario's name")
+    rows_of_prices(slots, ward)
+    slots.end("row")
+
+
+def read_cases(path: str, ward: files.Scenario, text: str) -> None:
+    """Reads the cases' file of a scenario."""
+    slots = Slots(path, text)
+    slots.words("CASES")
+    slots.any_word("the scenario's name")
+    slots.words("OFF", "=")
+    for _ in range(slots.number("the number of cases")):
+        slots.known_name("nurse", ward.nurses, "NURSES")
+        slots.known_name("day", files.DAYS, "the week")
+        rows_of_prices(slots, ward)
+    slots.words("REST")
+    rows_of_prices(slots, ward)
     slots.end("row")
 
 
@@ -74,11 +94,15 @@ def main() -> int:
         "WEEK": lambda text: files.read_week("week", ward, text),
         "SOLUTION": lambda text: files.read_solution("solution", ward, text),
         "PRICES": lambda text: read_prices("prices", ward, text),
+        "CASES": lambda text: read_cases("cases", ward, text),
     }
     made = code
     for name, read in readers.items():
         found = ends(read, texts(base[name], words))
-        made = re.sub(rf"(?s)(, {name}, )\[[^]]*\]", lambda row: f"{row.group(1)}{found}", made)
+        made, rows = re.subn(rf"(,\s*{name},\s*)\[[^]]*\]", lambda row: f"{row.group(1)}{found}", made)
+        if rows != 1:
+            print(f"FAILED: {rows} rows of numbers for {name}")
+            return 1
     if sys.argv[1:] == ["--fix"]:
         with open(SOURCE, "w", encoding="utf-8") as source:
             source.write(made)

@@ -41,11 +41,15 @@ def random_prices(chance, week):
     return {(day, *pair): chance.choice(kinds) for pair in pairs for day in range(7)}
 
 
+def price_rows(prices):
+    """The lines of a table of prices."""
+    pairs = list(dict.fromkeys(place[1:] for place in prices))
+    return [f"ROWS = {len(pairs)}", *(" ".join([*pair, *(str(prices[(day, *pair)]) for day in range(7))]) for pair in pairs)]
+
+
 def prices_text(week, prices):
     """The text of a prices' file."""
-    pairs = list(dict.fromkeys(place[1:] for place in prices))
-    lines = [" ".join([*pair, *(str(prices[(day, *pair)]) for day in range(7))]) for pair in pairs]
-    return "\n".join(["PRICES", week.name, "", f"ROWS = {len(pairs)}", *lines]) + "\n"
+    return "\n".join(["PRICES", week.name, "", *price_rows(prices)]) + "\n"
 
 
 def with_extremes(chance, week):
@@ -168,7 +172,7 @@ class BoundRuns:
     def __init__(self, program, folder, case):
         self.program, self.folder = os.path.abspath(program), folder
         self.words = ["--early"] * ("early" in case)
-        for name in ("sce", "his", "week", "fix", "prices"):
+        for name in ("sce", "his", "week", "fix", "prices", "cases"):
             if name in case:
                 self.put(name, case[name])
                 self.words += [f"--{name}", FILES.get(name, f"{name}.txt")]

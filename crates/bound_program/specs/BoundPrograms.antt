@@ -28,6 +28,7 @@ IsBoundStop words = IsStopOfApp bound_app (IsMisused (matches_of bound_app words
 pub record IsQuestionOf {F : Type 0} (job : BoundJob) (opened : OpenFiles F) (question : Question) : Type 0 where
   pub choice : question.choice ≡ opened.week.choice
   pub priced : question.priced ≡ is_some job.prices
+  pub by_cases : question.by_cases ≡ is_some job.cases
   pub judging : question.judging ≡ is_some job.roster
   pub minimums : question.minimums ≡ job.minimums
   pub rows : question.rows ≡ job.rows
@@ -36,6 +37,7 @@ pub record IsQuestionOf {F : Type 0} (job : BoundJob) (opened : OpenFiles F) (qu
 pub record AreJobOpen {F : Type 0} (port : Ghosts F) (at : Path → FileAt) (job : BoundJob) (opened : OpenFiles F) : Type 0 where
   pub week : AreOpen port at job.inputs opened.week
   pub prices : IsOptionalOpen port at (option_map string_bytes job.prices) opened.prices
+  pub cases : IsOptionalOpen port at (option_map string_bytes job.cases) opened.cases
   pub roster : IsOptionalOpen port at (option_map string_bytes job.roster) opened.roster
 
 -- A file did not open, and nothing was written; or the files were open at their paths, and the run answered the job's question from them:
@@ -46,6 +48,7 @@ pub data BoundOutcome {F : Type 0} (opener : Opener F) (job : BoundJob) (out : W
       (question : Question) → IsQuestionOf job opened question →
       (bound_run question (readers_of opener.port opened.week left.week)
       (reader_of (optional_port opener.port) opened.prices left.prices)
+      (reader_of (optional_port opener.port) opened.cases left.cases)
       (reader_of (optional_port opener.port) opened.roster left.roster) out).ends result →
       BoundOutcome opener job out result
 

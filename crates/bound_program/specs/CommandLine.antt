@@ -15,7 +15,9 @@ bare_bound_app = record (new_app (codes "inrc2pb-bound")) {
 
 -- its own options
 abbrev pub own_rules : List Rule
-own_rules = file_rule (codes "prices") ∷ file_rule (codes "roster") ∷ flag_rule (codes "minimums") ∷ flag_rule (codes "rows") ∷ []
+own_rules =
+    file_rule (codes "prices") ∷ file_rule (codes "cases") ∷ file_rule (codes "roster") ∷ flag_rule (codes "minimums")
+    ∷ flag_rule (codes "rows") ∷ []
 
 -- the options for the files of a week, and its own
 abbrev pub bound_app : App

@@ -18,6 +18,11 @@ pub fn inrc2pb_bound<'a>(alloc: Global) -> Result<Command<'a>, AllocError>
             "prices",
             "The price of each place, in thousandths of a point [default: 0]",
         ))?
+        .arg(file_option(
+            alloc,
+            "cases",
+            "The cases with their prices, which prove a higher bound than prices alone",
+        ))?
         .arg(file_option(alloc, "roster", "A roster to judge, as a solution file"))?
         .arg(flag(
             alloc,

@@ -45,6 +45,7 @@ fn job_of(alloc: Global, options: &ArgMatches<'_>) -> Result<BoundJob, Stop>
     let job = BoundJob {
         inputs: inputs(alloc, options)?,
         prices: optional_path(alloc, options, "prices")?,
+        cases: optional_path(alloc, options, "cases")?,
         roster: optional_path(alloc, options, "roster")?,
         minimums: flag(options, "minimums"),
         rows: flag(options, "rows"),
@@ -54,6 +55,12 @@ fn job_of(alloc: Global, options: &ArgMatches<'_>) -> Result<BoundJob, Stop>
     }
     if job.rows && job.roster.is_some() {
         return Err(Stop::Usage("--rows excludes --roster"));
+    }
+    if job.rows && job.cases.is_some() {
+        return Err(Stop::Usage("--rows excludes --cases"));
+    }
+    if job.prices.is_some() && job.cases.is_some() {
+        return Err(Stop::Usage("--prices excludes --cases"));
     }
     Ok(job)
 }

@@ -7,6 +7,8 @@ pub struct BoundJob {
     pub inputs: Inputs,
     /// The prices. Without a file each price is 0.
     pub prices: Option<String>,
+    /// The cases, with the prices of each.
+    pub cases: Option<String>,
     /// A roster to judge.
     pub roster: Option<String>,
     /// Only the hard rules count: whether no roster keeps them.
@@ -20,6 +22,7 @@ impl Drop for BoundJob {
         let BoundJob {
             inputs: _,
             prices: _,
+            cases: _,
             roster: _,
             minimums: _,
             rows: _,

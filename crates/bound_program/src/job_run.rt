@@ -17,6 +17,7 @@ use std::alloc::Global;
 pub struct OpenFiles<F> {
     pub week: OpenInputs<F>,
     pub prices: OptionalFile<F>,
+    pub cases: OptionalFile<F>,
     pub roster: OptionalFile<F>,
 }
 
@@ -25,6 +26,7 @@ impl<F: Drop> Drop for OpenFiles<F> {
         let OpenFiles {
             week: _,
             prices: _,
+            cases: _,
             roster: _,
         } = self;
     }
@@ -40,6 +42,7 @@ fn open_files<O: Opens>(files: &mut O, job: &BoundJob) -> Result<OpenFiles<O::Fi
     Ok(OpenFiles {
         week: open_inputs(files, &job.inputs)?,
         prices: open_optional(files, &job.prices)?,
+        cases: open_optional(files, &job.cases)?,
         roster: open_optional(files, &job.roster)?,
     })
 }
@@ -51,6 +54,7 @@ fn question_of<F>(job: &BoundJob, opened: &OpenFiles<F>) -> Question
     Question {
         choice: opened.week.choice,
         priced: job.prices.is_some(),
+        by_cases: job.cases.is_some(),
         judging: job.roster.is_some(),
         minimums: job.minimums,
         rows: job.rows,
@@ -80,6 +84,7 @@ pub fn perform<O: Opens, W: Target>(
         &mut opened.week.week,
         &mut opened.week.fix,
         &mut opened.prices,
+        &mut opened.cases,
         &mut opened.roster,
         output,
     )

@@ -2,8 +2,8 @@
 use Rattle.std.specs.Prelude.{ℕ, List, [], ◌++◌, codes, Bool, Option, None, Some, if◌then◌else◌}
 use Rattle.rota_pb.specs.Report.{number_line}
 use Rattle.bound_run.specs.declared.answer.Answer.{Answer}
-use Rattle.bound_run.specs.declared.answer.Claim.{Claim}
-use Rattle.bound_run.specs.declared.answer.Claim.TheVariants.{AtLeast, NoRoster, Unknown}
+use Rattle.bound_run.specs.declared.claims.Claim.{Claim}
+use Rattle.bound_run.specs.declared.claims.Claim.TheVariants.{AtLeast, NoRoster, Unknown}
 
 -- the line of the claim
 abbrev pub claim_line : Claim → List ℕ

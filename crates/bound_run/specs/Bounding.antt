@@ -13,6 +13,7 @@ use Rattle.rota_pb.specs.WeekFiles.{FailsCheck, read_roster, read_week}
 use Rattle.rota_pb.specs.declared.fault.Fault.TheVariants.{Memory}
 use Rattle.bound_run.specs.BoundText.{bound_text}
 use Rattle.bound_run.specs.Answers.{IsAnswer}
+use Rattle.bound_run.specs.CasesFile.{cases_of_week}
 use Rattle.bound_run.specs.Claims.{IsJudged}
 use Rattle.bound_run.specs.declared.judged.Judged.{Judged}
 use Rattle.bound_run.specs.declared.question.Question.{Question}
@@ -45,11 +46,12 @@ judge_roster judging tables reader = only_if_asked judging None do
   roster ← read_roster names.Solution tables reader
   check (λ found. IsSomeAnd found (JudgesRoster tables roster)) (BreaksRule (problem_of tables) (set_of roster))
 
--- the files of a week are read, then the prices, then a roster; then the text of the answer is sent
-unfoldable pub bound_run : Question → WeekReaders → Reader → Reader → Writer → Step (Unit {0})
-bound_run question readers prices_file roster_file out = do
+-- the files of a week are read, then the prices, the cases and a roster; then the text of the answer is sent
+unfoldable pub bound_run : Question → WeekReaders → Reader → Reader → Reader → Writer → Step (Unit {0})
+bound_run question readers prices_file cases_file roster_file out = do
   tables ← read_week question.choice readers
   table ← prices_of_week question.priced tables prices_file
+  cases ← cases_of_week question.by_cases tables cases_file
   judged ← judge_roster question.judging tables roster_file
-  answer ← check (IsAnswer question tables (prices_of table) judged) (λ fault. fault ≡ Memory)
+  answer ← check (IsAnswer question tables (prices_of table) cases judged) (λ fault. fault ≡ Memory)
   send out (bound_text answer)

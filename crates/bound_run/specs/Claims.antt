@@ -7,8 +7,8 @@ use Rattle.rota_core.specs.RosterTables.{set_of}
 use Rattle.rota_items.specs.Penalty.{penalty}
 use Rattle.rota_bound.specs.Optimality.{IsOptimal}
 use Rattle.bound_run.specs.declared.answer.Answer.{Answer}
-use Rattle.bound_run.specs.declared.answer.Claim.{Claim}
-use Rattle.bound_run.specs.declared.answer.Claim.TheVariants.{AtLeast, NoRoster, Unknown}
+use Rattle.bound_run.specs.declared.claims.Claim.{Claim}
+use Rattle.bound_run.specs.declared.claims.Claim.TheVariants.{AtLeast, NoRoster, Unknown}
 use Rattle.bound_run.specs.declared.judged.Judged.{Judged}
 
 -- the meaning of the claim for the rosters of the week

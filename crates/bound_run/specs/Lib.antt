@@ -1,4 +1,5 @@
 pub mod Answers
+pub mod CasesFile
 pub mod Claims
 pub mod BoundText
 pub mod ExactAnswers

@@ -1,36 +1,26 @@
 //! The answer to the question about a week.
-ghost use Rattle.std.specs.Prelude.{◌≡◌, IfOk, IfSome, option_map};
+ghost use Rattle.std.specs.Prelude.{◌≡◌, IfSome, option_map};
+ghost use Rattle.rota_core.specs.CaseTables.{AreCasesFor};
 ghost use Rattle.rota_core.specs.InstanceTables.{problem_of};
 ghost use Rattle.rota_core.specs.PriceTables.{IsForWeek, prices_of};
 ghost use Rattle.rota_pb.specs.Steps.{check};
 ghost use Rattle.rota_pb.specs.declared.fault.Fault.TheVariants.{Memory};
 ghost use Rattle.bound_run.specs.Answers.{IsAnswer};
-ghost use Rattle.bound_run.specs.ExactAnswers.{claim_of, is_at_bound};
-ghost use Rattle.bound_run.specs.Claims.{Holds, IsJudged};
+ghost use Rattle.bound_run.specs.ExactAnswers.{is_at_bound};
+ghost use Rattle.bound_run.specs.Claims.{IsJudged};
 
+use crate::claims::{Claim, claim_of};
 use crate::judged::Judged;
 use crate::question::Question;
 use crate::rows::rows_asked_for;
-use rota_bound::{lower_bound, no_roster_exists};
-use rota_core::{Instance, Prices};
+use rota_core::{Cases, Instance, Prices};
 use rota_pb::Fault;
-use std::alloc::{AllocError, Global};
-
-/// The claim that the prices prove about all rosters of a week.
-#[derive(Clone, Copy)]
-pub enum Claim {
-    /// Each roster that keeps H1 to H5 has at least this penalty.
-    AtLeast(u64),
-    /// No roster keeps H1 to H5.
-    NoRoster,
-    /// The prices do not prove that no roster exists.
-    Unknown,
-}
+use std::alloc::Global;
 
 /// The answer to the question about a week.
 #[derive(Drop)]
 pub struct Answer {
-    /// The claim that the prices prove.
+    /// The claim that is proved.
     pub claim: Claim,
     /// The penalty of the given roster.
     pub penalty: Option<u64>,
@@ -38,26 +28,6 @@ pub struct Answer {
     pub optimal: bool,
     /// The lines of the nurses' cheapest weeks, if they are asked for.
     pub rows: Vec<u8>,
-}
-
-// The proved claim: with `minimums`, by the hard rules alone.
-fn claim_of(
-    alloc: Global,
-    instance: &Instance,
-    prices: &Prices,
-    minimums: bool,
-) -> Result<Claim, AllocError>
-    requires shape { IsForWeek (problem_of instance.now) prices.now }
-    ensures claim { IfOk result (λ claim. claim ≡ claim_of minimums (problem_of instance.now) (prices_of prices.now)) }
-    ensures holds { IfOk result (Holds (problem_of instance.now)) }
-{
-    if minimums {
-        return match no_roster_exists(alloc, instance, prices)? {
-            true => Ok(Claim::NoRoster),
-            false => Ok(Claim::Unknown),
-        };
-    }
-    Ok(Claim::AtLeast(lower_bound(alloc, instance, prices)?))
 }
 
 // Whether the claim is a bound, and the roster's penalty is this bound.
@@ -79,19 +49,21 @@ fn penalty_in(judged: &Option<Judged>) -> Option<u64>
     }
 }
 
-/// The answer for these prices, and for the roster if one is given.
+/// The answer for these prices, or for the cases if they are given, and for the roster if one is given.
 pub(crate) fn answer_for(
     alloc: Global,
     instance: &Instance,
     prices: &Prices,
+    cases: &Option<Cases>,
     question: Question,
     judged: &Option<Judged>,
 ) -> Result<Answer, Fault>
-    requires shape { IsForWeek (problem_of instance.now) prices.now }
+    requires prices { IsForWeek (problem_of instance.now) prices.now }
+    requires cases { IfSome cases.now (AreCasesFor (problem_of instance.now)) }
     requires judged { IfSome judged.now (IsJudged (problem_of instance.now)) }
-    ensures { (check (IsAnswer question instance.now (prices_of prices.now) judged.now) (λ fault. fault ≡ Memory)).ends result }
+    ensures { (check (IsAnswer question instance.now (prices_of prices.now) cases.now judged.now) (λ fault. fault ≡ Memory)).ends result }
 {
-    let claim = claim_of(alloc, instance, prices, question.minimums)?;
+    let claim = claim_of(alloc, instance, prices, cases, question.minimums)?;
     let rows = rows_asked_for(alloc, instance, prices, question)?;
     Ok(Answer {
         claim,

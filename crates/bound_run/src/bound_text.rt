@@ -5,7 +5,8 @@ ghost use Rattle.rota_pb.specs.RunPorts.{writer_of};
 ghost use Rattle.rota_pb.specs.Steps.{send};
 ghost use Rattle.bound_run.specs.BoundText.{bound_text, claim_line, optimal_line, penalty_line};
 
-use crate::answer::{Answer, Claim};
+use crate::answer::Answer;
+use crate::claims::Claim;
 use rota_core::{PortFault, Target};
 use rota_pb::Fault;
 use text_sink::{Piece, Sink};

@@ -4,8 +4,11 @@ ghost use Rattle.rota_core.specs.InstanceTables.{problem_of};
 ghost use Rattle.rota_core.specs.PriceTables.{IsForWeek};
 
 use crate::small_weeks::{WeekFiles, instance_of, nobody_for_monday, run_in_the_history};
-use rota_bound::{Charging, CheapestWeek, Known, cheapest_week, lower_bound, no_roster_exists};
-use rota_core::{Instance, Prices};
+use rota_bound::{
+    Charging, CheapestWeek, Known, cheapest_week, lower_bound, lower_bound_by_cases,
+    no_roster_exists, no_roster_exists_by_cases,
+};
+use rota_core::{Cases, Instance, OffCase, Prices};
 use std::alloc::{AllocError, Global};
 use std::test::Fail;
 
@@ -30,6 +33,34 @@ fn bounds_of(alloc: Global, files: &WeekFiles, price: u32) -> Result<(u64, bool)
     let prices = monday_price(alloc, &instance, price)?;
     let bound = lower_bound(alloc, &instance, &prices)?;
     Ok((bound, no_roster_exists(alloc, &instance, &prices)?))
+}
+
+// The same by cases: the first nurse is off on Monday, with this price there, or works, with the other price.
+fn bounds_by_cases(
+    alloc: Global,
+    files: &WeekFiles,
+    off: u32,
+    rest: u32,
+) -> Result<(u64, bool), Fail>
+    requires off_in { off ≤ 999999999 }
+    requires rest_in { rest ≤ 999999999 }
+{
+    let instance = instance_of(alloc, files)?;
+    if instance.nurses() == 0 {
+        return Ok((0, false));
+    }
+    let prices = monday_price(alloc, &instance, off)?;
+    let mut cases = Cases {
+        off: Vec::new(alloc),
+        rest: monday_price(alloc, &instance, rest)?,
+    };
+    cases.off.push(OffCase {
+        nurse: 0,
+        day: 0,
+        prices,
+    })?;
+    let bound = lower_bound_by_cases(alloc, &instance, &cases)?;
+    Ok((bound, no_roster_exists_by_cases(alloc, &instance, &cases)?))
 }
 
 // The only nurse's cheapest week with this price on Monday.
@@ -64,6 +95,17 @@ fn prices_prove_bounds(rt: HostRuntime) -> Result<(), Fail> {
     assert!(rt; bounds_of(rt.alloc(), &files, 1)? == (5, true));
     assert!(rt; bounds_of(rt.alloc(), &files, 40_000)? == (40, true));
     assert!(rt; bounds_of(rt.alloc(), &files, 999_999_999)? == (1_000_000, true));
+    Ok(())
+}
+
+// Neither Ann nor Bob may have the cell that is wanted: the bound of a case is the price there, and the minimum counts.
+#[test]
+fn cases_prove_bounds(rt: HostRuntime) -> Result<(), Fail> {
+    let files = nobody_for_monday();
+    assert!(rt; bounds_by_cases(rt.alloc(), &files, 40_000, 40_000)? == (40, true));
+    assert!(rt; bounds_by_cases(rt.alloc(), &files, 40_000, 9_000)? == (10, true));
+    assert!(rt; bounds_by_cases(rt.alloc(), &files, 1, 40_000)? == (5, true));
+    assert!(rt; bounds_by_cases(rt.alloc(), &files, 40_000, 0)? == (0, false));
     Ok(())
 }
 

@@ -4,6 +4,8 @@
 #[cfg(test)]
 mod answers;
 #[cfg(test)]
+mod case_files;
+#[cfg(test)]
 mod cells;
 #[cfg(test)]
 mod events;

@@ -3,7 +3,7 @@
 use crate::answers::of_pieces;
 use crate::week_files::{instance_of, one_nurse_one_shift};
 use rota_core::{Bits, FileFault, Instance, Prices, Roster, Scenario};
-use rota_read::{read_history, read_prices, read_scenario, read_solution, read_week};
+use rota_read::{read_cases, read_history, read_prices, read_scenario, read_solution, read_week};
 use solver_text::Answer;
 use std::alloc::Global;
 use std::fmt::Debug;
@@ -24,6 +24,7 @@ enum Table {
     History,
     Week,
     Prices,
+    Cases,
 }
 
 // The numbers of weeks and nurses.
@@ -64,6 +65,16 @@ fn last_price(alloc: Global, scenario: &Scenario) -> Result<u32, FileFault> {
     }
 }
 
+const CASES: &[u8] = b"CASES s1 OFF = 2 Ann Mon ROWS = 0 Ann Tue ROWS = 0 REST ROWS = 0";
+
+// The number of cases with a day off.
+fn count_of_cases(alloc: Global, scenario: &Scenario) -> Result<usize, FileFault> {
+    match read_cases(alloc, scenario, CASES) {
+        Ok(cases) => Ok(cases.off.len()),
+        Err(fault) => Err(fault),
+    }
+}
+
 // Prints the size of the table.
 fn print_table(
     rt: &impl Print,
@@ -76,6 +87,7 @@ fn print_table(
         Table::History => print(rt, &rows_of_history(alloc, scenario)),
         Table::Week => print(rt, &demands_of_week(alloc, scenario)),
         Table::Prices => print(rt, &last_price(alloc, scenario)),
+        Table::Cases => print(rt, &count_of_cases(alloc, scenario)),
     }
 }
 
@@ -104,6 +116,11 @@ fn week_read(rt: HostRuntime) -> io::Result<()> {
 #[test]
 fn prices_read(rt: HostRuntime) -> io::Result<()> {
     read_and_print(&rt, rt.alloc(), Table::Prices)
+}
+
+#[test]
+fn cases_read(rt: HostRuntime) -> io::Result<()> {
+    read_and_print(&rt, rt.alloc(), Table::Cases)
 }
 
 // The origin of a roster.

@@ -28,7 +28,7 @@ module _ (unit : ℕ) (problem : Problem) (prices : Prices) (roster : Roster) (n
   held-in : (d s k : ℕ) → d < DAYS → s < problem.shifts → k < problem.skills → problem.is_held (cell n d s k) ≡ true → has d s k ≡ true
   held-in d s k d_in s_in k_in held = keeps.held (cell n d s k) (record { in_week = in_week d s k d_in s_in k_in; in_roster = held })
 
-  same-cell : (d : ℕ) → d < DAYS → (s k t l : ℕ) → s < problem.shifts → k < problem.skills → t < problem.shifts → l < problem.skills →
+  pub same-cell : (d : ℕ) → d < DAYS → (s k t l : ℕ) → s < problem.shifts → k < problem.skills → t < problem.shifts → l < problem.skills →
       has d s k ≡ true → has d t l ≡ true → (s ≡ t) × (k ≡ l)
   same-cell d d_in s k t l s_in k_in t_in l_in one other =
       let same = keeps.of_competition.one_cell (cell n d s k) (cell n d t l)

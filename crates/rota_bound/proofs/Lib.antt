@@ -1,3 +1,6 @@
+pub mod CasePays
+pub mod CaseSoundness
+pub mod CaseSteps
 pub mod Choices
 pub mod ChosenWeeks
 pub mod DaySteps
@@ -9,6 +12,7 @@ pub mod LeastCosts
 pub mod LentWeeks
 pub mod NursePart
 pub mod OtherHistories
+pub mod OtherPrices
 pub mod PeriodSoundness
 pub mod PeriodStages
 pub mod PeriodTotals

@@ -1,4 +1,4 @@
--- The places: the bound of a place is at most the cost of the missing nurses and the prices of the nurses who are there.
+-- The places: the bound of a place is at most the cost of the missing nurses and the prices of the nurses at the place.
 use Rattle.std.proofs.Common.{◌≡◌, ℕ, ◌+◌, ◌-◌, ◌*◌, ◌<◌, ◌≤◌, Bool, true, false, cond, ap, sym, ◌∙◌, inl, inr, arith, max}
 use Rattle.std.proofs.Common.{mul-le-mul_left, mul-le-mul_right}
 use Rattle.std.proofs.lemmas.Bool.{cases_lt, lt-ltb, le-ltb}

@@ -2,7 +2,7 @@
 use Rattle.std.proofs.Common.{◌≡◌, ℕ, zero, suc, refl, ◌+◌, ◌-◌, ◌*◌, ◌&&◌, ◌<◌, ◌≤◌, ◌∙◌, ap, cond, Bool, true, false, arith}
 use Rattle.rota_core.specs.Sizes.{DAYS}
 use Rattle.rota_core.specs.SumsBelow.{sum_below}
-use Rattle.rota_core.specs.HardRules.{KeepsHardRules, is_off, is_on, nurses_at, works}
+use Rattle.rota_core.specs.HardRules.{KeepsHardRules, KeepsMinimum, is_off, is_on, nurses_at, works}
 use Rattle.rota_core.specs.Roster.{Roster}
 use Rattle.rota_core.specs.Problem.{Problem}
 use Rattle.rota_items.specs.Runs.{run_cost}
@@ -14,9 +14,10 @@ use Rattle.rota_items.specs.rules.OptimalCoverage.Cost.{optimum_cost}
 use Rattle.rota_items.specs.rules.ShiftOffRequests.Cost.{request_weight}
 use Rattle.rota_items.specs.rules.TotalAssignments.Cost.{above_max_total, assignment_cost_of, below_min_total}
 use Rattle.rota_items.specs.rules.WorkedWeekends.Cost.{above_max_weekends, worked_weekend_cost_of}
-use Rattle.rota_bound.specs.LowerBound.{lower_bound, minimums_bound, BoundIsSound, thousandths}
+use Rattle.rota_bound.specs.LowerBound.{added_prices, lower_bound, minimums_bound, BoundIsSound, thousandths}
 use Rattle.rota_bound.specs.Optimality.{IsOptimal}
 use Rattle.rota_bound.specs.NurseBounds.{nurse_bound}
+use Rattle.rota_bound.specs.PlaceBounds.{place_bounds}
 use Rattle.rota_core.specs.Prices.{Prices, ArePrices, max_price}
 use Rattle.rota_bound.proofs.DaySteps.{requested_on}
 use Rattle.rota_bound.proofs.NursePart.{nurse-bounded, nurse_cost}
@@ -73,20 +74,28 @@ module _ (problem : Problem) (prices : Prices) (roster : Roster) where
         sum-times problem.nurses 5 fifths_of,
       )
 
-  pub bound-sound : (unit : ℕ) → BoundIsSound unit problem prices roster
-  bound-sound unit within keeps =
-      let nurses = sum-le problem.nurses (λ n. nurse_bound unit problem prices n + paid problem prices roster n)
-      (λ n. unit * nurse_cost problem prices roster n + DAYS * max_price)
-      (λ n n_in. nurse-bounded problem prices roster n unit within keeps n_in) in
-      let taken = sum-plus problem.nurses (nurse_bound unit problem prices) (paid problem prices roster) in
+  -- the sum of bounds of nurses, and of the places, is at most the penalty, if each is at most the cost of the nurse less her prices
+  pub sum-sound : (unit : ℕ) (bounds : ℕ → ℕ) → KeepsMinimum problem roster →
+      ((n : ℕ) → n < problem.nurses →
+      bounds n + paid problem prices roster n ≤ unit * nurse_cost problem prices roster n + DAYS * max_price) →
+      (place_bounds unit problem prices + sum_below problem.nurses bounds) - added_prices problem ≤ unit * penalty problem roster
+  sum-sound unit bounds enough bounded =
+      let nurses = sum-le problem.nurses (λ n. bounds n + paid problem prices roster n)
+      (λ n. unit * nurse_cost problem prices roster n + DAYS * max_price) bounded in
+      let taken = sum-plus problem.nurses bounds (paid problem prices roster) in
       let given = sum-plus problem.nurses (λ n. unit * nurse_cost problem prices roster n) (λ n. DAYS * max_price) in
       let costs = sum-times problem.nurses unit (nurse_cost problem prices roster) in
       let each = sum-each problem.nurses (DAYS * max_price) in
-      let places = place_bounds-within problem prices roster unit keeps.of_competition.minimum in
+      let places = place_bounds-within problem prices roster unit enough in
       let all : unit * penalty problem roster ≡
       unit * optimum_cost problem roster + unit * sum_below problem.nurses (nurse_cost problem prices roster) =
       ap (λ p. unit * p) penalty-is ∙ omega arith in
       omega (arith, nurses, taken, given, costs, each, places, all)
+
+  pub bound-sound : (unit : ℕ) → BoundIsSound unit problem prices roster
+  bound-sound unit within keeps =
+      sum-sound unit (nurse_bound unit problem prices) keeps.of_competition.minimum
+      (λ n n_in. nurse-bounded problem prices roster n unit within keeps n_in)
 
   -- no roster that keeps the hard rules has a penalty below the bound
   pub lower_bound-sound : ArePrices prices → KeepsHardRules problem roster → lower_bound problem prices ≤ penalty problem roster

@@ -1,3 +1,5 @@
+pub mod CaseBounds
+pub mod CaseParts
 pub mod CheapestWeeks
 pub mod ChosenDuties
 pub mod ChosenWeeks

@@ -2,11 +2,14 @@
 ghost use Rattle.std.specs.Prelude.{◌≡◌, ℕ, ◌*◌, ◌≤◌, ◌<◌, List, [], ◌∷◌};
 ghost use Rattle.rota_core.specs.HardRules.{KeepsHardRules};
 ghost use Rattle.rota_core.specs.Prices.{ArePrices, Prices};
+ghost use Rattle.rota_core.specs.PriceTables.{prices_of};
 ghost use Rattle.rota_core.specs.Problem.{Problem};
 ghost use Rattle.rota_core.specs.Roster.{Roster};
+ghost use Rattle.rota_core.specs.declared.cases.Cases.{Cases};
 ghost use Rattle.rota_items.specs.Penalty.{penalty};
+ghost use Rattle.rota_bound.specs.CaseBounds.{HaveCasePrices, cases_bound, lower_bound_by_cases, minimums_bound_by_cases};
 ghost use Rattle.rota_bound.specs.CheapestWeeks.{IsLeastOverWeeks};
-ghost use Rattle.rota_bound.specs.LowerBound.{BoundIsSound, lower_bound, minimums_bound};
+ghost use Rattle.rota_bound.specs.LowerBound.{BoundIsSound, bound, lower_bound, minimums_bound};
 ghost use Rattle.rota_bound.specs.Optimality.{IsOptimal};
 ghost use Rattle.rota_bound.specs.PeriodBounds.{HavePrices, WeekPrices, period_bound, weeks_of};
 ghost use Rattle.rota_bound.specs.Periods.{AreOptimal, ArePeriod, KeepRules, period_cost};
@@ -85,4 +88,48 @@ pub fn period_bound_proves_optimality()
 /// The bound of a period of one week is the bound of the week.
 pub fn a_week_is_a_period()
     ensures { (one : WeekPrices) → period_bound (one ∷ []) ≡ lower_bound one.week one.prices }
+{}
+
+/// For all cases with prices up to 999,999,999 and any value of a point, the bound by cases is at most this value times
+/// the penalty of each roster that keeps the hard rules.
+pub fn bound_by_cases_is_sound()
+    ensures { (unit : ℕ) (problem : Problem) (cases : Cases) (roster : Roster) →
+        HaveCasePrices cases →
+        KeepsHardRules problem roster →
+        cases_bound unit problem cases ≤ unit * penalty problem roster }
+{}
+
+/// For all cases with prices up to 999,999,999, no roster that keeps the hard rules has a penalty below the lower bound
+/// by cases.
+pub fn lower_bound_by_cases_is_sound()
+    ensures { (problem : Problem) (cases : Cases) (roster : Roster) →
+        HaveCasePrices cases →
+        KeepsHardRules problem roster →
+        lower_bound_by_cases problem cases ≤ penalty problem roster }
+{}
+
+/// For all cases with prices up to 999,999,999, a roster that keeps the hard rules, and whose penalty is the lower bound
+/// by cases, is optimal.
+pub fn cases_prove_optimality()
+    ensures { (problem : Problem) (cases : Cases) (roster : Roster) →
+        HaveCasePrices cases →
+        KeepsHardRules problem roster →
+        penalty problem roster ≡ lower_bound_by_cases problem cases →
+        IsOptimal problem roster }
+{}
+
+/// For all cases with prices up to 999,999,999, no roster keeps the hard rules if the bound by cases without the soft
+/// rules is above 0.
+pub fn cases_prove_that_no_roster_exists()
+    ensures { (problem : Problem) (cases : Cases) (roster : Roster) →
+        HaveCasePrices cases →
+        0 < minimums_bound_by_cases problem cases →
+        KeepsHardRules problem roster → ⊥ }
+{}
+
+/// Without a day off, the bound by cases is the bound of the prices for the rest.
+pub fn bound_without_days_off()
+    ensures { (unit : ℕ) (problem : Problem) (cases : Cases) →
+        cases.off.items ≡ [] →
+        cases_bound unit problem cases ≡ bound unit problem (prices_of cases.rest) }
 {}

@@ -23,14 +23,17 @@ mod stages;
 // The cheapest week of a nurse.
 mod weeks;
 
-// The bound of a week, and that of a period.
+// The bound of a week, that by cases, and that of a period.
 mod bound;
+mod cases;
+mod pays;
 mod periods;
 
 /// The laws of the bound.
 pub mod laws;
 
 pub use bound::{lower_bound, no_roster_exists};
+pub use cases::{lower_bound_by_cases, no_roster_exists_by_cases};
 pub use known::Known;
 pub use periods::{PricedWeek, period_bound};
 pub use weeks::{Charging, CheapestWeek, Duty, cheapest_week};

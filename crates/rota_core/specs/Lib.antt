@@ -1,4 +1,5 @@
 pub mod Bits
+pub mod CaseTables
 pub mod CellIndex
 pub mod CellLists
 pub mod Decimal

@@ -25,6 +25,7 @@
 #![tactic(auto)]
 
 mod bits;
+mod cases;
 mod cell_indices;
 mod fault;
 mod history;
@@ -46,6 +47,7 @@ mod values;
 mod week;
 
 pub use bits::Bits;
+pub use cases::{Cases, OffCase};
 pub use fault::{FileFault, FileName, Kind};
 pub use history::{History, HistoryParts};
 pub use instance::Instance;

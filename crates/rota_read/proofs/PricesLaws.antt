@@ -1,13 +1,15 @@
 -- The prices that a text spells are within the limits.
-use Rattle.std.proofs.Common.{ℕ, zero, suc, ◌*◌, ◌≤◌, List, length, arith}
+use Rattle.std.proofs.Common.{◌≡◌, ℕ, zero, suc, ◌*◌, ◌≤◌, List, length, Ok, arith}
 use Rattle.rota_core.specs.Limits.{max_price}
 use Rattle.rota_core.specs.PriceTables.{PriceTables, IsPriceTables}
 use Rattle.rota_core.specs.ScenarioTables.{ScenarioTables}
 use Rattle.rota_read.specs.Tokens.{Token}
 use Rattle.rota_read.specs.Layout.{number, repeat}
-use Rattle.rota_read.specs.PricesLayout.{price_row, prices}
+use Rattle.rota_read.specs.PricesLayout.{price_row, price_table}
 use Rattle.rota_read.specs.DayRows.{DayRows, no_day_rows, day_row, pair_index}
-use Rattle.rota_read.specs.Files.{Fills, Spells}
+use Rattle.rota_read.specs.Files.{Fills}
+use Rattle.rota_read.specs.Reading.{Reading, read_layout}
+use Rattle.rota_read.proofs.FileLaws.{fills-read}
 use Rattle.rota_read.proofs.DayTables.{days-all, RowsAll, no_rows-all, row_set-all, day_table-all}
 use Rattle.rota_read.proofs.SlotLaws.{number-within}
 
@@ -30,13 +32,14 @@ unfolding Fills repeat
 price_rows-keep pairs t zero rows front last h k = rw h.1 k
 price_rows-keep pairs t (suc n) rows front last h k = price_rows-keep pairs t n h.0 h.2 last h.5 (price_row-keeps pairs t rows h.1 h.0 h.4 k)
 
--- a text spells tables of prices only
-pub spells-is_prices : (t : ScenarioTables) (text : List ℕ) (table : PriceTables) → Spells (prices t) text table → IsPriceTables table
-unfolding Fills prices
-spells-is_prices t text table h =
-    -- the word, any word, the number of rows, the rows
-    let rows = h.filled.5.5.5 in
+-- a table that is read is a table of prices
+pub read-is_prices : (t : ScenarioTables) (last : ℕ) (all : List Token) (table : PriceTables) (after : Reading) →
+    read_layout (price_table t) (record { last = last; rest = all }) ≡ Ok (table, after) → IsPriceTables table
+unfolding Fills price_table
+read-is_prices t last all table after h =
+    -- the number of rows, the rows
+    let rows = (fills-read (price_table t) last all table after h).3.5 in
     let kept = price_rows-keep (length t.shifts * length t.skills) t _ (no_day_rows t) rows.1 rows.0 rows.4
     (no_rows-all IsPrice (length t.shifts * length t.skills)) in
-    let all = day_table-all IsPrice 0 (omega arith) (length t.shifts) (length t.skills) rows.0 kept in
-    rw rows.5.1 (record { prices = all.0; within = all.1 })
+    let are = day_table-all IsPrice 0 (omega arith) (length t.shifts) (length t.skills) rows.0 kept in
+    rw rows.5.1 (record { prices = are.0; within = are.1 })

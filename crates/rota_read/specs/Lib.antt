@@ -1,3 +1,4 @@
+pub mod CasesLayout
 pub mod DayPairs
 pub mod DayRows
 pub mod FileAnswers

@@ -15,11 +15,16 @@ price_row t rows = do
 abbrev pub table_for : ScenarioTables → List ℕ → PriceTables
 table_for t prices = record { shifts = length t.shifts; skills = length t.skills; prices = prices }
 
--- The slots of the whole file. Any word may be the scenario's name. A place without a row has the price 0.
+-- the number of rows, and the rows, which make a table; a place without a row has the price 0
+unfoldable pub price_table : ScenarioTables → Layout PriceTables
+price_table t = do
+  count ← setting (codes "ROWS") 0 max_number
+  rows ← repeat count (price_row t) (no_day_rows t)
+  end (table_for t (day_table 0 rows))
+
+-- the slots of the whole file; any word may be the scenario's name
 unfoldable pub prices : ScenarioTables → Layout PriceTables
 prices t = do
   _ ← exactly (codes "PRICES")
   _ ← any_word
-  count ← setting (codes "ROWS") 0 max_number
-  rows ← repeat count (price_row t) (no_day_rows t)
-  end (table_for t (day_table 0 rows))
+  price_table t

@@ -1,5 +1,6 @@
 //! The laws of the files. Each law holds for all texts, and does nothing when it runs.
 ghost use Rattle.rota_core.specs.ScenarioTables.{ScenarioTables};
+ghost use Rattle.rota_read.specs.CasesLayout.{cases};
 ghost use Rattle.rota_read.specs.HistoryLayout.{history};
 ghost use Rattle.rota_read.specs.HistoryRows.{GivesEachPast};
 ghost use Rattle.rota_read.specs.OneMeaning.{OneMeaning};
@@ -47,6 +48,12 @@ pub fn no_requirement_is_cut_off()
 #[tactic(auto, using(crate::proofs::FileLaws::one_meaning))]
 pub fn each_text_means_one_table_of_prices()
     ensures { (tables : ScenarioTables) → OneMeaning (prices tables) }
+{}
+
+/// For each scenario, every text spells one list of cases or has one fault, and never both.
+#[tactic(auto, using(crate::proofs::FileLaws::one_meaning))]
+pub fn each_text_means_one_list_of_cases()
+    ensures { (tables : ScenarioTables) → OneMeaning (cases tables) }
 {}
 
 /// For each scenario, every text spells the assignments of one solution or has one fault, and never

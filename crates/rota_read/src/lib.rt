@@ -13,6 +13,7 @@
 //! ```
 #![tactic(auto)]
 
+mod cases;
 mod contracts;
 mod cursor;
 mod day_rows;
@@ -32,6 +33,7 @@ mod solution;
 mod week;
 mod week_tables;
 
+pub use cases::read_cases;
 pub use days::day_name;
 pub use history::read_history;
 pub use prices::read_prices;

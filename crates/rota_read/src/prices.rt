@@ -7,7 +7,7 @@ ghost use Rattle.rota_read.specs.FileAnswers.{IsFaultOf};
 ghost use Rattle.rota_read.specs.Files.{Spells};
 ghost use Rattle.rota_read.specs.Layout.{many, number, repeat};
 ghost use Rattle.rota_read.specs.DayRows.{no_day_rows};
-ghost use Rattle.rota_read.specs.PricesLayout.{price_row, prices, table_for};
+ghost use Rattle.rota_read.specs.PricesLayout.{price_row, price_table, prices, table_for};
 ghost use Rattle.rota_read.specs.Reading.{read_layout, read_text, Reads, ReadsFile};
 
 use crate::cursor::Cursor;
@@ -71,6 +71,27 @@ impl<'a> Cursor<'a> {
         }
         Ok(())
     }
+
+    // The number of rows, and the rows: the price of each place of the table.
+    #[tactic(auto, unfolding(crate::specs::PricesLayout::price_table, crate::specs::Reading::read_layout))]
+    fn prices_of_rows(&mut self, alloc: Global, scenario: &Scenario) -> Result<Vec<u32>, Stop>
+        ensures { Reads (λ v. table_for scenario.now v.items) result self.new (read_layout (price_table scenario.now) self.old) }
+    {
+        let count = self.setting(b"ROWS", 0, MAX_NUMBER)?;
+        let mut rows = no_rows(alloc, scenario)?;
+        self.price_rows(scenario, count, &mut rows)?;
+        Ok(day_table(alloc, &rows, 0)?)
+    }
+
+    /// The number of rows, and the table that the rows make.
+    pub fn price_table(&mut self, alloc: Global, scenario: &Scenario) -> Result<Prices, Stop>
+        ensures read { Reads (λ p. p) result self.new (read_layout (price_table scenario.now) self.old) }
+        ensures shifts { IfOk result (λ p. p.shifts ≡ length scenario.now.shifts) }
+        ensures skills { IfOk result (λ p. p.skills ≡ length scenario.now.skills) }
+    {
+        let prices = self.prices_of_rows(alloc, scenario)?;
+        Ok(Prices::of_table(scenario.shifts(), scenario.skills(), prices))
+    }
 }
 
 fn no_rows(alloc: Global, scenario: &Scenario) -> Result<Vec<PriceRow>, AllocError>
@@ -80,19 +101,19 @@ fn no_rows(alloc: Global, scenario: &Scenario) -> Result<Vec<PriceRow>, AllocErr
     vec![in alloc; None; pairs]
 }
 
-// The table of the prices, from the whole text.
+// The prices of the whole text.
 #[tactic(auto, using(crate::proofs::EndLemmas::front_fails), unfolding(crate::specs::PricesLayout::prices, crate::specs::Layout::exactly, crate::specs::Reading::read_layout, crate::specs::Reading::read_text))]
-fn price_table(alloc: Global, scenario: &Scenario, text: &[u8]) -> Result<Vec<u32>, Stop>
-    ensures read { ReadsFile (λ v. table_for scenario.now v.items) result (read_text (prices scenario.now) text.now) }
+fn whole_prices(alloc: Global, scenario: &Scenario, text: &[u8]) -> Result<Prices, Stop>
+    ensures read { ReadsFile (λ p. p) result (read_text (prices scenario.now) text.now) }
+    ensures shifts { IfOk result (λ p. p.shifts ≡ length scenario.now.shifts) }
+    ensures skills { IfOk result (λ p. p.skills ≡ length scenario.now.skills) }
 {
     let mut cursor = Cursor::open(text)?;
     cursor.exactly(b"PRICES")?;
     cursor.word()?;
-    let count = cursor.setting(b"ROWS", 0, MAX_NUMBER)?;
-    let mut rows = no_rows(alloc, scenario)?;
-    cursor.price_rows(scenario, count, &mut rows)?;
+    let prices = cursor.price_table(alloc, scenario)?;
     cursor.finish()?;
-    Ok(day_table(alloc, &rows, 0)?)
+    Ok(prices)
 }
 
 /// Returns the prices that the text spells, for a scenario.
@@ -113,8 +134,5 @@ pub fn read_prices(alloc: Global, scenario: &Scenario, text: &[u8]) -> Result<Pr
     ensures skills { IfOk result (λ p. p.skills ≡ length scenario.now.skills) }
     ensures fault { IfErr result (IsFaultOf files.Prices (prices scenario.now) text.now) }
 {
-    match price_table(alloc, scenario, text) {
-        Ok(table) => Ok(Prices::of_table(scenario.shifts(), scenario.skills(), table)),
-        Err(stop) => Err(stop.in_file(FileName::Prices)),
-    }
+    whole_prices(alloc, scenario, text).map_err(|stop| stop.in_file(FileName::Prices))
 }

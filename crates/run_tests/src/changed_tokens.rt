@@ -4,7 +4,9 @@ use crate::changes::{Base, texts_of};
 use crate::file_faults::read_tables;
 use crate::jobs::Kind as JobKind;
 use rota_core::{FileFault, FileName, Instance, Kind};
-use rota_read::{read_fixed, read_history, read_prices, read_scenario, read_solution, read_week};
+use rota_read::{
+    read_cases, read_fixed, read_history, read_prices, read_scenario, read_solution, read_week,
+};
 use std::alloc::{AllocError, Global};
 use std::process::Abort;
 use std::test::Fail;
@@ -59,6 +61,17 @@ Late Head 0 0 0 22500 0 0 999999999
 Early Head 1 2 3 4 5 6 7
 ";
 
+const CASES: &[u8] = b"CASES
+s1
+OFF = 2
+Bob Mon ROWS = 1
+Late Head 0 0 0 22500 0 0 999999999
+Ann Sun ROWS = 0
+REST ROWS = 2
+Late Head 0 0 0 0 0 0 0
+Early Head 1 2 3 4 5 6 7
+";
+
 const BASE: Base = Base {
     kind: JobKind::Extend,
     early: false,
@@ -103,6 +116,7 @@ fn fault_of(alloc: Global, instance: &Instance, file: FileName, text: &[u8]) -> 
         FileName::Solution => read_solution(alloc, instance, text).err(),
         FileName::Fixed => read_fixed(alloc, instance, text).err(),
         FileName::Prices => read_prices(alloc, scenario, text).err(),
+        FileName::Cases => read_cases(alloc, scenario, text).err(),
     }
 }
 
@@ -110,7 +124,7 @@ fn fault_of(alloc: Global, instance: &Instance, file: FileName, text: &[u8]) -> 
 // `NoNumber`, `Limit`, `Unknown`, `Repeated` and `Trailing`. The last number is the sum of the faults' lines.
 type Ends = (FileName, &'static [u8], [u64; 9]);
 
-const ENDS: [Ends; 5] = [
+const ENDS: [Ends; 6] = [
     (
         FileName::Scenario,
         SCENARIO,
@@ -135,6 +149,11 @@ const ENDS: [Ends; 5] = [
         FileName::Prices,
         PRICES,
         [255, 247, 441, 1040, 96, 509, 2, 218, 10533],
+    ),
+    (
+        FileName::Cases,
+        CASES,
+        [373, 398, 1327, 1735, 174, 1272, 2, 218, 32389],
     ),
 ];
 

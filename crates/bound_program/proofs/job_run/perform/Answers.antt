@@ -20,6 +20,7 @@ returns g c =
         fix = c.run_bound.new.fix_file;
       };
       prices = c.run_bound.new.prices_file;
+      cases = c.run_bound.new.cases_file;
       roster = c.run_bound.new.roster_file;
     } in
     ran c.in_ok-opened.ensures.opened.all c.in_ok-opened.opened left c.in_ok-opened.ensures.opened.are_open c.question_of-question.result c.question_of-question.ensures

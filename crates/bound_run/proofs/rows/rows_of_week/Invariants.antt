@@ -5,7 +5,7 @@ use Rattle.rota_bound.specs.KnownCosts.{AreRight}
 use Rattle.bound_run.specs.Rows.{AreRows}
 use Rattle.bound_run.proofs.rows.rows_of_week.Given as goal
 
--- the lines of the nurses so far are there, and the known costs are right
+-- the text has the lines of the nurses so far, and the known costs are right
 abbrev pub invariant-loop-nurse : goal.invariant-loop-nurse
 invariant-loop-nurse l =
     let w = l.fn in
