@@ -17,8 +17,9 @@ use std::alloc::Global;
 ///
 /// # Errors
 ///
-/// `Bad` is the fault of one of the texts, or `LateWeek` at line 0 of the history if the scenario ends before the last
-/// of the weeks. `Memory` means that memory ran out.
+/// `Bad` is the first fault of the texts: of the scenario, the history, and each week's data and prices in order; or
+/// `LateWeek` at line 0 of the history, after the texts of a week before which the scenario ends. `Memory` means that
+/// memory ran out.
 pub fn bound_of_texts(
     alloc: Global,
     early: bool,
@@ -27,7 +28,7 @@ pub fn bound_of_texts(
     texts: &[WeekTexts],
 ) -> Result<u64, FileFault>
     ensures bound { IfOk result (IsBoundOfTexts early scenario.now history.now texts.now) }
-    ensures fault { IfErr result (IsFaultOfPeriod scenario.now history.now texts.now) }
+    ensures fault { IfErr result (IsFaultOfPeriod early scenario.now history.now texts.now) }
 {
     each_text_means_one_scenario();
     each_text_means_one_history();

@@ -40,7 +40,7 @@ pub(crate) fn read_priced_weeks(
     texts: &[WeekTexts],
 ) -> Result<Vec<PricedWeek>, FileFault>
     ensures tables { IfOk result (λ weeks. AreTablesOf early scenario.now history.now texts.now weeks.items) }
-    ensures fault { IfErr result (IsFaultOfPeriod scenario.now history.now texts.now) }
+    ensures fault { IfErr result (IsFaultOfPeriod early scenario.now history.now texts.now) }
 {
     let mut weeks = Vec::with_capacity(alloc, texts.len())?;
     for number in 0..texts.len() {

@@ -12,19 +12,23 @@ pub returns-in_err-week-clause-fault : goal.returns-in_err-week-clause-fault
 returns-in_err-week-clause-fault c =
     let p = err_from_is_err_and c.from_residual-in_err-week.result c.from_residual-in_err-week.ensures.1 in
     rw (p.1, p.2)
-    (of_week c.in_ok-scenario.scenario c.in_ok-scenario.ensures.spelled (rw c.deref.ensures.value at c.in_err-week.ensures.fault))
+    (of_week c.in_ok-scenario.scenario c.in_ok-history.history c.in_ok-scenario.ensures.spelled c.in_ok-history.ensures.spelled
+    (rw c.deref.ensures.value at c.in_err-week.ensures.fault))
 
 pub returns-in_err-prices-clause-fault : goal.returns-in_err-prices-clause-fault
 returns-in_err-prices-clause-fault c =
     let p = err_from_is_err_and c.from_residual-in_err-prices.result c.from_residual-in_err-prices.ensures.1 in
     rw (p.1, p.2)
-    (of_prices c.in_ok-scenario.scenario c.in_ok-scenario.ensures.spelled (rw c.deref-2.ensures.value at c.in_err-prices.ensures.fault))
+    (of_prices c.in_ok-scenario.scenario c.in_ok-history.history c.in_ok-week.week c.in_ok-scenario.ensures.spelled
+    c.in_ok-history.ensures.spelled (rw c.deref.ensures.value at c.in_ok-week.ensures.spelled) (rw c.deref-2.ensures.value at c.in_err-prices.ensures.fault))
 
 pub returns-in_err-history-2-clause-fault : goal.returns-in_err-history-2-clause-fault
 returns-in_err-history-2-clause-fault c =
     let p = err_from_is_err_and c.from_residual-in_err-history-2.result c.from_residual-in_err-history-2.ensures.1 in
     rw (p.1, p.2)
-    (late c.in_ok-scenario.scenario c.in_ok-history.history c.in_ok-scenario.ensures.spelled c.in_ok-history.ensures.spelled
+    (late c.in_ok-scenario.scenario c.in_ok-history.history c.in_ok-week.week c.in_ok-prices.prices c.in_ok-scenario.ensures.spelled
+    c.in_ok-history.ensures.spelled (rw c.deref.ensures.value at c.in_ok-week.ensures.spelled)
+    (rw c.deref-2.ensures.value at c.in_ok-prices.ensures.spelled)
     c.in_err-history-2.ensures.late c.in_err-history-2.ensures.fault)
 
 pub returns-clause-tables : goal.returns-clause-tables

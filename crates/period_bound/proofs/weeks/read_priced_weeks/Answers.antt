@@ -1,4 +1,5 @@
-use Rattle.std.proofs.Common.{sym}
+use Rattle.std.proofs.Common.{length, refl}
+use Rattle.std.proofs.lemmas.Option.{slice_get_read}
 use Rattle.std.proofs.lemmas.Result.{err_from_is_err_and}
 use Rattle.period_bound.specs.PeriodFaults.IsFaultOfPeriod.{of_week}
 use Rattle.period_bound.specs.PeriodTables.{AreTablesFrom}
@@ -13,8 +14,10 @@ pub returns-in_err-read_priced_week-clause-fault : goal.returns-in_err-read_pric
 returns-in_err-read_priced_week-clause-fault c =
     let p = err_from_is_err_and c.from_residual-in_err-read_priced_week.result c.from_residual-in_err-read_priced_week.ensures.1 in
     rw (p.1, p.2)
-    (of_week c.loop-number.number c.loop-number-test.true c.index-texts-number.result (sym c.index-texts-number.is)
-    c.in_err-read_priced_week.ensures.fault)
+    (of_week c.loop-number.number c.index-texts-number.result c.loop-number.weeks.items
+    (slice_get_read c.args.texts.now (length c.args.texts.now) c.loop-number.number c.index-texts-number.result refl c.loop-number-test.true
+    c.index-texts-number.is)
+    c.loop-number.invariant c.in_err-read_priced_week.ensures.fault)
 
 pub loop-number-preserved : goal.loop-number-preserved
 loop-number-preserved c =
