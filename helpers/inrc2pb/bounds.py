@@ -8,16 +8,19 @@ from dataclasses import dataclass
 from pathlib import Path
 from typing import Callable, List, Optional, Sequence, Tuple
 
+from .cases import PricedCase
 from .faults import ProgramFault
 from .plan import WEEK_DAYS
 from .pricing import Prices
 from .processes import Processes
 from .program import LONGEST_RUN, WeekFiles, find_program, run_unless_stopped
-from .records import Place, Scenario
+from .records import DAYS, Place, Scenario
 from .writing import write_text
 
 PROVER, PERIOD_PROVER, PLAIN = "inrc2pb-bound", "inrc2pb-period-bound", "plain Python, not proved"
-# The options of a week's files, and the text of its prices.
+# The options of the programs for what proves a bound.
+PRICES, CASES = "--prices", "--cases"
+# The options of a week's files, and the text of its prices or cases.
 PricedWeek = Tuple[Sequence[str], str]
 
 
@@ -29,12 +32,25 @@ def find_prover(name: str) -> Optional[Path]:
 
 def prices_text(scenario: Scenario, places: Sequence[Place], prices: Prices) -> str:
     """The text of a file of prices, in thousandths, for one week."""
+    return "\n".join(["PRICES", scenario.name, "", *_rows(places, prices)]) + "\n"
+
+
+def cases_text(scenario: Scenario, places: Sequence[Place], nurses: Sequence[str], cases: Sequence[PricedCase]) -> str:
+    """The text of a file of cases, each with a table of prices, for one week."""
+    lines = ["CASES", scenario.name, "", f"OFF = {len(cases) - 1}"]
+    for off, prices in cases:
+        head, *rows = _rows(places, prices)
+        lines += [f"{nurses[off[0]]} {DAYS[off[1]]} {head}" if off else f"REST {head}", *rows]
+    return "\n".join(lines) + "\n"
+
+
+def _rows(places: Sequence[Place], prices: Prices) -> List[str]:
+    """The rows of a table of prices, after their number."""
     rows: "dict[tuple[str, str], List[int]]" = {}
     for place, price in zip(places, prices):
         if price:
             rows.setdefault((place.shift, place.skill), [0] * WEEK_DAYS)[place.day] = price
-    lines = [" ".join([shift, skill, *map(str, row)]) for (shift, skill), row in rows.items()]
-    return "\n".join(["PRICES", scenario.name, "", f"ROWS = {len(lines)}", *lines]) + "\n"
+    return [f"ROWS = {len(rows)}", *(" ".join([shift, skill, *map(str, row)]) for (shift, skill), row in rows.items())]
 
 
 @dataclass(frozen=True)
@@ -43,6 +59,8 @@ class Bound:
 
     points: int
     by: str
+    # The option of the file that proves it.
+    option: str = PRICES
 
 
 class Prover:
@@ -57,8 +75,8 @@ class Prover:
         """Whether the program is there and had no fault."""
         return self._program is not None
 
-    def answer(self, weeks: Sequence[PricedWeek], words: Sequence[str] = (), seconds: float = LONGEST_RUN) -> Optional[str]:
-        """What the program prints about these weeks."""
+    def answer(self, weeks: Sequence[PricedWeek], words: Sequence[str] = (), seconds: float = LONGEST_RUN, option: str = PRICES) -> Optional[str]:
+        """What the program prints about these weeks, with their texts as files of this option."""
         if self._program is None:
             return None
         with tempfile.TemporaryDirectory(prefix=f"{self.name}-") as folder:
@@ -66,22 +84,22 @@ class Prover:
             for number, (options, text) in enumerate(weeks):
                 path = Path(folder, f"prices-{number}.txt")
                 write_text(path, text)
-                given += [*options, "--prices", str(path)]
+                given += [*options, option, str(path)]
             try:
                 return run_unless_stopped(self._program, [*given, *words], seconds, self._processes)
             except ProgramFault as fault:
                 self.fail(str(fault))
                 return None
 
-    def bound(self, weeks: Sequence[PricedWeek], seconds: float = LONGEST_RUN) -> Optional[Bound]:
-        """The bound that the program proves."""
-        answer = self.answer(weeks, (), seconds)
+    def bound(self, weeks: Sequence[PricedWeek], seconds: float = LONGEST_RUN, option: str = PRICES) -> Optional[Bound]:
+        """The bound that the program proves by the texts."""
+        answer = self.answer(weeks, (), seconds, option)
         if answer is None:
             return None
         found = re.match("lower bound ([0-9]{1,18})\n", answer)
         if not found:
             self.fail("its answer is no bound")
-        return Bound(int(found[1]), self.name) if found else None
+        return Bound(int(found[1]), self.name, option) if found else None
 
     def fail(self, fault: str) -> None:
         """From now on the program has no answer."""
@@ -90,7 +108,7 @@ class Prover:
 
 
 class Bounds:
-    """The bounds of a week. `target` is the file that gets the prices of the best one, if any. After a fault of `inrc2pb-bound`, which
+    """The bounds of a week. `target` is the file that gets the prices or the cases of the best one, if any. After a fault of `inrc2pb-bound`, which
     `warn` gets, bounds are computed in plain Python."""
 
     def __init__(self, files: WeekFiles, scenario: Scenario, places: Sequence[Place], target: Optional[Path], warn: Callable[[str], None]) -> None:
@@ -104,16 +122,27 @@ class Bounds:
         """The bound of these prices; `plain` computes it in plain Python."""
         if prices is not self._seen or self._best is None:
             self._seen = prices
-            found = self._prover.bound([self._priced(prices)]) or Bound(plain(), PLAIN)
-            if self._best is None or found.points > self._best.points:
-                self._best = found
-                self._write(prices)
+            self._take(self._priced(prices), PRICES, plain)
+        assert self._best is not None
         return self._best
+
+    def of_cases(self, nurses: Sequence[str], cases: Sequence[PricedCase], plain: Callable[[], int]) -> Bound:
+        """The best bound, after one by cases; `plain` computes it in plain Python."""
+        self._take((self._files.options(), cases_text(self._scenario, self._places, nurses, cases)), CASES, plain)
+        assert self._best is not None
+        return self._best
+
+    def _take(self, week: PricedWeek, option: str, plain: Callable[[], int]) -> None:
+        """Keeps the bound by the text of a week if it is the best one."""
+        found = self._prover.bound([week], option=option) or Bound(plain(), PLAIN, option)
+        if self._best is None or found.points > self._best.points:
+            self._best = found
+            self._write(week)
 
     def no_roster(self, places: Sequence[Place], prices: Prices) -> Optional[str]:
         """What proved by these prices that no roster keeps the minimums; None if they do not prove it."""
         self._places = places
-        self._write(prices)
+        self._write(self._priced(prices))
         answer = self._prover.answer([self._priced(prices)], ["--minimums"])
         if answer is None:
             return PLAIN
@@ -122,6 +151,6 @@ class Bounds:
     def _priced(self, prices: Prices) -> PricedWeek:
         return self._files.options(), prices_text(self._scenario, self._places, prices)
 
-    def _write(self, prices: Prices) -> None:
+    def _write(self, week: PricedWeek) -> None:
         if self._target:
-            write_text(self._target, self._priced(prices)[1])
+            write_text(self._target, week[1])

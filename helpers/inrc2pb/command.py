@@ -116,6 +116,7 @@ def run(main: Callable[[], Optional[int]]) -> None:
         _catch_signals()
         status = main() or 0
         sys.stdout.flush()
+        _ignore_signals()
     except BrokenPipeError:
         os.dup2(os.open(os.devnull, os.O_WRONLY), 1)
         status = BROKEN_PIPE
@@ -149,6 +150,12 @@ def _catch_signals() -> None:
         if signal.getsignal(number) == signal.SIG_DFL:
             signal.signal(number, _end)
     signal.signal(signal.SIGCHLD, signal.SIG_DFL)
+
+
+def _ignore_signals() -> None:
+    """All is done: a signal that comes while Python ends does not change the status."""
+    for number in (signal.SIGINT, signal.SIGTERM, signal.SIGHUP):
+        signal.signal(number, signal.SIG_IGN)
 
 
 def _end(number: int, _frame: object) -> None:

@@ -10,7 +10,7 @@ from typing import List, Optional, Sequence
 
 from .absences import in_words, way_out
 from .best_roster import BestRoster
-from .bounds import PROVER
+from .bounds import CASES, PROVER
 from .clock import Clock
 from .command import add_solver_option, add_week_options, check_seconds, number_of_seconds, parser, week_files
 from .faults import Misuse, ProgramFault
@@ -33,11 +33,15 @@ class SearchResult:
     `fault` is the fault that ended it.
     """
 
-    def __init__(self, report: Report, search: WeekSearch, best: BestRoster, stopped: bool, fault: Optional[BaseException]) -> None:
+    def __init__(
+        self, report: Report, search: WeekSearch, best: BestRoster, stopped: bool, fault: Optional[BaseException], prices: Optional[Path] = None
+    ) -> None:
         self.report = report
         self.breaks = bool(best.breaks())
         self.bound = search.bound.points if search.bound else None
         self.bound_by = search.bound.by if search.bound else ""
+        # The file that has cases in place of prices, if any.
+        self.cases = prices if search.bound and search.bound.option == CASES else None
         self.claimed_by = search.claimed_by
         self.proved = best.proved
         self.stopped = stopped
@@ -45,6 +49,9 @@ class SearchResult:
 
     def lines(self) -> List[str]:
         """The lines that follow the report."""
+        return [*self._bound_lines(), *([f"{self.cases} has cases: {PROVER} {CASES} reads them"] if self.cases else [])]
+
+    def _bound_lines(self) -> List[str]:
         if self.bound is None:
             return ["no lower bound"]
         line = f"lower bound {self.bound} ({self.bound_by})"
@@ -66,7 +73,7 @@ def improve(
     """Searches for these seconds, writes the best roster to `solution`, and returns its report and lower bound.
 
     `start` is the roster to begin with, `solver` a command that solves the whole week in place of the search over rows, and
-    `prices` the file for the prices that prove the bound. Ctrl-C, TERM or a fault end the search: the roster is written, then
+    `prices` the file for the prices, or the cases with prices, that prove the bound. Ctrl-C, TERM or a fault end the search: the roster is written, then
     KeyboardInterrupt or the fault is raised.
     """
     outcome = search(files, solution, start, seconds, solver, prices, Progress(None))
@@ -112,14 +119,16 @@ def search(
         finally:
             progress.finish()
             shutil.rmtree(folder, ignore_errors=True)
-        outcome = _result(best, running, bool(signals.caught), fault, seconds)
+        outcome = _result(best, running, bool(signals.caught), fault, seconds, prices)
         if best.breaks():
             progress.warn(f"no roster was found that keeps every absence: {in_words(best.breaks())}")
             progress.warn(way_out(week.scenario, held, best.breaks()))
         return outcome
 
 
-def _result(best: BestRoster, running: WeekSearch, stopped: bool, fault: Optional[BaseException], seconds: float) -> SearchResult:
+def _result(
+    best: BestRoster, running: WeekSearch, stopped: bool, fault: Optional[BaseException], seconds: float, prices: Optional[Path]
+) -> SearchResult:
     """The result of a search that has ended. Without a roster it is a ProgramFault that says why."""
     bound = running.bound
     best.proved = best.penalty is not None and (bool(running.claimed_by) or (bound is not None and best.penalty <= bound.points))
@@ -133,7 +142,7 @@ def _result(best: BestRoster, running: WeekSearch, stopped: bool, fault: Optiona
         late = f"no roster was found in {round(seconds, 1):g} s: give it more time"
         ended = "no roster was found, and no proof that none exists: try --solver clasp"
         raise fault or ProgramFault(NO_ROSTER, ended if running.has_time else late)
-    return SearchResult(report, running, best, stopped, fault)
+    return SearchResult(report, running, best, stopped, fault, prices)
 
 
 def held_rows(fix: Path, week: Week, progress: Progress) -> Sequence[Assignment]:
@@ -151,7 +160,7 @@ def _options() -> argparse.ArgumentParser:
     options.add_argument("--sol", metavar="FILE", type=Path, required=True, help="the roster to write; it always has the best one of this run")
     options.add_argument("--from", dest="start", metavar="FILE", type=Path, help="the roster to begin with (default: none)")
     options.add_argument("--time", metavar="SECONDS", type=number_of_seconds, default=SECONDS, help="the most seconds to search (default: %(default).0f)")
-    options.add_argument("--prices", metavar="FILE", type=Path, help="the file for the prices that prove the lower bound, for inrc2pb-bound")
+    options.add_argument("--prices", metavar="FILE", type=Path, help="the file for the prices, or the cases, that prove the lower bound, for inrc2pb-bound")
     add_solver_option(options)
     return options
 

@@ -15,7 +15,7 @@ from .writing import write_text
 
 # The part of the time in which prices are proved that may still become better.
 LAST_SHARE = 0.3
-# Seconds of a wait for a proof; a longer one is told.
+# Seconds of a wait for a proof; a longer one is reported.
 WAIT_SECONDS = 1.0
 
 

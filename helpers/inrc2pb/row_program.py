@@ -1,5 +1,6 @@
 """The program that chooses one known row for each nurse, as a linear or integer program in the MPS format."""
 
+import copy
 from typing import Dict, Iterable, List, NamedTuple, Optional, Sequence, Tuple
 
 from .linear_solvers import Relaxed, SolverFault
@@ -56,19 +57,34 @@ class RowProgram:
         prices."""
         of = self._crews.of[nurse]
         crews = [of[day][choice] for day, choice in enumerate(row)]
-        named = [self._crews.members[crew] for crew in crews]
         places = tuple(at or (self._crews.best_place(crew, prices) for crew in crews)) if self.names_places else ()
-        used = places if self.names_places else tuple(places[0] if len(places) == 1 else None for places in named)
         key = (nurse, row, tuple(-1 if place is None else place for place in places))
-        if key in self._known:
-            return self._known[key]
-        self._known[key] = len(self.columns)
+        if key not in self._known:
+            self._known[key] = len(self.columns)
+            self.columns.append(self._column_at(len(self.columns), nurse, row, cost, places))
+        return self._known[key]
+
+    def _column_at(self, number: int, nurse: int, row: Row, cost: int, places: Sequence[Optional[int]]) -> Column:
+        """The column of this number. If columns name places, these are its own."""
+        of = self._crews.of[nurse]
+        crews = [of[day][choice] for day, choice in enumerate(row)]
+        named = [self._crews.members[crew] for crew in crews]
+        used = places if self.names_places else tuple(places[0] if len(places) == 1 else None for places in named)
         links = () if self.names_places else tuple(crew for crew, places in zip(crews, named) if len(places) > 1)
-        name = f"v{len(self.columns)}"
+        name = f"v{number}"
         rows = [f"n{nurse}", *(f"c{place}" for place in used if place is not None), *(f"k{crew}" for crew in links)]
         text = (_entry(name, "obj", cost) if cost else "") + "".join(_entry(name, row, 1) for row in rows)
-        self.columns.append(Column(nurse, row, cost, links, text))
-        return self._known[key]
+        return Column(nurse, row, cost, links, text)
+
+    def varied(self, crews: Crews, nurses: Iterable[int]) -> "RowProgram":
+        """The same program, if other crews count for the rows of these nurses. Its columns name no places."""
+        other, changed = copy.copy(self), set(nurses)
+        other._crews, other._known, other._at = crews, dict(self._known), dict(self._at)
+        other.columns = list(self.columns)
+        for number, (nurse, row, cost, *_) in enumerate(other.columns):
+            if nurse in changed:
+                other.columns[number] = other._column_at(number, nurse, row, cost, ())
+        return other
 
     def text(self, use: Iterable[int], whole: bool = False) -> str:
         """The program over these columns; `whole` makes them integers."""

@@ -1,16 +1,21 @@
 """All steps of a search over rows, in their order and within its time."""
 
+import contextlib
+import time
 from typing import Callable, List, Optional, Tuple, TypeVar
 
+from .case_hunt import CaseHunt
+from .cases import PricedCase
 from .clock import Clock, TimeIsOver
 from .first_rows import matched_rows
-from .linear_solvers import LinearSolver
-from .plan import Plan
+from .linear_solvers import LinearSolver, SolverFault
+from .plan import POINT, STEP, Plan
 from .pricing import Crews, Prices, Pricing, Row
 from .processes import processors
 from .records import Place
+from .row_generation import NoRow, RowGeneration
 from .row_parts import RowParts
-from .row_search import GIVEN, NoRow, Offer, RowSearch
+from .row_search import GIVEN, Offer, RowSearch
 from .skills import staffed
 
 # The shares of the time that is left: for new rows before a dive, for the dive, for one when no row is missing, for an integer program
@@ -18,6 +23,9 @@ from .skills import staffed
 ROWS_SHARE, DIVE_SHARE, LAST_DIVE_SHARE, KNOWN_SHARE, LISTED_SHARE = 0.5, 0.5, 0.8, 0.03, 0.5
 # The most rows of an integer program.
 MOST_LISTED = 6_000
+# The seconds for cases if a solver claims the best roster, or more if the search took longer. Without a claim cases are tried up to this
+# gap, in thousandths, in a share of the time that is left.
+CASES_SECONDS, CASES_GAP, CASES_SHARE = 5.0, STEP * POINT, 0.05
 Found = TypeVar("Found")
 
 
@@ -34,8 +42,9 @@ class RowRun:
         # Places, and prices of them that prove that no roster keeps the minimums; or the nurse who has no row.
         self.minimums: Optional[Tuple[List[Place], Prices]] = None
         self.without_row: Optional[str] = None
-        # Whether the solver claims that no roster costs less, over all rows that such a roster can have.
+        # Whether the solver claims that no roster costs less, over all rows that such a roster can have, and cases that prove it.
         self.claimed = False
+        self.cases: Optional[List[PricedCase]] = None
 
     def run(self) -> None:
         """Searches until the time is over, the best roster is proved, or no roster exists."""
@@ -74,10 +83,10 @@ class RowRun:
     def _no_roster(self) -> bool:
         """Whether prices prove that no roster keeps the minimums."""
         plan = self._plan.hard_only()
-        search = RowSearch(Pricing(plan, Crews(plan), self._clock.check), self._solver, self._clock, lambda rows, finder: None, lambda: None)
-        search.generate(self._clock)
-        if search.bound is not None and search.bound > 0:
-            self.minimums = search.pricing.crews.places, search.prices
+        generation = RowGeneration(Pricing(plan, Crews(plan), self._clock.check), self._solver, lambda: None)
+        generation.generate(self._clock)
+        if generation.bound is not None and generation.bound > 0:
+            self.minimums = generation.pricing.crews.places, generation.prices
         return self.minimums is not None
 
     def _close_gap(self, search: RowSearch, solver: LinearSolver) -> None:
@@ -92,8 +101,28 @@ class RowRun:
                 break
             if search.choose(use, clock.part(clock.left() * LISTED_SHARE), f"{len(use)} rows"):
                 self.claimed = True
+                self._find_cases(search, solver, max(CASES_SECONDS, time.monotonic() - clock.began))
                 return
             if search.penalty == before:
                 break
         if search.penalty is not None and solver.chooses:
-            RowParts(search, [solver, *(solver.beside(number) for number in range(1, processors()))]).run(clock)
+            if search.gap() <= CASES_GAP:
+                self._find_cases(search, solver, clock.left() * CASES_SHARE)
+            if not self.cases:
+                RowParts(search, _side_by_side(solver)).run(clock)
+
+    def _find_cases(self, search: RowSearch, solver: LinearSolver, seconds: float) -> None:
+        """Looks for cases of a single week that prove that no roster costs less than the best one."""
+        if search.is_proved or search.program.names_places or len(self._plan.weeks) > 1:
+            return
+        hunt = CaseHunt(search, _side_by_side(solver))
+        # Without cases all is as before.
+        with contextlib.suppress(SolverFault, TimeIsOver):
+            hunt.run(self._clock.part(seconds))
+        self.cases = hunt.found
+        self._clock.check()
+
+
+def _side_by_side(solver: LinearSolver) -> List[LinearSolver]:
+    """As many solvers as there are processors."""
+    return [solver, *(solver.beside(number) for number in range(1, processors()))]

@@ -7,6 +7,7 @@ from typing import List, Optional, Sequence
 from .absences import absences_of
 from .best_roster import BestRoster
 from .bounds import Bound, Bounds
+from .cases import plain_cases_bound
 from .clock import Clock
 from .faults import Misuse, ProgramFault, page
 from .files import Assignment, Week, read_solution
@@ -95,11 +96,14 @@ class WeekSearch:
         return run
 
     def _see(self, run: RowRun, bounds: Bounds) -> None:
-        """Takes the bound of the best prices. It holds for rosters that break absences, too."""
+        """Takes the bound of the best prices, and of the cases. It holds for rosters that break absences, too."""
         search = run.search
         if search and search.lower_bound is not None:
             lower, prices, pricing = search.lower_bound, search.prices, search.pricing
             bound = bounds.of(prices, lambda: plain_bound(pricing.without_absences(), prices) if pricing.plan.away else lower)
+            cases = run.cases
+            if cases:
+                bound = bounds.of_cases(pricing.plan.nurses, cases, lambda: plain_cases_bound(pricing.without_absences(), cases or ()))
             if self.bound is None or bound.points > self.bound.points:
                 self.bound = bound
                 self._progress.bound_rose(bound.points)

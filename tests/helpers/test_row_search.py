@@ -10,7 +10,7 @@ from unittest import mock
 
 from ward import HAS_CBC, ROOT, HelperTest, files
 
-from inrc2pb import row_program, row_search
+from inrc2pb import row_generation, row_program
 from inrc2pb.clock import Clock
 from inrc2pb.linear_solvers import Chosen, LinearSolver, LinearSolvers, SolverFault
 from inrc2pb.plan import Plan
@@ -74,7 +74,7 @@ class RowSearches(HelperTest):
 
     @unittest.skipUnless(HAS_CBC, "needs cbc")
     def test_columns_that_were_dropped_come_back(self):
-        with mock.patch.multiple(row_search, KEPT=2, MOST_USED=3, LEAST_USED=0):
+        with mock.patch.multiple(row_generation, KEPT=2, MOST_USED=3, LEAST_USED=0):
             search = self.run_rows(week_of("thirty")).search
         self.assertEqual((search.penalty, search.lower_bound), (605, 605))
 
