@@ -133,24 +133,24 @@ named_pages_exist() {
 limits() {
     cat << END
 CONTRIBUTING.md 901
-examples/README.md 310
-bench/README.md 660
+examples/README.md 302
+bench/README.md 657
 README.md 698
-docs/DECISIONS.md 1104
+docs/DECISIONS.md 1107
 docs/answers.md 1505
-docs/changing.md 805
-docs/embedding.md 1491
-docs/formats.md 1058
-docs/helpers.md 879
-docs/layers.md 537
+docs/changing.md 804
+docs/embedding.md 1477
+docs/formats.md 1106
+docs/helpers.md 835
+docs/layers.md 540
 docs/model.md 1686
 docs/promises.md 654
-docs/proved.md 1417
-docs/reading.md 2607
+docs/proved.md 1446
+docs/reading.md 2640
 docs/rules.md 1354
-docs/solvers.md 1232
-docs/tested.md 691
-docs/trusted.md 787
+docs/solvers.md 1182
+docs/tested.md 692
+docs/trusted.md 777
 docs/your_ward.md 2495
 END
 }
