@@ -104,6 +104,19 @@ class Pricing:
         part.base, part.wishes = [self.base[number] for number in numbers], [self.wishes[number] for number in numbers]
         return part
 
+    def on_days(self, days: range, rows: Sequence[Row]) -> "Pricing":
+        """The same for rows that differ from these ones on these days only."""
+        part = copy.copy(self)
+        part.wishes = []
+        for crews, wishes, row in zip(self.crews.of, self.wishes, rows):
+            kept = {}
+            for day in range(self.plan.days):
+                if day not in days:
+                    costs = wishes.get(day, [0] * len(crews[day]))
+                    kept[day] = [cost if choice == row[day] else NEVER for choice, cost in enumerate(costs)]
+            part.wishes.append({**wishes, **kept})
+        return part
+
     def without_absences(self) -> "Pricing":
         """The same for a plan in which absences may be broken."""
         free = copy.copy(self)

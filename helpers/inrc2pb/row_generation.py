@@ -71,14 +71,15 @@ class RowGeneration:
             if cost is not None:
                 self._add(nurse_number, row, cost, self.prices, places[nurse_number])
 
-    def begin_with(self, whole: "RowGeneration", nurses: Sequence[int]) -> None:
-        """Begins with the prices for more nurses, and with the known rows of these ones."""
+    def begin_with(self, whole: "RowGeneration", nurses: Sequence[int], rows: Sequence[Row], days: range) -> None:
+        """Begins with the prices for more nurses, and with the known rows of these ones; beside these days they keep the given rows."""
         known = dict(zip(whole.pricing.crews.places, whole.prices))
         self.prices = [known.get(place, 0) for place in self.pricing.crews.places]
         numbers = {nurse: number for number, nurse in enumerate(nurses)}
         for column in list(whole.program.columns):
             if column.nurse in numbers:
-                self._add(numbers[column.nurse], column.row, column.cost, self.prices)
+                number = numbers[column.nurse]
+                self.add_row(number, rows[number][: days.start] + column.row[days.start : days.stop] + rows[number][days.stop :])
 
     def add_row(self, nurse: int, row: Row) -> None:
         """Adds a row to the program, if no hard rule forbids it."""

@@ -1,4 +1,4 @@
-"""Neighborhoods over rows: some nurses get new rows beside those of all others, as a small plan of their own."""
+"""Neighborhoods over rows: some nurses get new rows on some days beside all other choices, as a small plan of their own."""
 
 import concurrent.futures
 import contextlib
@@ -6,12 +6,12 @@ import random
 import threading
 import time
 from dataclasses import replace
-from typing import Callable, Dict, List, Optional, Sequence
+from typing import Callable, Dict, List, NamedTuple, Optional, Sequence
 
 from .clock import Clock, TimeIsOver
 from .linear_solvers import LinearSolver, SolverFault
 from .plan import POINT, WEEK_DAYS
-from .pricing import Row
+from .pricing import Pricing, Row
 from .records import Place, Requirement
 from .row_search import RowSearch
 from .skills import staffed
@@ -21,11 +21,20 @@ FIRST_SIZE, LEAST_SIZE = 20.0, 4
 # A neighborhood that takes less than the first of these seconds is followed by a larger one; the second is its limit.
 QUICK_SECONDS, MOST_SECONDS = 1.5, 6.0
 GROWTH, SHRINKAGE = 1.15, 0.96
+# The days of the neighborhoods beside those with all days of a plan.
+LENGTHS = (10, 14, 21)
 # From this gap on, in thousandths, a neighborhood is worth a dive.
 DIVE_GAP = 50 * POINT
 # Up to this part of the bound a gap is small. The share of the time that is left for an integer program over the known rows of all
 # nurses then.
 SMALL_GAP, WHOLE_SHARE = 0.03, 0.3
+
+
+class Part(NamedTuple):
+    """A neighborhood: the nurses who may get new rows, and the days on which these may differ from their rows now."""
+
+    nurses: Sequence[int]
+    days: range
 
 
 class RowParts:
@@ -35,8 +44,10 @@ class RowParts:
         self._search, self._solvers = search, solvers
         self._chance = random.Random(1)
         self._least = search.least_values()
-        self._size = min(len(search.plan.nurses), FIRST_SIZE * (WEEK_DAYS / search.plan.days) ** 0.5)
-        # Guards all that the threads share: the search, the size and the chance.
+        days = search.plan.days
+        # The number of nurses for each number of days.
+        self._sizes = {length: FIRST_SIZE * (WEEK_DAYS / length) ** 0.5 for length in sorted({min(length, days) for length in (*LENGTHS, days)})}
+        # Guards all that the threads share: the search, the sizes and the chance.
         self._lock = threading.Lock()
 
     def run(self, clock: Clock) -> None:
@@ -59,73 +70,89 @@ class RowParts:
         search = self._search
         if is_first and search.bound is not None and search.penalty is not None and search.gap() < SMALL_GAP * search.bound:
             with contextlib.suppress(TimeIsOver):
-                self.improve(range(len(search.plan.nurses)), solver, clock.part(clock.left() * WHOLE_SHARE))
+                everything = Part(range(len(search.plan.nurses)), range(search.plan.days))
+                self.improve(everything, solver, clock.part(clock.left() * WHOLE_SHARE))
         while not search.is_proved:
             clock.check()
-            began = time.monotonic()
+            part, began = self._next(), time.monotonic()
             try:
-                ended = self.improve(self._nurses(), solver, clock.part(MOST_SECONDS))
+                ended = self.improve(part, solver, clock.part(MOST_SECONDS))
             except TimeIsOver:
                 ended = False
-                self._resize(1 / GROWTH)
+                self._resize(part, 1 / GROWTH)
             if not ended:
-                self._resize(SHRINKAGE)
+                self._resize(part, SHRINKAGE)
             elif time.monotonic() - began < QUICK_SECONDS:
-                self._resize(GROWTH)
+                self._resize(part, GROWTH)
         clock.stop()
         solver.end_all()
 
-    def _resize(self, factor: float) -> None:
+    def _resize(self, part: Part, factor: float) -> None:
+        """Changes the number of nurses of the next neighborhoods with as many days."""
         with self._lock:
-            self._size = min(len(self._search.plan.nurses), max(LEAST_SIZE, self._size * factor))
+            size = self._sizes[len(part.days)] * factor
+            self._sizes[len(part.days)] = min(len(self._search.plan.nurses), max(LEAST_SIZE, size))
 
-    def _nurses(self) -> List[int]:
+    def _next(self) -> Part:
+        """A neighborhood at random."""
+        with self._lock:
+            days = self._search.plan.days
+            length = self._chance.choice(list(self._sizes))
+            first = self._chance.randrange(days - length + 1)
+            return Part(self._nurses(int(self._sizes[length])), range(first, first + length))
+
+    def _nurses(self, size: int) -> List[int]:
         """Nurses for a neighborhood: half of them have rows that cost more at the best prices than their cheapest ones. In every second
         neighborhood the others are those who share the most skills with one of them."""
-        with self._lock:
-            rows, size = self._search.rows, int(self._size)
-            assert rows is not None
-            costly = self._search.costly(rows, self._least)
-            first = self._chance.sample(costly, min(len(costly), size // 2))
-            rest = [nurse for nurse in range(len(rows)) if nurse not in first]
-            self._chance.shuffle(rest)
-            if costly and self._chance.random() < 0.5:
-                first = [self._chance.choice(costly)]
-                rest = sorted((nurse for nurse in range(len(rows)) if nurse != first[0]), key=self._alike(first[0]))
-            return sorted(first + rest[: size - len(first)])
+        rows = self._search.rows
+        assert rows is not None
+        costly = self._search.costly(rows, self._least)
+        first = self._chance.sample(costly, min(len(costly), size // 2))
+        rest = [nurse for nurse in range(len(rows)) if nurse not in first]
+        self._chance.shuffle(rest)
+        if costly and self._chance.random() < 0.5:
+            first = [self._chance.choice(costly)]
+            rest = sorted((nurse for nurse in range(len(rows)) if nurse != first[0]), key=self._alike(first[0]))
+        return sorted(first + rest[: size - len(first)])
 
     def _alike(self, nurse: int) -> Callable[[int], float]:
         """How few skills another nurse shares with this one, with chance among equals."""
         skills = [set(self._search.plan.scenario.nurses[name].skills) for name in self._search.plan.nurses]
         return lambda other: self._chance.random() - len(skills[other] & skills[nurse])
 
-    def improve(self, nurses: Sequence[int], solver: LinearSolver, clock: Clock) -> bool:
-        """Looks for better rows of these nurses. Returns whether there are some, or there are none."""
-        whole = self._search
+    def improve(self, part: Part, solver: LinearSolver, clock: Clock) -> bool:
+        """Looks for better rows of a neighborhood. Returns whether there are some, or there are none."""
+        whole, nurses = self._search, part.nurses
         with self._lock:
             assert whole.rows is not None
             rows = list(whole.rows)
-        names = tuple(whole.plan.nurses[nurse] for nurse in nurses)
-        plan = replace(whole.plan, nurses=names, demand=self._left(rows, set(names)))
 
         def offer(found: List[Row], finder: str) -> Optional[int]:
             # Meanwhile another thread may have found better rows of other nurses.
             with self._lock:
                 assert whole.rows is not None
                 kept = whole.keep(_with(whole.rows, nurses, found), finder) or whole.keep(_with(rows, nurses, found), finder)
-            return part.value_of(found) if kept else None
+            return search.value_of(found) if kept else None
 
-        part = RowSearch(whole.pricing.part(plan), solver, clock, offer, lambda: None)
-        part.rows = [rows[nurse] for nurse in nurses]
-        part.penalty = part.value_of(part.rows)
-        part.add_roster(part.rows)
-        part.begin_with(whole, nurses)
-        part.generate(clock)
-        if part.penalty is None or part.gap() > DIVE_GAP:
-            found = part.dive(clock)
-            if found and part.keep(found, f"{len(nurses)} nurses, fixing rows"):
+        search = RowSearch(self._pricing(part, rows), solver, clock, offer, lambda: None)
+        search.rows = [rows[nurse] for nurse in nurses]
+        search.penalty = search.value_of(search.rows)
+        search.add_roster(search.rows)
+        search.begin_with(whole, nurses, search.rows, part.days)
+        search.generate(clock)
+        name = f"{len(nurses)} nurses" + (f", {len(part.days)} days" if len(part.days) < whole.plan.days else "")
+        if search.penalty is None or search.gap() > DIVE_GAP:
+            found = search.dive(clock)
+            if found and search.keep(found, f"{name}, fixing rows"):
                 return True
-        return part.is_proved or part.choose(part.known_within(), clock, f"{len(nurses)} nurses")
+        return search.is_proved or search.choose(search.known_within(), clock, name)
+
+    def _pricing(self, part: Part, rows: Sequence[Row]) -> Pricing:
+        """The rows of a neighborhood, with the demand that the other nurses leave on its days."""
+        whole, names = self._search, tuple(self._search.plan.nurses[nurse] for nurse in part.nurses)
+        left = {place: asked for place, asked in self._left(rows, set(names)).items() if place.day in part.days}
+        pricing = whole.pricing.part(replace(whole.plan, nurses=names, demand=left))
+        return pricing.on_days(part.days, [rows[nurse] for nurse in part.nurses])
 
     def _left(self, rows: Sequence[Row], names: "set[str]") -> Dict[Place, Requirement]:
         """The demand that the other nurses leave."""

@@ -148,7 +148,7 @@ class Parts(HelperTest):
         search.begin(matched_rows(plan, search.pricing.crews, lambda: None), None)
         parts = RowParts(search, [solver, solver.beside(1)])
 
-        def improve(nurses, solver, clock):
+        def improve(part, solver, clock):
             if solver is parts._solvers[1]:
                 words = ["sh", "-c", "echo ready; exec sleep 60"]
                 ended.append(solver._processes.run(words, 60, self.folder, hear=lambda data: ready.set()).status)
@@ -168,10 +168,10 @@ class Parts(HelperTest):
             search = RowSearch(Pricing(plan, Crews(plan), lambda: None), solver, Clock(60), lambda rows, finder: search.value_of(rows), lambda: None)
             search.begin(matched_rows(plan, search.pricing.crews, lambda: None), None)
             parts = RowParts(search, [solver])
-            first = parts._size
+            first = parts._sizes[7]
             with mock.patch.object(RowParts, "improve", return_value=ended), self.assertRaises(TimeIsOver):
                 parts.run(Clock(0.1))
-            self.assertEqual(parts._size > first, grows)
+            self.assertEqual(parts._sizes[7] > first, grows)
 
 if __name__ == "__main__":
     unittest.main()
