@@ -2,11 +2,12 @@
 
 import concurrent.futures
 import contextlib
+import math
 import random
 import threading
 import time
 from dataclasses import replace
-from typing import Callable, Dict, List, NamedTuple, Optional, Sequence
+from typing import Callable, Dict, List, NamedTuple, Optional, Sequence, Set, Tuple
 
 from .clock import Clock, TimeIsOver
 from .linear_solvers import LinearSolver, SolverFault
@@ -20,9 +21,9 @@ from .skills import staffed
 FIRST_SIZE, LEAST_SIZE = 20.0, 4
 # A neighborhood that takes less than the first of these seconds is followed by a larger one; the second is its limit.
 QUICK_SECONDS, MOST_SECONDS = 1.5, 6.0
-GROWTH, SHRINKAGE = 1.15, 0.96
-# The days of the neighborhoods beside those with all days of a plan.
-LENGTHS = (10, 14, 21)
+GROWTH, SHRINKAGE = 1.15, 0.8
+# The shares of the days of a plan that neighborhoods have.
+DAYS_SHARES = (0.35, 0.5, 0.75, 1.0)
 # From this gap on, in thousandths, a neighborhood is worth a dive.
 DIVE_GAP = 50 * POINT
 # Up to this part of the bound a gap is small. The share of the time that is left for an integer program over the known rows of all
@@ -33,7 +34,7 @@ SMALL_GAP, WHOLE_SHARE = 0.03, 0.3
 class Part(NamedTuple):
     """A neighborhood: the nurses who may get new rows, and the days on which these may differ from their rows now."""
 
-    nurses: Sequence[int]
+    nurses: Tuple[int, ...]
     days: range
 
 
@@ -44,10 +45,13 @@ class RowParts:
         self._search, self._solvers = search, solvers
         self._chance = random.Random(1)
         self._least = search.least_values()
-        days = search.plan.days
-        # The number of nurses for each number of days.
-        self._sizes = {length: FIRST_SIZE * (WEEK_DAYS / length) ** 0.5 for length in sorted({min(length, days) for length in (*LENGTHS, days)})}
-        # Guards all that the threads share: the search, the sizes and the chance.
+        lengths = dict.fromkeys(math.ceil(share * search.plan.days) for share in DAYS_SHARES)
+        # For each number of days the number of nurses of the next neighborhood, and the seconds that all have taken.
+        self._sizes = {length: min(len(search.plan.nurses), FIRST_SIZE * (WEEK_DAYS / length) ** 0.5) for length in lengths}
+        self._taken = dict.fromkeys(lengths, 0.0)
+        # Days of all nurses that do not make the best roster better.
+        self._closed: Set[range] = set()
+        # Guards all that the threads share: the search, the chance and the lines above.
         self._lock = threading.Lock()
 
     def run(self, clock: Clock) -> None:
@@ -70,38 +74,44 @@ class RowParts:
         search = self._search
         if is_first and search.bound is not None and search.penalty is not None and search.gap() < SMALL_GAP * search.bound:
             with contextlib.suppress(TimeIsOver):
-                everything = Part(range(len(search.plan.nurses)), range(search.plan.days))
+                everything = Part(tuple(range(len(search.plan.nurses))), range(search.plan.days))
                 self.improve(everything, solver, clock.part(clock.left() * WHOLE_SHARE))
         while not search.is_proved:
             clock.check()
-            part, began = self._next(), time.monotonic()
+            part, began, penalty = self._next(), time.monotonic(), search.penalty
             try:
                 ended = self.improve(part, solver, clock.part(MOST_SECONDS))
             except TimeIsOver:
                 ended = False
-                self._resize(part, 1 / GROWTH)
-            if not ended:
-                self._resize(part, SHRINKAGE)
-            elif time.monotonic() - began < QUICK_SECONDS:
-                self._resize(part, GROWTH)
+            self._learn(part, ended, time.monotonic() - began, search.penalty == penalty)
         clock.stop()
         solver.end_all()
 
-    def _resize(self, part: Part, factor: float) -> None:
+    def _learn(self, part: Part, ended: bool, seconds: float, is_closed: bool) -> None:
         """Changes the number of nurses of the next neighborhoods with as many days."""
         with self._lock:
-            size = self._sizes[len(part.days)] * factor
-            self._sizes[len(part.days)] = min(len(self._search.plan.nurses), max(LEAST_SIZE, size))
+            length = len(part.days)
+            self._taken[length] += seconds
+            factor = SHRINKAGE if not ended else GROWTH if seconds < QUICK_SECONDS else 1.0
+            self._sizes[length] = min(len(self._search.plan.nurses), max(LEAST_SIZE, self._sizes[length] * factor))
+            if not is_closed:
+                self._closed.clear()
+            elif ended and len(part.nurses) == len(self._search.plan.nurses):
+                self._closed.add(part.days)
 
     def _next(self) -> Part:
-        """A neighborhood at random."""
+        """A neighborhood with the number of days that has taken the least time; one of all nurses that is closed comes only after all others."""
         with self._lock:
-            days = self._search.plan.days
-            length = self._chance.choice(list(self._sizes))
-            first = self._chance.randrange(days - length + 1)
-            return Part(self._nurses(int(self._sizes[length])), range(first, first + length))
+            nurses, days = len(self._search.plan.nurses), self._search.plan.days
+            for length in sorted(self._taken, key=self._taken.__getitem__):
+                size = int(self._sizes[length])
+                stretches = [range(first, first + length) for first in range(days - length + 1)]
+                left = [stretch for stretch in stretches if size < nurses or stretch not in self._closed]
+                if left:
+                    break
+            return Part(self._nurses(size), self._chance.choice(left or stretches))
 
-    def _nurses(self, size: int) -> List[int]:
+    def _nurses(self, size: int) -> Tuple[int, ...]:
         """Nurses for a neighborhood: half of them have rows that cost more at the best prices than their cheapest ones. In every second
         neighborhood the others are those who share the most skills with one of them."""
         rows = self._search.rows
@@ -113,7 +123,7 @@ class RowParts:
         if costly and self._chance.random() < 0.5:
             first = [self._chance.choice(costly)]
             rest = sorted((nurse for nurse in range(len(rows)) if nurse != first[0]), key=self._alike(first[0]))
-        return sorted(first + rest[: size - len(first)])
+        return tuple(sorted(first + rest[: size - len(first)]))
 
     def _alike(self, nurse: int) -> Callable[[int], float]:
         """How few skills another nurse shares with this one, with chance among equals."""
@@ -128,10 +138,10 @@ class RowParts:
             rows = list(whole.rows)
 
         def offer(found: List[Row], finder: str) -> Optional[int]:
-            # Meanwhile another thread may have found better rows of other nurses.
+            # Meanwhile another thread may have found better rows of other nurses, or on other days.
             with self._lock:
                 assert whole.rows is not None
-                kept = whole.keep(_with(whole.rows, nurses, found), finder) or whole.keep(_with(rows, nurses, found), finder)
+                kept = whole.keep(_with(whole.rows, part, found), finder) or whole.keep(_with(rows, part, found), finder)
             return search.value_of(found) if kept else None
 
         search = RowSearch(self._pricing(part, rows), solver, clock, offer, lambda: None)
@@ -170,7 +180,7 @@ class RowParts:
         return left
 
 
-def _with(rows: Sequence[Row], nurses: Sequence[int], found: Sequence[Row]) -> List[Row]:
-    """The rows with those of these nurses replaced."""
-    new = dict(zip(nurses, found))
-    return [new.get(nurse, row) for nurse, row in enumerate(rows)]
+def _with(rows: Sequence[Row], part: Part, found: Sequence[Row]) -> List[Row]:
+    """The rows with those of a neighborhood replaced, on its days."""
+    new, days = dict(zip(part.nurses, found)), part.days
+    return [row[: days.start] + new.get(nurse, row)[days.start : days.stop] + row[days.stop :] for nurse, row in enumerate(rows)]
