@@ -49,7 +49,7 @@ class RowParts:
         # For each number of days the number of nurses of the next neighborhood, and the seconds that all have taken.
         self._sizes = {length: min(len(search.plan.nurses), FIRST_SIZE * (WEEK_DAYS / length) ** 0.5) for length in lengths}
         self._taken = dict.fromkeys(lengths, 0.0)
-        # Days of all nurses that do not make the best roster better.
+        # The days on which new choices of all nurses do not make the best roster better.
         self._closed: Set[range] = set()
         # Guards all that the threads share: the search, the chance and the lines above.
         self._lock = threading.Lock()
@@ -83,24 +83,25 @@ class RowParts:
                 ended = self.improve(part, solver, clock.part(MOST_SECONDS))
             except TimeIsOver:
                 ended = False
-            self._learn(part, ended, time.monotonic() - began, search.penalty == penalty)
+            self._learn(part, ended, time.monotonic() - began, search.penalty != penalty)
         clock.stop()
         solver.end_all()
 
-    def _learn(self, part: Part, ended: bool, seconds: float, is_closed: bool) -> None:
-        """Changes the number of nurses of the next neighborhoods with as many days."""
+    def _learn(self, part: Part, ended: bool, seconds: float, is_better: bool) -> None:
+        """Counts the time of a neighborhood, and changes the number of nurses of the next ones with as many days. `is_better` says whether
+        the best roster is another one now."""
         with self._lock:
             length = len(part.days)
             self._taken[length] += seconds
             factor = SHRINKAGE if not ended else GROWTH if seconds < QUICK_SECONDS else 1.0
             self._sizes[length] = min(len(self._search.plan.nurses), max(LEAST_SIZE, self._sizes[length] * factor))
-            if not is_closed:
+            if is_better:
                 self._closed.clear()
             elif ended and len(part.nurses) == len(self._search.plan.nurses):
                 self._closed.add(part.days)
 
     def _next(self) -> Part:
-        """A neighborhood with the number of days that has taken the least time; one of all nurses that is closed comes only after all others."""
+        """A neighborhood with the number of days that has taken the least time. Closed days of all nurses come only if nothing else is left."""
         with self._lock:
             nurses, days = len(self._search.plan.nurses), self._search.plan.days
             for length in sorted(self._taken, key=self._taken.__getitem__):

@@ -79,25 +79,26 @@ class NextParts(unittest.TestCase):
             part = parts._next()
             self.assertEqual(part.nurses, tuple(range(30)))
             seen.append(part.days)
-            parts._learn(part, True, 1.0, True)
+            parts._learn(part, True, 1.0, False)
         self.assertEqual(len(set(seen)), 23)
         self.assertEqual({len(days) for days in seen[:4]}, {5, 7, 11, 14})
-        parts._learn(part, True, 1.0, False)
+        # The only one of 14 days has taken the least time, and is open again.
+        parts._learn(part, True, 1.0, True)
         self.assertEqual(len(parts._next().days), 14)
 
     def test_lengths_share_the_time(self):
         parts = RowParts(search_of(1), [])
         for days, seconds in ((3, 2.0), (4, 5.0), (6, 1.0), (7, 3.0)):
-            parts._learn(Part((0, 1), range(days)), True, seconds, True)
+            parts._learn(Part((0, 1), range(days)), True, seconds, False)
         self.assertEqual(len(parts._next().days), 6)
-        parts._learn(Part((0, 1), range(6)), False, 1.5, True)
+        parts._learn(Part((0, 1), range(6)), False, 1.5, False)
         self.assertEqual(len(parts._next().days), 3)
 
     def test_sizes_follow_the_time(self):
         parts = RowParts(search_of(1), [])
         for ended, seconds, size in ((True, 1.0, 23.0), (True, 2.0, 20.0), (False, 6.0, 16.0)):
             parts._sizes[7] = 20.0
-            parts._learn(Part((0, 1), range(7)), ended, seconds, True)
+            parts._learn(Part((0, 1), range(7)), ended, seconds, False)
             self.assertAlmostEqual(parts._sizes[7], size)
 
 
