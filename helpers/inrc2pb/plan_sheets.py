@@ -16,6 +16,7 @@ from .ward_sheets import Ward, table_of
 AWAY = ("away", "ill", "leave", "training")
 _WISH, _NO_WISH = ("wish", "wish off", "off?"), ("", "-")
 _PAIR = re.compile(r"\(?([0-9]{1,4}) ?(\+|,|\.\.) ?([0-9]{1,4})\)?")
+_RANGE = re.compile(r"([0-9]{1,4}) ?(?:[-\u2013/]|to) ?([0-9]{1,4})")
 _DATE = re.compile(r"([0-9]{4})-([0-9]{1,2})-([0-9]{1,2})|([0-9]{1,2})\.([0-9]{1,2})\.([0-9]{4})")
 # A date as a spreadsheet counts it, from 1954 on.
 _SERIAL = re.compile(r"\b[2-9][0-9]{4}\b")
@@ -60,7 +61,7 @@ def read_days(book: Book) -> Days:
     monday = dates[0] if dates else None
     for at, (cell, date) in enumerate(zip(columns, dates)):
         if cell.column != columns[0].column + at:
-            cell.fault("an empty head is before this column: delete the empty column")
+            cell.fault("the column before this one is no day: delete it, or move it behind the last day")
         if date and monday and (date - monday).days != at:
             cell.fault(f"{date} does not follow the day before: write one column for each day")
         if bool(date) != bool(monday):
@@ -147,7 +148,7 @@ def _needed(cell: Cell) -> Requirement:
         return Requirement(0, 0)
     pair = _PAIR.fullmatch(cell.text)
     if not pair:
-        number = cell.number()
+        number = cell.number(pair=_pair_for(cell.text))
         return Requirement(number, number)
     least, sign, second = int(pair[1]), pair[2], int(pair[3])
     best = least + second if sign == "+" else second
@@ -156,6 +157,15 @@ def _needed(cell: Cell) -> Requirement:
     if best > MAX_NUMBER:
         cell.fault(f"{best} is more than {MAX_NUMBER}: correct the number")
     return Requirement(least, best)
+
+
+def _pair_for(text: str) -> str:
+    """How the needs have a minimum and a best number, such as those of the text `2-3`, of which a spreadsheet may make a date."""
+    found = _RANGE.fullmatch(text)
+    least, best = (int(found[1]), int(found[2])) if found else (2, 3)
+    if least >= best:
+        least, best = 2, 3
+    return f"{least}+{best - least} for {least} at least and better {best}"
 
 
 def _read_day(cell: Cell, nurse: str, at: int, scenario: Scenario, weeks: List[WeekSheet]) -> None:

@@ -2,7 +2,7 @@
 
 import re
 import unicodedata
-from typing import Collection, Dict, List, NamedTuple, NoReturn, Optional, Sequence, Tuple
+from typing import Collection, Dict, Iterator, List, NamedTuple, NoReturn, Optional, Sequence, Tuple
 
 from .absences import readable
 from .faults import FileFault, Gathering
@@ -44,19 +44,27 @@ class Cell(NamedTuple):
         """The cell as several, if it has a list with commas, semicolons or slashes."""
         return [self._replace(text=part.strip()) for part in _SEVERAL.split(self.text) if part.strip()]
 
-    def number(self, default: Optional[int] = None, most: int = MAX_NUMBER) -> int:
-        """The whole number of the cell; an empty one has the default, if there is one."""
+    def number(self, default: Optional[int] = None, most: int = MAX_NUMBER, pair: str = "") -> int:
+        """The whole number of the cell; an empty one has the default, if there is one. `pair` says how two numbers are written, if it may
+        have them: a fault names it."""
         if not self.text and default is not None:
             return default
         digits = re.sub(r"[.,]0*$", "", self.text)
         if not re.fullmatch("[0-9]{1,9}", digits):
-            hint = ": shifts are counted, not hours" if re.fullmatch(r"[0-9]+[.,][0-9]+", self.text) else ""
-            hint = hint or (": write the digit 0" if re.fullmatch("[oO0-9]+", self.text) else "")
-            self.fault(f"'{self.text}' is no whole number{hint}" if self.text else "the cell is empty: write a whole number")
+            self.fault(f"'{self.text}' is no whole number: {self._advice(pair)}" if self.text else "the cell is empty: write a whole number")
+        if int(digits) > MAX_NUMBER:
+            self.fault(f"{digits} is more than {most}: a spreadsheet makes such a number of 2-3 or 2/3, so write {pair or 'one number'}")
         if int(digits) > most:
-            hint = ": a spreadsheet makes such a number of 2-3 or 2/3, so write 2+1" if int(digits) > MAX_NUMBER else ""
-            self.fault(f"{digits} is more than {most}{hint}")
+            self.fault(f"{digits} is more than {most}: write a smaller number")
         return int(digits)
+
+    def _advice(self, pair: str) -> str:
+        """What to write in place of a text that is no whole number."""
+        if re.fullmatch("[oO0-9]+", self.text):
+            return "write the digit 0"
+        if not pair and re.fullmatch(r"[0-9]+[.,][0-9]+", self.text):
+            return "shifts are counted, not hours"
+        return f"write one, or {pair}" if pair else "write one"
 
     def new_name(self, kind: str, taken: Collection[str]) -> str:
         """The cell as a new name of a file, with _ for a blank."""
@@ -88,6 +96,11 @@ class Row:
         self._number = number
         self._cells = cells
 
+    def outside(self, columns: Collection[int]) -> Iterator[Cell]:
+        """The cells in other columns than these that are not empty."""
+        others = (self.at(column) for column in range(len(self._cells)) if column not in columns)
+        return (cell for cell in others if cell.text)
+
     def at(self, column: int) -> Cell:
         """The cell of the column with this number."""
         text = tidy(self._cells[column]) if column < len(self._cells) else ""
@@ -118,6 +131,7 @@ class Table:
         if missing:
             raise FileFault(book.path, 0, f"sheet {name}, row {first + 1}: there is no column '{missing[0]}': add it")
         self.rows = [Row(self, at + 1, rows[at]) for at in range(begin, len(rows)) if any(map(str.strip, rows[at]))]
+        self._check_heads({column for column, text in enumerate(head) if tidy(text)}, first + 1)
 
     def fault(self, message: str) -> NoReturn:
         """Raises a fault of the whole sheet."""
@@ -148,6 +162,17 @@ class Table:
         else:
             meant = self._meant(head, {tidy(text).casefold() for text in heads})
             cell.fault(f"'{cell.text}' is no column of this sheet: " + (f"did you mean '{meant}'?" if meant else "delete it, or begin its head with #"))
+
+    def _check_heads(self, columns: Collection[int], number: int) -> None:
+        """Each cell has a head above it, in one of these columns. A fault names the first cell of each other column."""
+        first: Dict[int, Cell] = {}
+        for row in self.rows:
+            for cell in row.outside(columns):
+                first.setdefault(cell.column, cell)
+        with Gathering() as faults:
+            for _, cell in sorted(first.items()):
+                with faults.step():
+                    cell.fault(f"'{cell.text}' has no head above it: write one into row {number}, or # to leave the column out")
 
     def _meant(self, head: str, taken: Collection[str]) -> Optional[str]:
         """The column that a wrong head most likely means: none that the sheet has already."""

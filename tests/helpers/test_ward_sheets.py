@@ -83,11 +83,18 @@ class Contents(unittest.TestCase):
             *(("nurses", 2, 4, text, f"row 2, column E: '{text}' is no day of the week: write days with commas between, such as Mon, Tue")
               for text in ("W", "Monday and Tue", "Mon Tue", "Mon-Wed", "Mon+Tue", "Sunrise")),
             ("needs", 1, 3, "Mo", "row 1, column D: 'Mo' is no column of this sheet: did you mean 'mon'?"),
-            ("needs", 2, 3, "46083", "row 2, column D: 46083 is more than 9999: a spreadsheet makes such a number of 2-3 or 2/3, so write 2+1"),
+            ("needs", 2, 3, "46083", "row 2, column D: 46083 is more than 9999: a spreadsheet makes such a number of 2-3 or 2/3, so write 2+1 for 2 at least and better 3"),
+            *(("needs", 2, 3, text, f"row 2, column D: '{text}' is no whole number: write one, or {pair}")
+              for text, pair in (
+                  ("2-3", "2+1 for 2 at least and better 3"), ("1 \u2013 4", "1+3 for 1 at least and better 4"), ("0/2", "0+2 for 0 at least and better 2"),
+                  *((text, "2+1 for 2 at least and better 3") for text in ("4-4", "3-2", "2026-03-02", "02.03.2026", "3-Feb", "2.5", "two")),
+              )),
+            ("contracts", 2, 3, "3-5", "row 2, column D: '3-5' is no whole number: write one"),
+            ("contracts", 2, 3, "46145", "row 2, column D: 46145 is more than 9999: a spreadsheet makes such a number of 2-3 or 2/3, so write one number"),
             ("needs", 2, 3, "3..2", "row 2, column D: at least 3 are needed, and 2 are best: write the smaller number first"),
             ("needs", 2, 2, "Char", "row 2, column C: 'Char' is no skill of the sheet nurses: did you mean Charge?"),
             ("needs", 4, 1, "Day", "row 4, column B: Day Nurse has a row already: delete one, or write its week"),
-            ("needs", 2, 0, "2", "row 2, column A: 2 is more than 1"),
+            ("needs", 2, 0, "2", "row 2, column A: 2 is more than 1: write a smaller number"),
             ("plan", 2, 0, "Amara", "row 2, column A: 'Amara' is no nurse of the sheet nurses: did you mean Amara Koch?"),
             ("plan", 3, 0, "Amara Koch", "row 3, column A: Amara Koch has a row already: put everything into one row"),
             ("plan", 2, 1, "Dya", "row 2, column B: 'Dya' is no shift type: did you mean Day?"),
@@ -98,7 +105,8 @@ class Contents(unittest.TestCase):
             ("plan", 4, 1, "Day", "row 4, column B: Chen may not work Day on the day after Late: change one of the two"),
             ("plan", 6, 3, "Night/Nurse", "row 6, column D: Ewa never works this shift or is always off on this day, by the sheet nurses: change one of the two"),
             ("plan", 1, 14, "", "it has 13 days: plan whole weeks, from Monday to Sunday"),
-            ("plan", 1, 13, "", "row 1, column O: an empty head is before this column: delete the empty column"),
+            ("plan", 1, 13, "", "row 1, column O: the column before this one is no day: delete it, or move it behind the last day"),
+            ("plan", 1, 13, "# Sat", "row 1, column O: the column before this one is no day: delete it, or move it behind the last day"),
             ("plan", 1, 1, "Sun 0", "row 1, column B: 'Sun 0' should be a Mon: the plan begins on a Monday, and has each day once"),
             ("plan", 1, 1, "2026-12-01", "row 1, column B: '2026-12-01' should be a Mon: the plan begins on a Monday, and has each day once"),
             ("plan", 1, 1, "2026-02-30", "row 1, column B: there is no day 2026-02-30: write a date such as 2026-11-30"),
@@ -123,6 +131,29 @@ class Contents(unittest.TestCase):
             with self.assertRaises(FileFault) as caught:
                 texts({**SHEETS, sheet: SHEETS[sheet][:1] + [[f"n{number}"] for number in range(most + 1)]})
             self.assertEqual(caught.exception.message, f"sheet {sheet}: it has {most + 1} {kind}, and a ward has 1 to {most}: correct the rows")
+
+    def test_cells_without_a_head(self):
+        for sheet, row, column, place in (
+            ("plan", 3, 15, "row 3, column P"), ("plan", 4, 6, "row 4, column G"), ("shifts", 3, 3, "row 3, column D"),
+            ("contracts", 2, 8, "row 2, column I"), ("nurses", 9, 12, "row 9, column M"), ("needs", 6, 0, "row 6, column A"),
+        ):
+            sheets = changed(sheet, row, column, "Late")
+            sheets[sheet][0][column : column + 1] = [" "]
+            with self.subTest(place), self.assertRaises(FileFault) as caught:
+                texts(sheets)
+            said = "'Late' has no head above it: write one into row 1, or # to leave the column out"
+            self.assertEqual(caught.exception.message, f"sheet {sheet}, {place}: {said}")
+
+    def test_the_first_cell_of_each_column_without_a_head_is_reported(self):
+        sheets = changed("plan", 5, 17, "x")
+        for row, column in ((3, 16), (6, 16), (7, 17)):
+            sheets["plan"][row - 1] += [""] * (column + 1 - len(sheets["plan"][row - 1]))
+            sheets["plan"][row - 1][column] = "Late"
+        with self.assertRaises(FileFaults) as caught:
+            texts(sheets)
+        self.assertEqual([one.message.split(" has")[0] for one in caught.exception.faults], ["sheet plan, row 3, column Q: 'Late'", "sheet plan, row 5, column R: 'x'"])
+        sheets["plan"][0] += ["", "# late", "Note"]
+        self.assertEqual(texts(sheets), texts(SHEETS))
 
     def test_all_mistakes_of_a_sheet_are_reported(self):
         for sheet, cells, places in (
