@@ -6,7 +6,7 @@ layouts. The values that they return are those of `records`. A `text` is what th
 
 from typing import Dict, Iterable, List, Optional, Tuple
 
-from .faults import FileFault
+from .faults import FileFault, Misuse
 from .records import ANY, DAYS, NONE, Assignment, Contract, History, Limits, Nurse, NurseHistory, Place, Request
 from .records import Requirement, Scenario, ShiftType, Solution, Week, WeekData
 from .slots import PathLike, Slots, Token
@@ -14,7 +14,7 @@ from .writing import file_at, replacing, write_text
 
 __all__ = [
     "ANY", "Assignment", "Contract", "DAYS", "FileFault", "History", "Limits", "NONE", "Nurse", "NurseHistory", "Place",
-    "Request", "Requirement", "Scenario", "ShiftType", "Solution", "Week", "WeekData", "check_week_number", "file_at",
+    "Request", "Requirement", "Scenario", "ShiftType", "Solution", "Week", "WeekData", "check_week_number", "check_weeks_left", "file_at",
     "history_text", "read_files", "read_history", "read_scenario", "read_solution", "read_week", "replacing", "scenario_text",
     "solution_text", "week_text", "write_history", "write_solution", "write_text",
 ]  # fmt: skip
@@ -122,6 +122,16 @@ def check_week_number(path: PathLike, history: History, scenario: Scenario) -> N
     if history.week >= scenario.weeks:
         message = f"week {history.week} is not below WEEKS = {scenario.weeks}: the period is over, begin a new one with inrc2pb-next --new-period"
         raise FileFault(path, 0, message, "week not below WEEKS")
+
+
+def check_weeks_left(count: int, history: History, scenario: Scenario) -> None:
+    """So many weeks have to be left in the period, with that of the history."""
+    left = scenario.weeks - history.week
+    if count > left:
+        raise Misuse(
+            f"{count} weeks are given, and {left} {'is' if left == 1 else 'are'} left from week {history.week} "
+            f"of {scenario.weeks}: give only the files of weeks that are not planned yet"
+        )
 
 
 def read_week(path: PathLike, scenario: Scenario, text: Optional[str] = None) -> WeekData:

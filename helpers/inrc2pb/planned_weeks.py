@@ -7,7 +7,7 @@ from typing import Dict, List, NamedTuple, Optional, Sequence, Tuple
 from .absences import absences_of, in_words, way_out, working_while_away
 from .faults import Misuse
 from .files import Assignment, History, Scenario, Solution, WeekData
-from .files import check_week_number, read_history, read_scenario, read_week, write_history, write_solution
+from .files import check_week_number, check_weeks_left, read_history, read_scenario, read_week, write_history, write_solution
 from .misfits import read_held
 from .next_history import next_history
 from .plan import WEEK_DAYS, Plan
@@ -49,13 +49,8 @@ class PlannedWeeks:
         self.scenario: Scenario = read_scenario(files.scenario)
         self.history: History = read_history(files.history, self.scenario)
         check_week_number(files.history, self.history, self.scenario)
-        first, left = self.history.week, self.scenario.weeks - self.history.week
-        if len(files.weeks) > left:
-            raise Misuse(
-                f"{len(files.weeks)} weeks are given, and {left} {'is' if left == 1 else 'are'} left from week {first} "
-                f"of {self.scenario.weeks}: give only the files of weeks that are not planned yet"
-            )
-        self.numbers = range(first, first + len(files.weeks))
+        check_weeks_left(len(files.weeks), self.history, self.scenario)
+        self.numbers = range(self.history.week, self.history.week + len(files.weeks))
         self.held: List[Assignment] = []
         for number, path in files.fixes.items():
             self._hold(number, path)

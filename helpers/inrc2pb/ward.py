@@ -4,15 +4,16 @@ import argparse
 import contextlib
 import re
 from pathlib import Path
-from typing import Dict, List, NamedTuple, Optional, Sequence, TextIO, Tuple
+from typing import Dict, Iterator, List, NamedTuple, Optional, Sequence, TextIO, Tuple
 
-from .absences import NO_SKILL, TooMany, readable, with_absences
+from .absences import NO_SKILL, TooMany, joined, readable, with_absences
 from .command import parser
 from .demand import demand_warnings
 from .faults import FileFault, Misuse
 from .files import History, Scenario, Solution, Week, WeekData, history_text, scenario_text, solution_text, week_text
 from .files import replacing
 from .first_roster import first_cost
+from .hints import quoted
 from .odd_values import history_warnings, scenario_warnings, week_warnings
 from .plan_sheets import AWAY, Days, WeekSheet, check_held, days_away, read_days, read_weeks
 from .sheet_files import Book, read_book
@@ -34,7 +35,7 @@ def _options() -> argparse.ArgumentParser:
     options.add_argument("tables", nargs="?", metavar="FILE", type=Path, help="the spreadsheet, or the folder of .csv files")
     options.add_argument("--out", metavar="FOLDER", type=Path, help="the folder for the files; it is made if there is none")
     options.add_argument("--weeks", metavar="N", type=int, help="the weeks of the period (default: the weeks of the sheet plan)")
-    options.add_argument("--credit", metavar="WORDS", default="", help=f"absences that count as work, some of {','.join(AWAY)}")
+    options.add_argument("--credit", metavar="WORDS", default="", help=f"absences that count as work in history-0.txt, some of {','.join(AWAY)}")
     options.add_argument("--template", metavar="FILE", type=Path, help="write an example spreadsheet to this .ods file")
     return options
 
@@ -102,6 +103,25 @@ def _week(book: Book, scenario: Scenario, sheet: WeekSheet, number: int, history
         raise FileFault(book.path, 0, f"sheet plan, week {number}: {fault}: {NO_SKILL}") from fault
 
 
+def _old_histories(folder: Path, first: str, weeks: int) -> Iterator[str]:
+    """A warning if the first history gets other numbers, as for leave that counts as work, and the folder has later histories, made of
+    the old ones."""
+    old, names = folder / "history-0.txt", [f"history-{number}.txt" for number in range(1, weeks)]
+    later = [name for name in names if (folder / name).is_file()]
+    if not later or not old.is_file():
+        return
+    before = _nurse_rows(old.read_text(encoding="utf-8", errors="surrogateescape"))
+    changed = [nurse for nurse, row in _nurse_rows(first).items() if before.get(nurse, row) != row]
+    if changed:
+        them = "it" if len(later) == 1 else "them"
+        yield f"history-0.txt has new numbers of {quoted(changed)}, and {joined(later)} the old ones: make {them} again with inrc2pb-next or inrc2pb-period"
+
+
+def _nurse_rows(history: str) -> Dict[str, List[str]]:
+    """The words of each nurse's line in the text of a history."""
+    return {words[0]: words for words in map(str.split, history.splitlines()) if len(words) == 7}
+
+
 def _write(folder: Path, found: Dict[str, str]) -> None:
     """Writes all files, or none of them."""
     folder.mkdir(parents=True, exist_ok=True)
@@ -128,10 +148,13 @@ def main() -> int:
     days = read_days(book)
     weeks = _period(days, days.weeks if given.weeks is None else given.weeks)
     files = ward_files(book, _ward_name(given.tables), days, weeks, reasons)
+    old = list(_old_histories(given.out, files.texts["history-0.txt"], weeks))
     _write(given.out, files.texts)
     for line in files.warnings:
         print(f"{given.tables}: warning: {readable(line)}")
     print(f"{given.out}: {', '.join(files.texts)}")
     for nurse, (away, shifts) in files.credit.items():
         print(credit_line(nurse, away, shifts, "history-0.txt"))
+    for line in old:
+        print(f"{given.out}: warning: {readable(line)}")
     return 0

@@ -8,8 +8,8 @@ from typing import Dict, Iterable, List, Optional, Sequence
 from .absences import NO_SKILL, Absence, TooMany, Written, absences_of, readable, with_absences, working_while_away
 from .command import parser
 from .faults import Misuse
-from .files import DAYS, Assignment, History, Request, Scenario, Week, WeekData, check_week_number, history_text, read_history, read_scenario, read_week
-from .files import week_text, write_text
+from .files import DAYS, Assignment, History, Request, Scenario, Week, WeekData, check_week_number, check_weeks_left, history_text, read_history
+from .files import read_scenario, read_week, week_text, write_text
 from .first_roster import first_cost
 from .hints import plural
 from .misfits import read_held
@@ -56,7 +56,7 @@ def _options() -> argparse.ArgumentParser:
     options.add_argument("--never", metavar="NURSE=SHIFT", action="append", default=[], help="she never works this shift type")
     options.add_argument("--wish", metavar="NURSE=DAYS[:SHIFT]", action="append", default=[], help="she would rather not work then; adds one request")
     options.add_argument("--monday", metavar="DATE", help="the date of the first week's Monday")
-    options.add_argument("--credit", metavar="FILE", type=Path, help="count the days of --away as work: write the history to this file, with these shifts")
+    options.add_argument("--credit", metavar="FILE", type=Path, help="count the days of --away as work: write the history of --his to this file, with these shifts")
     options.add_argument("--fix", metavar="FILE", type=Path, help="the assignments that are held in the first of these weeks; needs --his")
     options.add_argument("--out", metavar="FILE", type=Path, required=True, help="the file to write; a folder if several weeks are given")
     return options
@@ -94,6 +94,8 @@ def _targets(given: argparse.Namespace) -> List[Path]:
         targets = [given.out / name for name in names]
     else:
         targets = [given.out]
+    if given.credit and given.credit.resolve() in [target.resolve() for target in targets]:
+        raise Misuse(f"--credit {given.credit}: a week is written to this file: name another one for the history")
     for target in (*targets, *filter(None, [given.credit])):
         check_inputs_stay((given.sce, given.his, *given.week, given.fix), target, "the result")
         check_target(target)
@@ -123,6 +125,7 @@ def main() -> Optional[int]:
     history = read_history(given.his, scenario) if given.his else None
     if history:
         check_week_number(given.his, history, scenario)
+        check_weeks_left(len(given.week), history, scenario)
     data = [read_week(path, scenario) for path in given.week]
     wording = Wording(scenario, len(data), given.monday)
     away = [dated for text in given.away for dated in wording.away(text)]

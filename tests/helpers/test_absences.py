@@ -145,6 +145,27 @@ class Wish(HelperTest):
         # Full asks for 17 shifts in 28 days, Half for 8: three days are 1.8 shifts, one day 0.3.
         self.assertEqual({nurse: after[nurse].assignments - before[nurse].assignments for nurse in after if after[nurse] != before[nurse]}, {"Chen": 2, "Ewa": 1})
 
+    def test_leave_of_a_later_week_counts_as_work(self):
+        folder, history = self.folder / "out", self.folder / "history.txt"
+        folder.mkdir()
+        second = self.changed(WEEK, "Chen Any Sat", "Chen Any Sun", "week-1.txt")
+        words = ("wish", "--sce", SCENARIO, "--week", WEEK, "--week", second, "--monday", "2026-11-30", "--away", "Chen=2026-12-06..2026-12-08", "--out", folder)
+        status, printed, _ = run(*words, "--his", HISTORY, "--credit", history)
+        # One day of the first week and two of the second: 17 shifts in 28 days make 1.8 of them.
+        self.assertEqual((status, printed.splitlines()[2:]), (0, [f"Chen: 3 days away count as 2 shifts in {history}"]))
+        self.assertEqual(files.read_history(history, WARD).nurses["Chen"].assignments, files.read_history(HISTORY, WARD).nurses["Chen"].assignments + 2)
+        last = self.changed(HISTORY, "0 ward", "3 ward", "last.txt")
+        line = "inrc2pb-wish: 2 weeks are given, and 1 is left from week 3 of 4: give only the files of weeks that are not planned yet"
+        self.assert_fault(run(*words, "--his", last, "--credit", history), line)
+
+    def test_the_history_does_not_replace_a_week(self):
+        folder = self.folder / "out"
+        folder.mkdir()
+        for out, credit in ((self.folder / "same.txt", self.folder / "same.txt"), (folder, folder / WEEK.name)):
+            ran = run("wish", "--sce", SCENARIO, "--his", HISTORY, "--week", WEEK, "--away", "Chen=Mon", "--credit", credit, "--out", out)
+            self.assert_fault(ran, f"inrc2pb-wish: --credit {credit}: a week is written to this file: name another one for the history")
+            self.assertFalse(credit.exists())
+
     def test_faults(self):
         for words, said in (
             ((), "nothing says what to write: give --away, --never or --wish"),

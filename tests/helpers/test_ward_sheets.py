@@ -226,6 +226,19 @@ class Command(HelperTest):
         self.assertIn("WEEKS = 4\n", (out / "ward.txt").read_text())
         self.assertIn("SCENARIO = libreoffice\n", (out / "ward.txt").read_text())
 
+    def test_later_histories_without_the_credit_of_leave(self):
+        out = self.folder / "out"
+        words = ("ward", DATA / "libreoffice.ods", "--out", out, "--weeks", "4")
+        said = f"{out}: warning: history-0.txt has new numbers of Amara Koch, and {{}} the old ones: make {{}} again with inrc2pb-next or inrc2pb-period"
+        self.assertEqual(run(*words)[0], 0)
+        (out / "history-1.txt").write_text("")
+        self.assertNotIn("again", run(*words)[1])
+        # Two days of leave in week 1.
+        self.assertEqual(run(*words, "--credit", "leave")[1].splitlines()[-1], said.format("history-1.txt", "it"))
+        self.assertNotIn("again", run(*words, "--credit", "leave")[1])
+        (out / "history-3.txt").write_text("")
+        self.assertEqual(run(*words)[1].splitlines()[-1], said.format("history-1.txt and history-3.txt", "them"))
+
     def test_days_on_which_too_few_are_there(self):
         sheets = copy.deepcopy(SHEETS)
         for row in sheets["plan"][1:]:
