@@ -8,16 +8,13 @@ her day off. For each day on which the nurse of an earlier case works she is pai
 bonus is the most that can be added to each price. No roster that keeps the hard rules may have a smaller penalty.
 """
 
-import argparse
-import concurrent.futures
-import functools
 import random
-import sys
 import tempfile
 
 from drafts import DAYS, week_of
 from every_week import MAX_PRICE, POINT, BoundRuns, check_rosters, claim, place_least, price_rows, random_prices, small_case, weeks_of
 from runs import Wrong
+from trials import run_trials
 
 
 def random_cases(chance, week):
@@ -96,24 +93,5 @@ def try_number(program, seed, number):
             return f"week {number}: {wrong}"
 
 
-def main():
-    reader = argparse.ArgumentParser(description=__doc__, formatter_class=argparse.RawDescriptionHelpFormatter)
-    reader.add_argument("program")
-    reader.add_argument("--weeks", type=int, default=90)
-    reader.add_argument("--seed", type=int, default=1)
-    given = reader.parse_args()
-    with concurrent.futures.ProcessPoolExecutor() as pool:
-        found = list(pool.map(functools.partial(try_number, given.program, given.seed), range(given.weeks)))
-    failed = [wrong for wrong in found if isinstance(wrong, str)]
-    tried = [week for week in found if not isinstance(week, str)]
-    contradictory, off, positive, optimal = (sum(week[at] for week in tried) for at in range(4))
-    if not (contradictory and off and positive and optimal):
-        failed.append("nothing of one kind was tried")
-    print("".join(f"FAILED: {line}\n" for line in failed), end="")
-    print(f"every_case.py: seed {given.seed}, {given.weeks} weeks, {contradictory} of them with a nurse who has none, {off} bounded by a "
-          f"day off, {positive} above 0, {optimal} with a roster at the bound; {len(failed)} failed")
-    sys.exit(1 if failed else 0)
-
-
 if __name__ == "__main__":
-    main()
+    run_trials(__doc__, try_number, ("with a nurse who has no week", "bounded by a day off", "above 0", "with a roster at the bound"))

@@ -7,20 +7,17 @@ The bound of the helpers is `plain_bound` of helpers/inrc2pb/pricing.py, whose r
 history of each later week is that of helpers/inrc2pb/next_history.py: no such rosters may cost less than the bound.
 """
 
-import argparse
-import concurrent.futures
 import copy
-import functools
 import os
 import random
 import subprocess
-import sys
 import tempfile
 from dataclasses import replace
 
 from drafts import files_of, rows, rules, week_of
 from random_weeks import legal_roster, random_requirements, random_week
 from runs import Wrong
+from trials import run_trials
 
 from inrc2pb.bounds import prices_text
 from inrc2pb.next_history import next_history
@@ -81,7 +78,7 @@ def cost_of_rosters(chance, values, drafts, early):
 
 
 def try_period(program, folder, chance):
-    """The number of weeks, the bound, and the number of rosters that were tried."""
+    """Whether there are several weeks, whether the bound is above 0, and the number of rosters that were tried."""
     drafts, early = random_period(chance), chance.random() < 0.4
     values = [week_of(draft) for draft in drafts]
     plan = Plan.of(values[0].scenario, values[0].history, [value.data for value in values], early, keeps=False)
@@ -99,7 +96,7 @@ def try_period(program, folder, chance):
     costs = [cost for cost in (cost_of_rosters(chance, values, drafts, early) for _ in range(ROSTERS)) if cost is not None]
     if costs and min(costs) < bound:
         raise Wrong("bound", f"{bound} is above {min(costs)}")
-    return len(drafts), bound, len(costs)
+    return len(drafts) > 1, bound > 0, len(costs)
 
 
 def try_number(program, seed, number):
@@ -111,24 +108,5 @@ def try_number(program, seed, number):
             return f"period {number}: {wrong}"
 
 
-def main():
-    reader = argparse.ArgumentParser(description=__doc__, formatter_class=argparse.RawDescriptionHelpFormatter)
-    reader.add_argument("program")
-    reader.add_argument("--periods", type=int, default=60)
-    reader.add_argument("--seed", type=int, default=1)
-    given = reader.parse_args()
-    with concurrent.futures.ProcessPoolExecutor() as pool:
-        found = list(pool.map(functools.partial(try_number, given.program, given.seed), range(given.periods)))
-    failed = [wrong for wrong in found if isinstance(wrong, str)]
-    tried = [period for period in found if not isinstance(period, str)]
-    several, above, rosters = sum(weeks > 1 for weeks, _, _ in tried), sum(bound > 0 for _, bound, _ in tried), sum(of for _, _, of in tried)
-    if not (several and above and rosters):
-        failed.append("nothing of one kind was tried")
-    print("".join(f"FAILED: {line}\n" for line in failed), end="")
-    print(f"every_period.py: seed {given.seed}, {given.periods} periods, {several} of several weeks, {above} with a bound above 0; "
-          f"{rosters} rosters, {len(failed)} failed")
-    sys.exit(1 if failed else 0)
-
-
 if __name__ == "__main__":
-    main()
+    run_trials(__doc__, try_number, ("of several weeks", "with a bound above 0", "rosters"), "periods", 60)

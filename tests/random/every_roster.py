@@ -12,23 +12,21 @@ For answers with any slacks `decode` has to name the first constraint that is no
 objective and the roster's costs.
 """
 
-import argparse
-import concurrent.futures
-import functools
 import random
 import re
 import shutil
 import subprocess
-import sys
 import tempfile
 
 from drafts import costs, files_of, rows, rules, solution_text, week_of
 from random_weeks import any_cell, cells_of, legal_roster, random_week
 from runs import Runs, Wrong, report_text
+from trials import run_trials
 
 # Nurses, shift types and skills of the weeks, in turn: 7 cells, and now and then 14.
 SIZES = [(1, 1, 1)] * 12 + [(1, 2, 1)] * 2 + [(2, 1, 1), (1, 1, 2)]
 ANSWERS_OF_A_WEEK = 8
+HAS_CLASP = shutil.which("clasp") is not None
 
 
 # ---- the model
@@ -149,7 +147,7 @@ def penalties(model, week, held, early):
     return found
 
 
-def try_week(runs, chance, week, held, case, with_clasp):
+def try_week(runs, chance, week, held, case):
     """What was tried: sets of cells, those of them that keep the hard rules, whether there is none, and answers that satisfy
     the model and that do not."""
     runs.put(case)
@@ -160,43 +158,24 @@ def try_week(runs, chance, week, held, case, with_clasp):
     model = Model(text, len(cells))
     penalty = penalties(model, week, held, "early" in case)
     least = min(penalty.values(), default=None)
-    if with_clasp and clasp_optimum(text) != least:
+    if HAS_CLASP and clasp_optimum(text) != least:
         raise Wrong("clasp's optimum", f"{clasp_optimum(text)} is not {least}")
     answers = [random_answer(chance, model, cells, list(penalty)) for _ in range(ANSWERS_OF_A_WEEK)]
     satisfying = sum(check_answer(runs, model, week, case, true) for true in answers)
     return 1 << len(cells), len(penalty), not penalty, satisfying, ANSWERS_OF_A_WEEK - satisfying
 
 
-def try_number(program, seed, with_clasp, number):
+def try_number(program, seed, number):
     """As `try_week`, or what is wrong."""
     chance = random.Random(f"small {seed} {number}")
     with tempfile.TemporaryDirectory(prefix="inrc2pb-") as folder:
         try:
-            return try_week(Runs(program, folder), chance, *small_case(chance, number), with_clasp)
+            return try_week(Runs(program, folder), chance, *small_case(chance, number))
         except Wrong as wrong:
             return f"week {number}: {wrong}"
 
 
-def main():
-    reader = argparse.ArgumentParser(description=__doc__, formatter_class=argparse.RawDescriptionHelpFormatter)
-    reader.add_argument("program")
-    reader.add_argument("--weeks", type=int, default=64)
-    reader.add_argument("--seed", type=int, default=1)
-    given = reader.parse_args()
-    with_clasp = shutil.which("clasp") is not None
-    with concurrent.futures.ProcessPoolExecutor() as pool:
-        found = list(pool.map(functools.partial(try_number, given.program, given.seed, with_clasp), range(given.weeks)))
-    failed = [wrong for wrong in found if isinstance(wrong, str)]
-    tried = [week for week in found if not isinstance(week, str)]
-    sets, kept, without, satisfying, others = (sum(week[at] for week in tried) for at in range(5))
-    if not (without and kept and satisfying and others):
-        failed.append("nothing of one kind was tried")
-    print("".join(f"FAILED: {line}\n" for line in failed), end="")
-    print(f"every_roster.py: seed {given.seed}, {given.weeks} weeks, {without} of them without a roster"
-          f"{', as clasp proves,' if with_clasp else ''} {sets} sets of cells, {kept} of them rosters that keep the hard rules, "
-          f"{satisfying} answers that satisfy the model and {others} that do not, {len(failed)} failed")
-    sys.exit(1 if failed else 0)
-
-
 if __name__ == "__main__":
-    main()
+    run_trials(__doc__, try_number, (
+        "sets of cells", "of them rosters that keep the hard rules", "weeks without a roster" + ", as clasp proves" * HAS_CLASP,
+        "answers that satisfy the model", "that do not"), default=64)

@@ -9,19 +9,16 @@ nurse's week costs at least, less the prices of its cells; the rows are the firs
 keeps the hard rules may have a smaller penalty, and none may exist if the program says so.
 """
 
-import argparse
-import concurrent.futures
-import functools
 import itertools
 import os
 import random
 import subprocess
-import sys
 import tempfile
 
 from drafts import DAYS, files_of, first_broken, rows, rules, solution_text, week_of
 from random_weeks import any_cell, legal_roster, random_week
 from runs import FILES, Wrong
+from trials import run_trials
 
 # Nurses, shift types and skills of the weeks, in turn.
 SIZES = [(1, 1, 1), (2, 1, 1), (1, 2, 1), (1, 1, 2), (2, 1, 2), (1, 2, 2)]
@@ -264,24 +261,6 @@ def try_number(program, seed, number):
             return f"week {number}: {wrong}"
 
 
-def main():
-    reader = argparse.ArgumentParser(description=__doc__, formatter_class=argparse.RawDescriptionHelpFormatter)
-    reader.add_argument("program")
-    reader.add_argument("--weeks", type=int, default=90)
-    reader.add_argument("--seed", type=int, default=1)
-    given = reader.parse_args()
-    with concurrent.futures.ProcessPoolExecutor() as pool:
-        found = list(pool.map(functools.partial(try_number, given.program, given.seed), range(given.weeks)))
-    failed = [wrong for wrong in found if isinstance(wrong, str)]
-    tried = [week for week in found if not isinstance(week, str)]
-    contradictory, without, proved, optimal, broken = (sum(week[at] for week in tried) for at in range(5))
-    if not (contradictory and without and proved and optimal and broken):
-        failed.append("nothing of one kind was tried")
-    print("".join(f"FAILED: {line}\n" for line in failed), end="")
-    print(f"every_week.py: seed {given.seed}, {given.weeks} weeks, {contradictory} of them with a nurse who has none, {without} without a "
-          f"roster, {proved} proved so, {optimal} with a roster at the bound; {broken} rosters that break a rule, {len(failed)} failed")
-    sys.exit(1 if failed else 0)
-
-
 if __name__ == "__main__":
-    main()
+    run_trials(__doc__, try_number, (
+        "with a nurse who has no week", "without a roster", "proved to have none", "with a roster at the bound", "with a roster that breaks a rule"))
