@@ -80,7 +80,7 @@ def _day_of(cell: Cell) -> int:
     for day, name in enumerate(DAYS):
         if short == name.casefold():
             return day
-    cell.fault(f"'{cell.text}' is no day of the week: write one of {','.join(DAYS)}")
+    cell.fault(f"'{cell.text}' is no day of the week: write one of {','.join(DAYS)}, or begin the head with #")
 
 
 def _date_of(cell: Cell) -> Optional[datetime.date]:

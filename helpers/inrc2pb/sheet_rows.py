@@ -164,7 +164,8 @@ class Table:
             cell.fault(f"'{cell.text}' is no column of this sheet: " + (f"did you mean '{meant}'?" if meant else "delete it, or begin its head with #"))
 
     def _check_heads(self, columns: Collection[int], number: int) -> None:
-        """Each cell has a head above it, in one of these columns. A fault names the first cell of each other column."""
+        """Each cell has a head above it: these columns have one, in the row of this number. A fault names the first cell of each other
+        column."""
         first: Dict[int, Cell] = {}
         for row in self.rows:
             for cell in row.outside(columns):

@@ -131,6 +131,8 @@ def main() -> Optional[int]:
     away = [dated for text in given.away for dated in wording.away(text)]
     never = [dated for text in given.never for dated in wording.never(text)]
     wishes = [dated for text in given.wish for dated in wording.wish(text)]
+    for line in wording.warnings:
+        print(f"warning: {line}")
     days = _days_away(scenario, away) if given.credit else {}
     shifts = shifts_of_leave(scenario, days)
     history = credited(history, shifts) if history else None

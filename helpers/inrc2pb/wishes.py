@@ -22,12 +22,14 @@ class Dated(NamedTuple):
 
 
 class Wording:
-    """The names of a ward, the number of weeks, and the date of the first Monday, if it is given."""
+    """The names of a ward, the number of weeks, and the date of the first Monday, if it is given. `warnings` tells of dates that are in none
+    of these weeks."""
 
     def __init__(self, scenario: Scenario, weeks: int, monday: Optional[str]) -> None:
         self.scenario = scenario
         self.weeks = weeks
         self.monday = None if monday is None else read_monday(monday, weeks)
+        self.warnings: List[str] = []
 
     def away(self, text: str) -> Iterator[Dated]:
         """`NURSE`, or `NURSE=DAYS`: away on these days or dates, or in all weeks."""
@@ -86,8 +88,13 @@ class Wording:
             raise Misuse(f"{where}: {first} comes after {last}: give the earlier date first")
         over = self.monday + datetime.timedelta(days=7 * self.weeks - 1)
         days = range(max(0, (begin - self.monday).days), min((over - self.monday).days, (end - self.monday).days) + 1)
+        weeks = f"not in the {'week' if self.weeks == 1 else 'weeks'} from {self.monday} to {over}"
         if not days:
-            raise Misuse(f"{where}: {word} is not in the {'week' if self.weeks == 1 else 'weeks'} from {self.monday} to {over}")
+            raise Misuse(f"{where}: {word} is {weeks}")
+        asked = (end - begin).days + 1
+        if len(days) < asked:
+            outside = asked - len(days)
+            self.warnings.append(f"{where}: {outside} of these {asked} days {'is' if outside == 1 else 'are'} {weeks}: write them into the files of other weeks too")
         yield from (divmod(day, len(DAYS)) for day in days)
 
 

@@ -158,6 +158,12 @@ class Wish(HelperTest):
         line = "inrc2pb-wish: 2 weeks are given, and 1 is left from week 3 of 4: give only the files of weeks that are not planned yet"
         self.assert_fault(run(*words, "--his", last, "--credit", history), line)
 
+    def test_days_of_other_weeks_get_a_warning(self):
+        for dates, count in (("2026-12-05..2026-12-20", "14 of these 16 days are"), ("2026-11-29..2026-12-02", "1 of these 4 days is")):
+            status, printed, said = self.wish("--monday", "2026-11-30", "--away", f"Chen={dates}")
+            line = f"warning: --away Chen={dates}: {count} not in the week from 2026-11-30 to 2026-12-06: write them into the files of other weeks too"
+            self.assertEqual((status, printed.splitlines()[0], said), (0, line, ""))
+
     def test_the_history_does_not_replace_a_week(self):
         folder = self.folder / "out"
         folder.mkdir()

@@ -110,7 +110,8 @@ class Contents(unittest.TestCase):
             ("plan", 1, 1, "Sun 0", "row 1, column B: 'Sun 0' should be a Mon: the plan begins on a Monday, and has each day once"),
             ("plan", 1, 1, "2026-12-01", "row 1, column B: '2026-12-01' should be a Mon: the plan begins on a Monday, and has each day once"),
             ("plan", 1, 1, "2026-02-30", "row 1, column B: there is no day 2026-02-30: write a date such as 2026-11-30"),
-            ("plan", 1, 1, "30.11.", "row 1, column B: '30.11.' is no day of the week: write one of Mon,Tue,Wed,Thu,Fri,Sat,Sun"),
+            ("plan", 1, 1, "30.11.", "row 1, column B: '30.11.' is no day of the week: write one of Mon,Tue,Wed,Thu,Fri,Sat,Sun, or begin the head with #"),
+            ("plan", 1, 15, "Total", "row 1, column P: 'Total' is no day of the week: write one of Mon,Tue,Wed,Thu,Fri,Sat,Sun, or begin the head with #"),
             ("plan", 1, 2, "2026-12-01", "row 1, column C: '2026-12-01' has a date, unlike the first day: write dates for all days or for none"),
         ):
             with self.subTest(sheet=sheet, row=row, text=text), self.assertRaises(FileFault) as caught:
