@@ -90,6 +90,26 @@ bounds_by_cases() {
     says 'five nurses, and the same prices in both cases' 'lower bound 320\npenalty 320\noptimal\n' "${five[@]}" --cases patrick --roster five
 }
 
+# More cases than a byte counts, and as many cases, bytes and nurses as files may have. In the case of 1000 nurses the last one is off, and the
+# price of a nurse on Monday is the cost of her shift; in the rest she works there, and costs 15.
+bounds_at_the_limits() {
+    local closed=(--sce closed.txt --his history.txt --week wanted.txt) most
+    mapfile -t most < <(yes 'Ann Mon ROWS = 1 Day Nurse 30000 0 0 0 0 0 0' | head -n 9999)
+    cases thousand_off 'OFF = 1000' "${most[@]:0:1000}" REST 'ROWS = 0'
+    cases most_off 'OFF = 9999' "${most[@]}"
+    filled off_or_not longest_cases 4194304
+    filled off_or_not longer_cases 4194305
+    says 'a case 1000 times' 'lower bound 15\n' "${closed[@]}" --cases thousand_off
+    refuses 'a case 9999 times, without the rest' 1 'cases line 10003: end of file' "${closed[@]}" --cases most_off
+    says 'the longest cases' 'lower bound 15\n' "${closed[@]}" --cases longest_cases
+    refuses 'cases that are too long' 1 'cases: out of limits' "${closed[@]}" --cases longer_cases
+    { head -n 10 "$room/closed.txt"; echo 'NURSES = 1000'; seq -f 'N%.0f Full 1 Nurse' 1000; } > "$room/thousand.txt"
+    { head -n 3 "$room/history.txt"; seq -f 'N%.0f 0 0 None 0 0 0' 1000; } > "$room/thousand_history.txt"
+    cases last_off 'OFF = 1' 'N1000 Mon' 'ROWS = 1' 'Day Nurse 15000 0 0 0 0 0 0' REST 'ROWS = 0'
+    says 'a day off of the last of 1000 nurses' 'lower bound 15\n' \
+        --sce thousand.txt --his thousand_history.txt --week wanted.txt --cases last_off
+}
+
 # Two nurses are wanted on Monday, and the ward has one.
 proves_by_cases() {
     local short=(--sce scenario.txt --his history.txt --week two.txt)
@@ -193,6 +213,7 @@ changed scenario.txt no_two.txt 8 'Day 1 Day'
 proves_optima
 bounds_the_base
 bounds_by_cases
+bounds_at_the_limits
 proves_by_cases
 prints_rows
 refuses_files
