@@ -5,7 +5,7 @@
 
 Each seed is a ward of 12 to 120 nurses with four shift types, in one of its four weeks, that asks for 70 to 110 % of what
 `make_weeks.py` asks for. With --wide it is the week of 100 nurses and eight shift types and skills that `wide_weeks.py` makes
-for this percentage: of 80 and 85, some are not proved in a minute.
+for this percentage: some are not proved in a minute.
 The programs are out/inrc2pb and out/inrc2pb-bound, or the one that INRC2PB names and the one beside it.
 """
 
