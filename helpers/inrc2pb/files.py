@@ -125,7 +125,7 @@ def check_week_number(path: PathLike, history: History, scenario: Scenario) -> N
 
 
 def check_weeks_left(count: int, history: History, scenario: Scenario) -> None:
-    """So many weeks have to be left in the period, with that of the history."""
+    """Checks that the period has this number of weeks left, with the week of the history."""
     left = scenario.weeks - history.week
     if count > left:
         raise Misuse(

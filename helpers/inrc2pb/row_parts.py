@@ -88,8 +88,8 @@ class RowParts:
         solver.end_all()
 
     def _learn(self, part: Part, ended: bool, seconds: float, is_better: bool) -> None:
-        """Counts the time of a neighborhood, and changes the number of nurses of the next ones with as many days. `is_better` says whether
-        the best roster is another one now."""
+        """Counts the time of a neighborhood, and changes the number of nurses of later ones of this length. `is_better` says whether the
+        best roster is another one now."""
         with self._lock:
             length = len(part.days)
             self._taken[length] += seconds
@@ -101,7 +101,7 @@ class RowParts:
                 self._closed.add(part.days)
 
     def _next(self) -> Part:
-        """A neighborhood with the number of days that has taken the least time. Closed days of all nurses come only if nothing else is left."""
+        """The next neighborhood. The lengths share the time, and days that are closed for all nurses come last."""
         with self._lock:
             nurses, days = len(self._search.plan.nurses), self._search.plan.days
             for length in sorted(self._taken, key=self._taken.__getitem__):

@@ -82,7 +82,7 @@ class NextParts(unittest.TestCase):
             parts._learn(part, True, 1.0, False)
         self.assertEqual(len(set(seen)), 23)
         self.assertEqual({len(days) for days in seen[:4]}, {5, 7, 11, 14})
-        # The only one of 14 days has taken the least time, and is open again.
+        # The only one of 14 days has taken less time than the others, and is open again.
         parts._learn(part, True, 1.0, True)
         self.assertEqual(len(parts._next().days), 14)
 

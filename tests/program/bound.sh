@@ -90,7 +90,7 @@ bounds_by_cases() {
     says 'five nurses, and the same prices in both cases' 'lower bound 320\npenalty 320\noptimal\n' "${five[@]}" --cases patrick --roster five
 }
 
-# More cases than a byte counts, and as many cases, bytes and nurses as files may have. In the case of 1000 nurses the last one is off, and the
+# More cases than a byte counts, and the most cases, bytes and nurses that files may have. In the case of 1000 nurses the last one is off, and the
 # price of a nurse on Monday is the cost of her shift; in the rest she works there, and costs 15.
 bounds_at_the_limits() {
     local closed=(--sce closed.txt --his history.txt --week wanted.txt) most
