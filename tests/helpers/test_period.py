@@ -96,7 +96,7 @@ class Together(PeriodTest):
             words = [word for one in away for word in ("--away", one)]
             self.assertEqual(run("wish", "--sce", SCENARIO, "--week", WARD / "week-1.txt", *words, "--out", week)[0], 0)
             options = (*WEEK_OPTIONS, "--week", week)
-            status, printed, said = run("period", *options, "--out", self.folder / "out", "--time", 15)
+            status, printed, said = run("period", *options, "--out", self.folder / "out", "--time", 8)
             self.assertEqual(status, 0, said)
             self.assertRegex("".join(line for line in said.splitlines() if "absence" in line), says)
             self.assertRegex(printed.splitlines()[-1], "^lower bound [0-9]+ of the sum ")

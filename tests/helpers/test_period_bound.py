@@ -172,7 +172,7 @@ class Periods(FakeProver):
 
     def test_a_bound_is_that_of_the_program(self):
         self.prover(5)
-        status, printed, said = run("period", *self.words, 20, "--prices", self.folder / "prices", environment=self.environment)
+        status, printed, said = run("period", *self.words, 8, "--prices", self.folder / "prices", environment=self.environment)
         self.assertEqual(status, 0, said)
         self.assertRegex(printed.splitlines()[-1], f"^lower bound 5 of the sum \\({PERIOD_PROVER}\\): the gap is ")
         self.assertEqual([(self.folder / "prices" / f"prices-{number}.txt").read_text() for number in range(2)], self.given()["prices"])

@@ -6,7 +6,7 @@ usage: edits.py [map | many | none | stale] [CRATE..]
   map     each function that an edit changes, its promises, and its edits
   many    the same, for functions with two edits or more
   none    the public functions that no edit changes, without those that need none: the laws, whose bodies call laws or nothing,
-          the drops, which promise nothing, and functions whose only promise fixes the result
+          the drops, which promise nothing, and functions that change nothing and have a promise that fixes the result
   stale   the edits whose old text is not in its file exactly once; the word may be left out
 
 A promise is shown by its label, or by its text if it has none; `=` precedes one that fixes the whole result.
@@ -25,12 +25,12 @@ CITES = re.compile(r"\s*(\w+\(\);\s*)*")
 OWNER = re.compile(r"(?:pub |unsafe )*(impl|trait)\b(?:<[^>]*>)? (.*?)\s*(?:\{|where|$)")
 PROMISE = re.compile(r"(?m)^ +ensures (\w+)? ?\{ ?((?:.(?!\n +(?:ensures|requires) |\n *\{))*.)", re.S)
 EXACT = re.compile(r"(let .*? in )?result(\.now)? ≡ ")
-Function = namedtuple("Function", "name first last public law promises")
+Function = namedtuple("Function", "name first last public law fixed promises")
 
 
 def promise(label, text):
     """A promise in a few words."""
-    text = " ".join(text.split()).rstrip(" }")
+    text = text.rstrip(" }")
     exact = "=" if EXACT.match(text) else ""
     return exact + (label or re.sub(r"^let .*? in ", "", text)[:60])
 
@@ -74,9 +74,11 @@ def functions(path, module, exports, is_open):
         of = owner if indent else []
         seen = of[-1] in exports if of else f"{module}::{name}" in exports
         public = (visible == "pub " or shares and of != []) and (seen or is_open)
-        promises = [promise(*told) for told in PROMISE.findall("\n".join(lines[at:begin + 1]))]
+        told = [(label, " ".join(text.split())) for label, text in PROMISE.findall("\n".join(lines[at:begin + 1]))]
+        fixed = any(EXACT.match(text) for _, text in told) and not any(".new" in text for _, text in told)
         whole = "::".join([" for ".join(of), name] if of else [name])
-        found.append(Function(whole, at, end, public, bool(CITES.fullmatch("".join(lines[begin + 1:end]))), promises))
+        law = bool(CITES.fullmatch("".join(lines[begin + 1:end])))
+        found.append(Function(whole, at, end, public, law, fixed, [promise(*one) for one in told]))
     return found
 
 
@@ -140,9 +142,8 @@ def edits_by_function(crate, tables):
 
 
 def needs_edit(one):
-    """Whether a public function has a promise that some wrong body might keep."""
-    fixed = len(one.promises) == 1 and one.promises[0].startswith("=")
-    return one.public and not one.law and not one.name.endswith("::drop") and not fixed
+    """Whether a public function changes something, or has no promise that fixes its result."""
+    return one.public and not one.law and not one.name.endswith("::drop") and not one.fixed
 
 
 def tell(asked, path, one, edits):
@@ -168,7 +169,7 @@ def main():
         for line in stale:
             print(line)
         for path, found in tables.items():
-            for one in [*found, Function("(no function)", None, None, False, True, [])]:
+            for one in [*found, Function("(no function)", None, None, False, True, False, [])]:
                 tell(asked, path, one, edits_of.get((path, one.first), {}))
     print(f"{count} edits, {bad} stale")
     sys.exit(bad > 0)
