@@ -61,7 +61,7 @@ def read_days(book: Book) -> Days:
     monday = dates[0] if dates else None
     for at, (cell, date) in enumerate(zip(columns, dates)):
         if cell.column != columns[0].column + at:
-            cell.fault("the column before this one is no day: delete it, or move it behind the last day")
+            cell.fault("the column before this one is no day: delete it, or move it after the last day")
         if date and monday and (date - monday).days != at:
             cell.fault(f"{date} does not follow the day before: write one column for each day")
         if bool(date) != bool(monday):

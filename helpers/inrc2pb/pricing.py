@@ -105,7 +105,7 @@ class Pricing:
         return part
 
     def on_days(self, days: range, rows: Sequence[Row]) -> "Pricing":
-        """The same for rows that differ from these ones on these days only."""
+        """The same for rows that are the given ones, except on these days."""
         part = copy.copy(self)
         part.wishes = []
         for crews, wishes, row in zip(self.crews.of, self.wishes, rows):

@@ -72,7 +72,7 @@ class RowGeneration:
                 self._add(nurse_number, row, cost, self.prices, places[nurse_number])
 
     def begin_with(self, whole: "RowGeneration", nurses: Sequence[int], rows: Sequence[Row], days: range) -> None:
-        """Begins with the prices for more nurses, and with the known rows of these ones; beside these days they keep the given rows."""
+        """Begins with the prices for more nurses, and with the known rows of these nurses, who keep the given rows on all other days."""
         known = dict(zip(whole.pricing.crews.places, whole.prices))
         self.prices = [known.get(place, 0) for place in self.pricing.crews.places]
         numbers = {nurse: number for number, nurse in enumerate(nurses)}

@@ -97,7 +97,7 @@ class Row:
         self._cells = cells
 
     def outside(self, columns: Collection[int]) -> Iterator[Cell]:
-        """The cells in other columns than these that are not empty."""
+        """The cells outside these columns that are not empty."""
         others = (self.at(column) for column in range(len(self._cells)) if column not in columns)
         return (cell for cell in others if cell.text)
 
@@ -164,8 +164,7 @@ class Table:
             cell.fault(f"'{cell.text}' is no column of this sheet: " + (f"did you mean '{meant}'?" if meant else "delete it, or begin its head with #"))
 
     def _check_heads(self, columns: Collection[int], number: int) -> None:
-        """Each cell has a head above it: these columns have one, in the row of this number. A fault names the first cell of each other
-        column."""
+        """A fault names the first cell of each column without a head. The given columns have one, in the row of this number."""
         first: Dict[int, Cell] = {}
         for row in self.rows:
             for cell in row.outside(columns):

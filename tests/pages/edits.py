@@ -74,11 +74,11 @@ def functions(path, module, exports, is_open):
         of = owner if indent else []
         seen = of[-1] in exports if of else f"{module}::{name}" in exports
         public = (visible == "pub " or shares and of != []) and (seen or is_open)
-        told = [(label, " ".join(text.split())) for label, text in PROMISE.findall("\n".join(lines[at:begin + 1]))]
-        fixed = any(EXACT.match(text) for _, text in told) and not any(".new" in text for _, text in told)
+        clauses = [(label, " ".join(text.split())) for label, text in PROMISE.findall("\n".join(lines[at:begin + 1]))]
+        fixed = any(EXACT.match(text) for _, text in clauses) and not any(".new" in text for _, text in clauses)
         whole = "::".join([" for ".join(of), name] if of else [name])
         law = bool(CITES.fullmatch("".join(lines[begin + 1:end])))
-        found.append(Function(whole, at, end, public, law, fixed, [promise(*one) for one in told]))
+        found.append(Function(whole, at, end, public, law, fixed, [promise(*clause) for clause in clauses]))
     return found
 
 

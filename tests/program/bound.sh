@@ -1,10 +1,10 @@
 #!/usr/bin/env bash
 # Runs `inrc2pb-bound`, and checks its exit status and its output: bounds of weeks whose optimum solvers proved, faults in
-# the order of the checks, its words, and each allocation refused in turn. Then compares it with plain programs on small weeks.
+# the order of the checks, and its words. Then compares it with plain programs on small weeks.
 #
 #   tests/program/bound.sh [llvm | rattle | PROGRAM]
 #
-# Needs bash, the usual tools of a shell, a C compiler and Python 3.8.
+# Needs bash, the usual tools of a shell and Python 3.8.
 . "$(dirname "$0")/../kit/kit.sh"
 encoder=$program
 needs_bound
