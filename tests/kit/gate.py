@@ -9,7 +9,8 @@ usage: gate.py [--anew] [--processors LIST] [COMMAND..]
 
 The processor time is sampled: twice a second, each process that the gate started is assigned to the part that its command
 line names. Processes that ended between two samples are in the row `short processes`. The wall time of a part is the time from its
-first process to its last one; parts overlap. Needs Linux.
+first process to its last one; parts overlap. A virtual machine may change its speed: a fixed loop, run every ten seconds, tells how
+much of its best speed the machine had on average, and the last line what the gate would have taken at the best. Needs Linux.
 """
 
 import argparse
@@ -25,6 +26,7 @@ from typing import Dict, List, NamedTuple, Tuple
 
 TICKS = os.sysconf("SC_CLK_TCK")
 PERIOD = 0.5
+LOOP_PERIOD = 10.0
 
 
 class Process(NamedTuple):
@@ -99,10 +101,19 @@ def part_of(pid: int, table: Dict[int, Process], root: int, known: Dict[Tuple[in
     return "other"
 
 
-def measure(command: List[str]) -> Tuple[int, float, Dict[str, Part]]:
-    """Runs the command: its status, its wall time, and its parts."""
+def loop_seconds() -> float:
+    """The processor time of a fixed loop."""
+    began, total = time.process_time(), 0
+    for number in range(500_000):
+        total += number
+    return time.process_time() - began
+
+
+def measure(command: List[str]) -> Tuple[int, float, Dict[str, Part], List[float]]:
+    """Runs the command: its status, its wall time, its parts, and the times of the loops."""
     parts: Dict[str, Part] = defaultdict(Part)
     known: Dict[Tuple[int, str], str] = {}
+    loops: List[float] = []
     began = time.monotonic()
     with subprocess.Popen(command) as running:
         while running.poll() is None:
@@ -111,8 +122,10 @@ def measure(command: List[str]) -> Tuple[int, float, Dict[str, Part]]:
                 part = part_of(pid, table, running.pid, known)
                 if part:
                     parts[part].add(pid, process, now)
+            if now - began >= LOOP_PERIOD * len(loops):
+                loops.append(loop_seconds())
             time.sleep(PERIOD)
-    return running.returncode, time.monotonic() - began, parts
+    return running.returncode, time.monotonic() - began, parts, loops
 
 
 def from_nothing() -> List[str]:
@@ -127,8 +140,8 @@ def row(name: str, wall: float, seconds: float, edits: int = 0) -> None:
     print(f"{name:32} {wall:8.0f} {seconds:12.0f} {each:>9}")
 
 
-def report(wall: float, parts: Dict[str, Part]) -> None:
-    """Prints the parts, the sums of each kind, and the whole."""
+def report(wall: float, parts: Dict[str, Part], loops: List[float]) -> None:
+    """Prints the parts, the sums of each kind, the whole, and the speed of the machine."""
     used = resource.getrusage(resource.RUSAGE_CHILDREN)
     whole = used.ru_utime + used.ru_stime
     print(f"\n{'part':32} {'wall s':>8} {'processor s':>12} {'each':>9}")
@@ -143,6 +156,9 @@ def report(wall: float, parts: Dict[str, Part]) -> None:
     for kind in sorted(kinds):
         row(f"all: {kind}", wall, kinds[kind])
     row("all", wall, whole)
+    best = min(loops)
+    speed = sum(best / seconds for seconds in loops) / len(loops)
+    print(f"\nspeed: {speed:.2f} of the best (a loop of {best:.3f} s), at which the gate would take {wall * speed:.0f} s")
 
 
 def main() -> None:
@@ -156,8 +172,8 @@ def main() -> None:
     if words.processors:
         os.sched_setaffinity(0, {int(number) for number in words.processors.split(",")})
     command = [word for word in words.command if word != "--"] or [".ci/run"]
-    status, wall, parts = measure([*command, *(from_nothing() if words.anew else [])])
-    report(wall, parts)
+    status, wall, parts, loops = measure([*command, *(from_nothing() if words.anew else [])])
+    report(wall, parts, loops)
     sys.exit(status)
 
 

@@ -6,7 +6,8 @@ usage: edits.py [map | many | none | stale] [CRATE..]
   map     each function that an edit changes, its promises, and its edits
   many    the same, for functions with two edits or more
   none    the public functions that no edit changes, without those that need none: the laws, whose bodies call laws or nothing,
-          the drops, which promise nothing, and functions that change nothing and have a promise that fixes the result
+          the drops, which promise nothing, functions that change nothing and have a promise that fixes the result, and
+          functions whose promises are equations
   stale   the edits whose old text is not in its file exactly once; the word may be left out
 
 A promise is shown by its label, or by its text if it has none; `=` precedes one that fixes the whole result.
@@ -25,6 +26,7 @@ CITES = re.compile(r"\s*(\w+\(\);\s*)*")
 OWNER = re.compile(r"(?:pub |unsafe )*(impl|trait)\b(?:<[^>]*>)? (.*?)\s*(?:\{|where|$)")
 PROMISE = re.compile(r"(?m)^ +ensures (\w+)? ?\{ ?((?:.(?!\n +(?:ensures|requires) |\n *\{))*.)", re.S)
 EXACT = re.compile(r"(let .*? in )?result(\.now)? ≡ ")
+EQUATION = re.compile(r"(let .*? in )?[a-z⟦][^→]* ≡ [^→]*$")
 Function = namedtuple("Function", "name first last public law fixed promises")
 
 
@@ -75,7 +77,9 @@ def functions(path, module, exports, is_open):
         seen = of[-1] in exports if of else f"{module}::{name}" in exports
         public = (visible == "pub " or shares and of != []) and (seen or is_open)
         clauses = [(label, " ".join(text.split())) for label, text in PROMISE.findall("\n".join(lines[at:begin + 1]))]
-        fixed = any(EXACT.match(text) for _, text in clauses) and not any(".new" in text for _, text in clauses)
+        texts = [text.rstrip(" }") for _, text in clauses]
+        exact = any(EXACT.match(text) for text in texts) and not any(".new" in text for text in texts)
+        fixed = exact or bool(texts) and all(EQUATION.match(text) for text in texts)
         whole = "::".join([" for ".join(of), name] if of else [name])
         law = bool(CITES.fullmatch("".join(lines[begin + 1:end])))
         found.append(Function(whole, at, end, public, law, fixed, [promise(*clause) for clause in clauses]))
