@@ -15,7 +15,9 @@ mod examples;
 mod memory_ports;
 #[cfg(test)]
 mod model_texts;
+#[cfg(test)]
 mod own_source;
+#[cfg(test)]
 mod own_week;
 #[cfg(test)]
 mod port_calls;
