@@ -37,6 +37,14 @@ def promise(label, text):
     return exact + (label or re.sub(r"^let .*? in ", "", text)[:60])
 
 
+def fix_all(promises):
+    """Whether the promises leave no choice: nothing changes and one fixes the result, or all are equations."""
+    promises = list(promises)
+    if any(EXACT.match(one) for one in promises) and not any(".new" in one for one in promises):
+        return True
+    return promises != [] and all(EQUATION.match(one) for one in promises)
+
+
 def named(header):
     """The words of an impl's header that name its trait and its type."""
     parts = [re.match(r"[\w:]+", part.strip()) for part in header.split(" for ")]
@@ -77,11 +85,9 @@ def functions(path, module, exports, is_open):
         seen = of[-1] in exports if of else f"{module}::{name}" in exports
         public = (visible == "pub " or shares and of != []) and (seen or is_open)
         clauses = [(label, " ".join(text.split())) for label, text in PROMISE.findall("\n".join(lines[at:begin + 1]))]
-        texts = [text.rstrip(" }") for _, text in clauses]
-        exact = any(EXACT.match(text) for text in texts) and not any(".new" in text for text in texts)
-        fixed = exact or bool(texts) and all(EQUATION.match(text) for text in texts)
         whole = "::".join([" for ".join(of), name] if of else [name])
         law = bool(CITES.fullmatch("".join(lines[begin + 1:end])))
+        fixed = fix_all(text.rstrip(" }") for _, text in clauses)
         found.append(Function(whole, at, end, public, law, fixed, [promise(*clause) for clause in clauses]))
     return found
 
