@@ -25,7 +25,7 @@ FUNCTION = re.compile(r"( *)(pub(?:\(\w+\))? )?(?:const |unsafe |ghost )*fn (\w+
 CITES = re.compile(r"\s*(\w+\(\);\s*)*")
 OWNER = re.compile(r"(?:pub |unsafe )*(impl|trait)\b(?:<[^>]*>)? (.*?)\s*(?:\{|where|$)")
 PROMISE = re.compile(r"(?m)^ +ensures (\w+)? ?\{ ?((?:.(?!\n +(?:ensures|requires) |\n *\{))*.)", re.S)
-EXACT = re.compile(r"(let .*? in )?result(\.now)? ≡ ")
+EXACT = re.compile(r"(let .*? in )?result(\.now)? ≡ [^→]*$")
 EQUATION = re.compile(r"(let .*? in )?((If|On)(Ok|Err) result \((λ \w+\. )?)?[a-z⟦][^→]* ≡ [^→]*$")
 Function = namedtuple("Function", "name first last public law fixed promises")
 
