@@ -27,7 +27,7 @@ NOT_ON_THE_PAGE = (
     'cases_prove_optimality', 'cases_prove_that_no_roster_exists', 'cells_and_variables_are_inverse', 'no_item_lacks_more_than_its_slacks',
     'held_cells_keep_rules_where_the_model_is_satisfied', 'alike_rosters_cost_the_same',
 )
-CRATES_OF_TESTS = ('bound_tests', 'call_tests', 'run_tests', 'call_report', 'who_fits')
+CRATES_OF_TESTS = ('call_tests', 'run_tests', 'call_report', 'who_fits')
 
 LAW = re.compile(r'((?:^///.*\n)+)(?:^#\[.*\n)*^pub fn (\w+)\(\)\n', re.MULTILINE)
 

@@ -1,8 +1,11 @@
-//! Tests of the public calls from which runs are built: tables, rosters, numbers, rows, answers and ports.
+//! Tests of the public calls from which runs are built: tables, rosters, numbers, rows, answers, bounds and
+//! ports.
 #![tactic(auto)]
 
 #[cfg(test)]
 mod answers;
+#[cfg(test)]
+mod bounds;
 #[cfg(test)]
 mod case_files;
 #[cfg(test)]
@@ -20,6 +23,8 @@ mod own_source;
 #[cfg(test)]
 mod own_week;
 #[cfg(test)]
+mod periods;
+#[cfg(test)]
 mod port_calls;
 #[cfg(test)]
 mod price_files;
@@ -27,6 +32,8 @@ mod price_files;
 mod refused_tables;
 #[cfg(test)]
 mod run_counts;
+#[cfg(test)]
+mod small_weeks;
 #[cfg(test)]
 mod std_ports;
 #[cfg(test)]
