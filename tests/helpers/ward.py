@@ -3,9 +3,9 @@
 import os
 import shutil
 import signal
-import subprocess
 import sys
 import tempfile
+import traceback
 import unittest
 from dataclasses import replace
 from pathlib import Path
@@ -15,6 +15,7 @@ HELPERS = ROOT / "helpers"
 sys.path.insert(0, str(HELPERS))
 
 from inrc2pb import files, program  # noqa: E402
+from inrc2pb.launch import launch  # noqa: E402
 
 WARD = ROOT / "examples" / "ward"
 SCENARIO, HISTORY, WEEK, ROSTER = (WARD / name for name in ("ward.txt", "history-0.txt", "week-0.txt", "roster-0.txt"))
@@ -31,11 +32,37 @@ HAS_CLASP, HAS_CBC = (shutil.which(name) is not None for name in ("clasp", "cbc"
 
 
 def run(helper, *words, environment=None):
-    """Runs a helper; its status, standard output and standard error."""
-    ran = subprocess.run(
-        [sys.executable, str(HELPERS / f"inrc2pb-{helper}"), *map(str, words)],
-        stdout=subprocess.PIPE, stderr=subprocess.PIPE, env={**os.environ, **(environment or {})}, timeout=600)
-    return ran.returncode, ran.stdout.decode(), ran.stderr.decode()
+    """Runs a helper in a copy of this process, where its library is loaded; its status, standard output and standard error."""
+    output, printed = os.pipe()
+    with open(output, "rb") as pipe, tempfile.TemporaryFile() as said:
+        child = os.fork()
+        if not child:
+            os._exit(run_here(helper, words, environment or {}, printed, said.fileno()))
+        os.close(printed)
+        text = pipe.read().decode()
+        _, ended = os.waitpid(child, 0)
+        said.seek(0)
+        return os.WEXITSTATUS(ended) if os.WIFEXITED(ended) else -os.WTERMSIG(ended), text, said.read().decode()
+
+
+def run_here(helper, words, environment, printed, said):
+    """Runs a helper in this process, which it does not leave as it was, with these descriptors for its output; its status."""
+    os.dup2(printed, 1)
+    os.dup2(said, 2)
+    os.close(printed)
+    sys.stdout, sys.stderr = (open(number, "w", closefd=False) for number in (1, 2))
+    sys.argv = [str(HELPERS / f"inrc2pb-{helper}"), *map(str, words)]
+    os.environ.update(environment)
+    try:
+        launch()
+    except SystemExit as end:
+        return end.code
+    except BaseException:
+        traceback.print_exc()
+    finally:
+        for stream in (sys.stdout, sys.stderr):
+            stream.flush()
+    return 1
 
 
 class HelperTest(unittest.TestCase):
