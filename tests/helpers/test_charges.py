@@ -6,8 +6,7 @@ import unittest
 from collections import Counter
 from dataclasses import replace
 
-from in_process import table
-from ward import HISTORY, ROOT, ROSTER, SCENARIO, THIRTY_FILES, WARD, WEEK, WEEK_FILES, WEEK_OPTIONS, EARLY_ANSWER, HelperTest, files, program
+from ward import HISTORY, ROOT, ROSTER, SCENARIO, THIRTY_FILES, WARD, WEEK, WEEK_FILES, WEEK_OPTIONS, EARLY_ANSWER, HelperTest, files, program, run
 
 from inrc2pb import rules
 from inrc2pb.breaches import breaches
@@ -69,7 +68,7 @@ class Why(HelperTest):
         asked = ["Amara Any Wed"] * 2 + ["Amara Day Wed"] + ["Chen Any Fri"] * 30
         week.write_text("\n".join(["WEEK_DATA\nward\n\nREQUIREMENTS", "Day Nurse" + " (0,0)" * 6 + " (0,2)", f"SHIFT_OFF_REQUESTS = {len(asked)}", *asked]) + "\n")
         roster = self.solution("Amara Tue Day Nurse", "Amara Wed Day Nurse", "Amara Thu Day Nurse", "Amara Sun Day Nurse", "Chen Fri Late Nurse")
-        status, printed, _ = table("--sce", ward, "--his", history, "--week", week, "--why", roster)
+        status, printed, _ = run("table", "--sce", ward, "--his", history, "--week", week, "--why", roster)
         self.assertEqual(status, 0)
         self.assertEqual(printed.splitlines(), [
             "   30  S1  Day Nurse, Sun: 1 of 2 nurses",
@@ -97,7 +96,7 @@ class Why(HelperTest):
         for week, answer in ((FIVE_FILES, FIVE / "answers" / "clasp-optimum.txt"), (replace(THIRTY_FILES, early=True), EARLY_ANSWER)):
             roster = self.folder / "roster.txt"
             report = program.decode(week, answer.read_text(), roster)
-            printed = table(*options(week), "--why", roster)[1]
+            printed = run("table", *options(week), "--why", roster)[1]
             self.assertEqual(sums(printed), report.by_rule)
             self.assertIn(f"{report.penalty:5}  in all", printed)
 
@@ -117,13 +116,13 @@ class Why(HelperTest):
                     path.write_text(case[name])
                 of_week = program.WeekFiles(paths["sce"], paths["his"], paths["week"], early="early" in case)
                 report = program.extend(of_week, paths["roster"])[1]
-                self.assertEqual(sums(table(*options(of_week), "--why", paths["roster"])[1]), report.by_rule)
+                self.assertEqual(sums(run("table", *options(of_week), "--why", paths["roster"])[1]), report.by_rule)
                 kept += 1
         self.assertGreater(kept, 30)
 
     def test_a_roster_that_breaks_hard_rules(self):
         roster = self.changed(ROSTER, "Chen Fri Night Nurse", "Chen Fri Day Charge")
-        self.assertEqual(table(*WEEK_OPTIONS, "--why", roster), (6, "\n".join([
+        self.assertEqual(run("table", *WEEK_OPTIONS, "--why", roster), (6, "\n".join([
             "the roster breaks H2: Fri Night Nurse has 0 nurses and needs at least 1",
             "the roster breaks H3: Chen may not work Day on Fri after Late on Thu",
             "the roster breaks H4: Chen does not have the skill Charge\n"]), ""))  # fmt: skip
@@ -131,12 +130,12 @@ class Why(HelperTest):
 
 class Swaps(HelperTest):
     def test_a_swap_and_the_same_change_by_hand(self):
-        status, printed, said = table(*WEEK_OPTIONS, "--swap", "Chen Mon", "Grace Mon", ROSTER)
+        status, printed, said = run("table", *WEEK_OPTIONS, "--swap", "Chen Mon", "Grace Mon", ROSTER)
         self.assertEqual((status, said), (0, ""))
         self.assertEqual(printed.splitlines()[:2], ["Chen Mon: Day Nurse, before off", "Grace Mon: off, before Day Nurse"])
         self.assertIn("  +60  S2  Chen, Mon: only 1 day with work, at least 3\n", printed)
         other = self.changed(ROSTER, "Grace Mon Day Nurse", "Chen Mon Day Nurse")
-        self.assertEqual(table(*WEEK_OPTIONS, "--why", "--old", ROSTER, other)[1], printed)
+        self.assertEqual(run("table", *WEEK_OPTIONS, "--why", "--old", ROSTER, other)[1], printed)
         before, now = (program.penalty_of(WEEK_FILES, roster) for roster in (ROSTER, other))
         self.assertTrue(printed.splitlines()[-1].endswith(f"; penalty {now}, before {before}"), printed)
         changed = sum(int(line.split()[0]) for line in printed.splitlines()[2:-1])
@@ -144,7 +143,7 @@ class Swaps(HelperTest):
 
     def test_a_swap_back_changes_nothing(self):
         words = ("--swap", "Chen Mon", "Grace Tue")
-        self.assertEqual(table(*WEEK_OPTIONS, *words, *words, ROSTER), (0, "   +0  in all; penalty 20, before 20\n", ""))
+        self.assertEqual(run("table", *WEEK_OPTIONS, *words, *words, ROSTER), (0, "   +0  in all; penalty 20, before 20\n", ""))
 
     def test_a_swap_that_breaks_a_hard_rule(self):
         for pair, rule in (
@@ -152,7 +151,7 @@ class Swaps(HelperTest):
             (("Amara Mon", "Grace Mon"), "the new roster breaks H4: Grace does not have the skill Charge"),
             (("Ewa Tue", "Ewa Fri"), "the new roster breaks H2: Tue Night Nurse has 0 nurses and needs at least 1"),
         ):
-            status, printed, _ = table(*WEEK_OPTIONS, "--swap", *pair, ROSTER)
+            status, printed, _ = run("table", *WEEK_OPTIONS, "--swap", *pair, ROSTER)
             self.assertEqual((status, printed.splitlines()[2]), (6, rule))
 
     def test_faults(self):
@@ -170,7 +169,8 @@ class Swaps(HelperTest):
              "--swap is for one roster: change a copy of one of these, and give the others with --old"),
         ):
             with self.subTest(words[-3:]):
-                self.assertEqual(table(*words), (1, "", line))
+                status, printed, said = run("table", *words)
+                self.assertEqual((status, printed, said.splitlines()[-1]), (1, "", f"inrc2pb-table: {line}"))
 
 
 class Older(HelperTest):
@@ -183,23 +183,23 @@ class Older(HelperTest):
             (("--svg", "--old", ROSTER, ROSTER), "--old is for the table, --why and --html: leave it out"),
             (("--old", ROSTER, "--old", ROSTER, ROSTER), "--old is given 2 times for 1 roster: give it once for each, in their order"),
         ):
-            self.assertEqual(table(*words), (1, "", line))
+            self.assert_fault(run("table", *words), f"inrc2pb-table: {line}")
 
     def test_the_changes_below_a_table(self):
         other = self.changed(ROSTER, "Grace Mon Day Nurse", "Chen Mon Late Nurse")
-        lines = table("--old", ROSTER, other)[1].splitlines()
+        lines = run("table", "--old", ROSTER, other)[1].splitlines()
         self.assertEqual(lines[-2:], ["changed: Chen Mon: Late Nurse, before off", "changed: Grace Mon: off, before Day Nurse"])
-        self.assertEqual(Counter(line.startswith("changed") for line in table("--old", ROSTER, ROSTER)[1].splitlines())[True], 0)
+        self.assertEqual(Counter(line.startswith("changed") for line in run("table", "--old", ROSTER, ROSTER)[1].splitlines())[True], 0)
 
     def test_two_weeks(self):
         two = ("--sce", SCENARIO, "--his", HISTORY, "--week", WEEK, "--week", WARD / "week-1.txt")
         later = self.changed(ROSTER, "0 ward", "1 ward", "later.txt")
         other = self.changed(ROSTER, "Grace Mon Day Nurse", "Chen Mon Day Nurse", "other.txt")
-        status, printed, said = table(*two, "--why", other, later, "--old", ROSTER, "--old", later)
+        status, printed, said = run("table", *two, "--why", other, later, "--old", ROSTER, "--old", later)
         self.assertEqual((status, said), (0, ""))
         self.assertIn("week 0: Chen Mon: Day Nurse, before off\n", printed)
         self.assertIn("  +60  S2  week 0: Chen, Mon: only 1 day with work, at least 3\n", printed)
-        printed = table(*two, "--why", ROSTER, later)[1]
+        printed = run("table", *two, "--why", ROSTER, later)[1]
         self.assertIn("   10  S4  week 0: Chen, Sat: on Night, and asked to be off\n", printed)
 
 

@@ -7,7 +7,6 @@ import unittest
 import xml.etree.ElementTree as ElementTree
 from collections import Counter
 
-from in_process import table
 from ward import HISTORY, ROSTER, SCENARIO, WARD, WEEK, WEEK_OPTIONS, HelperTest, files, run
 
 from inrc2pb.calendars import file_names
@@ -27,7 +26,7 @@ def words(part):
 class PageTest(HelperTest):
     def page(self, *given):
         """The page of a command without a fault."""
-        status, printed, said = table("--html", *given)
+        status, printed, said = run("table", "--html", *given)
         self.assertEqual((status, said), (0, ""))
         self.assertTrue(printed.startswith("<!DOCTYPE html>\n<html lang=\"en\">"))
         return ElementTree.fromstring(printed)
@@ -134,9 +133,9 @@ class Page(PageTest):
 
     def test_absences_in_tables_of_text(self):
         self.assertEqual(run("wish", "--sce", SCENARIO, "--week", WEEK, "--away", "Amara=Thu", "--out", self.folder / "ill.txt")[0], 0)
-        self.assertRegex(table("--sce", SCENARIO, "--week", self.folder / "ill.txt", ROSTER)[1], r"(?m)^Amara  (Day..... +){3}away +\.  ")
+        self.assertRegex(run("table", "--sce", SCENARIO, "--week", self.folder / "ill.txt", ROSTER)[1], r"(?m)^Amara  (Day..... +){3}away +\.  ")
         later = self.changed(ROSTER, "0 ward", "1 ward", "later.txt")
-        printed = table("--sce", SCENARIO, "--week", self.folder / "ill.txt", "--week", WARD / "week-1.txt", ROSTER, later)[1]
+        printed = run("table", "--sce", SCENARIO, "--week", self.folder / "ill.txt", "--week", WARD / "week-1.txt", ROSTER, later)[1]
         self.assertRegex(printed, r"(?m)^Amara  D  D  D  -  \.  \| D  D   \|\|  D  D  D! \.  \.  \|")
         self.assertIn("\n- = away\n", printed)
 
@@ -168,7 +167,7 @@ class Page(PageTest):
         self.assertEqual(list(page.iter("script")), [])
         self.assertIn("Jose\u0301;\\n\ufffd", names)
         # In the page and in the picture a name is no markup.
-        picture = table("--svg", *self.hostile_week())[1]
+        picture = run("table", "--svg", *self.hostile_week())[1]
         ElementTree.fromstring(picture)
 
     def test_faults(self):
@@ -194,27 +193,26 @@ class Page(PageTest):
             (("--html", *["--times", "Day=06:00-14:00"] * 2), "--times Day=06:00-14:00: Day has two times: give one"),
         ):
             with self.subTest(given):
-                _, printed, said = table(*week, *given)
-                self.assertEqual((printed, said), ("", line))
+                self.assertEqual(run("table", *week, *given)[1:], ("", f"inrc2pb-table: {line}\n"))
         self.assertEqual(list(self.folder.iterdir()), [])
 
     def test_an_older_page_stays_after_a_fault(self):
         page = self.folder / "page.html"
         page.write_text("older")
-        self.assertEqual(table(*WEEK_OPTIONS, "--html", "--out", page, self.folder / "none.txt")[0], 3)
+        self.assertEqual(run("table", *WEEK_OPTIONS, "--html", "--out", page, self.folder / "none.txt")[0], 3)
         self.assertEqual(page.read_text(), "older")
-        self.assertEqual(table(*WEEK_OPTIONS, "--html", "--out", page, ROSTER), (0, "", ""))
+        self.assertEqual(run("table", *WEEK_OPTIONS, "--html", "--out", page, ROSTER), (0, "", ""))
         ElementTree.fromstring(page.read_text())
 
 
 class Totals(PageTest):
     def test_the_table_the_spreadsheet_and_the_picture(self):
-        printed = table(*WEEK_OPTIONS, ROSTER)[1]
+        printed = run("table", *WEEK_OPTIONS, ROSTER)[1]
         self.assertRegex(printed, r"(?m)^Chen .*  0 2 3  5/17-21  1/2       0/1       10  S4 10$")
-        self.assertNotIn("weekends", table("--sce", SCENARIO, ROSTER)[1])
-        chen = next(row for row in csv.reader(io.StringIO(table(*WEEK_OPTIONS, "--csv", ROSTER)[1])) if row[0] == "Chen")
+        self.assertNotIn("weekends", run("table", "--sce", SCENARIO, ROSTER)[1])
+        chen = next(row for row in csv.reader(io.StringIO(run("table", *WEEK_OPTIONS, "--csv", ROSTER)[1])) if row[0] == "Chen")
         self.assertEqual(chen[8:], ["10", "S4 10", "5", "17", "21", "1", "2", "1", "0", "0", "2", "3"])
-        picture = table(*WEEK_OPTIONS, "--svg", ROSTER)[1]
+        picture = run("table", *WEEK_OPTIONS, "--svg", ROSTER)[1]
         self.assertEqual(picture.count(">5/17-21</text>"), 5)
 
     def test_the_last_week_says_what_is_missed(self):
@@ -229,15 +227,15 @@ class Totals(PageTest):
         asked = "Chen Any Sat\n" * 30 + "Amara Any Thu\n" * 30 + "Grace Day Mon\n" * 30
         week = self.changed(WEEK, "SHIFT_OFF_REQUESTS = 5\n", f"SHIFT_OFF_REQUESTS = 95\n{asked}", "week.txt")
         given = ("--sce", SCENARIO, "--his", HISTORY, "--week", week, ROSTER)
-        printed = table(*given)[1]
+        printed = run("table", *given)[1]
         self.assertIn("Night Nu#", printed)
         self.assertIn("\n# = on duty while away\n", printed)
         self.assertRegex(printed, r"(?m)^Grace  Day Nu#  ")
         # An absence is no wish.
         self.assertRegex(printed, r"(?m)^Chen .* 0 2 3  5/17-21  1/2       - ")
-        self.assertIn("Night Nurse #", table(*given, "--csv")[1])
-        self.assertIn("Night Nurse#<title>", table(*given, "--svg")[1])
-        self.assertIn("310  S4  Chen, Sat: on Night, while away (31 requests)\n", table(*given, "--why")[1])
+        self.assertIn("Night Nurse #", run("table", *given, "--csv")[1])
+        self.assertIn("Night Nurse#<title>", run("table", *given, "--svg")[1])
+        self.assertIn("310  S4  Chen, Sat: on Night, while away (31 requests)\n", run("table", *given, "--why")[1])
         rows = {row[0]: row for row in self.caption(self.page(*given), "Shifts")}
         self.assertEqual((rows["Chen"][6], rows["Amara"][4]), ("Night Nurse#, on duty while away", "away"))
 
@@ -246,7 +244,7 @@ class Calendars(PageTest):
     def calendars(self, *given):
         """The lines of each calendar, unfolded."""
         folder = self.folder / "calendars"
-        self.assertEqual(table("--csv", *MONDAY, "--ics", folder, *given)[::2], (0, ""))
+        self.assertEqual(run("table", "--csv", *MONDAY, "--ics", folder, *given)[::2], (0, ""))
         found = {}
         for path in sorted(folder.iterdir()):
             data = path.read_bytes()
@@ -287,12 +285,12 @@ class Calendars(PageTest):
     def test_a_folder_that_cannot_be_written(self):
         blocked = self.folder / "blocked"
         blocked.write_text("no folder")
-        status, printed, said = table("--csv", *MONDAY, "--ics", blocked, ROSTER)
-        self.assertEqual((status, printed, said), (3, "", f"{blocked}: File exists: choose another name, or remove this file"))
+        ran = run("table", "--csv", *MONDAY, "--ics", blocked, ROSTER)
+        self.assert_fault(ran, f"inrc2pb-table: {blocked}: File exists: choose another name, or remove this file", 3)
         inside = self.folder / "calendars" / "Chen.ics"
         inside.mkdir(parents=True)
-        status, printed, said = table("--csv", *MONDAY, "--ics", self.folder / "calendars", ROSTER)
-        self.assertEqual((status, printed, said), (3, "", f"{inside}: Is a directory: this is a folder: name a file in it"))
+        ran = run("table", "--csv", *MONDAY, "--ics", self.folder / "calendars", ROSTER)
+        self.assert_fault(ran, f"inrc2pb-table: {inside}: Is a directory: this is a folder: name a file in it", 3)
 
 
 if __name__ == "__main__":

@@ -10,7 +10,8 @@ usage: gate.py [--anew] [--processors LIST] [COMMAND..]
 The processor time is sampled: twice a second, each process that the gate started is assigned to the part that its command
 line names. Processes that ended between two samples are in the row `short processes`. The wall time of a part is the time from its
 first process to its last one; parts overlap. A virtual machine may change its speed: a fixed loop, run every ten seconds, tells how
-much of its best speed the machine had on average, and the last line what the gate would have taken at the best. Needs Linux.
+much of its best speed the machine had on average, and the last line what the gate would have taken at the best. To compare two
+commits, measure both at the same time, in a clone of each and on processors of their own. Needs Linux.
 """
 
 import argparse
