@@ -3,7 +3,7 @@ ghost use Rattle.std.specs.Prelude.{◌≤◌, IfOk};
 ghost use Rattle.rota_core.specs.InstanceTables.{problem_of};
 ghost use Rattle.rota_core.specs.PriceTables.{IsForWeek};
 
-use crate::small_weeks::{WeekFiles, instance_of, nobody_for_monday, run_in_the_history};
+use crate::week_files::{WeekFiles, instance_of, run_in_the_history, two_nurses};
 use rota_bound::{
     Charging, CheapestWeek, Known, cheapest_week, lower_bound, lower_bound_by_cases,
     no_roster_exists, no_roster_exists_by_cases,
@@ -90,7 +90,7 @@ fn parts_of(week: Option<CheapestWeek>) -> (u64, u64, bool) {
 // Nobody may have the cell on Monday that one nurse is wanted for. A bound is rounded up to a multiple of 5.
 #[test]
 fn prices_prove_bounds(rt: HostRuntime) -> Result<(), Fail> {
-    let files = nobody_for_monday();
+    let files = two_nurses();
     assert!(rt; bounds_of(rt.alloc(), &files, 0)? == (0, false));
     assert!(rt; bounds_of(rt.alloc(), &files, 1)? == (5, true));
     assert!(rt; bounds_of(rt.alloc(), &files, 40_000)? == (40, true));
@@ -101,7 +101,7 @@ fn prices_prove_bounds(rt: HostRuntime) -> Result<(), Fail> {
 // Neither Ann nor Bob may have the cell that is wanted: the bound of a case is the price there, and the minimum counts.
 #[test]
 fn cases_prove_bounds(rt: HostRuntime) -> Result<(), Fail> {
-    let files = nobody_for_monday();
+    let files = two_nurses();
     assert!(rt; bounds_by_cases(rt.alloc(), &files, 40_000, 40_000)? == (40, true));
     assert!(rt; bounds_by_cases(rt.alloc(), &files, 40_000, 9_000)? == (10, true));
     assert!(rt; bounds_by_cases(rt.alloc(), &files, 1, 40_000)? == (5, true));

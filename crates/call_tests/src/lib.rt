@@ -33,8 +33,6 @@ mod refused_tables;
 #[cfg(test)]
 mod run_counts;
 #[cfg(test)]
-mod small_weeks;
-#[cfg(test)]
 mod std_ports;
 #[cfg(test)]
 mod tables;

@@ -1,6 +1,6 @@
 //! Bounds of periods of equal weeks, from the texts of their files. The values of one and two weeks come from the
 //! helpers.
-use crate::small_weeks::nobody_for_monday;
+use crate::week_files::two_nurses;
 use period_bound::{WeekTexts, bound_of_texts};
 use rota_core::{FileFault, FileName, Kind};
 use std::alloc::{AllocError, Global};
@@ -22,7 +22,7 @@ fn text_of(alloc: Global, bytes: &[u8]) -> Result<Vec<u8>, AllocError> {
 
 // The bound of this number of weeks of a scenario of two weeks.
 fn bound_of(alloc: Global, number: usize) -> Result<u64, FileFault> {
-    let files = nobody_for_monday();
+    let files = two_nurses();
     let mut weeks = Vec::new(alloc);
     for _week in 0..number {
         weeks.push(WeekTexts {

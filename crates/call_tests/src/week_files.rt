@@ -67,7 +67,8 @@ Ann 2 0 Day 2 2 0
     }
 }
 
-/// Two nurses, three shift types and two skills.
+/// Two nurses, three shift types and two skills. On Monday one nurse is wanted early as a head nurse. Ann has the skill, but
+/// comes from a night, after which nobody may work early. Bob is no head nurse.
 pub fn two_nurses() -> WeekFiles {
     WeekFiles {
         scenario: b"SCENARIO = s1
