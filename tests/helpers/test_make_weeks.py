@@ -52,7 +52,7 @@ class MadeWards(HelperTest):
 
     def weeks(self, nurses, *options):
         """The weeks of a ward. Those in the middle get the first one's history: planning makes their own."""
-        name, ward = f"ward{nurses}", self.made(nurses, *options)
+        ward = self.made(nurses, *options)
         for number in range(4):
             past = 3 if number == 3 else 0
             week = files.read_files(ward / "ward.txt", ward / f"history-{past}.txt", ward / f"week-{number}.txt")

@@ -46,7 +46,8 @@ def run(helper, *words, environment=None):
 
 
 def run_here(helper, words, environment, printed, said):
-    """Runs a helper in this process, which it does not leave as it was, with these descriptors for its output; its status."""
+    """Runs a helper in this process, with these descriptors for its output; its status. The words, the environment and the output
+    of the process are then those of the helper."""
     os.dup2(printed, 1)
     os.dup2(said, 2)
     os.close(printed)
