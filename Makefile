@@ -80,7 +80,7 @@ BIN = $(DESTDIR)$(PREFIX)/bin
 PAGES = $(SHARE)/doc/inrc2pb
 ZSH = $(SHARE)/zsh/site-functions
 HELPERS = $(wildcard helpers/inrc2pb-*)
-MODULES = $(wildcard helpers/inrc2pb/*.py) helpers/inrc2pb/py.typed
+MODULES = $(wildcard helpers/inrc2pb/*.py helpers/inrc2pb/*/*.py) helpers/inrc2pb/py.typed
 TOP_PAGES = README.md CHANGELOG.md CONTRIBUTING.md
 COMPLETED = inrc2pb inrc2pb-bound inrc2pb-period-bound
 COMPLETIONS = "$(SHARE)/bash-completion/completions" "$(ZSH)" "$(SHARE)/fish/vendor_completions.d"
@@ -95,7 +95,7 @@ install:
 	test ! -x "$(PERIOD_BOUND)" || install -m 755 "$(PERIOD_BOUND)" "$(BIN)/inrc2pb-period-bound"
 	test ! -x "$(FITS)" || install -m 755 "$(FITS)" "$(BIN)/inrc2pb-fits"
 	$(if $(HELPERS),install -m 755 $(HELPERS) "$(BIN)")
-	$(if $(MODULES),mkdir -p "$(SHARE)/inrc2pb/inrc2pb" && install -m 644 $(MODULES) "$(SHARE)/inrc2pb/inrc2pb")
+	for module in $(MODULES:helpers/%=%); do install -D -m 644 "helpers/$$module" "$(SHARE)/inrc2pb/$$module" || exit; done
 	install -m 644 man/*.1 "$(SHARE)/man/man1"
 	for helper in $(notdir $(HELPERS)); do echo '.so man1/inrc2pb-helpers.1' > "$(SHARE)/man/man1/$$helper.1"; done
 	for name in $(COMPLETED); do \
@@ -121,7 +121,7 @@ uninstall:
 	for page in $(TOP_PAGES) docs/*.md docs/*.svg bench/README.md bench/*.svg; do rm -f "$(PAGES)/$$page"; done
 	find examples -type f ! -name '*.sh' -exec rm -f "$(PAGES)/{}" \;
 	rm -f $(patsubst helpers/%,"$(SHARE)/inrc2pb/%",$(MODULES))
-	rm -rf "$(SHARE)/inrc2pb/inrc2pb/__pycache__"
+	test ! -d "$(SHARE)/inrc2pb" || find "$(SHARE)/inrc2pb" -name __pycache__ -prune -exec rm -r {} +
 	for folder in "$(PAGES)" "$(SHARE)/inrc2pb"; do test ! -d "$$folder" || find "$$folder" -type d -empty -delete; done
 
 clean:

@@ -20,8 +20,8 @@ sys.path.insert(0, str(Path(__file__).resolve().parent))
 import make_weeks  # noqa: E402
 import solvers  # noqa: E402
 
-from inrc2pb.bounds import PROVER, find_prover  # noqa: E402
-from inrc2pb.program import WeekFiles  # noqa: E402
+from inrc2pb.search.bounds import PROVER, find_prover  # noqa: E402
+from inrc2pb.programs.program import WeekFiles  # noqa: E402
 
 FEWEST, MOST = 12, 120
 LEAST_PERCENT, GREATEST_PERCENT = 70, 110

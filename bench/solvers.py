@@ -21,7 +21,7 @@ from typing import Dict, List, NamedTuple
 ROOT = Path(__file__).resolve().parents[1]
 sys.path.insert(0, str(ROOT / "helpers"))
 
-from inrc2pb.program import WeekFiles  # noqa: E402
+from inrc2pb.programs.program import WeekFiles  # noqa: E402
 
 PAGE = ROOT / "docs" / "solvers.md"
 BEGIN, END = "<!-- measured -->", "<!-- end of measured -->"

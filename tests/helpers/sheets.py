@@ -5,10 +5,10 @@ from pathlib import Path
 
 from ward import ROOT
 
-from inrc2pb import ward
-from inrc2pb.plan_sheets import read_days
-from inrc2pb.records import DAYS
-from inrc2pb.sheet_files import Book
+from inrc2pb.commands import ward
+from inrc2pb.sheets.plan_sheets import read_days
+from inrc2pb.week.records import DAYS
+from inrc2pb.sheets.sheet_files import Book
 
 DATA = ROOT / "tests" / "helpers" / "data"
 _EMPTY = [""] * 7

@@ -6,12 +6,12 @@ from dataclasses import replace
 
 from ward import HAS_CBC, HAS_CLASP, HISTORY, ROSTER, SCENARIO, WEEK, WEEK_FILES, WEEK_OPTIONS, HelperTest, files, run
 
-from inrc2pb import rules
-from inrc2pb.absences import MARK, ROWS, Absence, absences_of, in_words, way_out, wishes_of, with_absences, working_while_away
-from inrc2pb.best_roster import BestRoster
-from inrc2pb.program import penalty_of
-from inrc2pb.records import Assignment, Contract, History, Limits, Nurse, NurseHistory, Place, Request, Requirement, Scenario, ShiftType, Week, WeekData
-from inrc2pb.savings import largest_saving
+from inrc2pb.judging import rules
+from inrc2pb.judging.absences import MARK, ROWS, Absence, absences_of, in_words, way_out, wishes_of, with_absences, working_while_away
+from inrc2pb.search.best_roster import BestRoster
+from inrc2pb.programs.program import penalty_of
+from inrc2pb.week.records import Assignment, Contract, History, Limits, Nurse, NurseHistory, Place, Request, Requirement, Scenario, ShiftType, Week, WeekData
+from inrc2pb.judging.savings import largest_saving
 
 WARD, DATA = files.read_scenario(SCENARIO), files.read_week(WEEK, files.read_scenario(SCENARIO))
 AWAY = Absence("Chen", 4, None)

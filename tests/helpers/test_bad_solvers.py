@@ -12,9 +12,9 @@ from unittest import mock
 
 from ward import HAS_CBC, ROOT, ROSTER, WEEK_FILES, WEEK_OPTIONS, HelperTest, program, run
 
-from inrc2pb.faults import Misuse
-from inrc2pb.processes import Processes
-from inrc2pb.solvers import Outcome, find_solver
+from inrc2pb.week.faults import Misuse
+from inrc2pb.programs.processes import Processes
+from inrc2pb.solvers.solvers import Outcome, find_solver
 
 FAKE = Path(__file__).resolve().parent / "fake_solver.py"
 
@@ -101,7 +101,7 @@ class OwnSolvers(HelperTest):
                 self.assertFalse((self.folder / "best.txt").exists())
 
     def test_a_flood_is_a_fault(self):
-        with mock.patch("inrc2pb.processes.MAX_OUTPUT", 100_000):
+        with mock.patch("inrc2pb.programs.processes.MAX_OUTPUT", 100_000):
             outcome = find_solver(fake("flood")).solve(WEEK_FILES, 60, self.folder, Processes())
         self.assertEqual(outcome, Outcome("", "it printed more than 256 MiB, too much for an answer"))
 

@@ -13,17 +13,17 @@ from unittest import mock
 from test_rows import POINT, pricing_of, random_plan
 from ward import HAS_CBC, HelperTest, files, program, run
 
-from inrc2pb.bounds import PLAIN, PROVER, cases_text
-from inrc2pb.case_hunt import CaseHunt
-from inrc2pb.cases import Case, PricedCase, needed, plain_cases_bound, pricing_of as pricing_of_case
-from inrc2pb.clock import Clock, TimeIsOver
-from inrc2pb.linear_solvers import LinearSolvers, SolverFault
-from inrc2pb.plan import Plan
-from inrc2pb.pricing import MAX_PRICE
-from inrc2pb.processes import Processes
-from inrc2pb.row_run import RowRun
-from inrc2pb.rules import costs, first_broken
-from inrc2pb.skills import staffed
+from inrc2pb.search.bounds import PLAIN, PROVER, cases_text
+from inrc2pb.rows.case_hunt import CaseHunt
+from inrc2pb.rows.cases import Case, PricedCase, needed, plain_cases_bound, pricing_of as pricing_of_case
+from inrc2pb.programs.clock import Clock, TimeIsOver
+from inrc2pb.solvers.linear_solvers import LinearSolvers, SolverFault
+from inrc2pb.rows.plan import Plan
+from inrc2pb.rows.pricing import MAX_PRICE
+from inrc2pb.programs.processes import Processes
+from inrc2pb.rows.row_run import RowRun
+from inrc2pb.judging.rules import costs, first_broken
+from inrc2pb.rows.skills import staffed
 
 FAKE = Path(__file__).resolve().parent / "fake_cbc.py"
 # A week of six nurses whose prices prove 130; the best roster costs 135.

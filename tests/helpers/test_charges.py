@@ -8,9 +8,9 @@ from dataclasses import replace
 
 from ward import HISTORY, ROOT, ROSTER, SCENARIO, THIRTY_FILES, WARD, WEEK, WEEK_FILES, WEEK_OPTIONS, EARLY_ANSWER, HelperTest, files, program, run
 
-from inrc2pb import rules
-from inrc2pb.breaches import breaches
-from inrc2pb.charge_words import in_words
+from inrc2pb.judging import rules
+from inrc2pb.judging.breaches import breaches
+from inrc2pb.shown.charge_words import in_words
 
 sys.path.insert(0, str(ROOT / "tests" / "random"))
 import drafts  # noqa: E402

@@ -4,8 +4,8 @@ import unittest
 
 from ward import HISTORY, SCENARIO, WARD, WEEK, WEEK_FILES, WEEK_OPTIONS, HelperTest, files, program, run
 
-from inrc2pb import constraint
-from inrc2pb.faults import Misuse
+from inrc2pb.judging import constraint
+from inrc2pb.week.faults import Misuse
 
 
 class Constraints(HelperTest):

@@ -7,10 +7,10 @@ from dataclasses import replace
 
 from ward import HAS_CBC, HAS_CLASP, HISTORY, ROOT, SCENARIO, WEEK, WEEK_OPTIONS, HelperTest, files, run
 
-from inrc2pb.absences import Absence, with_absences
-from inrc2pb.demand import asked_shifts, demand_warnings, supplied_shifts
-from inrc2pb.records import Contract, Limits, Nurse, Place, Requirement, Scenario, ShiftType, WeekData
-from inrc2pb.telling import scenario_sentences, week_sentences
+from inrc2pb.judging.absences import Absence, with_absences
+from inrc2pb.judging.demand import asked_shifts, demand_warnings, supplied_shifts
+from inrc2pb.week.records import Contract, Limits, Nurse, Place, Requirement, Scenario, ShiftType, WeekData
+from inrc2pb.shown.telling import scenario_sentences, week_sentences
 
 WARD, DATA = files.read_scenario(SCENARIO), files.read_week(WEEK, files.read_scenario(SCENARIO))
 PAST = files.read_history(HISTORY, WARD)

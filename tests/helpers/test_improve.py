@@ -15,11 +15,11 @@ from unittest import mock
 from ward import EARLY_ANSWER, HAS_CBC, HELPERS, HISTORY, ROOT, ROSTER, SCENARIO, THIRTY_FILES, WEEK, WEEK_FILES, WEEK_OPTIONS
 from ward import HelperTest, files, program, run
 
-from inrc2pb import bounds
-from inrc2pb.bounds import PLAIN, PROVER, Bound
-from inrc2pb.improve import SearchResult, improve, search
-from inrc2pb.plan import Plan
-from inrc2pb.progress import Progress
+from inrc2pb.search import bounds
+from inrc2pb.search.bounds import PLAIN, PROVER, Bound
+from inrc2pb.search.improving import SearchResult, improve, search
+from inrc2pb.rows.plan import Plan
+from inrc2pb.programs.progress import Progress
 
 
 class UntilBetter(Progress):

@@ -10,8 +10,8 @@ from pathlib import Path
 
 from ward import HELPERS, HelperTest, run
 
-from inrc2pb.linear_program import ModelFault, ModelSize, _write_constraint, convert, write_linear_program
-from inrc2pb.mip_solution import SolutionFault, read_answer
+from inrc2pb.solvers.linear_program import ModelFault, ModelSize, _write_constraint, convert, write_linear_program
+from inrc2pb.solvers.mip_solution import SolutionFault, read_answer
 
 HERE = Path(__file__).resolve().parent
 SOLUTIONS = HERE / "data" / "solutions"
@@ -29,7 +29,7 @@ MAX_MEMORY = 60_000
 MEASURED = """
 import re, sys
 sys.path.insert(0, sys.argv[1])
-from inrc2pb.linear_program import main
+from inrc2pb.commands.lp import main
 main(["model", sys.argv[2], "--lp", sys.argv[3]])
 print(re.search("VmHWM: *([0-9]+) kB", open("/proc/self/status").read().replace("\\t", "")).group(1))
 """

@@ -10,17 +10,17 @@ from unittest import mock
 
 from ward import HAS_CBC, HELPERS, ROOT, THIRTY_FILES, HelperTest, files
 
-from inrc2pb.clock import Clock, TimeIsOver
-from inrc2pb.first_rows import matched_rows
-from inrc2pb.linear_solvers import LinearSolvers
-from inrc2pb.next_history import next_history
-from inrc2pb.plan import POINT, WEEK_DAYS, Plan
-from inrc2pb.pricing import Crews, Pricing
-from inrc2pb.processes import Processes
-from inrc2pb.row_parts import RowParts
-from inrc2pb.row_search import RowSearch
-from inrc2pb.rules import costs, first_broken, nurse_costs
-from inrc2pb.skills import staffed
+from inrc2pb.programs.clock import Clock, TimeIsOver
+from inrc2pb.rows.first_rows import matched_rows
+from inrc2pb.solvers.linear_solvers import LinearSolvers
+from inrc2pb.judging.next_history import next_history
+from inrc2pb.rows.plan import POINT, WEEK_DAYS, Plan
+from inrc2pb.rows.pricing import Crews, Pricing
+from inrc2pb.programs.processes import Processes
+from inrc2pb.rows.row_parts import RowParts
+from inrc2pb.rows.row_search import RowSearch
+from inrc2pb.judging.rules import costs, first_broken, nurse_costs
+from inrc2pb.rows.skills import staffed
 
 MONTH = ROOT / "examples" / "month"
 SCENARIO = files.read_scenario(MONTH / "ward.txt")
@@ -32,7 +32,7 @@ BY_NUMPY = """
 import random, sys
 sys.path[:0] = sys.argv[1:3]
 import test_long_plans as tests
-from inrc2pb import row_arrays
+from inrc2pb.rows import row_arrays
 pricing = tests.month(4)
 assert any(graph._arrays for graph in pricing.graphs)
 found = tests.cheapest(pricing)

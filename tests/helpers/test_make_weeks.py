@@ -7,11 +7,11 @@ from dataclasses import replace
 
 from ward import ROOT, HelperTest, files
 
-from inrc2pb.first_rows import matched_rows
-from inrc2pb.plan import Plan
-from inrc2pb.pricing import Crews
-from inrc2pb.rules import first_broken
-from inrc2pb.skills import staffed
+from inrc2pb.rows.first_rows import matched_rows
+from inrc2pb.rows.plan import Plan
+from inrc2pb.rows.pricing import Crews
+from inrc2pb.judging.rules import first_broken
+from inrc2pb.rows.skills import staffed
 
 EXAMPLES = ROOT / "examples"
 SIZES = (12, 13, 29, 31, 45, 100)

@@ -5,8 +5,8 @@ from dataclasses import replace
 
 from ward import HISTORY, SCENARIO, files
 
-from inrc2pb.faults import Misuse
-from inrc2pb.next_history import next_history
+from inrc2pb.week.faults import Misuse
+from inrc2pb.judging.next_history import next_history
 
 
 class Histories(unittest.TestCase):

@@ -9,9 +9,9 @@ from collections import Counter
 
 from ward import HISTORY, ROSTER, SCENARIO, WARD, WEEK, WEEK_OPTIONS, HelperTest, files, run
 
-from inrc2pb.calendars import file_names
-from inrc2pb.markup import element, hidden
-from inrc2pb.roster_text import COLORS
+from inrc2pb.shown.calendars import file_names
+from inrc2pb.shown.markup import element, hidden
+from inrc2pb.shown.roster_text import COLORS
 
 MONDAY = ("--monday", "2026-11-30")
 # Names that would be markup, a path, or a second line, and one whose accent is a letter of its own.

@@ -13,9 +13,9 @@ from pathlib import Path
 
 from ward import HAS_CBC, HAS_CLASP, HELPERS, HISTORY, ROOT, ROSTER, SCENARIO, WARD, WEEK, WEEK_FILES, WEEK_OPTIONS, HelperTest, program, run
 
-from inrc2pb.bounds import PERIOD_PROVER, PLAIN
-from inrc2pb.period import Period
-from inrc2pb.planned_weeks import PeriodFiles
+from inrc2pb.search.bounds import PERIOD_PROVER, PLAIN
+from inrc2pb.commands.period import Period
+from inrc2pb.search.planned_weeks import PeriodFiles
 
 MONTH = ROOT / "examples" / "month"
 WARD_OPTIONS = ("--sce", SCENARIO, "--his", HISTORY, "--week", WEEK, "--week", WARD / "week-1.txt")

@@ -13,14 +13,14 @@ from unittest import mock
 
 from ward import HAS_CBC, HELPERS, HISTORY, SCENARIO, WARD, WEEK, HelperTest, program, run
 
-from inrc2pb import bounds
-from inrc2pb.bounds import PERIOD_PROVER, PLAIN, Bound
-from inrc2pb.clock import Clock
-from inrc2pb.period_bound import PeriodBound
-from inrc2pb.period_search import PeriodSearch
-from inrc2pb.planned_weeks import PeriodFiles, PlannedWeeks
-from inrc2pb.pricing import Crews
-from inrc2pb.progress import Progress
+from inrc2pb.search import bounds
+from inrc2pb.search.bounds import PERIOD_PROVER, PLAIN, Bound
+from inrc2pb.programs.clock import Clock
+from inrc2pb.search.period_bound import PeriodBound
+from inrc2pb.search.period_search import PeriodSearch
+from inrc2pb.search.planned_weeks import PeriodFiles, PlannedWeeks
+from inrc2pb.rows.pricing import Crews
+from inrc2pb.programs.progress import Progress
 
 FAKE = Path(__file__).resolve().parent / "fake_prover.py"
 SECOND = WARD / "week-1.txt"

@@ -9,13 +9,13 @@ import unittest
 
 from ward import HELPERS, HelperTest
 
-from inrc2pb.processes import Processes
+from inrc2pb.programs.processes import Processes
 
 # Runs a command, and prints its number when it runs.
 RUNS = """
 import sys
 from pathlib import Path
-from inrc2pb.processes import Processes
+from inrc2pb.programs.processes import Processes
 Processes().run(["sh", "-c", "echo $$; exec sleep 100"], 100, Path("/"), hear=lambda data: (sys.stdout.buffer.write(data), sys.stdout.flush()))
 """
 

@@ -10,8 +10,10 @@ from unittest import mock
 
 from ward import HELPERS, HISTORY, ROSTER, SCENARIO, WEEK, WEEK_FILES, HelperTest, files, program
 
-from inrc2pb import faults, processes, rules
-from inrc2pb.processes import Processes
+from inrc2pb.judging import rules
+from inrc2pb.programs import processes
+from inrc2pb.week import faults
+from inrc2pb.programs.processes import Processes
 
 
 class Program(HelperTest):

@@ -6,12 +6,12 @@ import unittest
 
 from ward import ROOT, files
 
-from inrc2pb.clock import Clock
-from inrc2pb.first_rows import matched_rows
-from inrc2pb.plan import POINT, Plan
-from inrc2pb.pricing import Crews, Pricing
-from inrc2pb.row_parts import Part, RowParts, _with
-from inrc2pb.row_search import RowSearch
+from inrc2pb.programs.clock import Clock
+from inrc2pb.rows.first_rows import matched_rows
+from inrc2pb.rows.plan import POINT, Plan
+from inrc2pb.rows.pricing import Crews, Pricing
+from inrc2pb.rows.row_parts import Part, RowParts, _with
+from inrc2pb.rows.row_search import RowSearch
 
 MONTH = ROOT / "examples" / "month"
 SCENARIO = files.read_scenario(MONTH / "ward.txt")

@@ -10,16 +10,16 @@ from unittest import mock
 
 from ward import HAS_CBC, ROOT, HelperTest, files
 
-from inrc2pb import row_generation, row_program
-from inrc2pb.clock import Clock
-from inrc2pb.linear_solvers import Chosen, LinearSolver, LinearSolvers, SolverFault
-from inrc2pb.plan import Plan
-from inrc2pb.pricing import Crews, Pricing
-from inrc2pb.processes import Processes
-from inrc2pb.row_run import RowRun
-from inrc2pb.row_search import RowSearch
-from inrc2pb.rules import costs, first_broken
-from inrc2pb.skills import staffed
+from inrc2pb.rows import row_generation, row_program
+from inrc2pb.programs.clock import Clock
+from inrc2pb.solvers.linear_solvers import Chosen, LinearSolver, LinearSolvers, SolverFault
+from inrc2pb.rows.plan import Plan
+from inrc2pb.rows.pricing import Crews, Pricing
+from inrc2pb.programs.processes import Processes
+from inrc2pb.rows.row_run import RowRun
+from inrc2pb.rows.row_search import RowSearch
+from inrc2pb.judging.rules import costs, first_broken
+from inrc2pb.rows.skills import staffed
 
 FAKE = Path(__file__).resolve().parent / "fake_cbc.py"
 # The penalties that other solvers proved: docs/solvers.md.

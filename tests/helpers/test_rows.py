@@ -7,13 +7,13 @@ from dataclasses import replace
 
 from ward import ROOT, files
 
-from inrc2pb.absences import MARK
-from inrc2pb.clock import Clock, TimeIsOver
-from inrc2pb.next_history import next_history
-from inrc2pb.plan import Plan
-from inrc2pb.pricing import Crews, Pricing, plain_bound
-from inrc2pb.rules import broken, costs, first_broken, nurse_costs
-from inrc2pb.skills import staffed
+from inrc2pb.judging.absences import MARK
+from inrc2pb.programs.clock import Clock, TimeIsOver
+from inrc2pb.judging.next_history import next_history
+from inrc2pb.rows.plan import Plan
+from inrc2pb.rows.pricing import Crews, Pricing, plain_bound
+from inrc2pb.judging.rules import broken, costs, first_broken, nurse_costs
+from inrc2pb.rows.skills import staffed
 
 POINT = 1000
 

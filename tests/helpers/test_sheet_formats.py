@@ -11,12 +11,12 @@ from xml.sax.saxutils import escape
 from sheets import DATA, SHEETS, texts
 from ward import HelperTest
 
-from inrc2pb import ward
-from inrc2pb.faults import FileFault
-from inrc2pb.plan_sheets import read_days
-from inrc2pb.records import DAYS
-from inrc2pb.sheet_files import read_book
-from inrc2pb.sheet_rows import letters_of
+from inrc2pb.commands import ward
+from inrc2pb.week.faults import FileFault
+from inrc2pb.sheets.plan_sheets import read_days
+from inrc2pb.week.records import DAYS
+from inrc2pb.sheets.sheet_files import read_book
+from inrc2pb.sheets.sheet_rows import letters_of
 
 MONDAY = datetime.date(2026, 11, 30)
 

@@ -8,7 +8,7 @@ import unittest
 
 from ward import HISTORY, SCENARIO, WEEK, WEEK_OPTIONS, HelperTest, program, run
 
-from inrc2pb.simulate import search_seconds, seconds_since_start
+from inrc2pb.commands.simulate import search_seconds, seconds_since_start
 
 
 class Simulation(HelperTest):

@@ -10,8 +10,8 @@ from unittest import mock
 
 from ward import HISTORY, ROSTER, SCENARIO, WEEK, WEEK_FILES, WEEK_OPTIONS, HelperTest, program, run
 
-from inrc2pb import command
-from inrc2pb.improve import main
+from inrc2pb.commands import command
+from inrc2pb.commands.improve import main
 
 # The advice of a fault of the operating system.
 FULL = "No space left on device: the disk is full: free some space, or choose another folder (TMPDIR has the temporary files)"
@@ -71,7 +71,7 @@ class Targets(HelperTest):
             with self.subTest(target.name), contextlib.redirect_stderr(io.TextIOWrapper(io.BytesIO())) as said:
                 shutil.copy(start, roster)
                 words = [*WEEK_OPTIONS, "--from", start, "--sol", target, "--time", 60]
-                unchanged = mock.patch("inrc2pb.command._catch_signals")
+                unchanged = mock.patch("inrc2pb.commands.command._catch_signals")
                 with mock.patch("sys.argv", ["inrc2pb-improve"]), mock.patch("os.open", self.full_after(2)), unchanged:
                     with self.assertRaises(SystemExit) as ended, contextlib.redirect_stdout(io.TextIOWrapper(io.BytesIO())):
                         command.run(lambda: main([str(word) for word in words]))

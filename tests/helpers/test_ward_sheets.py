@@ -10,12 +10,12 @@ from pathlib import Path
 from sheets import DATA, SHEETS, changed, texts
 from ward import HelperTest, files, run
 
-from inrc2pb import ward
-from inrc2pb.absences import Absence, absences_of
-from inrc2pb.faults import FileFault, FileFaults
-from inrc2pb.plan_sheets import read_days
-from inrc2pb.records import Place, Requirement
-from inrc2pb.sheet_files import Book
+from inrc2pb.commands import ward
+from inrc2pb.judging.absences import Absence, absences_of
+from inrc2pb.week.faults import FileFault, FileFaults
+from inrc2pb.sheets.plan_sheets import read_days
+from inrc2pb.week.records import Place, Requirement
+from inrc2pb.sheets.sheet_files import Book
 
 NAMES = ["ward.txt", "history-0.txt", "week-0.txt", "fix-0.txt", "week-1.txt", "fix-1.txt"]
 

@@ -14,8 +14,9 @@ ROOT = Path(__file__).resolve().parents[2]
 HELPERS = ROOT / "helpers"
 sys.path.insert(0, str(HELPERS))
 
-from inrc2pb import files, program  # noqa: E402
-from inrc2pb.launch import launch  # noqa: E402
+from inrc2pb.programs import program  # noqa: E402
+from inrc2pb.week import files  # noqa: E402
+from inrc2pb.commands.launch import launch  # noqa: E402
 
 WARD = ROOT / "examples" / "ward"
 SCENARIO, HISTORY, WEEK, ROSTER = (WARD / name for name in ("ward.txt", "history-0.txt", "week-0.txt", "roster-0.txt"))

@@ -102,7 +102,8 @@ runs_commands() {
     converts_result "${week[@]}" "$ward/roster-0.txt"
     begins_case 'the installed library'
     (cd "$room/elsewhere" && PYTHONPATH=$installed/share/inrc2pb PATH=$installed/bin:$PATH python3 -B -c 'import sys
-from inrc2pb import files, program
+from inrc2pb.programs import program
+from inrc2pb.week import files
 print(program.penalty_of(program.WeekFiles(*sys.argv[1:4]), sys.argv[4]))' "$ward"/{ward,history-0,week-0,roster-0}.txt) \
         > "$out" 2> "$err" || complain "$(tail -n 1 "$err")"
     has_line 20

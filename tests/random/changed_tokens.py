@@ -13,7 +13,7 @@ import sys
 from typing import Callable, Dict, List, Set, Tuple
 
 from drafts import ROOT, FileFault, files
-from inrc2pb.slots import Slots
+from inrc2pb.week.slots import Slots
 
 SOURCE = f"{ROOT}/crates/run_tests/src/changed_tokens.rt"
 KINDS = ["end of file", "another word expected", "number expected", "out of limits", "unknown name", "repeated", "text after the end"]

@@ -11,7 +11,8 @@ from types import SimpleNamespace
 ROOT = os.path.abspath(f"{os.path.dirname(__file__)}/../..")
 sys.path.insert(0, f"{ROOT}/helpers")
 
-from inrc2pb import faults, files, rules  # noqa: E402
+from inrc2pb.judging import rules  # noqa: E402
+from inrc2pb.week import faults, files  # noqa: E402
 
 DAYS, SOFT_RULES, FileFault = list(files.DAYS), rules.SOFT_RULES, faults.FileFault
 

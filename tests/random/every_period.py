@@ -3,8 +3,8 @@
 
 usage: every_period.py PROGRAM [--periods N] [--seed N]
 
-The bound of the helpers is `plain_bound` of helpers/inrc2pb/pricing.py, whose rows span all weeks. The rosters keep the hard rules, and the
-history of each later week is that of helpers/inrc2pb/next_history.py: no such rosters may cost less than the bound.
+The bound of the helpers is `plain_bound` of helpers/inrc2pb/rows/pricing.py, whose rows span all weeks. The rosters keep the hard rules, and the
+history of each later week is that of helpers/inrc2pb/judging/next_history.py: no such rosters may cost less than the bound.
 """
 
 import copy
@@ -19,10 +19,10 @@ from random_weeks import legal_roster, random_requirements, random_week
 from runs import Wrong
 from trials import run_trials
 
-from inrc2pb.bounds import prices_text
-from inrc2pb.next_history import next_history
-from inrc2pb.plan import WEEK_DAYS, Plan
-from inrc2pb.pricing import MAX_PRICE, Crews, Pricing, plain_bound
+from inrc2pb.search.bounds import prices_text
+from inrc2pb.judging.next_history import next_history
+from inrc2pb.rows.plan import WEEK_DAYS, Plan
+from inrc2pb.rows.pricing import MAX_PRICE, Crews, Pricing, plain_bound
 
 ROSTERS = 40
 

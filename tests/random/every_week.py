@@ -3,7 +3,7 @@
 
 usage: every_week.py PROGRAM [--weeks N] [--seed N]
 
-The costs and the hard rules are those of helpers/inrc2pb/rules.py. Here a nurse has a shift type or none on each day, with
+The costs and the hard rules are those of helpers/inrc2pb/judging/rules.py. Here a nurse has a shift type or none on each day, with
 each of her skills. The bound is the sum of what each place costs at least over all numbers of nurses, and of what each
 nurse's week costs at least, less the prices of its cells; the rows are the first weeks that cost so little. No roster that
 keeps the hard rules may have a smaller penalty, and none may exist if the program says so.

@@ -8,9 +8,9 @@ import argparse
 
 import drafts  # noqa: F401  The path of the helpers.
 
-from inrc2pb.files import read_history, read_scenario, read_week
-from inrc2pb.plan import WEEK_DAYS, Plan
-from inrc2pb.pricing import Crews, Pricing, plain_bound
+from inrc2pb.week.files import read_history, read_scenario, read_week
+from inrc2pb.rows.plan import WEEK_DAYS, Plan
+from inrc2pb.rows.pricing import Crews, Pricing, plain_bound
 
 
 def read_prices(path):

@@ -1,0 +1,100 @@
+"""The parser of the helpers' command lines. An option is given once, as for `inrc2pb`, and a wrong word gets a hint."""
+
+import argparse
+import functools
+import os
+import re
+import sys
+from typing import Any, NoReturn, Optional, Sequence
+
+from ..programs.program import run_program
+from ..week.slots import closest
+
+
+class _Once(argparse.Action):
+    """Stores the value of an option, or of a word without one. An option that is given twice is a fault."""
+
+    def __call__(self, parser: argparse.ArgumentParser, namespace: argparse.Namespace, values: Any, option: Optional[str] = None) -> None:
+        given = vars(namespace).setdefault("given", set())
+        if option and self.dest in given:
+            raise argparse.ArgumentError(self, "it is given twice: give it once")
+        given.add(self.dest)
+        setattr(namespace, self.dest, True if self.nargs == 0 else values)
+
+
+class _Version(argparse.Action):
+    """Prints the version of `inrc2pb`, with which the helpers are installed."""
+
+    def __call__(self, parser: argparse.ArgumentParser, namespace: argparse.Namespace, values: Any, option: Optional[str] = None) -> None:
+        print(run_program("--version"), end="")
+        parser.exit()
+
+
+class Parser(argparse.ArgumentParser):
+    """A parser that says how to correct a word that it does not know, and options that are missing.
+
+    `order` says how the files are given, if they are given without options.
+    """
+
+    def __init__(self, *words: Any, order: str = "", **named: Any) -> None:
+        super().__init__(*words, **named)
+        self.order = order
+        self._given: Sequence[str] = ()
+        self.register("action", None, _Once)
+        self.register("action", "store", _Once)
+        self.register("action", "store_true", functools.partial(_Once, nargs=0, default=False))
+
+    def add_version(self) -> None:
+        """Adds the option `--version`."""
+        self.add_argument("--version", action=_Version, nargs=0, help="print the version of inrc2pb and exit")
+
+    def parse_args(self, args: Optional[Sequence[str]] = None, namespace: Any = None) -> Any:
+        """Returns the values of the command line. A mistake is printed, and ends the program."""
+        self._given = sys.argv[1:] if args is None else list(args)
+        for word in self._given:
+            if re.match(r"--(sce|his|week|fix)\s", word):
+                self.error(f"'{word}' is one word: write $WEEK without quotes, in bash")
+        return super().parse_args(args, namespace)
+
+    def error(self, message: str) -> NoReturn:
+        """Prints the fault and its advice, and exits."""
+        _, is_unknown, words = message.partition("unrecognized arguments: ")
+        if is_unknown or "arguments are required: " in message:
+            message += self._about_options() or self._about_files(words) or _about_words(words, self._given)
+        if "--sce, --his, --week" in message and "did you mean" not in message:
+            message += ": is WEEK set in this terminal?"
+        super().error(message)
+
+    def _about_files(self, unknown: str) -> str:
+        """The advice if files without an option are not next to one another."""
+        takes_files = any(action.nargs == "+" and not action.option_strings for action in self._actions)
+        are_files = bool(unknown) and all(os.path.exists(word) for word in unknown.split())
+        return ": write the files that have no option next to one another" if takes_files and are_files else ""
+
+    def _about_options(self) -> str:
+        """The advice about the first option that this command does not have."""
+        options = re.findall(r"--[a-zA-Z-]+", self.format_usage())
+        named = [word.split("=")[0] for word in self._given if re.match("--[a-zA-Z]", word)]
+        unknown = next((name for name in named if name not in options and name != "--help"), "")
+        if not unknown:
+            return ""
+        meant = closest(unknown[2:], [option[2:] for option in options])
+        if meant:
+            return f": {unknown}: did you mean --{meant}?"
+        return f": give the files without options, in this order: {self.order}" if self.order else ""
+
+
+def _about_words(unknown: str, given: Sequence[str]) -> str:
+    """The advice about words that are no options."""
+    if not unknown or unknown.startswith("-"):
+        return ""
+    if any(word.endswith(",") for word in given):
+        return ": write no blank between the days or names, as in Mon,Tue"
+    return ": rename a file or folder whose path has a blank, and write an option before each file"
+
+
+def parser(description: str, epilog: Optional[str] = None, order: str = "") -> Parser:
+    """A parser whose help keeps the lines of its description. An option has to be written out, as for `inrc2pb`."""
+    options = Parser(description=description, epilog=epilog, order=order, formatter_class=argparse.RawDescriptionHelpFormatter, allow_abbrev=False)
+    options.add_version()
+    return options

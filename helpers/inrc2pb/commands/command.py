@@ -1,0 +1,170 @@
+"""The common part of the helpers' command lines: the options of a week's files, and the end of a command after a fault."""
+
+import argparse
+import contextlib
+import io
+import os
+import re
+import signal
+import sys
+from pathlib import Path
+from typing import Callable, Dict, Optional, Sequence, TextIO
+
+from .arguments import parser
+from ..week.faults import FileFault, FileFaults, Misuse, ProgramFault, fault_line
+from ..programs.program import FAULT, OUT_OF_MEMORY, READ_OR_WRITE, WeekFiles
+
+__all__ = ["add_solver_option", "add_week_options", "check_seconds", "number_of_seconds", "parser", "run", "week_files"]
+
+# The exit statuses with which a shell reports that the signals PIPE and INT ended a command; that of another signal is its number more
+# than the base.
+BROKEN_PIPE, INTERRUPTED, SIGNAL_BASE = 141, 130, 128
+# The most seconds of a search, and the most faults of a file that are reported together.
+MAX_SECONDS, MAX_FAULTS = 10_000_000, 20
+
+
+def number_of_seconds(text: str) -> float:
+    """The number of seconds that an option gives."""
+    try:
+        return float(text)
+    except ValueError:
+        raise argparse.ArgumentTypeError(f"'{text}' is no number: give seconds, such as 60 or 2.5") from None
+
+
+def fixes_by_week(texts: Sequence[str]) -> Dict[int, Path]:
+    """The fix files of some weeks, each given as `N=FILE`."""
+    fixes: Dict[int, Path] = {}
+    for text in texts:
+        found = re.fullmatch("([0-9]{1,4})=(.+)", text, re.DOTALL)
+        if not found:
+            raise Misuse(f"--fix {text}: give the week's number and its file, such as 0=promised.txt")
+        number = int(found[1])
+        if number in fixes:
+            raise Misuse(f"--fix {text}: week {number} has the file {fixes[number]}: put all rows into one file")
+        fixes[number] = Path(found[2])
+    return fixes
+
+
+def add_week_options(options: argparse.ArgumentParser, required: bool = True) -> None:
+    """The options that name a week's files, as `inrc2pb` has them."""
+    options.add_argument("--sce", metavar="FILE", type=Path, required=required, help="the scenario")
+    options.add_argument("--his", metavar="FILE", type=Path, required=required, help="the history with which the week begins")
+    options.add_argument("--week", metavar="FILE", type=Path, required=required, help="the week's requirements and requests")
+    options.add_argument("--fix", metavar="FILE", type=Path, help="assignments to keep, as a solution file")
+    options.add_argument("--early", action="store_true", help="charge excess assignments and weekends as soon as they occur")
+
+
+def add_solver_option(options: argparse.ArgumentParser) -> None:
+    """The option that names a solver for whole weeks."""
+    solver = (
+        "clasp, cbc, or a command that solves the whole week in place of this search, with {opb} or {lp} for the model, {sol} for the "
+        "result file, if it does not print its answer, and {seconds}"
+    )
+    options.add_argument("--solver", metavar="COMMAND", help=solver)
+
+
+def check_seconds(seconds: float, option: str) -> None:
+    """The limit of a search is a number with which it ends."""
+    if not 0 < seconds <= MAX_SECONDS:
+        raise Misuse(f"{option} has to be a number of seconds above 0, and at most {MAX_SECONDS}")
+
+
+def week_files(given: argparse.Namespace) -> WeekFiles:
+    """The files that the options of `add_week_options` name."""
+    return WeekFiles(given.sce, given.his, given.week, given.fix, given.early)
+
+
+class _Remarks(io.TextIOWrapper):
+    """Standard error in UTF-8. A remark that cannot be written, as to a full disk, is lost, and the command goes on."""
+
+    def write(self, text: str) -> int:
+        """Writes the text if that is possible."""
+        with contextlib.suppress(OSError):
+            super().write(text)
+        return len(text)
+
+    def flush(self) -> None:
+        """Writes what is left if that is possible."""
+        with contextlib.suppress(OSError):
+            super().flush()
+
+
+def _standard_output(stream: Optional[TextIO]) -> TextIO:
+    """The stream, which writes UTF-8 from now on. Python has no stream for a descriptor that was closed, as by `>&-`."""
+    stream = stream or open(os.devnull, "w")
+    if isinstance(stream, io.TextIOWrapper):
+        stream.reconfigure(encoding="utf-8", errors="surrogateescape")
+    return stream
+
+
+def _standard_error(stream: Optional[TextIO]) -> TextIO:
+    """The stream, of which no write fails from now on. One of a script, without a descriptor, stays as it is."""
+    stream = stream or open(os.devnull, "w")
+    try:
+        unbuffered = open(stream.fileno(), "wb", buffering=0, closefd=False)
+    except OSError:
+        return stream
+    return _Remarks(io.BufferedWriter(unbuffered), encoding="utf-8", errors="backslashreplace", line_buffering=True)
+
+
+def run(main: Callable[[], Optional[int]]) -> None:
+    """Runs a helper and exits: each fault is one line on standard error, with status 1 or the program's own."""
+    name = os.path.basename(sys.argv[0])
+    sys.stdout = _standard_output(sys.stdout)
+    sys.stderr = _standard_error(sys.stderr)
+    try:
+        _catch_signals()
+        status = main() or 0
+        sys.stdout.flush()
+        _ignore_signals()
+    except BrokenPipeError:
+        os.dup2(os.open(os.devnull, os.O_WRONLY), 1)
+        status = BROKEN_PIPE
+    except KeyboardInterrupt:
+        status = INTERRUPTED
+    except ProgramFault as fault:
+        print(f"{name}: {fault_line(fault)}", file=sys.stderr)
+        status = fault.status if 0 < fault.status < 256 else FAULT
+    except (FileFault, Misuse, OSError) as fault:
+        print(f"{name}: {fault_line(fault)}", file=sys.stderr)
+        status = READ_OR_WRITE if isinstance(fault, OSError) else FAULT
+        _drop_output()
+    except FileFaults as several:
+        for one in several.faults[:MAX_FAULTS]:
+            print(f"{name}: {fault_line(one)}", file=sys.stderr)
+        if len(several.faults) > MAX_FAULTS:
+            print(f"{name}: and {len(several.faults) - MAX_FAULTS} more such faults", file=sys.stderr)
+        status = FAULT
+    except MemoryError:
+        print(f"{name}: out of memory", file=sys.stderr)
+        status = OUT_OF_MEMORY
+    sys.exit(status)
+
+
+def _catch_signals() -> None:
+    """From now on Ctrl-C is a KeyboardInterrupt again: before, while a command starts, it ends the process without a word. TERM and HUP
+    end the command too, and no temporary file is left. The statuses of children are kept, also if the caller ignores them."""
+    if signal.getsignal(signal.SIGINT) == signal.SIG_DFL:
+        signal.signal(signal.SIGINT, signal.default_int_handler)
+    for number in (signal.SIGTERM, signal.SIGHUP):
+        if signal.getsignal(number) == signal.SIG_DFL:
+            signal.signal(number, _end)
+    signal.signal(signal.SIGCHLD, signal.SIG_DFL)
+
+
+def _ignore_signals() -> None:
+    """All is done: a signal that comes while Python ends does not change the status."""
+    for number in (signal.SIGINT, signal.SIGTERM, signal.SIGHUP):
+        signal.signal(number, signal.SIG_IGN)
+
+
+def _end(number: int, _frame: object) -> None:
+    raise SystemExit(SIGNAL_BASE + number)
+
+
+def _drop_output() -> None:
+    """Output that cannot be written is not tried again when Python exits."""
+    try:
+        sys.stdout.flush()
+    except OSError:
+        os.dup2(os.open(os.devnull, os.O_WRONLY), 1)

@@ -1,0 +1,117 @@
+"""The command line of the INRC-II competition: `inrc2pb-simulate --sce F --his F --week F --sol F [..]`."""
+
+import argparse
+import os
+import time
+from pathlib import Path
+from typing import Optional, Sequence, Tuple
+
+from ..programs.clock import Clock
+from .command import add_solver_option, check_seconds, number_of_seconds, parser
+from ..week.faults import Misuse, ProgramFault
+from ..week.files import Assignment, Solution, write_solution, write_text
+from ..search.improving import search
+from ..programs.interrupts import interrupts
+from ..search.period_search import PeriodSearch
+from ..search.planned_weeks import PeriodFiles, PlannedWeeks
+from ..programs.program import NO_ROSTER, Report, WeekFiles, extend
+from ..programs.progress import Progress
+from ..week.targets import check_inputs_stay, check_no_pipes, check_target
+
+# The minimum of seconds, and of the share of the time, for the last check, the file and the end of Python.
+END_SECONDS, END_SHARE = 0.5, 0.05
+# A search takes at least this, even if the time is over.
+LEAST_SECONDS = 0.2
+
+
+def seconds_since_start() -> float:
+    """The seconds by the clock since this process began; if the system does not say, the seconds of processor time."""
+    try:
+        words = Path("/proc/self/stat").read_text(encoding="utf-8", errors="replace").rpartition(")")[2].split()
+        return time.clock_gettime(time.CLOCK_BOOTTIME) - int(words[19]) / os.sysconf("SC_CLK_TCK")
+    except (OSError, AttributeError, ValueError, IndexError):
+        return time.process_time()
+
+
+def search_seconds(timeout: float, used: float) -> float:
+    """The seconds to search, if the process has to end after `timeout` seconds and has used some of them."""
+    return max(LEAST_SECONDS, timeout - max(END_SECONDS, END_SHARE * timeout) - used)
+
+
+def plan_ahead(weeks: PlannedWeeks, solution: Path, seconds: float) -> Tuple[Report, Optional[BaseException]]:
+    """Plans the week, which is the first of all weeks that are left, and writes its roster. Also returns the fault that ended the search
+    after the roster was found."""
+    week = weeks.history.week
+
+    def keep(cells: Sequence[Assignment]) -> None:
+        write_solution(solution, Solution(week, weeks.scenario.name, tuple(cell for cell in cells if cell.day < 7)))
+
+    running = PeriodSearch(weeks, keep, Clock(seconds), Progress(None))
+    fault: Optional[BaseException] = None
+    with interrupts() as signals, signals.calling(running.interrupt):
+        try:
+            running.run()
+        except Exception as found:
+            if running.penalty is None:
+                raise
+            fault = found
+    return extend(weeks.week_files(week), solution)[1], fault
+
+
+def _planned(given: argparse.Namespace, weeks: PlannedWeeks, seconds: float) -> Tuple[Report, Optional[BaseException]]:
+    """The report of the week's roster, and the fault that ended its search after the roster was found."""
+    if weeks.later() and not given.solver:
+        check_target(given.sol.absolute())
+        check_inputs_stay(weeks.files.all(), given.sol, "the roster")
+        return plan_ahead(weeks, given.sol, seconds)
+    files = WeekFiles(given.sce, given.his, given.week, early=bool(given.solver))
+    outcome = search(files, given.sol, None, seconds, given.solver, None, Progress(None))
+    return outcome.report, outcome.fault
+
+
+def _options() -> argparse.ArgumentParser:
+    options = parser(
+        "Plans one week, with the command line that the simulator of the competition INRC-II calls: as the first week of a plan of\n"
+        "all weeks that are left. The later ones are not known, and count with the numbers of this one.",
+        "--cusIn and --cusOut carry a solver's own data from week to week. This one keeps none: it reads no --cusIn, and writes\n"
+        "the number of the next week to --cusOut.",
+    )
+    options.add_argument("--sce", metavar="FILE", type=Path, required=True, help="the scenario")
+    options.add_argument("--his", metavar="FILE", type=Path, required=True, help="the history with which the week begins")
+    options.add_argument("--week", metavar="FILE", type=Path, required=True, help="the week's requirements and requests")
+    options.add_argument("--sol", metavar="FILE", type=Path, required=True, help="the solution file to write")
+    options.add_argument("--cusIn", metavar="FILE", type=Path, help="a solver's data from the week before: not read")
+    options.add_argument("--cusOut", metavar="FILE", type=Path, help="the data for the next week: its number")
+    options.add_argument("--rand", metavar="N", type=int, help="the seed: not used")
+    timeout = "seconds in which this process ends, its start included (default: 60)"
+    options.add_argument("--timeout", metavar="SECONDS", type=number_of_seconds, default=60, help=timeout)
+    add_solver_option(options)
+    return options
+
+
+def main() -> Optional[int]:
+    """The command `inrc2pb-simulate`."""
+    given = _options().parse_args()
+    check_seconds(given.timeout, "--timeout")
+    files = PeriodFiles(given.sce, given.his, [given.week], ahead=True)
+    check_no_pipes(files.all())
+    weeks = PlannedWeeks(files)
+    if given.cusOut:
+        check_target(given.cusOut.absolute())
+        check_inputs_stay(files.all(), given.cusOut, "the number of the next week")
+        if os.path.realpath(given.sol) == os.path.realpath(given.cusOut) != os.devnull:
+            raise Misuse(f"{given.sol} gets the roster, so the number of the next week cannot be written to it: choose another file")
+    seconds = search_seconds(given.timeout, seconds_since_start())
+    with interrupts():
+        try:
+            report, fault = _planned(given, weeks, seconds)
+        except ProgramFault as none:
+            if none.status != NO_ROSTER:
+                raise
+            raise ProgramFault(NO_ROSTER, f"--timeout {given.timeout:g}: {none.message}") from none
+        if given.cusOut:
+            write_text(given.cusOut, f"{weeks.history.week + 1}\n")
+        print(report.text, end="", flush=True)
+        if fault:
+            raise fault
+    return 0

@@ -1,0 +1,160 @@
+"""Writes the files of a ward from a spreadsheet: the ward, the first history, and each week with its held shifts."""
+
+import argparse
+import contextlib
+import re
+from pathlib import Path
+from typing import Dict, Iterator, List, NamedTuple, Optional, Sequence, TextIO, Tuple
+
+from ..judging.absences import NO_SKILL, TooMany, joined, readable, with_absences
+from .command import parser
+from ..judging.demand import demand_warnings
+from ..week.faults import FileFault, Misuse
+from ..week.files import History, Scenario, Solution, Week, WeekData, history_text, scenario_text, solution_text, week_text
+from ..week.files import replacing
+from ..rows.first_roster import first_cost
+from ..week.hints import quoted
+from ..judging.odd_values import history_warnings, scenario_warnings, week_warnings
+from ..sheets.plan_sheets import AWAY, Days, WeekSheet, check_held, days_away, read_days, read_weeks
+from ..sheets.sheet_files import Book, read_book
+from ..sheets.sheet_rows import tidy
+from ..week.targets import check_target
+from ..sheets.ward_sheets import read_ward, skill_warnings
+from ..sheets.ward_template import write_template
+from ..judging.leave import credit_line, credited, shifts_of_leave
+
+
+def _options() -> argparse.ArgumentParser:
+    options = parser(
+        "Writes the files of a ward from a spreadsheet: an .ods or .xlsx file, or a folder of .csv files.",
+        "The sheets are shifts, contracts, nurses, needs and plan: --template writes an example with all columns.\n"
+        "The folder gets ward.txt, history-0.txt, and for each week N week-N.txt and fix-N.txt, the shifts that are held.\n"
+        "Files of these names are replaced. Blanks in names become _.\n"
+        "Example: inrc2pb-ward ward.ods --out my_ward --credit leave,training",
+    )
+    options.add_argument("tables", nargs="?", metavar="FILE", type=Path, help="the spreadsheet, or the folder of .csv files")
+    options.add_argument("--out", metavar="FOLDER", type=Path, help="the folder for the files; it is made if there is none")
+    options.add_argument("--weeks", metavar="N", type=int, help="the weeks of the period (default: the weeks of the sheet plan)")
+    options.add_argument("--credit", metavar="WORDS", default="", help=f"absences that count as work in history-0.txt, some of {','.join(AWAY)}")
+    options.add_argument("--template", metavar="FILE", type=Path, help="write an example spreadsheet to this .ods file")
+    return options
+
+
+def _ward_name(path: Path) -> str:
+    """A name for the ward, from that of the file."""
+    return re.sub("[(),= ]", "_", tidy(path.resolve().stem)) or "ward"
+
+
+def _period(days: Days, weeks: int) -> int:
+    """The weeks of the period, which has those of the plan."""
+    if not days.weeks <= weeks <= 52:
+        raise Misuse(f"--weeks {weeks}: the plan has {days.weeks} weeks, and a period 52 at most: give a number from {days.weeks} to 52")
+    return weeks
+
+
+def _reasons(text: str) -> List[str]:
+    """The reasons of absences that count as work."""
+    reasons = text.split(",") if text else []
+    for word in reasons:
+        if word not in AWAY:
+            raise Misuse(f"--credit {text}: '{word}' is no reason to be away: give some of {','.join(AWAY)}")
+    return reasons
+
+
+class WardFiles(NamedTuple):
+    """The text of each file by its name, warnings, and for each nurse with days away that count as work these days and shifts."""
+
+    texts: Dict[str, str]
+    warnings: List[str]
+    credit: Dict[str, Tuple[int, int]]
+
+
+def ward_files(book: Book, name: str, days: Days, weeks: int, reasons: Sequence[str]) -> WardFiles:
+    """The files of a ward with this name and number of weeks. Absences for these reasons count as work."""
+    ward = read_ward(book, name, weeks)
+    sheets = read_weeks(book, ward, days)
+    check_held(ward, sheets)
+    credit = dict(days_away(sheets, reasons))
+    shifts = shifts_of_leave(ward.scenario, credit)
+    history = credited(ward.history, shifts)
+    found = {"ward.txt": scenario_text(ward.scenario), "history-0.txt": history_text(history)}
+    warnings = [f"sheet shifts, contracts or nurses: {line}" for line in scenario_warnings(ward.scenario)]
+    warnings += [f"sheet nurses: {line}" for line in history_warnings(ward.history)]
+    warnings += [f"sheet nurses: {line}" for line in skill_warnings(ward, {place.skill for sheet in sheets for place in sheet.requirements})]
+    for number, sheet in enumerate(sheets):
+        data = _week(book, ward.scenario, sheet, number, None if number else history)
+        found[f"week-{number}.txt"] = week_text(data)
+        found[f"fix-{number}.txt"] = solution_text(Solution(number, name, tuple(held.row for held in sheet.held)))
+        odd = (*week_warnings(ward.scenario, data), *demand_warnings(ward.scenario, None if number else history, data))
+        warnings += [f"sheet needs, week {number}: {line}" for line in odd]
+    return WardFiles(found, warnings, {nurse: (days, shifts[nurse]) for nurse, days in credit.items()})
+
+
+def _week(book: Book, scenario: Scenario, sheet: WeekSheet, number: int, history: Optional[History]) -> WeekData:
+    """The data of a week with its absences. If its history is known, fewer requests are certain."""
+    data = WeekData(scenario.name, sheet.requirements, tuple(sheet.wishes))
+    known = None
+    try:
+        if history and sheet.absences:
+            week = Week(scenario, history, with_absences(scenario, data, sheet.absences, 0).data)
+            known = first_cost(week, [held.row for held in sheet.held])
+        return with_absences(scenario, data, sheet.absences, known).data
+    except TooMany as fault:
+        raise FileFault(book.path, 0, f"sheet plan, week {number}: {fault}: {NO_SKILL}") from fault
+
+
+def _old_histories(folder: Path, first: str, weeks: int) -> Iterator[str]:
+    """A warning if the first history gets other numbers, as for leave that counts as work, and the folder has later histories, made of
+    the old ones."""
+    old, names = folder / "history-0.txt", [f"history-{number}.txt" for number in range(1, weeks)]
+    later = [name for name in names if (folder / name).is_file()]
+    if not later or not old.is_file():
+        return
+    before = _nurse_rows(old.read_text(encoding="utf-8", errors="surrogateescape"))
+    changed = [nurse for nurse, row in _nurse_rows(first).items() if before.get(nurse, row) != row]
+    if changed:
+        them = "it" if len(later) == 1 else "them"
+        yield f"history-0.txt has new numbers of {quoted(changed)}, and {joined(later)} the old ones: make {them} again with inrc2pb-next or inrc2pb-period"
+
+
+def _nurse_rows(history: str) -> Dict[str, List[str]]:
+    """The words of each nurse's line in the text of a history."""
+    return {words[0]: words for words in map(str.split, history.splitlines()) if len(words) == 7}
+
+
+def _write(folder: Path, found: Dict[str, str]) -> None:
+    """Writes all files, or none of them."""
+    folder.mkdir(parents=True, exist_ok=True)
+    for name in found:
+        check_target(folder / name)
+    with contextlib.ExitStack() as stack:
+        targets: List[Tuple[TextIO, str]] = [(stack.enter_context(replacing(folder / name)), text) for name, text in found.items()]
+        for target, text in targets:
+            target.write(text)
+            target.flush()
+
+
+def main() -> int:
+    """The command `inrc2pb-ward`."""
+    given = _options().parse_args()
+    if given.template and not (given.tables or given.out):
+        write_template(given.template)
+        print(f"{given.template}: change its rows into those of your ward, then type: inrc2pb-ward {given.template} --out FOLDER")
+        return 0
+    if given.template or not (given.tables and given.out):
+        raise Misuse("give a spreadsheet and --out with a folder for the ward's files, or --template alone, with the .ods file to write")
+    reasons = _reasons(given.credit)
+    book = read_book(given.tables)
+    days = read_days(book)
+    weeks = _period(days, days.weeks if given.weeks is None else given.weeks)
+    files = ward_files(book, _ward_name(given.tables), days, weeks, reasons)
+    old = list(_old_histories(given.out, files.texts["history-0.txt"], weeks))
+    _write(given.out, files.texts)
+    for line in files.warnings:
+        print(f"{given.tables}: warning: {readable(line)}")
+    print(f"{given.out}: {', '.join(files.texts)}")
+    for nurse, (away, shifts) in files.credit.items():
+        print(credit_line(nurse, away, shifts, "history-0.txt"))
+    for line in old:
+        print(f"{given.out}: warning: {readable(line)}")
+    return 0

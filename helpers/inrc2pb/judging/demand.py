@@ -1,0 +1,119 @@
+"""What can be counted before planning: nurses who are needed at once, and shifts that a week asks for and contracts supply."""
+
+from typing import Collection, Dict, Iterator, List, Optional, Sequence, Tuple
+
+from .absences import Absence, absences_of, joined
+from .odd_values import IMPOSSIBLE
+from ..week.records import DAYS, Assignment, History, Place, Scenario, WeekData
+
+_KEEPING = "no roster can meet it and keep every absence"
+
+
+def demand_warnings(scenario: Scenario, history: Optional[History], data: WeekData) -> Iterator[str]:
+    """Warnings of days for which no choice of nurses fills all minimum numbers, and of more shifts than the contracts supply."""
+    found: Dict[str, List[str]] = {}
+    for day, name in enumerate(DAYS):
+        always, there = _shortage(scenario, history, data, day, ()), _shortage(scenario, history, data, day, absences_of(data))
+        if always or there:
+            found.setdefault(f"{always}: {IMPOSSIBLE}" if always else f"{there}: {_KEEPING}", []).append(name)
+    for text, days in found.items():
+        yield f"{joined(days)}: {text}"
+    asked, supplied = asked_shifts(data), supplied_shifts(scenario, history)
+    if asked[0] > supplied[1]:
+        yield f"it asks for at least {asked[0]} shifts, and the contracts supply at most {supplied[1]} a week: if all weeks ask for so many, each shift above costs points"
+
+
+def asked_shifts(data: WeekData) -> Tuple[int, int]:
+    """The minimum and the best number of shifts of the week."""
+    return sum(one.minimum for one in data.requirements.values()), sum(max(one.minimum, one.optimal) for one in data.requirements.values())
+
+
+def supplied_shifts(scenario: Scenario, history: Optional[History]) -> Tuple[int, int]:
+    """The shifts that the contracts ask for at least and allow at most, in the part of a week of those that are left, rounded outwards."""
+    left = scenario.weeks - (history.week if history else 0)
+    least = most = 0
+    for name in scenario.nurses:
+        done = history.nurses[name].assignments if history else 0
+        limits = scenario.contract_of(name).assignments
+        least += max(0, limits.minimum - done)
+        most += min(max(0, limits.maximum - done), 7 * left)
+    return least // left, -(-most // left)
+
+
+def can_work(scenario: Scenario, history: Optional[History], away: Collection[Absence], nurse: str, place: Place) -> bool:
+    """Whether the nurse has the skill, is not away, and may have the shift on Monday after her last one."""
+    last = history.nurses[nurse].last_shift if history and place.day == 0 else None
+    is_free = Absence(nurse, place.day, None) not in away and Absence(nurse, place.day, place.shift) not in away
+    may_follow = last is None or place.shift not in scenario.shift_types[last].forbidden_next
+    return place.skill in scenario.nurses[nurse].skills and is_free and may_follow
+
+
+def _shortage(scenario: Scenario, history: Optional[History], data: WeekData, day: int, away: Collection[Absence]) -> str:
+    """The places of a day that need more nurses at once than could fill them, if there are any."""
+    places = [place for place, asked in data.requirements.items() if place.day == day for _ in range(min(asked.minimum, len(scenario.nurses) + 1))]
+    could = {place: [nurse for nurse in scenario.nurses if can_work(scenario, history, away, nurse, place)] for place in set(places)}
+    filled: Dict[str, int] = {}
+    for slot in range(len(places)):
+        tried = _fill(slot, places, could, filled)
+        if tried is not None:
+            some = {places[slot], *(places[filled[nurse]] for nurse in tried)}
+            short = [place for place in data.requirements if place in some]
+            return _shortage_text(scenario, data, short, len(tried))
+    return ""
+
+
+def _fill(slot: int, places: Sequence[Place], could: Dict[Place, List[str]], filled: Dict[str, int]) -> Optional[List[str]]:
+    """Finds a nurse for a place, if need be by giving others another place. If there is none, returns all nurses who were tried."""
+    came: Dict[str, int] = {}
+    waiting = [slot]
+    for at in waiting:
+        for nurse in could[places[at]]:
+            if nurse in came:
+                continue
+            came[nurse] = at
+            if nurse not in filled:
+                _move(nurse, slot, came, filled)
+                return None
+            waiting.append(filled[nurse])
+    return list(came)
+
+
+def _move(nurse: str, slot: int, came: Dict[str, int], filled: Dict[str, int]) -> None:
+    """Gives the nurse the place for which she was tried, the nurse of that place another one, and so on up to the slot."""
+    holders = {at: who for who, at in filled.items()}
+    while True:
+        at = filled[nurse] = came[nurse]
+        if at == slot:
+            return
+        nurse = holders[at]
+
+
+def _shortage_text(scenario: Scenario, data: WeekData, short: Sequence[Place], have: int) -> str:
+    """Places that need more nurses than there are, in words."""
+    need = sum(data.requirements[place].minimum for place in short)
+    skills, some = {place.skill for place in short}, [f"{place.shift} {data.requirements[place].minimum}" for place in short]
+    if len(skills) > 1:
+        named = joined(f"{place.shift} {place.skill}" for place in short)
+        return f"{named} need {need} nurses at once, and {have} could do it"
+    skill = short[0].skill
+    owners = sum(skill in nurse.skills for nurse in scenario.nurses.values())
+    has = f"{have} have it" if owners == have else f"{have} of the {owners} who have it could do it"
+    return f"{need} with {skill} needed at once ({', '.join(some)}), and {has}"
+
+
+def hindrance(scenario: Scenario, history: History, away: Collection[Absence], rows: Sequence[Assignment], nurse: str, place: Place) -> str:
+    """Why a nurse with the skill does not fill a place in a roster; empty if nothing hinders her."""
+    shifts = {row.day: row.shift for row in rows if row.nurse == nurse}
+    before = history.nurses[nurse].last_shift if place.day == 0 else shifts.get(place.day - 1)
+    after = shifts.get(place.day + 1)
+    if Absence(nurse, place.day, None) in away:
+        return "is away"
+    if Absence(nurse, place.day, place.shift) in away:
+        return f"never works {place.shift} then"
+    if place.day in shifts:
+        return f"works {shifts[place.day]} on this day"
+    if before is not None and place.shift in scenario.shift_types[before].forbidden_next:
+        return f"works {before} on the day before"
+    if after is not None and after in scenario.shift_types[place.shift].forbidden_next:
+        return f"works {after} on the next day"
+    return ""

@@ -1,0 +1,97 @@
+"""Reasons why a roster or a fix file does not fit its week, in words, with the line of its file."""
+
+import re
+from pathlib import Path
+from typing import Callable, Iterable, Iterator, List, NamedTuple, Optional
+
+from .breaches import Shifts, breaches_by, held_breaches, minimum_breaches
+from ..week.faults import FileFault, ProgramFault
+from ..week.files import Assignment, History, Scenario, Solution, Week, read_solution
+from ..week.slots import text_of, tokens_of
+
+# The indices of the week's number, of the scenario's name and of the first row among the tokens of a solution file, and the number of
+# tokens of a row.
+_NUMBER, _NAME, _ROWS, _ROW = 1, 2, 6, 4
+
+
+class Misfit(NamedTuple):
+    """A hard rule that a roster breaks, the line of the row that breaks it (0: no row does), and the reason."""
+
+    rule: str
+    line: int
+    reason: str
+
+
+def _lines(text: str) -> List[int]:
+    """The line of each token."""
+    return [token.line for token in tokens_of(text)]
+
+
+def other_week(path: Path, scenario: Scenario, history: Optional[History], text: Optional[str] = None) -> str:
+    """The line in which the file names another ward or week than these, and the probable mistake; else nothing."""
+    try:
+        text = text_of(path) if text is None else text
+        solution = read_solution(path, None, text)
+    except FileFault:
+        return ""
+    lines = _lines(text)
+    if solution.scenario != scenario.name:
+        return f"line {lines[_NAME]} has '{solution.scenario}', and the scenario is '{scenario.name}': is the file of another ward?"
+    if history and solution.week != history.week:
+        return f"line {lines[_NUMBER]} has week {solution.week}, and the history has week {history.week}: is the file of another week?"
+    return ""
+
+
+def _hint(path: Path, scenario: Scenario, history: Optional[History]) -> str:
+    """The same as the end of a fault."""
+    found = other_week(path, scenario, history)
+    return f"; {found}" if found else ""
+
+
+def read_roster(path: Path, scenario: Scenario, history: Optional[History]) -> Solution:
+    """Reads a roster or a fix file. If it has a mistake and is of another ward or week, the fault says both."""
+    try:
+        return read_solution(path, scenario)
+    except FileFault as fault:
+        raise FileFault(fault.path, fault.line, fault.message + _hint(path, scenario, history), fault.fault) from fault
+
+
+def misfits(path: Path, solution: Solution, scenario: Scenario, history: Optional[History]) -> Iterator[Misfit]:
+    """The rows that break H1, H3 or H4, alone or with rows above them, in the order of the file."""
+    pasts = history.nurses.values() if history else ()
+    shifts: Shifts = {(past.nurse, -1): [past.last_shift] for past in pasts if past.last_shift is not None}
+    for line, row in zip(_lines(text_of(path))[_ROWS::_ROW], solution.assignments):
+        for breach in breaches_by(row, shifts, scenario):
+            yield Misfit(breach.rule, line, breach.reason)
+        shifts.setdefault((row.nurse, row.day), []).append(row.shift)
+
+
+def read_held(path: Path, scenario: Scenario, history: Optional[History], warn: Callable[[str], None]) -> Solution:
+    """Reads a fix file. A row that no roster can have is a fault; `warn` gets the hint if the file is of another ward or week."""
+    solution = read_roster(path, scenario, history)
+    misfit = next(misfits(path, solution, scenario, history), None)
+    if misfit:
+        raise FileFault(path, misfit.line, f"{misfit.reason}: no roster can have this row{_hint(path, scenario, history)}")
+    found = other_week(path, scenario, history)
+    if found:
+        warn(found)
+    return solution
+
+
+def explained(fault: ProgramFault, path: Path, week: Week, held: Iterable[Assignment]) -> ProgramFault:
+    """The fault that `inrc2pb extend` found in the roster of this file; if it breaks a hard rule, with the line and the reason."""
+    rule = re.search(r"roster breaks (H[1-5])", fault.message)
+    if not rule:
+        return fault
+    solution = read_roster(path, week.scenario, week.history)
+    found = next(_misfits_of(rule.group(1), path, solution, week, held), None)
+    reason = f"{rule.group()}{f': {found.reason}' if found else ''}"
+    return ProgramFault(fault.status, str(FileFault(path, found.line if found else 0, reason)))
+
+
+def _misfits_of(rule: str, path: Path, solution: Solution, week: Week, held: Iterable[Assignment]) -> Iterator[Misfit]:
+    yield from (found for found in misfits(path, solution, week.scenario, week.history) if found.rule == rule)
+    if rule == "H2":
+        yield from (Misfit(rule, 0, breach.reason) for breach in minimum_breaches(week, solution.assignments))
+    if rule == "H5":
+        yield from (Misfit(rule, 0, breach.reason) for breach in held_breaches(solution.assignments, held))

@@ -1,0 +1,114 @@
+"""Warnings of values that are allowed in the files of a week, but are probably mistakes."""
+
+from typing import Dict, Iterator, List, Tuple
+
+from ..week.files import DAYS, Contract, History, Limits, NurseHistory, Requirement, Scenario, WeekData
+from ..week.hints import plural
+from ..week.slots import is_utf8
+
+# The end of a warning of a week that has no roster.
+IMPOSSIBLE = "no roster can meet it"
+
+
+def scenario_warnings(scenario: Scenario) -> Iterator[str]:
+    """Warnings of a scenario."""
+    names = (*scenario.skills, *scenario.shift_types, *scenario.contracts, *scenario.nurses)
+    if not all(map(is_utf8, names)):
+        yield "it is not saved as UTF-8, so tables and pictures have wrong letters: save each file of the ward as UTF-8"
+    for shift in scenario.shift_types.values():
+        yield from _reversed_limits(f"shift type {shift.name}", shift.consecutive)
+    for contract in scenario.contracts.values():
+        for what, limits in (("assignments", contract.assignments), ("working days", contract.working_days), ("days off", contract.days_off)):
+            yield from _reversed_limits(f"contract {contract.name}, {what}", limits)
+        yield from _too_many_assignments(contract, scenario.weeks)
+    for nurse in scenario.nurses.values():
+        if not nurse.skills:
+            yield f"{nurse.name} has no skill, so nobody can plan her"
+
+
+def _reversed_limits(what: str, limits: Limits) -> Iterator[str]:
+    if limits.minimum > limits.maximum:
+        yield f"{what}: the minimum of ({limits.minimum},{limits.maximum}) is above its maximum"
+
+
+def _too_many_assignments(contract: Contract, weeks: int) -> Iterator[str]:
+    """A warning if the minimum of assignments does not fit the period, or not with the limits of days in a row."""
+    days, least = 7 * weeks, contract.assignments.minimum
+    work, off = contract.working_days.maximum, max(1, contract.days_off.minimum)
+    rounds, rest = divmod(days, work + off)
+    most = rounds * work + min(rest, work)
+    if least > days:
+        yield f"contract {contract.name}: at least {least} assignments are asked for, and the period has {days} days"
+    elif least > most:
+        in_a_row = f"with at most {work} working days and at least {off} off in a row"
+        yield f"contract {contract.name}: at least {least} assignments are asked for, and {days} days have {most} {in_a_row}"
+
+
+def history_warnings(history: History) -> Iterator[str]:
+    """Warnings of a history."""
+    for past in history.nurses.values():
+        yield from _last_days(past)
+        yield from _totals(past, history.week)
+
+
+def _last_days(past: NurseHistory) -> Iterator[str]:
+    """Warnings of days in a row that contradict one another."""
+    if past.last_shift is None:
+        if past.consecutive_shifts or past.working_days:
+            yield f"{past.nurse} was off on Sunday (None), but has consecutive shifts or working days"
+        return
+    worked = f"{past.nurse} worked on Sunday ({past.last_shift})"
+    if past.days_off:
+        yield f"{worked}, but has {plural(past.days_off, 'day')} off in a row"
+    if past.consecutive_shifts == 0:
+        yield f"{worked}, but has 0 days in a row on this shift type"
+    elif past.consecutive_shifts > past.working_days:
+        yield f"{past.nurse} has {plural(past.consecutive_shifts, 'day')} in a row on {past.last_shift}, and only {past.working_days} with work"
+
+
+def _totals(past: NurseHistory, week: int) -> Iterator[str]:
+    """Warnings of totals that the weeks before this one cannot have, or that contradict the days in a row."""
+    over = f"{plural(week, 'week')} of the period {'is' if week == 1 else 'are'} over"
+    if past.assignments > 7 * week:
+        yield f"{past.nurse} has {plural(past.assignments, 'assignment')}, and {over} (leave with credit?)"
+    if past.weekends > week:
+        yield f"{past.nurse} has {plural(past.weekends, 'weekend')}, and {over}"
+    if past.assignments < min(past.working_days, 7 * week):
+        yield f"{past.nurse} has {plural(past.working_days, 'working day')} in a row, and {plural(past.assignments, 'assignment')}"
+
+
+def week_warnings(scenario: Scenario, data: WeekData) -> Iterator[str]:
+    """Warnings of a week's requirements."""
+    have = {skill: sum(skill in nurse.skills for nurse in scenario.nurses.values()) for skill in scenario.skills}
+    found: Dict[Tuple[str, str], List[str]] = {}
+    for place, required in data.requirements.items():
+        warning = _odd_number(required, have[place.skill])
+        if warning:
+            found.setdefault((f"{place.shift} {place.skill}", warning), []).append(DAYS[place.day])
+    for (row, warning), days in found.items():
+        yield f"{row} on {', '.join(days)}: {warning}"
+    yield from _unasked(scenario, data)
+
+
+def _odd_number(required: Requirement, have: int) -> str:
+    """A warning of a place for which this number of nurses has the skill."""
+    if required.minimum > have:
+        return f"at least {required.minimum} are needed, and {plural(have, 'nurse')} {_has(have)} the skill: {IMPOSSIBLE}"
+    if required.optimal > have:
+        return f"{required.optimal} are best, and {plural(have, 'nurse')} {_has(have)} the skill"
+    if 0 < required.optimal < required.minimum:
+        return f"({required.minimum},{required.optimal}) has a minimum above the optimal number"
+    return ""
+
+
+def _has(count: int) -> str:
+    return "has" if count == 1 else "have"
+
+
+def _unasked(scenario: Scenario, data: WeekData) -> Iterator[str]:
+    """Shift types for which nobody is asked, unless there is a row with zeros for each skill."""
+    for shift in scenario.shift_types:
+        rows = {place: required for place, required in data.requirements.items() if place.shift == shift}
+        asked = any(required.minimum or required.optimal for required in rows.values())
+        if not asked and len(rows) < len(scenario.skills) * len(DAYS):
+            yield f"nobody is asked for {shift} on any day"

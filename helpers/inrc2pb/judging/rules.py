@@ -1,0 +1,203 @@
+"""The rules of one week, written from docs/rules.md alone, to be compared with the program.
+
+`python3 -m inrc2pb.commands.rules_command --sce F --his F --week F [--fix F] [--early] ROSTER` prints the first hard rule that the roster
+breaks as `extend` does; if it breaks none, the penalty and the costs as `decode` reports them.
+"""
+
+import collections
+from typing import Counter, Dict, Iterable, Iterator, List, NamedTuple, Optional, Sequence, Set, Tuple
+
+from ..week.files import Assignment, Contract, Limits, NurseHistory, Place, Request, Week
+
+SATURDAY, SUNDAY = 5, 6
+SOFT_RULES = ("S1", "S2", "S3", "S4", "S5", "S6", "S7")
+# The weights of S1 to S7.
+MISSING_NURSE = 30
+SHIFT_RUN, WORK_RUN = 15, 30
+DAYS_OFF_RUN = 30
+REQUEST = 10
+HALF_WEEKEND = 30
+ASSIGNMENT_TOTAL = 20
+WEEKEND_TOTAL = 30
+Shifts = Dict[Tuple[str, int], List[str]]
+
+
+class Charge(NamedTuple):
+    """What a soft rule charges: something that occurs a number of times, and the weight of each time.
+
+    The nurse is None for a place with too few nurses, and `subject` names the place or the shift type, if there is one. `days` are
+    the first and the last day of this week that it concerns; None for days before Monday only, and for the totals of a period.
+    The rule compares `number` with `limit`; `before` is the part of it from before Monday.
+    """
+
+    rule: str
+    what: str
+    nurse: Optional[str]
+    weight: int
+    subject: str = ""
+    days: Optional[Tuple[int, int]] = None
+    number: int = 0
+    limit: int = 0
+    before: int = 0
+    times: int = 1
+
+    @property
+    def cost(self) -> int:
+        """What it costs."""
+        return self.times * self.weight
+
+
+# ---- hard rules
+
+
+def shifts_by_day(roster: Iterable[Assignment]) -> Shifts:
+    """The shift types that a nurse has on a day."""
+    shifts: Shifts = collections.defaultdict(list)
+    for assignment in roster:
+        shifts[assignment.nurse, assignment.day].append(assignment.shift)
+    return shifts
+
+
+def numbers(roster: Iterable[Assignment]) -> Counter[Place]:
+    """The number of nurses at each place."""
+    return collections.Counter(Place(assignment.day, assignment.shift, assignment.skill) for assignment in roster)
+
+
+def _has_forbidden_succession(week: Week, shifts: Shifts, nurse: str) -> bool:
+    last = week.history.nurses[nurse].last_shift
+    before = [] if last is None else [last]
+    for day in range(7):
+        now = shifts[nurse, day]
+        if any(later in week.scenario.shift_types[earlier].forbidden_next for earlier in before for later in now):
+            return True
+        before = now
+    return False
+
+
+def broken(week: Week, roster: Sequence[Assignment], held: Iterable[Assignment] = ()) -> Iterator[str]:
+    """The hard rules that the roster breaks, in their order."""
+    shifts, number, nurses = shifts_by_day(roster), numbers(roster), week.scenario.nurses
+    if any(len(shifts[nurse, day]) > 1 for nurse in nurses for day in range(7)):
+        yield "H1"
+    if any(number[place] < required.minimum for place, required in week.data.requirements.items()):
+        yield "H2"
+    if any(_has_forbidden_succession(week, shifts, nurse) for nurse in nurses):
+        yield "H3"
+    if any(assignment.skill not in nurses[assignment.nurse].skills for assignment in roster):
+        yield "H4"
+    rows: Set[Assignment] = set(roster)
+    if any(assignment not in rows for assignment in held):
+        yield "H5"
+
+
+def first_broken(week: Week, roster: Sequence[Assignment], held: Iterable[Assignment] = ()) -> Optional[str]:
+    """The first hard rule that the roster breaks, or None."""
+    return next(broken(week, roster, held), None)
+
+
+# ---- soft rules
+
+
+def run_charges(base: Charge, has: Sequence[bool], before: int, limits: Limits) -> Iterator[Charge]:
+    """The days above the maximum and below the minimum in each run of a property, given the days that have it, and the length of
+    its run on the Sunday before. `base` has the rest of the charges."""
+    least, greatest = limits
+    first = 0
+    for day in range(8):
+        if day < 7 and has[day]:
+            continue
+        length = before + day - first
+        above = min(day - first, length - greatest)
+        # A run that goes on after Sunday may still grow.
+        below = least - length if 0 < length and day < 7 else 0
+        if above > 0 or below > 0:
+            found = base._replace(days=(first, day - 1) if first < day else None, number=length, before=before)
+            if above > 0:
+                yield found._replace(what=f"{base.what} above", limit=greatest, times=above)
+            if below > 0:
+                yield found._replace(what=f"{base.what} below", limit=least, times=below)
+        first, before = day + 1, 0
+
+
+def charges(week: Week, roster: Sequence[Assignment], early: bool = False) -> Iterator[Charge]:
+    """Everything that the soft rules charge: first the places, then each nurse."""
+    shifts, number = shifts_by_day(roster), numbers(roster)
+    for place, required in week.data.requirements.items():
+        missing = required.optimal - number[place]
+        if missing > 0:
+            charge = Charge("S1", "missing", None, MISSING_NURSE, f"{place.shift} {place.skill}", (place.day, place.day), times=missing)
+            yield charge._replace(number=number[place], limit=required.optimal)
+    requests = requests_by_nurse(week)
+    for nurse in week.scenario.nurses:
+        yield from nurse_charges(week, shifts, requests[nurse], nurse, early)
+
+
+def requests_by_nurse(week: Week) -> Dict[str, List[Request]]:
+    """The requests of each nurse."""
+    found: Dict[str, List[Request]] = {nurse: [] for nurse in week.scenario.nurses}
+    for request in week.data.requests:
+        found[request.nurse].append(request)
+    return found
+
+
+def nurse_charges(week: Week, shifts: Shifts, requests: Sequence[Request], nurse: str, early: bool = False) -> Iterator[Charge]:
+    """What a nurse with these requests is charged, given the shift types that nurses have on days."""
+    contract, history = week.scenario.contract_of(nurse), week.history.nurses[nurse]
+    shift_on = [shifts[nurse, day] for day in range(7)]
+    for name, shift in week.scenario.shift_types.items():
+        before = history.consecutive_shifts if history.last_shift == name else 0
+        yield from run_charges(Charge("S2", "shift", nurse, SHIFT_RUN, name), [name in now for now in shift_on], before, shift.consecutive)
+    work, off = Charge("S2", "work", nurse, WORK_RUN), Charge("S3", "off", nurse, DAYS_OFF_RUN)
+    yield from run_charges(work, [bool(now) for now in shift_on], history.working_days, contract.working_days)
+    yield from run_charges(off, [not now for now in shift_on], history.days_off, contract.days_off)
+    yield from _request_charges(nurse, shift_on, requests)
+    saturday, sunday = bool(shift_on[SATURDAY]), bool(shift_on[SUNDAY])
+    if contract.complete_weekends and saturday != sunday:
+        day = SATURDAY if saturday else SUNDAY
+        yield Charge("S5", "half", nurse, HALF_WEEKEND, days=(day, day))
+    yield from _total_charges(week, contract, history, sum(map(len, shift_on)), saturday or sunday, early)
+
+
+def _request_charges(nurse: str, shift_on: Sequence[List[str]], requests: Sequence[Request]) -> Iterator[Charge]:
+    """The requests that are not granted; equal ones are one charge."""
+    for request, count in collections.Counter(requests).items():
+        for shift in shift_on[request.day]:
+            if request.shift in (None, shift):
+                what = "Any" if request.shift is None else "shift"
+                yield Charge("S4", what, nurse, REQUEST, shift, (request.day, request.day), number=count, times=count)
+
+
+def _total_charges(week: Week, contract: Contract, history: NurseHistory, works: int, weekend: bool, early: bool) -> Iterator[Charge]:
+    """What S6 and S7 charge a nurse."""
+    (least, greatest), most = contract.assignments, contract.max_weekends
+    total, weekends = history.assignments + works, history.weekends + weekend
+    if week.is_last and total < least:
+        charge = Charge("S6", "below", history.nurse, ASSIGNMENT_TOTAL, number=total, limit=least, times=least - total)
+        yield charge._replace(before=history.assignments)
+    if week.is_last or early:
+        for rule, now, limit, before, weight in (
+            ("S6", total, greatest, history.assignments, ASSIGNMENT_TOTAL),
+            ("S7", weekends, most, history.weekends, WEEKEND_TOTAL),
+        ):
+            times = now - max(limit, before) if early else now - limit
+            if times > 0:
+                yield Charge(rule, "above", history.nurse, weight, number=now, limit=limit, before=before, times=times)
+
+
+def cost_by_rule(charged: Iterable[Charge]) -> Dict[str, int]:
+    """What these charges cost by each soft rule."""
+    cost = dict.fromkeys(SOFT_RULES, 0)
+    for charge in charged:
+        cost[charge.rule] += charge.cost
+    return cost
+
+
+def costs(week: Week, roster: Sequence[Assignment], early: bool = False) -> Dict[str, int]:
+    """The cost of each soft rule; the penalty is their sum."""
+    return cost_by_rule(charges(week, roster, early))
+
+
+def nurse_costs(week: Week, roster: Sequence[Assignment], early: bool = False) -> Dict[str, Dict[str, int]]:
+    """The same of each nurse; no nurse pays for S1."""
+    shifts, requests = shifts_by_day(roster), requests_by_nurse(week)
+    return {nurse: cost_by_rule(nurse_charges(week, shifts, requests[nurse], nurse, early)) for nurse in week.scenario.nurses}

@@ -1,0 +1,1 @@
+"""The program `inrc2pb`, other processes, and their time."""

@@ -1,0 +1,215 @@
+"""The program `inrc2pb` as functions: `encode`, `decode` and `extend` run it and return values."""
+
+import functools
+import os
+import shutil
+import signal
+import subprocess
+import sys
+from dataclasses import dataclass
+from pathlib import Path
+from typing import Dict, List, Optional, Sequence, Tuple
+
+from ..week.faults import ProgramFault
+from .processes import Processes
+
+SOFT_RULES = ("S1", "S2", "S3", "S4", "S5", "S6", "S7")
+# The exit statuses of `inrc2pb`, which README.md explains, and the one with which a shell reports that there is no program.
+FAULT, READ_OR_WRITE, OUT_OF_MEMORY, NO_ROSTER, BROKEN_RULE, NO_PROGRAM = 1, 3, 4, 5, 6, 127
+# A run takes less, also of the largest week; one that waits for a pipe that nobody writes would not end.
+LONGEST_RUN = 600.0
+_READ_OPTIONS = ("--sce", "--his", "--week", "--fix", "--from")
+
+
+class NotInTime(ProgramFault):
+    """A program that did not end in its time."""
+
+
+@dataclass(frozen=True)
+class WeekFiles:
+    """The files of a week, and the options that each command needs alike."""
+
+    scenario: Path
+    history: Path
+    week: Path
+    fix: Optional[Path] = None
+    early: bool = False
+
+    def options(self) -> List[str]:
+        """The files as options of `inrc2pb`."""
+        words = ["--sce", str(self.scenario), "--his", str(self.history), "--week", str(self.week)]
+        return words + (["--fix", str(self.fix)] if self.fix else []) + (["--early"] if self.early else [])
+
+
+@dataclass(frozen=True)
+class Report:
+    """The report of `decode`: `by_rule` has the cost of each soft rule, `text` is the report as it was printed."""
+
+    status: str
+    objective: int
+    penalty: int
+    by_rule: Dict[str, int]
+    text: str
+
+    @property
+    def optimal(self) -> bool:
+        """Whether the answer claims that no roster costs less."""
+        return self.status == "OPTIMUM FOUND"
+
+
+def find_program() -> Path:
+    """`$INRC2PB`; else `inrc2pb` next to the running helper, in `out` of its clone, or in PATH."""
+    named = os.environ.get("INRC2PB")
+    if named:
+        found = shutil.which(named)
+        if not found:
+            raise ProgramFault(NO_PROGRAM, f"there is no program {named}: correct or unset the variable INRC2PB")
+        if not _is_inrc2pb(found):
+            raise ProgramFault(NO_PROGRAM, f"INRC2PB names {named}, which is not inrc2pb: correct or unset the variable")
+        return Path(found).absolute()
+    helper = Path(sys.argv[0] or ".")
+    in_path = shutil.which("inrc2pb")
+    beside = [helper.parent / "inrc2pb", helper.resolve().parent / "inrc2pb", Path(__file__).resolve().parents[3] / "out" / "inrc2pb"]
+    for place in [*beside, *([Path(in_path)] if in_path else [])]:
+        if place.is_file() and os.access(place, os.X_OK):
+            return place.absolute()
+    raise ProgramFault(NO_PROGRAM, "there is no inrc2pb: run `make` in its folder, install it, or name it in the variable INRC2PB")
+
+
+@functools.lru_cache(maxsize=None)
+def _is_inrc2pb(program: str) -> bool:
+    """Whether the program prints the version of `inrc2pb`. One that does not run, or that a signal ends, is judged when it is used."""
+    try:
+        ran = subprocess.run([program, "--version"], stdin=subprocess.DEVNULL, stdout=subprocess.PIPE, stderr=subprocess.DEVNULL, timeout=LONGEST_RUN)
+    except (OSError, subprocess.TimeoutExpired):
+        return True
+    return ran.returncode < 0 or ran.stdout.startswith(b"inrc2pb ")
+
+
+def run_program(*words: str, given: str = "", program: Optional[Path] = None) -> str:
+    """Runs `inrc2pb`, or another program, on these words and this standard input, and returns its standard output.
+
+    It runs in a session of its own, so that Ctrl-C ends the helper and not a check that it has begun.
+    """
+    name = str(program or find_program())
+    try:
+        ran = subprocess.run(
+            [name, *words],
+            input=given.encode("utf-8", errors="surrogateescape"),
+            stdout=subprocess.PIPE,
+            stderr=subprocess.PIPE,
+            start_new_session=True,
+            timeout=LONGEST_RUN,
+        )
+    except subprocess.TimeoutExpired as fault:
+        raise _does_not_end(words) from fault
+    except OSError as fault:
+        raise _does_not_run(name, fault) from fault
+    _check_status(ran.returncode, ran.stderr.decode("utf-8", errors="replace"), words)
+    return ran.stdout.decode("utf-8", errors="surrogateescape")
+
+
+def _does_not_end(words: Sequence[str]) -> ProgramFault:
+    advice = "a pipe can be read only once, so give files"
+    return ProgramFault(READ_OR_WRITE, f"inrc2pb {words[0]} did not end in {LONGEST_RUN:.0f} s: {advice}")
+
+
+def _does_not_run(program: str, fault: OSError) -> ProgramFault:
+    return ProgramFault(NO_PROGRAM, f"{program} does not run: {fault.strerror}")
+
+
+def _check_status(status: int, errors: str, words: Sequence[str]) -> None:
+    """A status other than 0 is a ProgramFault, with the first line of standard error, and the file that cannot be read."""
+    lines = errors.strip().splitlines()
+    if status == READ_OR_WRITE and lines and lines[0].endswith(": read failed"):
+        _check_readable(lines[0], words)
+    if status < 0:
+        raise ProgramFault(status, f"inrc2pb: ended by {_signal_name(-status)}")
+    if status:
+        raise ProgramFault(status, lines[0] if lines else f"inrc2pb: ended with status {status}")
+
+
+def _check_readable(line: str, words: Sequence[str]) -> None:
+    """The first file of these words that cannot be read is a ProgramFault with this line, caused by its OSError."""
+    for option, path in zip(words, words[1:]):
+        if option in _READ_OPTIONS:
+            try:
+                open(path, "rb", opener=_without_waiting).close()
+            except OSError as fault:
+                raise ProgramFault(READ_OR_WRITE, f"{line}: {path}: {fault.strerror}") from fault
+
+
+def _without_waiting(path: str, flags: int) -> int:
+    """Opens a file; a pipe that nobody writes does not keep it waiting."""
+    return os.open(path, flags | os.O_NONBLOCK)
+
+
+def _signal_name(number: int) -> str:
+    """The signal's name; most real-time signals have none."""
+    try:
+        return signal.Signals(number).name
+    except ValueError:
+        return f"signal {number}"
+
+
+def _encode_words(files: WeekFiles, model: Path) -> List[str]:
+    return ["encode", *files.options(), "--opb", str(model)]
+
+
+def encode(files: WeekFiles, model: Path) -> None:
+    """Writes the model of the week to the file `model`."""
+    run_program(*_encode_words(files, model))
+
+
+def run_unless_stopped(program: Path, words: Sequence[str], seconds: float, processes: Processes) -> Optional[str]:
+    """Runs a program as one of the `processes`, and returns its standard output; None if they are stopped before its end."""
+    try:
+        ended = processes.run([str(program), *words], seconds, Path.cwd(), signal.SIGKILL)
+    except OSError as fault:
+        raise _does_not_run(str(program), fault) from fault
+    if processes.stopped:
+        return None
+    if ended.timed_out:
+        raise NotInTime(READ_OR_WRITE, f"{program.name} did not end in {seconds:.0f} s")
+    _check_status(ended.status, ended.errors, words)
+    return ended.output
+
+
+def encode_unless_stopped(files: WeekFiles, model: Path, processes: Processes) -> bool:
+    """As `encode`, in one of the `processes`. Returns whether the model is whole: it is not if they are stopped before."""
+    words = _encode_words(files, model)
+    try:
+        return run_unless_stopped(find_program(), words, LONGEST_RUN, processes) is not None
+    except NotInTime as late:
+        raise _does_not_end(words) from late
+
+
+def decode(files: WeekFiles, answer: str, solution: Optional[Path] = None) -> Report:
+    """Checks a solver's answer, writes its roster to the file `solution`, and returns the report.
+
+    An answer that is no roster of this week is a ProgramFault, and then `solution` is left as it was.
+    """
+    return report_of(run_program("decode", *files.options(), "--sol", str(solution or os.devnull), given=answer))
+
+
+def answer_with(files: WeekFiles, roster: Path) -> str:
+    """The answer whose roster this is, by `extend`; a roster that breaks a hard rule is a ProgramFault."""
+    return run_program("extend", *files.options(), "--from", str(roster))
+
+
+def extend(files: WeekFiles, roster: Path) -> Tuple[str, Report]:
+    """The answer whose roster this is, and its report; a roster that breaks a hard rule is a ProgramFault."""
+    answer = answer_with(files, roster)
+    return answer, decode(files, answer)
+
+
+def penalty_of(files: WeekFiles, roster: Path) -> int:
+    """The penalty of a roster, by `extend`."""
+    return int(answer_with(files, roster).split("\n", 1)[0].split()[1])
+
+
+def report_of(text: str) -> Report:
+    """The report of this text."""
+    values = dict(line.split(" ", 1) for line in text.splitlines())
+    by_rule = {rule: int(values[rule]) for rule in SOFT_RULES}
+    return Report(values["status"], int(values["objective"]), int(values["penalty"]), by_rule, text)

@@ -1,0 +1,1 @@
+"""The search over rows: whole weeks of nurses."""

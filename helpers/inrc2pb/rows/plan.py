@@ -1,0 +1,122 @@
+"""The weeks to plan, as one stretch of days: nurses, choices and places as numbers.
+
+Days count from 0 through all weeks. A choice is 0 for a day off, and one more than the index of its shift type otherwise.
+"""
+
+from dataclasses import dataclass, replace
+from typing import Dict, FrozenSet, Iterable, List, Optional, Sequence, Tuple
+
+from ..judging.absences import Absence, absences_of
+from ..week.files import Assignment, History, Place, Request, Requirement, Scenario, WeekData
+from ..judging.rules import MISSING_NURSE, REQUEST
+
+WEEK_DAYS = 7
+# Costs and prices are whole numbers of thousandths of a point.
+POINT = 1000
+# More than any cost: a choice that a hard rule forbids.
+NEVER = 1 << 50
+# The costs of all rosters are multiples of it.
+STEP = 5
+
+Held = Dict[Tuple[str, int], List[Assignment]]
+
+
+@dataclass(frozen=True)
+class Plan:
+    """What is asked for on these days, and by whom it can be done.
+
+    `demand` has the places that ask for nurses, with the day of the plan; its optimal numbers are not below its minimums.
+    `nurses` are those whose rows are searched, and `away` has the absences that their rows keep, with the day of the plan. Without `charging` only the hard rules count: nothing costs anything, and
+    each nurse below a minimum costs one point.
+    """
+
+    scenario: Scenario
+    history: History
+    weeks: Tuple[WeekData, ...]
+    early: bool
+    held: Held
+    nurses: Tuple[str, ...]
+    demand: Dict[Place, Requirement]
+    charging: bool = True
+    away: FrozenSet[Absence] = frozenset()
+
+    @staticmethod
+    def of(
+        scenario: Scenario, history: History, weeks: Sequence[WeekData], early: bool = False, held: Iterable[Assignment] = (), keeps: bool = True
+    ) -> "Plan":
+        """The plan of these weeks, which follow the history. The days of held rows are those of the plan. Its rows keep all absences, if `keeps`."""
+        rows: Held = {}
+        for row in held:
+            rows.setdefault((row.nurse, row.day), []).append(row)
+        demand: Dict[Place, Requirement] = {}
+        for number, data in enumerate(weeks):
+            for place, asked in data.requirements.items():
+                if asked.minimum or asked.optimal:
+                    day = WEEK_DAYS * number + place.day
+                    demand[place._replace(day=day)] = Requirement(asked.minimum, max(asked.minimum, asked.optimal))
+        of_weeks = [(number, absence) for number, data in enumerate(weeks) for absence in absences_of(data)] if keeps else []
+        away = frozenset(absence._replace(day=WEEK_DAYS * number + absence.day) for number, absence in of_weeks)
+        return Plan(scenario, history, tuple(weeks), early, rows, tuple(scenario.nurses), demand, away=away)
+
+    @property
+    def days(self) -> int:
+        """The number of days."""
+        return WEEK_DAYS * len(self.weeks)
+
+    @property
+    def ends(self) -> bool:
+        """Whether the last of these weeks is the last of the period."""
+        return self.history.week + len(self.weeks) == self.scenario.weeks
+
+    @property
+    def missing_cost(self) -> int:
+        """What a nurse below an optimal number costs, in points."""
+        return MISSING_NURSE if self.charging else 0
+
+    def without_absences(self) -> "Plan":
+        """The same plan, in which absences may be broken."""
+        return replace(self, away=frozenset())
+
+    def is_away(self, nurse: str, day: int, shift: str) -> bool:
+        """Whether an absence forbids the nurse this shift type."""
+        return bool(self.away) and (Absence(nurse, day, None) in self.away or Absence(nurse, day, shift) in self.away)
+
+    def hard_only(self) -> "Plan":
+        """The same plan without the soft rules."""
+        demand = {place: Requirement(asked.minimum, asked.minimum) for place, asked in self.demand.items() if asked.minimum}
+        return replace(self, demand=demand, charging=False)
+
+    def requests(self) -> Dict[str, List[Request]]:
+        """The requests of each nurse, with the days of the plan."""
+        found: Dict[str, List[Request]] = {}
+        for number, data in enumerate(self.weeks):
+            for request in data.requests:
+                found.setdefault(request.nurse, []).append(replace(request, day=WEEK_DAYS * number + request.day))
+        return found
+
+    def wishes(self, nurse: str, requests: Iterable[Request]) -> Dict[int, List[int]]:
+        """What requests, absences and held rows make of each choice of a nurse, in thousandths, on the days that have any."""
+        shifts = {shift: number for number, shift in enumerate(self.scenario.shift_types, 1)}
+        skills = self.scenario.nurses[nurse].skills
+        found: Dict[int, List[int]] = {}
+        if not skills:
+            found = {day: [0] + [NEVER] * len(shifts) for day in range(self.days)}
+        for request in requests if self.charging else ():
+            costs = found.setdefault(request.day, [0] * (len(shifts) + 1))
+            for choice in [shifts[request.shift]] if request.shift is not None else shifts.values():
+                costs[choice] += REQUEST * POINT
+        for day in range(self.days):
+            away = [number for shift, number in shifts.items() if self.is_away(nurse, day, shift)]
+            for choice in away:
+                found.setdefault(day, [0] * (len(shifts) + 1))[choice] = NEVER
+            rows = self.held.get((nurse, day))
+            if rows:
+                costs = found.setdefault(day, [0] * (len(shifts) + 1))
+                kept = shifts[rows[0].shift] if len(rows) == 1 and rows[0].skill in skills else -1
+                found[day] = [cost if choice == kept else NEVER for choice, cost in enumerate(costs)]
+        return found
+
+    def held_skill(self, nurse: str, day: int) -> Optional[str]:
+        """The skill with which a held row has the nurse on a day."""
+        rows = self.held.get((nurse, day))
+        return rows[0].skill if rows else None

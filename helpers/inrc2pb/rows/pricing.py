@@ -1,0 +1,171 @@
+"""Rows and bounds at prices: what nurses of places earn, each nurse's cheapest row, and what no roster can cost less than."""
+
+import copy
+from typing import Dict, List, NamedTuple, Optional, Sequence, Tuple, Union
+
+from .plan import NEVER, POINT, STEP, Plan
+from ..week.records import Place
+from .row_graph import Check, Graph, RunState, Runs, Totals
+
+# The highest price in a file of prices.
+MAX_PRICE = 999_999_999
+Row = bytes
+# A price in thousandths for each place of a plan, in its order.
+Prices = List[int]
+# The price of a nurse of each crew, in thousandths.
+Gains = Union[Sequence[int], Dict[int, int]]
+_Pay = List[List[int]]
+
+
+class Priced(NamedTuple):
+    """A nurse's cheapest row at some prices: its cost less what it earns, in thousandths, and its own cost in points."""
+
+    value: int
+    row: Row
+    cost: int
+
+
+class Crews:
+    """The places of a plan, and its crews: the places of a day and shift type for which a nurse can count.
+
+    `of` has the crew of each nurse, day and choice; crew 0 counts nowhere.
+    """
+
+    def __init__(self, plan: Plan) -> None:
+        self.places = list(plan.demand)
+        self.minimum = [asked.minimum for asked in plan.demand.values()]
+        self.optimal = [asked.optimal for asked in plan.demand.values()]
+        self._number = {place: at for at, place in enumerate(self.places)}
+        self._index: Dict[Tuple[int, ...], int] = {(): 0}
+        tables: Dict[Tuple[str, ...], List[List[int]]] = {}
+        self.of: List[List[List[int]]] = []
+        for nurse in plan.nurses:
+            skills = plan.scenario.nurses[nurse].skills
+            if skills not in tables:
+                tables[skills] = [self._day(plan, day, skills) for day in range(plan.days)]
+            days = tables[skills]
+            held = {day: plan.held_skill(nurse, day) for day in range(plan.days)} if plan.held else {}
+            if any(held.values()):
+                days = [self._day(plan, day, (skill,)) if skill else days[day] for day, skill in held.items()]
+            self.of.append(days)
+        self.members: List[Tuple[int, ...]] = list(self._index)
+
+    def _day(self, plan: Plan, day: int, skills: Sequence[str]) -> List[int]:
+        crews = [0]
+        for shift in plan.scenario.shift_types:
+            keys = (Place(day, shift, skill) for skill in skills)
+            members = tuple(sorted(self._number[place] for place in keys if place in self._number))
+            crews.append(self._index.setdefault(members, len(self._index)))
+        return crews
+
+    def gains(self, prices: Prices) -> List[int]:
+        """What a nurse of each crew earns: the highest price of its places."""
+        return [max([prices[place] for place in places], default=0) for places in self.members]
+
+    def best_place(self, crew: int, prices: Sequence[float]) -> Optional[int]:
+        """The place of a crew that has the highest price."""
+        places = self.members[crew]
+        return max(places, key=prices.__getitem__) if places else None
+
+
+class Pricing:
+    """The nurses of a plan, with the graphs of their rows; nurses who differ in nothing else share a graph.
+
+    `check` is called while the graphs are built, and may raise an exception to end that.
+    """
+
+    def __init__(self, plan: Plan, crews: Crews, check: Check) -> None:
+        self.plan, self.crews = plan, crews
+        scenario, pasts = plan.scenario, plan.history.nurses
+        runs = {name: Runs(plan, contract) for name, contract in scenario.contracts.items()}
+        kinds: Dict[Tuple[str, Totals], List[int]] = {}
+        states: List[RunState] = []
+        for at, nurse in enumerate(plan.nurses):
+            contract = scenario.contract_of(nurse)
+            states.append(runs[contract.name].before(pasts[nurse]))
+            kinds.setdefault((contract.name, Totals.of(plan, contract, pasts[nurse])), []).append(at)
+        self.graphs: List[Graph] = [None] * len(plan.nurses)  # type: ignore[list-item]
+        for (name, totals), members in kinds.items():
+            graph = Graph(runs[name], totals, [states[at] for at in members], check)
+            for at in members:
+                self.graphs[at] = graph
+        self.starts = [graph.starts[state] for graph, state in zip(self.graphs, states)]
+        self.base = [POINT * Totals.base(plan, scenario.contract_of(nurse), pasts[nurse]) for nurse in plan.nurses]
+        requests = plan.requests()
+        self.wishes = [plan.wishes(nurse, requests.get(nurse, ())) for nurse in plan.nurses]
+
+    def part(self, plan: Plan) -> "Pricing":
+        """The same for some of the nurses, with another demand."""
+        part = object.__new__(Pricing)
+        at = {nurse: number for number, nurse in enumerate(self.plan.nurses)}
+        numbers = [at[nurse] for nurse in plan.nurses]
+        part.plan, part.crews = plan, Crews(plan)
+        part.graphs, part.starts = [self.graphs[number] for number in numbers], [self.starts[number] for number in numbers]
+        part.base, part.wishes = [self.base[number] for number in numbers], [self.wishes[number] for number in numbers]
+        return part
+
+    def on_days(self, days: range, rows: Sequence[Row]) -> "Pricing":
+        """The same for rows that are the given ones, except on these days."""
+        part = copy.copy(self)
+        part.wishes = []
+        for crews, wishes, row in zip(self.crews.of, self.wishes, rows):
+            kept = {}
+            for day in range(self.plan.days):
+                if day not in days:
+                    costs = wishes.get(day, [0] * len(crews[day]))
+                    kept[day] = [cost if choice == row[day] else NEVER for choice, cost in enumerate(costs)]
+            part.wishes.append({**wishes, **kept})
+        return part
+
+    def without_absences(self) -> "Pricing":
+        """The same for a plan in which absences may be broken."""
+        free = copy.copy(self)
+        free.plan = self.plan.without_absences()
+        requests = free.plan.requests()
+        free.wishes = [free.plan.wishes(nurse, requests.get(nurse, ())) for nurse in free.plan.nurses]
+        return free
+
+    def _pay(self, nurse: int, gains: Gains) -> _Pay:
+        """What each choice costs the nurse beside the costs of her row: her wishes less what she earns."""
+        pay: _Pay = [[-gains[crew] for crew in crews] for crews in self.crews.of[nurse]]
+        for day, wishes in self.wishes[nurse].items():
+            pay[day] = [wish + paid for wish, paid in zip(wishes, pay[day])]
+        return pay
+
+    def cheapest(self, nurse: int, gains: Gains) -> Optional[Priced]:
+        """The nurse's cheapest row if the crews earn this; None if she has no row."""
+        value, row = self.graphs[nurse].cheapest(self.starts[nurse], self._pay(nurse, gains))
+        if value >= NEVER // 2:
+            return None
+        value += self.base[nurse]
+        earned = sum(gains[crews[choice]] for crews, choice in zip(self.crews.of[nurse], row))
+        return Priced(value, row, (value + earned) // POINT)
+
+    def cost(self, nurse: int, row: Row) -> Optional[int]:
+        """What a row costs its nurse, in points; None if a hard rule forbids it."""
+        wishes = sum(of[row[day]] for day, of in self.wishes[nurse].items())
+        cost = self.graphs[nurse].cost(self.starts[nurse], row) + wishes + self.base[nurse]
+        return None if cost >= NEVER // 2 else cost // POINT
+
+    def within(self, nurse: int, gains: Gains, gap: int, most: int) -> List[Row]:
+        """The nurse's rows that cost at most this gap more than her cheapest one, but no more than `most` + 1."""
+        pay, graph, start = self._pay(nurse, gains), self.graphs[nurse], self.starts[nurse]
+        return graph.within(start, pay, graph.cheapest(start, pay)[0] + gap, most)
+
+    def places_cost(self, prices: Prices) -> int:
+        """What all places cost at least, if they pay these prices to their nurses, in thousandths."""
+        asked = zip(self.crews.minimum, self.crews.optimal, prices)
+        most = self.plan.missing_cost * POINT
+        return sum(least * price + (best - least) * min(most, price) for least, best, price in asked)
+
+
+def plain_bound(pricing: Pricing, prices: Prices) -> int:
+    """What no roster of the plan costs less than by these prices, in points: no program has proved it."""
+    gains = pricing.crews.gains(prices)
+    found = (pricing.cheapest(nurse, gains) for nurse in range(len(pricing.plan.nurses)))
+    return max(0, in_steps(pricing.places_cost(prices) + sum(priced.value for priced in found if priced)))
+
+
+def in_steps(thousandths: int) -> int:
+    """The least multiple of STEP that is not below a number of thousandths, in points."""
+    return STEP * -(-thousandths // (STEP * POINT))

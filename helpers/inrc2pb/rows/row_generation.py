@@ -1,0 +1,172 @@
+"""The generation of rows: each nurse's whole week, or whole period, is one column of a linear program.
+
+The program's prices of places find better rows, until none is left; the same prices prove a lower bound.
+"""
+
+import math
+from typing import Callable, Dict, Iterable, List, Optional, Sequence
+
+from ..programs.clock import Clock
+from ..solvers.linear_solvers import LinearSolver
+from .plan import POINT, STEP
+from .pricing import Priced, Prices, Pricing, Row, in_steps
+from ..week.records import Place
+from .row_program import MOST_BELOW, RowProgram, Solved
+from .skills import staffed
+
+# The share of the best prices in those that are tried next.
+SMOOTHING = 0.4
+# A row is worth a column if it costs less than the known ones by more than this many thousandths.
+WORTH = 1
+# The columns in use for each nurse, after some were dropped and at most; so many are never too many.
+KEPT, MOST_USED, LEAST_USED = 4, 6, 3000
+# Numbers that differ by no more than this are equal in a solution.
+EXACT = 1e-6
+
+
+class NoRow(Exception):
+    """A nurse has no row: held rows break a hard rule."""
+
+    def __init__(self, nurse: str) -> None:
+        super().__init__(nurse)
+        self.nurse = nurse
+
+
+class RowGeneration:
+    """The generation of rows for a plan, and of prices. `heard` is called if the bound rises, and when it is final."""
+
+    def __init__(self, pricing: Pricing, solver: Optional[LinearSolver], heard: Callable[[], None]) -> None:
+        self.pricing, self.plan = pricing, pricing.plan
+        self._solver, self._heard = solver, heard
+        self.program = RowProgram(self.plan, pricing.crews)
+        # The columns in use, and whether the solver has a solution of this program.
+        self._used: Dict[int, None] = {}
+        self._goes_on = False
+        self.prices: Prices = [0] * len(pricing.crews.places)
+        # The lower bound in thousandths.
+        self.bound: Optional[int] = None
+        # Whether the linear program has all the rows that it needs.
+        self.complete = False
+        # The last solution of that program.
+        self.solved: Optional[Solved] = None
+        # Whether nurses are missing below minimums even so.
+        self.misses_minimums = False
+
+    @property
+    def lower_bound(self) -> Optional[int]:
+        """No roster costs less, by the best prices."""
+        return None if self.bound is None else max(0, in_steps(self.bound))
+
+    # ---- known rows
+
+    def add_roster(self, rows: Sequence[Row]) -> None:
+        """Adds the rows of a roster, with the places at which its nurses are."""
+        crews = self.pricing.crews
+        numbers, names = {place: at for at, place in enumerate(crews.places)}, {nurse: at for at, nurse in enumerate(self.plan.nurses)}
+        places: List[List[Optional[int]]] = [[None] * self.plan.days for _ in rows]
+        for nurse, day, shift, skill in staffed(self.plan, crews, rows).cells:
+            places[names[nurse]][day] = numbers.get(Place(day, shift, skill))
+        for nurse_number, row in enumerate(rows):
+            cost = self.pricing.cost(nurse_number, row)
+            if cost is not None:
+                self._add(nurse_number, row, cost, self.prices, places[nurse_number])
+
+    def begin_with(self, whole: "RowGeneration", nurses: Sequence[int], rows: Sequence[Row], days: range) -> None:
+        """Begins with the prices for more nurses, and with the known rows of these nurses, who keep the given rows on all other days."""
+        known = dict(zip(whole.pricing.crews.places, whole.prices))
+        self.prices = [known.get(place, 0) for place in self.pricing.crews.places]
+        numbers = {nurse: number for number, nurse in enumerate(nurses)}
+        for column in list(whole.program.columns):
+            if column.nurse in numbers:
+                number = numbers[column.nurse]
+                self.add_row(number, rows[number][: days.start] + column.row[days.start : days.stop] + rows[number][days.stop :])
+
+    def add_row(self, nurse: int, row: Row) -> None:
+        """Adds a row to the program, if no hard rule forbids it."""
+        cost = self.pricing.cost(nurse, row)
+        if cost is not None:
+            self._add(nurse, row, cost, self.prices)
+
+    def _add(self, nurse: int, row: Row, cost: int, prices: Prices, at: Sequence[Optional[int]] = ()) -> bool:
+        """Adds a row to those in use. Returns whether it was none of them."""
+        column, before = self.program.add(nurse, row, cost, prices, at), len(self._used)
+        self._used[column] = None
+        return len(self._used) > before
+
+    # ---- prices and new rows
+
+    def _priced(self, prices: Prices, nurses: Sequence[int], clock: Clock) -> Dict[int, Priced]:
+        """The cheapest row of each of these nurses at these prices."""
+        gains, found = self.pricing.crews.gains(prices), {}
+        for nurse in nurses:
+            clock.check()
+            priced = self.pricing.cheapest(nurse, gains)
+            if priced is None:
+                raise NoRow(self.plan.nurses[nurse])
+            found[nurse] = priced
+        return found
+
+    def _raise_bound(self, prices: Prices, found: Dict[int, Priced]) -> None:
+        bound = sum(priced.value for priced in found.values()) + self.pricing.places_cost(prices)
+        if self.bound is None or bound > self.bound:
+            self.bound, self.prices = bound, prices
+            self._heard()
+
+    def _relax(self, use: Iterable[int], clock: Clock) -> Solved:
+        assert self._solver is not None
+        found = self._solver.relax(self.program.text(use), clock, self._goes_on)
+        self._goes_on = True
+        return self.program.solved(found)
+
+    def _earned(self, prices: Prices, nurse: int, row: Row) -> int:
+        crews = self.pricing.crews
+        return sum(max([prices[place] for place in crews.members[of[choice]]], default=0) for of, choice in zip(crews.of[nurse], row))
+
+    def generate(self, clock: Clock) -> None:
+        """Adds rows until none is missing, or the bound is as good as the linear program's value."""
+        everyone = range(len(self.plan.nurses))
+        found = self._priced(self.prices, everyone, clock)
+        self._raise_bound(self.prices, found)
+        for nurse, priced in found.items():
+            self._add(nurse, priced.row, priced.cost, self.prices)
+        share = 0.0
+        while not self.complete:
+            now = self.solved = self._relax(self._used, clock)
+            if self._is_settled(now):
+                break
+            self._drop(now)
+            tried = [round(share * best + (1 - share) * price) for best, price in zip(self.prices, now.prices)] if share else now.prices
+            found = self._priced(tried, everyone, clock)
+            self._raise_bound(tried, found)
+            new = 0
+            for nurse, priced in found.items():
+                if priced.cost * POINT - self._earned(now.prices, nurse, priced.row) - now.nurses[nurse] < -WORTH:
+                    new += self._add(nurse, priced.row, priced.cost, now.prices)
+            if self._meets(now.value) or not (new or share):
+                self.misses_minimums = now.missing > EXACT
+                if self.misses_minimums and self.plan.charging and self.program.below < MOST_BELOW:
+                    self.program.below = min(MOST_BELOW, 10 * self.program.below)
+                else:
+                    self.complete = True
+            share = SMOOTHING if new else 0.0
+        self._heard()
+
+    def _is_settled(self, now: Solved) -> bool:
+        """Whether no more rows are needed, after this solution."""
+        return False
+
+    def _drop(self, now: Solved) -> None:
+        """Drops the most expensive columns, if there are too many. Each nurse keeps one."""
+        nurses = len(self.plan.nurses)
+        keep = max(LEAST_USED, KEPT * nurses) - len(now.shares)
+        if len(self._used) > max(LEAST_USED, MOST_USED * nurses) and len({self.program.columns[at].nurse for at in now.shares}) == nurses:
+            cheap = sorted((at for at in self._used if at not in now.shares), key=lambda at: now.rises.get(at, 0.0))
+            self._used = dict.fromkeys([*now.shares, *cheap[: max(0, keep)]])
+
+    def _meets(self, value: float) -> bool:
+        """Whether the bound is as good as this value of the program."""
+        if self.bound is None:
+            return False
+        if not self.plan.charging:
+            return self.bound >= value * POINT - WORTH
+        return in_steps(self.bound) >= STEP * math.ceil((value - EXACT) / STEP)

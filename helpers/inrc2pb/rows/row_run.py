@@ -1,0 +1,128 @@
+"""All steps of a search over rows, in their order and within its time."""
+
+import contextlib
+import time
+from typing import Callable, List, Optional, Tuple, TypeVar
+
+from .case_hunt import CaseHunt
+from .cases import PricedCase
+from ..programs.clock import Clock, TimeIsOver
+from .first_rows import matched_rows
+from ..solvers.linear_solvers import LinearSolver, SolverFault
+from .plan import POINT, STEP, Plan
+from .pricing import Crews, Prices, Pricing, Row
+from ..programs.processes import processors
+from ..week.records import Place
+from .row_generation import NoRow, RowGeneration
+from .row_parts import RowParts
+from .row_search import GIVEN, Offer, RowSearch
+from .skills import staffed
+
+# The shares of the time that is left: for new rows before a dive, for the dive, for one when no row is missing, for an integer program
+# over the known rows, and for one over all rows.
+ROWS_SHARE, DIVE_SHARE, LAST_DIVE_SHARE, KNOWN_SHARE, LISTED_SHARE = 0.5, 0.5, 0.8, 0.03, 0.5
+# The most rows of an integer program.
+MOST_LISTED = 6_000
+# The seconds for cases if a solver claims the best roster, or more if the search took longer. Without a claim cases are tried up to this
+# gap, in thousandths, in a share of the time that is left.
+CASES_SECONDS, CASES_GAP, CASES_SHARE = 5.0, STEP * POINT, 0.05
+Found = TypeVar("Found")
+
+
+class RowRun:
+    """A search over the rows of a plan. `start` has the rows to begin with, if any; `heard` is called if the bound rises, and when it is
+    final."""
+
+    def __init__(
+        self, plan: Plan, solver: Optional[LinearSolver], clock: Clock, offer: Offer, heard: Callable[[], None], start: Optional[List[Row]] = None
+    ) -> None:
+        self._plan, self._solver, self._clock, self._offer, self._heard, self._start = plan, solver, clock, offer, heard, start
+        self.crews = Crews(plan)
+        self.search: Optional[RowSearch] = None
+        # Places, and prices of them that prove that no roster keeps the minimums; or the nurse who has no row.
+        self.minimums: Optional[Tuple[List[Place], Prices]] = None
+        self.without_row: Optional[str] = None
+        # Whether the solver claims that no roster costs less, over all rows that such a roster can have, and cases that prove it.
+        self.claimed = False
+        self.cases: Optional[List[PricedCase]] = None
+
+    def run(self) -> None:
+        """Searches until the time is over, the best roster is proved, or no roster exists."""
+        try:
+            self._run()
+        except TimeIsOver:
+            return
+        except NoRow as none:
+            self.without_row = none.nurse
+
+    def _run(self) -> None:
+        first, finder = self._start or matched_rows(self._plan, self.crews, self._clock.check), GIVEN if self._start else "matching"
+        penalty = None if staffed(self._plan, self.crews, first).below else self._offer(first, finder)
+        pricing = Pricing(self._plan, self.crews, self._clock.check)
+        search = self.search = RowSearch(pricing, self._solver, self._clock, self._offer, self._heard)
+        search.begin(first, penalty)
+        if self._solver is None:
+            return
+        while not search.complete:
+            self._try(search.generate, ROWS_SHARE)
+            if search.complete and search.misses_minimums and self._no_roster():
+                return
+            rows = self._try(search.dive, LAST_DIVE_SHARE if search.complete else DIVE_SHARE)
+            if rows:
+                search.keep(rows, "fixing rows")
+        self._close_gap(search, self._solver)
+
+    def _try(self, step: Callable[[Clock], Found], share: float) -> Optional[Found]:
+        """What the step finds in this share of the time that is left; None if it takes longer."""
+        try:
+            return step(self._clock.part(self._clock.left() * share))
+        except TimeIsOver:
+            self._clock.check()
+            return None
+
+    def _no_roster(self) -> bool:
+        """Whether prices prove that no roster keeps the minimums."""
+        plan = self._plan.hard_only()
+        generation = RowGeneration(Pricing(plan, Crews(plan), self._clock.check), self._solver, lambda: None)
+        generation.generate(self._clock)
+        if generation.bound is not None and generation.bound > 0:
+            self.minimums = generation.pricing.crews.places, generation.prices
+        return self.minimums is not None
+
+    def _close_gap(self, search: RowSearch, solver: LinearSolver) -> None:
+        """Looks for the best roster among the rows that a better one can have."""
+        clock = self._clock
+        if not search.is_proved:
+            search.choose(search.known_within(), clock.part(clock.left() * KNOWN_SHARE), "known rows")
+        while not search.is_proved and search.penalty is not None and solver.chooses:
+            before = search.penalty
+            use = search.list_within(MOST_LISTED, clock)
+            if use is None:
+                break
+            if search.choose(use, clock.part(clock.left() * LISTED_SHARE), f"{len(use)} rows"):
+                self.claimed = True
+                self._find_cases(search, solver, max(CASES_SECONDS, time.monotonic() - clock.began))
+                return
+            if search.penalty == before:
+                break
+        if search.penalty is not None and solver.chooses:
+            if search.gap() <= CASES_GAP:
+                self._find_cases(search, solver, clock.left() * CASES_SHARE)
+            if not self.cases:
+                RowParts(search, _side_by_side(solver)).run(clock)
+
+    def _find_cases(self, search: RowSearch, solver: LinearSolver, seconds: float) -> None:
+        """Looks for cases of a single week that prove that no roster costs less than the best one."""
+        if search.is_proved or search.program.names_places or len(self._plan.weeks) > 1:
+            return
+        hunt = CaseHunt(search, _side_by_side(solver))
+        # Without cases all is as before.
+        with contextlib.suppress(SolverFault, TimeIsOver):
+            hunt.run(self._clock.part(seconds))
+        self.cases = hunt.found
+        self._clock.check()
+
+
+def _side_by_side(solver: LinearSolver) -> List[LinearSolver]:
+    """As many solvers as there are processors."""
+    return [solver, *(solver.beside(number) for number in range(1, processors()))]

@@ -1,0 +1,179 @@
+"""The search for rosters over rows: each nurse's whole week, or whole period, is one column of a linear program.
+
+Its generated rows are fixed a few at a time, with new ones in between. If the roster is still above the bound, an integer program
+chooses among all rows that a better roster can have.
+"""
+
+import math
+from typing import Callable, Dict, List, Optional, Sequence, Tuple
+
+from ..programs.clock import Clock
+from .first_rows import Descent
+from ..solvers.linear_solvers import LinearSolver
+from .plan import POINT, STEP
+from .pricing import Pricing, Row
+from .row_generation import EXACT, WORTH, RowGeneration
+from .row_program import Solved
+from .skills import staffed
+
+# The share of the nurses whose rows are fixed at once: at first, at least, and at most.
+FIRST_SHARE, LEAST_SHARE, MOST_SHARE = 0.06, 0.02, 0.5
+# How many times the part of the time that a step takes is fixed in it, if the time is short.
+HURRY = 1.5
+# Rounds of new rows between two fixings.
+DIVE_ROUNDS = 3
+MOST_SWEEPS = 4
+# The name of what found the rows with which a search begins.
+GIVEN = "the given roster"
+
+# Takes rows of all nurses and the name of what found them, and returns their penalty, or None if they are no roster.
+Offer = Callable[[List[Row], str], Optional[int]]
+
+
+class RowSearch(RowGeneration):
+    """A search over the rows of a plan. `offer` gets each roster; `heard` is called if the bound rises, and when it is final."""
+
+    def __init__(self, pricing: Pricing, solver: Optional[LinearSolver], clock: Clock, offer: Offer, heard: Callable[[], None]) -> None:
+        super().__init__(pricing, solver, heard)
+        self.clock, self._offer = clock, offer
+        # The rows and the penalty of the best roster.
+        self.rows: Optional[List[Row]] = None
+        self.penalty: Optional[int] = None
+
+    @property
+    def is_proved(self) -> bool:
+        """Whether the best roster costs no more than the bound."""
+        return self.penalty is not None and self.lower_bound is not None and self.penalty <= self.lower_bound
+
+    def keep(self, rows: List[Row], finder: str) -> bool:
+        """Offers rows that may be better than the best roster. Returns whether they are."""
+        value = self.value_of(rows)
+        if value is None or (self.penalty is not None and value >= self.penalty):
+            return False
+        penalty = self._offer(rows, finder)
+        if penalty is None or (self.penalty is not None and penalty >= self.penalty):
+            return False
+        self.rows, self.penalty = rows, penalty
+        return True
+
+    def value_of(self, rows: Sequence[Row]) -> Optional[int]:
+        """What rows cost, in points; None if they break a hard rule."""
+        found = staffed(self.plan, self.pricing.crews, rows)
+        costs = [self.pricing.cost(nurse, row) for nurse, row in enumerate(rows)]
+        if found.below or None in costs:
+            return None
+        return sum(cost for cost in costs if cost is not None) + self.plan.missing_cost * found.missing
+
+    # ---- a first roster
+
+    def begin(self, rows: List[Row], penalty: Optional[int]) -> None:
+        """Begins with these rows, and the penalty of their roster if they are one. Makes them better without a solver, if that is easy."""
+        if penalty is not None:
+            self.rows, self.penalty = rows, penalty
+        descent = Descent(self.pricing, rows)
+        try:
+            for _ in range(MOST_SWEEPS):
+                if not descent.sweep(self.clock.check):
+                    break
+        finally:
+            self.keep(descent.rows, "one nurse after another")
+            self.add_roster(descent.rows)
+
+    # ---- fixed rows
+
+    def dive(self, clock: Clock) -> Optional[List[Row]]:
+        """Fixes rows a few at a time, with new ones in between. Returns a row of each nurse, None if they cannot be better than the best."""
+        columns, chosen = self.program.columns, dict.fromkeys(range(0), 0)
+        share, last = FIRST_SHARE, -math.inf
+        while len(chosen) < len(self.plan.nurses):
+            before = clock.left()
+            now, use = self._relaxed_beside(chosen, clock)
+            if self.penalty is not None and now.value > self.penalty - STEP + EXACT:
+                return None
+            share = min(MOST_SHARE, share * 1.5) if now.value <= last + EXACT else max(LEAST_SHARE, share * 0.7)
+            last = now.value
+            free = len(self.plan.nurses) - len(chosen)
+            # So many at once that the time is enough.
+            hurry = HURRY * (before - clock.left()) / max(EXACT, clock.left())
+            most = max(1, int(max(share, hurry) * free))
+            fixed = 0
+            for at in sorted((at for at in now.shares if columns[at].nurse not in chosen), key=lambda at: -now.shares[at]):
+                if columns[at].nurse not in chosen and (fixed < most or now.shares[at] > 0.999):
+                    chosen[columns[at].nurse] = at
+                    fixed += 1
+            if not fixed:
+                at = next(at for at in use if columns[at].nurse not in chosen)
+                chosen[columns[at].nurse] = at
+        return [columns[chosen[nurse]].row for nurse in range(len(self.plan.nurses))]
+
+    def _relaxed_beside(self, chosen: Dict[int, int], clock: Clock) -> Tuple[Solved, List[int]]:
+        """The linear program with these columns fixed, and some new rows for the other nurses."""
+        free = [nurse for nurse in range(len(self.plan.nurses)) if nurse not in chosen]
+        rounds = DIVE_ROUNDS if chosen else 1
+        for turn in range(rounds):
+            use = [at for at in self._used if chosen.get(self.program.columns[at].nurse, at) == at]
+            now = self._relax(use, clock)
+            new = 0
+            for nurse, priced in self._priced(now.prices, free, clock).items() if turn < rounds - 1 else ():
+                if priced.value - now.nurses[nurse] < -WORTH:
+                    new += self._add(nurse, priced.row, priced.cost, now.prices)
+            if not new:
+                break
+        return now, use
+
+    # ---- the rows of a better roster
+
+    def gap(self) -> int:
+        """By how much rows of a better roster may cost more than the cheapest ones, together, in thousandths."""
+        assert self.penalty is not None and self.bound is not None
+        return (self.penalty - STEP) * POINT - self.bound
+
+    def least_values(self) -> List[int]:
+        """What each nurse's cheapest row costs at the best prices, in thousandths."""
+        found = self._priced(self.prices, range(len(self.plan.nurses)), self.clock)
+        return [priced.value for priced in found.values()]
+
+    def costly(self, rows: Sequence[Row], least: Sequence[int]) -> List[int]:
+        """The nurses whose rows cost more at the best prices than these least values."""
+        return [nurse for nurse, row in enumerate(rows) if self._reduced(nurse, row, self.pricing.cost(nurse, row) or 0) > least[nurse]]
+
+    def _reduced(self, nurse: int, row: Row, cost: int) -> int:
+        """What a row costs less what it earns at the best prices, in thousandths."""
+        return cost * POINT - self._earned(self.prices, nurse, row)
+
+    def known_within(self) -> List[int]:
+        """The known columns that a better roster can have."""
+        if self.penalty is None or self.bound is None:
+            return list(range(len(self.program.columns)))
+        found, gap = self._priced(self.prices, range(len(self.plan.nurses)), self.clock), self.gap()
+        columns = enumerate(self.program.columns)
+        return [at for at, (nurse, row, cost, *_) in columns if self._reduced(nurse, row, cost) <= found[nurse].value + gap]
+
+    def choose(self, use: Sequence[int], clock: Clock, finder: str) -> bool:
+        """Lets the integer program choose among these columns. Returns whether the solver claims that their rows have nothing better
+        than the best roster now."""
+        if self._solver is None or not self._solver.chooses:
+            return False
+        cutoff = None if self.penalty is None else self.penalty - STEP
+        found = self._solver.choose(self.program.text(use, whole=True), clock, cutoff, STEP)
+        columns = self.program.chosen(found.names or ())
+        rows = [self.program.columns[at].row for at in columns or ()]
+        if columns:
+            self.keep(rows, finder)
+        # An answer with nurses below minimums is no roster, and says nothing of the rosters that cost more than it.
+        is_roster = columns is not None and self.value_of(rows) is not None
+        return found.proved and (found.names is None or is_roster) and not self.program.names_places
+
+    def list_within(self, most: int, clock: Clock) -> Optional[List[int]]:
+        """All columns that a better roster can have; None if there are more than `most`."""
+        gains, gap, found = self.pricing.crews.gains(self.prices), self.gap(), []
+        for nurse in range(len(self.plan.nurses)):
+            clock.check()
+            found += [(nurse, row) for row in self.pricing.within(nurse, gains, gap, most)]
+            if len(found) > most:
+                return None
+        for nurse, row in found:
+            clock.check()
+            self.add_row(nurse, row)
+        wanted = set(found)
+        return [at for at, column in enumerate(self.program.columns) if (column.nurse, column.row) in wanted]

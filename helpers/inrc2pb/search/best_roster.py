@@ -1,0 +1,77 @@
+"""The best roster of a search: only rosters that `inrc2pb extend` and `decode` accept get in."""
+
+import tempfile
+from pathlib import Path
+from typing import Callable, List, Optional, Sequence, Tuple
+
+from ..judging.absences import absences_of, working_while_away
+from ..week.faults import ProgramFault
+from ..week.files import Assignment, Solution, Week, write_solution
+from ..judging.misfits import explained, other_week, read_roster
+from ..programs.program import BROKEN_RULE, Report, WeekFiles, decode, extend
+
+# Gets the penalty of a better roster, and the name of what found it.
+Announce = Callable[[int, str], None]
+
+
+class BestRoster:
+    """Keeps the best roster in the file `solution`, which always has a whole roster: it breaks the fewest absences, and costs the least
+    of those. `proved` says whether no roster costs less."""
+
+    def __init__(self, files: WeekFiles, week: Week, solution: Path, announce: Announce) -> None:
+        self._files, self._week, self._solution, self._announce = files, week, solution, announce
+        self._absences = absences_of(week.data)
+        self._report: Optional[Report] = None
+        self._rows: Sequence[Assignment] = ()
+        self._answer = ""
+        self.proved = False
+
+    @property
+    def penalty(self) -> Optional[int]:
+        """The penalty of the best roster, if there is one."""
+        return self._report.penalty if self._report else None
+
+    def breaks(self) -> List[Assignment]:
+        """The assignments of the best roster that break an absence."""
+        return working_while_away(self._absences, self._rows)
+
+    def _rank(self, rows: Sequence[Assignment], report: Report) -> Tuple[int, int]:
+        """A smaller rank is better."""
+        return len(working_while_away(self._absences, rows)), report.penalty
+
+    def offer(self, rows: Sequence[Assignment], finder: str) -> Optional[int]:
+        """Keeps the roster if it is better than the best one. Returns its penalty; None if it breaks a hard rule."""
+        solution = Solution(self._week.history.week, self._week.scenario.name, tuple(rows))
+        with tempfile.TemporaryDirectory() as folder:
+            path = Path(folder, "found.txt")
+            write_solution(path, solution)
+            try:
+                answer, report = extend(self._files, path)
+            except ProgramFault as fault:
+                if fault.status != BROKEN_RULE:
+                    raise
+                return None
+        if self._report is None or self._rank(rows, report) < self._rank(self._rows, self._report):
+            write_solution(self._solution, solution)
+            self._answer, self._report, self._rows = answer, report, rows
+            self._announce(report.penalty, finder)
+        return report.penalty
+
+    def start(self, path: Path, held: Sequence[Assignment]) -> Sequence[Assignment]:
+        """Begins with the roster of a file. One that breaks a hard rule is a ProgramFault that says why."""
+        week = self._week
+        rows = read_roster(path, week.scenario, week.history).assignments
+        try:
+            extend(self._files, path)
+        except ProgramFault as fault:
+            found = other_week(path, week.scenario, week.history) if "roster breaks" in fault.message else ""
+            said = ProgramFault(fault.status, f"{path} breaks a hard rule; {found}") if found else explained(fault, path, week, held)
+            raise said from fault
+        self.offer(rows, "the given roster")
+        return rows
+
+    def report(self) -> Optional[Report]:
+        """The report of the roster in the file, if there is one; its status is OPTIMUM FOUND if it is proved."""
+        if self._report and self.proved:
+            return decode(self._files, self._answer.replace("s SATISFIABLE", "s OPTIMUM FOUND", 1))
+        return self._report

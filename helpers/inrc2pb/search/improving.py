@@ -1,0 +1,147 @@
+"""Finds the best roster for a week, or improves one, and says how much better one could be."""
+
+import os
+import shutil
+import tempfile
+from pathlib import Path
+from typing import List, Optional, Sequence
+
+from ..judging.absences import in_words, way_out
+from .best_roster import BestRoster
+from .bounds import CASES, PROVER
+from ..programs.clock import Clock
+from ..week.faults import Misuse, ProgramFault
+from ..week.files import Assignment, Week, read_files
+from ..programs.interrupts import interrupts
+from ..judging.misfits import read_held
+from ..programs.program import NO_ROSTER, Report, WeekFiles
+from ..programs.progress import Progress, gap_share
+from ..solvers.solvers import find_solver
+from ..week.targets import check_inputs_stay, check_no_pipe_is_written, check_no_pipes, check_target
+from .week_search import WeekSearch
+
+SECONDS = 120.0
+
+
+class SearchResult:
+    """The result of a search: the report of the best roster, and the lower bound or None, with what proved or computed it.
+
+    `proved` says whether no roster costs less, `breaks` whether this one breaks an absence, `stopped` whether the user stopped the search;
+    `fault` is the fault that ended it.
+    """
+
+    def __init__(
+        self, report: Report, search: WeekSearch, best: BestRoster, stopped: bool, fault: Optional[BaseException], prices: Optional[Path] = None
+    ) -> None:
+        self.report = report
+        self.breaks = bool(best.breaks())
+        self.bound = search.bound.points if search.bound else None
+        self.bound_by = search.bound.by if search.bound else ""
+        # The file that has cases in place of prices, if any.
+        self.cases = prices if search.bound and search.bound.option == CASES else None
+        self.claimed_by = search.claimed_by
+        self.proved = best.proved
+        self.stopped = stopped
+        self.fault = fault
+
+    def lines(self) -> List[str]:
+        """The lines that follow the report."""
+        return [*self._bound_lines(), *([f"{self.cases} has cases: {PROVER} {CASES} reads them"] if self.cases else [])]
+
+    def _bound_lines(self) -> List[str]:
+        if self.bound is None:
+            return ["no lower bound"]
+        line = f"lower bound {self.bound} ({self.bound_by})"
+        if self.proved and self.breaks:
+            return [line, "no roster costs less, but this one breaks an absence"]
+        reached = self.bound_by != self.claimed_by and self.bound >= self.report.penalty
+        if self.proved and self.claimed_by and not reached:
+            only = f"; without {self.claimed_by} only the lower bound is known" if self.bound < self.report.penalty else ""
+            return [line, f"no roster costs less, says {self.claimed_by}{only}"]
+        if self.proved:
+            return [line, "no roster costs less" + (", proved" if self.bound_by == PROVER else "")]
+        gap = self.report.penalty - self.bound
+        return [f"{line}: the gap is {gap}, {gap_share(self.report.penalty, self.bound)}"]
+
+
+def improve(
+    files: WeekFiles, solution: Path, *, start: Optional[Path] = None, seconds: float = SECONDS, solver: Optional[str] = None, prices: Optional[Path] = None
+) -> SearchResult:
+    """Searches for these seconds, writes the best roster to `solution`, and returns its report and lower bound.
+
+    `start` is the roster to begin with, `solver` a command that solves the whole week in place of the search over rows, and
+    `prices` the file for the prices, or the cases with prices, that prove the bound. Ctrl-C, TERM or a fault end the search: the roster is written, then
+    KeyboardInterrupt or the fault is raised.
+    """
+    outcome = search(files, solution, start, seconds, solver, prices, Progress(None))
+    if outcome.fault:
+        raise outcome.fault
+    if outcome.stopped:
+        raise KeyboardInterrupt
+    return outcome
+
+
+def search(
+    files: WeekFiles, solution: Path, start: Optional[Path], seconds: float, solver: Optional[str], prices: Optional[Path], progress: Progress
+) -> SearchResult:
+    """As `improve`, with its progress printed. A fault is raised only if there is no roster; a signal is no fault."""
+    clock = Clock(seconds)
+    inputs = (files.scenario, files.history, files.week, files.fix)
+    check_no_pipes((*inputs, start))
+    solution = Path(solution).absolute()
+    own = find_solver(solver) if solver else None
+    week = read_files(files.scenario, files.history, files.week)
+    held = held_rows(files.fix, week, progress) if files.fix else ()
+    for target, what in ((solution, "the roster"), (prices, "the prices")):
+        if target:
+            check_no_pipe_is_written(target)
+            check_target(target)
+            check_inputs_stay(inputs, target, what)
+    if prices and os.path.realpath(solution) == os.path.realpath(prices) != os.devnull:
+        raise Misuse(f"{prices} gets the roster, so the prices cannot be written to it: choose another file")
+    best = BestRoster(files, week, solution, progress.improved)
+    running = WeekSearch(files, week, held, best, clock, progress)
+    fault: Optional[BaseException] = None
+    with interrupts() as signals:
+        folder = Path(tempfile.mkdtemp(prefix="inrc2pb-improve-"))
+        try:
+            rows = best.start(start, held) if start else None
+            with signals.calling(running.interrupt):
+                if own:
+                    running.by_solver(own, folder)
+                else:
+                    running.over_rows(folder, rows, prices)
+        except Exception as found:
+            fault = found
+        finally:
+            progress.finish()
+            shutil.rmtree(folder, ignore_errors=True)
+        outcome = _result(best, running, bool(signals.caught), fault, seconds, prices)
+        if best.breaks():
+            progress.warn(f"no roster was found that keeps every absence: {in_words(best.breaks())}")
+            progress.warn(way_out(week.scenario, held, best.breaks()))
+        return outcome
+
+
+def _result(
+    best: BestRoster, running: WeekSearch, stopped: bool, fault: Optional[BaseException], seconds: float, prices: Optional[Path]
+) -> SearchResult:
+    """The result of a search that has ended. Without a roster it is a ProgramFault that says why."""
+    bound = running.bound
+    best.proved = best.penalty is not None and (bool(running.claimed_by) or (bound is not None and best.penalty <= bound.points))
+    try:
+        report = best.report()
+    except (ProgramFault, OSError) as unreported:
+        raise fault or unreported
+    if not report:
+        if stopped and not (isinstance(fault, OSError) or isinstance(fault, ProgramFault)):
+            raise ProgramFault(NO_ROSTER, "stopped before the first roster")
+        late = f"no roster was found in {round(seconds, 1):g} s: give it more time"
+        ended = "no roster was found, and no proof that none exists: try --solver clasp"
+        raise fault or ProgramFault(NO_ROSTER, ended if running.has_time else late)
+    return SearchResult(report, running, best, stopped, fault, prices)
+
+
+def held_rows(fix: Path, week: Week, progress: Progress) -> Sequence[Assignment]:
+    """The rows of the fix file. A warning is printed if it is of another ward or week."""
+    return read_held(fix, week.scenario, week.history, lambda warning: progress.warn(f"{fix}: {warning}")).assignments

@@ -1,0 +1,170 @@
+"""A search for the best rosters of several weeks together: each nurse's days of all weeks are one row."""
+
+import tempfile
+from pathlib import Path
+from typing import Callable, List, Optional, Sequence
+
+from .bounds import PERIOD_PROVER, Bound
+from ..programs.clock import Clock
+from ..week.faults import ProgramFault
+from ..week.files import Assignment
+from ..solvers.linear_solvers import INSTALL, LinearSolver, LinearSolvers, installed
+from ..judging.next_history import next_history
+from .period_bound import PeriodBound
+from ..rows.plan import WEEK_DAYS, Plan
+from .planned_weeks import PlannedWeeks
+from ..rows.pricing import Row
+from ..programs.processes import Processes
+from ..programs.program import BROKEN_RULE, NO_ROSTER, penalty_of
+from ..programs.progress import Progress, gap_share
+from ..rows.row_arrays import INSTALL as INSTALL_NUMPY
+from ..rows.row_arrays import numpy
+from ..rows.row_run import RowRun
+from ..rows.row_search import GIVEN
+from ..rows.skills import staffed
+
+# The cells of a plan from which on NumPy makes a difference.
+LARGE = 400
+# The most of the time that goes to a first plan, week after week.
+FIRST_SHARE = 0.25
+
+# Writes rosters of all weeks, whose days count from the first one, to where they belong.
+Keep = Callable[[Sequence[Assignment]], None]
+
+
+class PeriodSearch:
+    """A search within the time of its clock. `keep` gets each better plan, after `inrc2pb extend` has checked its rosters; `prices` is the
+    folder for the prices of the bound, if any.
+
+    `penalty` is that of the best plan, with the forecast of weeks that are not known; `bound` is what no plan costs less than.
+    """
+
+    def __init__(self, weeks: PlannedWeeks, keep: Keep, clock: Clock, progress: Progress, prices: Optional[Path] = None) -> None:
+        self._weeks, self._keep, self._clock, self._progress, self._prices = weeks, keep, clock, progress, prices
+        self._processes = Processes()
+        self._proof = PeriodBound(weeks, clock, progress.warn)
+        self.penalty: Optional[int] = None
+        self.bound: Optional[Bound] = None
+        self._cells: Sequence[Assignment] = ()
+
+    def interrupt(self) -> None:
+        """Ends the search now: the best plan was kept."""
+        self._clock.stop()
+        self._processes.stop()
+        self._proof.stop()
+
+    def run(self) -> None:
+        """Searches until the time is over or the best plan is found. Without a plan it is a ProgramFault that says why.
+
+        Plans keep all absences, unless none can.
+        """
+        with tempfile.TemporaryDirectory(prefix="inrc2pb-period-") as folder:
+            try:
+                self._run(Path(folder))
+                self._proof.wait()
+            finally:
+                self._proof.stop()
+                self._progress.finish()
+                self._end()
+
+    def _end(self) -> None:
+        """Takes the bound of the best prices, and writes them."""
+        if self.penalty is not None and not self._weeks.later():
+            self.bound = self._proof.bound(self.penalty)
+            if self._prices:
+                self._proof.write(self._prices)
+
+    def _run(self, folder: Path) -> None:
+        plan, names = self._weeks.plan(), installed()
+        if not names:
+            self._progress.warn(f"there is no cbc, clp or glpsol, so this is only a first plan: {INSTALL}")
+        elif numpy is None and len(plan.nurses) * plan.days >= LARGE:
+            self._progress.warn(INSTALL_NUMPY)
+        (folder / "trial").mkdir()
+        solver = LinearSolvers(names, self._processes, folder, self._progress.warn) if names else None
+        run = self._over_rows(plan, solver, folder / "trial")
+        if plan.away and self.penalty is None:
+            run = self._over_rows(plan.without_absences(), solver, folder / "trial")
+        if self.penalty is None:
+            raise ProgramFault(NO_ROSTER, self._why_none(run))
+        self._progress.finish()
+        for warning in self._weeks.broken_absences(self._cells):
+            self._progress.warn(warning)
+
+    def _over_rows(self, plan: Plan, solver: Optional[LinearSolver], trial: Path) -> RowRun:
+        """One search over the rows of the plan."""
+
+        def offer(rows: List[Row], finder: str) -> Optional[int]:
+            cells = staffed(plan, run.crews, rows).cells
+            penalty = self._checked(cells, trial)
+            if penalty is None:
+                return None
+            self._keep(cells)
+            self._cells = cells
+            self.penalty = run.search.value_of(rows) if self._weeks.later() and run.search else penalty
+            self._progress.improved(penalty, "week after week" if finder == GIVEN else finder)
+            # Before the search, the cost of the weeks that are not known is not known either.
+            return self.penalty if run.search or not self._weeks.later() else None
+
+        def heard() -> None:
+            if run.search is None or run.search.lower_bound is None or self._weeks.later():
+                return
+            self._proof.heard(run.search)
+            # With absences it is a bound of the plans that keep them.
+            if not plan.away:
+                self._progress.bound_rose(run.search.lower_bound)
+
+        run = RowRun(plan, solver, self._clock, offer, heard, self._week_after_week(plan, solver))
+        run.run()
+        return run
+
+    def _week_after_week(self, plan: Plan, solver: Optional[LinearSolver]) -> Optional[List[Row]]:
+        """Rows of all weeks, each planned before the next one and with what it may charge early; None if a week has no roster."""
+        history, rows = plan.history, [b""] * len(plan.nurses)
+        seconds = self._clock.left() * FIRST_SHARE / len(plan.weeks)
+        for number, data in enumerate(plan.weeks):
+            held = [row._replace(day=row.day % WEEK_DAYS) for of in plan.held.values() for row in of if row.day // WEEK_DAYS == number]
+            found: List[List[Row]] = []
+
+            def offer(better: List[Row], _finder: str) -> Optional[int]:
+                found.append(better)
+                return run.search.value_of(better) if run.search else None
+
+            week = Plan.of(plan.scenario, history, [data], True, held, keeps=bool(plan.away))
+            run = RowRun(week, solver, self._clock.part(seconds), offer, lambda: None)
+            run.run()
+            if not found:
+                return None
+            if number + 1 < len(plan.weeks):
+                history = next_history(plan.scenario, history, staffed(week, run.crews, found[-1]).cells)
+            rows = [row + more for row, more in zip(rows, found[-1])]
+        return rows
+
+    def _checked(self, cells: Sequence[Assignment], folder: Path) -> Optional[int]:
+        """The penalty of the rosters of the known weeks, by `inrc2pb extend`; None if one breaks a hard rule."""
+        try:
+            return sum(penalty_of(week.files, week.roster) for week in self._weeks.write(cells, folder))
+        except ProgramFault as fault:
+            if fault.status != BROKEN_RULE:
+                raise
+            return None
+
+    def _why_none(self, run: RowRun) -> str:
+        if self._clock.stopped:
+            return "stopped before the first plan"
+        if run.without_row:
+            return f"no rosters keep the hard rules: the held rows of {run.without_row} contradict one another"
+        if run.minimums or run.claimed:
+            return "no rosters keep the hard rules of these weeks together, by plain Python: plan the weeks one by one with inrc2pb-improve"
+        return "no rosters were found in this time: give more"
+
+    def line(self) -> str:
+        """The line about the bound of all weeks together."""
+        if self._weeks.later():
+            return f"planned ahead of {len(self._weeks.later())} weeks that are not known: no lower bound"
+        if self.bound is None or self.penalty is None:
+            return "no lower bound"
+        bound = f"lower bound {self.bound.points} of the sum ({self.bound.by})"
+        if self.penalty <= self.bound.points:
+            return f"{bound}: no plan costs less" + (", proved" if self.bound.by == PERIOD_PROVER else "")
+        return f"{bound}: the gap is {self.penalty - self.bound.points}, {gap_share(self.penalty, self.bound.points)}"

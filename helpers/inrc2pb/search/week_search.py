@@ -1,0 +1,155 @@
+"""A search for the best roster of a week: over the rows of its nurses, or by a user's own solver."""
+
+import collections
+from pathlib import Path
+from typing import List, Optional, Sequence
+
+from ..judging.absences import absences_of
+from .best_roster import BestRoster
+from .bounds import Bound, Bounds
+from ..rows.cases import plain_cases_bound
+from ..programs.clock import Clock
+from ..week.faults import Misuse, ProgramFault, page
+from ..week.files import Assignment, Week, read_solution
+from ..solvers.linear_solvers import INSTALL, LinearSolvers, installed
+from ..rows.plan import Plan
+from ..rows.pricing import Row, plain_bound
+from ..programs.processes import Processes
+from ..programs.program import BROKEN_RULE, FAULT, NO_ROSTER, WeekFiles, decode
+from ..programs.progress import Progress
+from ..rows.row_run import RowRun
+from ..judging.rules import REQUEST
+from ..rows.skills import staffed
+from ..solvers.solvers import Solver
+
+
+class WeekSearch:
+    """A search over one week within the time of its clock. `bound` is the best lower bound, if there is one."""
+
+    def __init__(self, files: WeekFiles, week: Week, held: Sequence[Assignment], best: BestRoster, clock: Clock, progress: Progress) -> None:
+        self._files, self._week, self._held, self._best = files, week, held, best
+        self._clock, self._progress = clock, progress
+        self._processes = Processes()
+        self._asks = False
+        self.bound: Optional[Bound] = None
+        # What claims without a proof of inrc2pb-bound that no roster costs less.
+        self.claimed_by = ""
+
+    def interrupt(self) -> None:
+        """Ends the search as the user asks: now, or as soon as a solver of the user has printed what it has."""
+        self._clock.stop()
+        if self._asks and self._best.penalty is None:
+            self._processes.ask_to_end()
+        else:
+            self._processes.stop()
+
+    @property
+    def has_time(self) -> bool:
+        """Whether time is left."""
+        return self._clock.left() > 0
+
+    # ---- over rows
+
+    def over_rows(self, folder: Path, start: Optional[Sequence[Assignment]], prices: Optional[Path]) -> None:
+        """Searches over the rows of the nurses. `prices` is the file for the prices of the bound. Without a roster it is a ProgramFault if none exists.
+
+        Rows keep all absences, unless no roster can.
+        """
+        plan = Plan.of(self._week.scenario, self._week.history, [self._week.data], self._files.early, self._held)
+        bounds = Bounds(self._files, plan.scenario, list(plan.demand), prices, self._progress.warn)
+        names = installed()
+        if not names:
+            self._progress.warn(f"there is no cbc, clp or glpsol, so this is only a first roster: {INSTALL}")
+        solver = LinearSolvers(names, self._processes, folder, self._progress.warn) if names else None
+        rows = _rows(plan, start) if start else None
+        run = self._run_rows(plan, solver, bounds, rows)
+        if plan.away and (self._best.penalty is None or self._best.breaks()):
+            run = self._run_rows(plan.without_absences(), solver, bounds, rows)
+        elif run.claimed and solver and (not plan.away or self._costs_of_absences() >= (self._best.penalty or 0)):
+            self.claimed_by = solver.name
+        self._judge(run, bounds)
+
+    def _costs_of_absences(self) -> int:
+        """What a roster costs at least that breaks an absence."""
+        away = absences_of(self._week.data)
+        number = collections.Counter((one.nurse, one.day, one.shift) for one in self._week.data.requests)
+        return REQUEST * min(number[one.nurse, one.day, one.shift] for one in away)
+
+    def _run_rows(self, plan: Plan, solver: Optional[LinearSolvers], bounds: Bounds, start: Optional[List[Row]]) -> RowRun:
+        """One search over the rows of the plan."""
+
+        def offer(rows: List[Row], finder: str) -> Optional[int]:
+            self._see(run, bounds)
+            cells = staffed(plan, run.crews, rows).cells
+            penalty = self._best.offer(cells, finder)
+            return None if any(plan.is_away(*cell[:3]) for cell in cells) else penalty
+
+        def heard() -> None:
+            if self._progress.is_due():
+                self._see(run, bounds)
+
+        run = RowRun(plan, solver, self._clock, offer, heard, start)
+        try:
+            run.run()
+        finally:
+            self._see(run, bounds)
+        return run
+
+    def _see(self, run: RowRun, bounds: Bounds) -> None:
+        """Takes the bound of the best prices, and of the cases. It holds for rosters that break absences, too."""
+        search = run.search
+        if search and search.lower_bound is not None:
+            lower, prices, pricing = search.lower_bound, search.prices, search.pricing
+            bound = bounds.of(prices, lambda: plain_bound(pricing.without_absences(), prices) if pricing.plan.away else lower)
+            cases = run.cases
+            if cases:
+                bound = bounds.of_cases(pricing.plan.nurses, cases, lambda: plain_cases_bound(pricing.without_absences(), cases or ()))
+            if self.bound is None or bound.points > self.bound.points:
+                self.bound = bound
+                self._progress.bound_rose(bound.points)
+
+    def _judge(self, run: RowRun, bounds: Bounds) -> None:
+        """A proof that no roster exists is a ProgramFault."""
+        if self._best.penalty is not None:
+            return
+        held = f" and has the rows of {self._files.fix}" if self._files.fix else ""
+        why = f"{page('your_ward.md')} shows how to find out why"
+        if run.without_row:
+            raise ProgramFault(NO_ROSTER, f"no roster keeps the hard rules{held}: those of {run.without_row} contradict one another")
+        by = bounds.no_roster(*run.minimums) if run.minimums else None
+        if by:
+            raise ProgramFault(NO_ROSTER, f"no roster keeps the hard rules{held} ({by}): {why}")
+
+    # ---- by a user's own solver
+
+    def by_solver(self, solver: Solver, folder: Path) -> None:
+        """Lets a solver of the user solve the whole week once."""
+        self._asks = True
+        outcome = solver.solve(self._files, self._clock.left(), folder, self._processes)
+        if not outcome.answer:
+            if self._clock.stopped:
+                return
+            raise Misuse(f"the solver {solver.name} has no answer: {outcome.fault}; try its command by hand")
+        path = folder / "answer.txt"
+        try:
+            report = decode(self._files, outcome.answer, path)
+        except ProgramFault as fault:
+            if fault.status in (FAULT, BROKEN_RULE):
+                raise Misuse(f"the solver {solver.name}: its answer was rejected: {fault.message}") from fault
+            if fault.status != NO_ROSTER:
+                raise
+            if "UNSATISFIABLE" in fault.message and self._best.penalty is None:
+                raise ProgramFault(NO_ROSTER, f"no roster keeps the hard rules, says {solver.name}: {page('your_ward.md')} shows how to find out why") from fault
+            return
+        self._best.offer(read_solution(path).assignments, solver.name)
+        if report.optimal and self._best.penalty == report.penalty:
+            self.bound, self.claimed_by = Bound(report.penalty, solver.name), solver.name
+
+
+def _rows(plan: Plan, cells: Sequence[Assignment]) -> List[Row]:
+    """The rows of a roster."""
+    numbers = {shift: number for number, shift in enumerate(plan.scenario.shift_types, 1)}
+    rows = {nurse: bytearray(plan.days) for nurse in plan.nurses}
+    for cell in cells:
+        rows[cell.nurse][cell.day] = numbers[cell.shift]
+    return [bytes(row) for row in rows.values()]

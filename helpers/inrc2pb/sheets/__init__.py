@@ -1,0 +1,1 @@
+"""The files of a ward from a spreadsheet."""

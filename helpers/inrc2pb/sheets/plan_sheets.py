@@ -1,0 +1,226 @@
+"""The weeks of a ward, from the sheets needs and plan of a spreadsheet."""
+
+import datetime
+import re
+from typing import Collection, Dict, Iterator, List, NamedTuple, Optional, Tuple
+
+from ..judging.absences import Absence, is_broken_by, readable
+from ..week.faults import Gathering
+from ..week.hints import plural
+from ..week.records import DAYS, Assignment, Place, Request, Requirement, Scenario
+from .sheet_files import Book
+from .sheet_rows import Cell, Row, Table
+from ..week.slots import MAX_NUMBER
+from .ward_sheets import Ward, table_of
+
+AWAY = ("away", "ill", "leave", "training")
+_WISH, _NO_WISH = ("wish", "wish off", "off?"), ("", "-")
+_PAIR = re.compile(r"\(?([0-9]{1,4}) ?(\+|,|\.\.) ?([0-9]{1,4})\)?")
+_RANGE = re.compile(r"([0-9]{1,4}) ?(?:[-\u2013/]|to) ?([0-9]{1,4})")
+_DATE = re.compile(r"([0-9]{4})-([0-9]{1,2})-([0-9]{1,2})|([0-9]{1,2})\.([0-9]{1,2})\.([0-9]{4})")
+# A date as a spreadsheet counts it, from 1954 on.
+_SERIAL = re.compile(r"\b[2-9][0-9]{4}\b")
+
+
+class Held(NamedTuple):
+    """A shift that a nurse has for certain, and its cell."""
+
+    row: Assignment
+    cell: Cell
+
+
+class WeekSheet:
+    """What the sheets say of one week. `leave` has the nurses of absences by the word that gave their reason."""
+
+    def __init__(self) -> None:
+        self.requirements: Dict[Place, Requirement] = {}
+        self.wishes: List[Request] = []
+        self.absences: List[Absence] = []
+        self.held: List[Held] = []
+        self.leave: List[Tuple[str, str]] = []
+
+
+class Days(NamedTuple):
+    """The columns of the plan, one for each day, and the date of the first, if the heads have dates."""
+
+    plan: Table
+    columns: List[Cell]
+    monday: Optional[datetime.date]
+
+    @property
+    def weeks(self) -> int:
+        """The number of weeks."""
+        return len(self.columns) // len(DAYS)
+
+
+def read_days(book: Book) -> Days:
+    """The days of the sheet plan: whole weeks from Monday to Sunday."""
+    plan = Table(book, "plan", ("nurse",), open_end=True)
+    columns = plan.others
+    dates = [_date_of(cell) for cell in columns]
+    monday = dates[0] if dates else None
+    for at, (cell, date) in enumerate(zip(columns, dates)):
+        if cell.column != columns[0].column + at:
+            cell.fault("the column before this one is no day: delete it, or move it after the last day")
+        if date and monday and (date - monday).days != at:
+            cell.fault(f"{date} does not follow the day before: write one column for each day")
+        if bool(date) != bool(monday):
+            cell.fault(f"'{cell.text}' has {'a date' if date else 'no date'}, unlike the first day: write dates for all days or for none")
+        wanted = DAYS[at % len(DAYS)]
+        if (date.weekday() if date else _day_of(cell)) != at % len(DAYS):
+            cell.fault(f"'{cell.text}' should be a {wanted}: the plan begins on a Monday, and has each day once")
+    if not columns or len(columns) % len(DAYS):
+        plan.fault(f"it has {plural(len(columns), 'day')}: plan whole weeks, from Monday to Sunday")
+    return Days(plan, columns, monday)
+
+
+def _day_of(cell: Cell) -> int:
+    """The day of the week with which a head begins, as Wed or Wednesday 0."""
+    short = cell.text[:3].casefold()
+    for day, name in enumerate(DAYS):
+        if short == name.casefold():
+            return day
+    cell.fault(f"'{cell.text}' is no day of the week: write one of {','.join(DAYS)}, or begin the head with #")
+
+
+def _date_of(cell: Cell) -> Optional[datetime.date]:
+    """The date in a head: written out, or as a number of a spreadsheet."""
+    found, serial = _DATE.search(cell.text), _SERIAL.search(cell.text)
+    if not found:
+        return cell.book.day_zero + datetime.timedelta(days=int(serial.group())) if serial else None
+    words = found.groups()
+    year, month, day = words[:3] if words[0] else (words[5], words[4], words[3])
+    try:
+        return datetime.date(int(year), int(month), int(day))
+    except ValueError:
+        cell.fault(f"there is no day {found.group()}: write a date such as 2026-11-30")
+
+
+def read_weeks(book: Book, ward: Ward, days: Days) -> List[WeekSheet]:
+    """The weeks of the sheets needs and plan."""
+    weeks = [WeekSheet() for _ in range(days.weeks)]
+    _read_needs(table_of(book, "needs"), ward.scenario, weeks)
+    with Gathering() as faults:
+        for nurse, row in _plan_rows(days, ward.scenario, faults).items():
+            for at, head in enumerate(days.columns):
+                with faults.step():
+                    _read_day(row.at(head.column), nurse, at, ward.scenario, weeks)
+    for nurse, (shifts, weekdays) in ward.never.items():
+        for week in weeks:
+            week.absences += [Absence(nurse, day, shift) for shift in shifts for day in range(len(DAYS))]
+            week.absences += [Absence(nurse, day, None) for day in weekdays]
+    return weeks
+
+
+def _plan_rows(days: Days, scenario: Scenario, faults: Gathering) -> Dict[str, Row]:
+    """The row of each nurse in the plan."""
+    rows: Dict[str, Row] = {}
+    for row in days.plan.rows:
+        with faults.step():
+            cell = row.of("nurse")
+            nurse = cell.known("nurse of the sheet nurses", scenario.nurses)
+            if nurse in rows:
+                cell.fault(f"{readable(nurse)} has a row already: put everything into one row")
+            rows[nurse] = row
+    return rows
+
+
+def _read_needs(table: Table, scenario: Scenario, weeks: List[WeekSheet]) -> None:
+    """Rows without a week are for all, but for the weeks that have a row of their own."""
+    given: Dict[Tuple[Optional[int], str, str], List[Requirement]] = {}
+    with Gathering() as faults:
+        for row in table.rows:
+            with faults.step():
+                week = row.of("week").number(most=len(weeks) - 1) if row.of("week").text else None
+                shift, skill = row.of("shift").known("shift type", scenario.shift_types), row.of("skill").known("skill of the sheet nurses", scenario.skills)
+                if (week, shift, skill) in given:
+                    row.of("shift").fault(f"{readable(shift)} {readable(skill)} has a row already: delete one, or write its week")
+                given[week, shift, skill] = [_needed(row.of(name.casefold())) for name in DAYS]
+    for (only, shift, skill), needed in given.items():
+        for number, one in enumerate(weeks):
+            if only == number or (only is None and (number, shift, skill) not in given):
+                one.requirements.update({Place(day, shift, skill): asked for day, asked in enumerate(needed)})
+
+
+def _needed(cell: Cell) -> Requirement:
+    """The numbers of a cell: `2`, `2+1` (at least two, three are best), `2..3` or nothing."""
+    if cell.text in _NO_WISH:
+        return Requirement(0, 0)
+    pair = _PAIR.fullmatch(cell.text)
+    if not pair:
+        number = cell.number(pair=_pair_for(cell.text))
+        return Requirement(number, number)
+    least, sign, second = int(pair[1]), pair[2], int(pair[3])
+    best = least + second if sign == "+" else second
+    if least > best:
+        cell.fault(f"at least {least} are needed, and {best} are best: write the smaller number first")
+    if best > MAX_NUMBER:
+        cell.fault(f"{best} is more than {MAX_NUMBER}: correct the number")
+    return Requirement(least, best)
+
+
+def _pair_for(text: str) -> str:
+    """How the needs have a minimum and a best number, such as those of the text `2-3`, of which a spreadsheet may make a date."""
+    found = _RANGE.fullmatch(text)
+    least, best = (int(found[1]), int(found[2])) if found else (2, 3)
+    if least >= best:
+        least, best = 2, 3
+    return f"{least}+{best - least} for {least} at least and better {best}"
+
+
+def _read_day(cell: Cell, nurse: str, at: int, scenario: Scenario, weeks: List[WeekSheet]) -> None:
+    """One cell of the plan: a wish, an absence, or a shift that is held."""
+    week, day = weeks[at // len(DAYS)], at % len(DAYS)
+    text = cell.text.casefold()
+    if text in _NO_WISH:
+        return
+    if text in _WISH:
+        week.wishes.append(Request(nurse, None, day))
+    elif text in AWAY:
+        week.absences.append(Absence(nurse, day, None))
+        week.leave.append((nurse, text))
+    elif text.startswith("no "):
+        week.wishes += [Request(nurse, part.known("shift type", scenario.shift_types), day) for part in cell._replace(text=cell.text[3:]).parts()]
+    else:
+        week.held.append(_held(cell, nurse, day, week, scenario))
+
+
+def _held(cell: Cell, nurse: str, day: int, week: WeekSheet, scenario: Scenario) -> Held:
+    """A shift, or a shift and a skill."""
+    named, _, with_skill = (part.strip() for part in cell.text.partition("/"))
+    others = ("wish", *AWAY, f"no {readable(next(iter(scenario.shift_types)))}")
+    shift = cell._replace(text=named).known("shift type", scenario.shift_types, others)
+    own = scenario.nurses[nurse].skills
+    if with_skill:
+        return Held(Assignment(nurse, day, shift, cell._replace(text=with_skill).known(f"skill of {readable(nurse)}", own)), cell)
+    asked = [skill for skill in own if week.requirements.get(Place(day, shift, skill), Requirement(0, 0)).optimal]
+    if len(asked or own) > 1:
+        cell.fault(f"{readable(nurse)} has more than one skill for it: write {readable(shift)}/{readable((asked or own)[0])}, for example")
+    return Held(Assignment(nurse, day, shift, (asked or own)[0]), cell)
+
+
+def check_held(ward: Ward, weeks: List[WeekSheet]) -> None:
+    """A held shift may not follow one after which it is forbidden, nor break an absence."""
+    last = {past.nurse: (past.last_shift, -1) for past in ward.history.nurses.values()}
+    with Gathering() as faults:
+        for number, week in enumerate(weeks):
+            for held in sorted(week.held, key=lambda one: one.row.day):
+                with faults.step():
+                    _check_held(ward.scenario, week, held, 7 * number + held.row.day, last)
+
+
+def _check_held(scenario: Scenario, week: WeekSheet, held: Held, day: int, last: Dict[str, Tuple[Optional[str], int]]) -> None:
+    """The same for one shift. `last` has the last shift of each nurse, and its day."""
+    nurse, shift = held.row.nurse, held.row.shift
+    before, on = last[nurse]
+    last[nurse] = (shift, day)
+    if before is not None and on == day - 1 and shift in scenario.shift_types[before].forbidden_next:
+        held.cell.fault(f"{readable(nurse)} may not work {readable(shift)} on the day after {readable(before)}: change one of the two")
+    if is_broken_by(week.absences, held.row):
+        held.cell.fault(f"{readable(nurse)} never works this shift or is always off on this day, by the sheet nurses: change one of the two")
+
+
+def days_away(weeks: List[WeekSheet], reasons: Collection[str]) -> Iterator[Tuple[str, int]]:
+    """The nurses who are away for one of these reasons, and on how many days."""
+    nurses = [nurse for week in weeks for nurse, reason in week.leave if reason in reasons]
+    yield from ((nurse, nurses.count(nurse)) for nurse in dict.fromkeys(nurses))

@@ -1,0 +1,198 @@
+"""The rows below the head of a sheet, by the names of its columns; faults name the sheet, row, column and cure."""
+
+import re
+import unicodedata
+from typing import Collection, Dict, Iterator, List, NamedTuple, NoReturn, Optional, Sequence, Tuple
+
+from ..judging.absences import readable
+from ..week.faults import FileFault, Gathering
+from ..week.hints import quoted
+from .sheet_files import Book
+from .sheet_parts import Rows
+from ..week.slots import MAX_NUMBER, SIGNS, closest
+
+_SEVERAL = re.compile(r"[,;/]")
+
+
+def tidy(text: str) -> str:
+    """The text with composed letters, and with one blank for each sequence of them, of whatever kind."""
+    return " ".join(unicodedata.normalize("NFC", text).split())
+
+
+def letters_of(column: int) -> str:
+    """The letters of a column, counted from 0."""
+    letters = ""
+    while column >= 0:
+        column, rest = divmod(column, 26)
+        letters, column = chr(ord("A") + rest) + letters, column - 1
+    return letters
+
+
+class Cell(NamedTuple):
+    """The text of a cell, and its place."""
+
+    text: str
+    book: Book
+    sheet: str
+    row: int
+    column: int
+
+    def fault(self, message: str) -> NoReturn:
+        """Raises a fault of this cell."""
+        raise FileFault(self.book.path, 0, f"sheet {self.sheet}, row {self.row}, column {letters_of(self.column)}: {message}")
+
+    def parts(self) -> List["Cell"]:
+        """The cell as several, if it has a list with commas, semicolons or slashes."""
+        return [self._replace(text=part.strip()) for part in _SEVERAL.split(self.text) if part.strip()]
+
+    def number(self, default: Optional[int] = None, most: int = MAX_NUMBER, pair: str = "") -> int:
+        """The whole number of the cell; an empty one has the default, if there is one. `pair` says how two numbers are written, if it may
+        have them: a fault names it."""
+        if not self.text and default is not None:
+            return default
+        digits = re.sub(r"[.,]0*$", "", self.text)
+        if not re.fullmatch("[0-9]{1,9}", digits):
+            self.fault(f"'{self.text}' is no whole number: {self._advice(pair)}" if self.text else "the cell is empty: write a whole number")
+        if int(digits) > MAX_NUMBER:
+            self.fault(f"{digits} is more than {most}: a spreadsheet makes such a number of 2-3 or 2/3, so write {pair or 'one number'}")
+        if int(digits) > most:
+            self.fault(f"{digits} is more than {most}: write a smaller number")
+        return int(digits)
+
+    def _advice(self, pair: str) -> str:
+        """What to write in place of a text that is no whole number."""
+        if re.fullmatch("[oO0-9]+", self.text):
+            return "write the digit 0"
+        if not pair and re.fullmatch(r"[0-9]+[.,][0-9]+", self.text):
+            return "shifts are counted, not hours"
+        return f"write one, or {pair}" if pair else "write one"
+
+    def new_name(self, kind: str, taken: Collection[str]) -> str:
+        """The cell as a new name of a file, with _ for a blank."""
+        name = self.text.replace(" ", "_")
+        if not name:
+            self.fault(f"the cell is empty: write the name of the {kind}, or delete the row")
+        if any(sign in SIGNS for sign in name):
+            self.fault(f"'{self.text}' has one of the signs {' '.join(SIGNS)}: write the name without it")
+        if name.casefold() in (one.casefold() for one in taken):
+            self.fault(f"the {kind} '{self.text}' is there already: use another name")
+        return name
+
+    def known(self, kind: str, names: Collection[str], others: Sequence[str] = ()) -> str:
+        """The name that the cell has, in whatever letters. A fault names the other words that may be in its place too."""
+        wanted = self.text.replace(" ", "_").casefold()
+        found = next((name for name in names if name.casefold() == wanted), None)
+        if found is None:
+            meant = closest(self.text.replace(" ", "_"), [*names, *others])
+            advice = f"did you mean {readable(meant)}?" if meant else f"write one of {quoted([*map(readable, names), *others])}"
+            self.fault(f"'{self.text}' is no {kind}: {advice}" if self.text else f"the cell is empty: write a {kind}")
+        return found
+
+
+class Row:
+    """A row below the head."""
+
+    def __init__(self, table: "Table", number: int, cells: Sequence[str]) -> None:
+        self._table = table
+        self._number = number
+        self._cells = cells
+
+    def outside(self, columns: Collection[int]) -> Iterator[Cell]:
+        """The cells outside these columns that are not empty."""
+        others = (self.at(column) for column in range(len(self._cells)) if column not in columns)
+        return (cell for cell in others if cell.text)
+
+    def at(self, column: int) -> Cell:
+        """The cell of the column with this number."""
+        text = tidy(self._cells[column]) if column < len(self._cells) else ""
+        return Cell(text, self._table.book, self._table.name, self._number, column)
+
+    def of(self, head: str) -> Cell:
+        """The cell of the column with this head; if there is none, an empty one."""
+        return self.at(self._table.columns[head]) if head in self._table.columns else self.at(len(self._cells))
+
+
+class Table:
+    """A sheet: its columns by their heads, and its rows. `book` and `name` are for faults."""
+
+    def __init__(self, book: Book, name: str, heads: Sequence[str], optional: Sequence[str] = (), open_end: bool = False) -> None:
+        self.book, self.name = book, name
+        self.heads, self.optional = heads, optional
+        self.columns: Dict[str, int] = {}
+        # The columns after those with a known head, if the sheet may have any number of them.
+        self.others: List[Cell] = []
+        rows = self._sheet()
+        first = self._find_head(rows)
+        head, begin = _joined_head(rows, first, open_end)
+        with Gathering() as faults:
+            for column, text in enumerate(head):
+                with faults.step():
+                    self._take_head(Cell(tidy(text), book, name, first + 1, column), head, open_end)
+        missing = [wanted for wanted in heads if wanted not in self.columns]
+        if missing:
+            raise FileFault(book.path, 0, f"sheet {name}, row {first + 1}: there is no column '{missing[0]}': add it")
+        self.rows = [Row(self, at + 1, rows[at]) for at in range(begin, len(rows)) if any(map(str.strip, rows[at]))]
+        self._check_heads({column for column, text in enumerate(head) if tidy(text)}, first + 1)
+
+    def fault(self, message: str) -> NoReturn:
+        """Raises a fault of the whole sheet."""
+        raise FileFault(self.book.path, 0, f"sheet {self.name}: {message}")
+
+    def _sheet(self) -> Rows:
+        if self.name not in self.book.sheets:
+            raise FileFault(self.book.path, 0, f"there is no sheet '{self.name}': it has {quoted(self.book.sheets)}; --template writes an example")
+        return self.book.sheets[self.name]
+
+    def _find_head(self, rows: Rows) -> int:
+        """The row with the heads: titles may be above it."""
+        for at, row in enumerate(rows):
+            if any(tidy(cell).casefold() == self.heads[0] for cell in row):
+                return at
+        raise FileFault(self.book.path, 0, f"sheet {self.name}: no row has the head '{self.heads[0]}': write {quoted(self.heads)} into the first row")
+
+    def _take_head(self, cell: Cell, heads: Sequence[str], open_end: bool) -> None:
+        head = cell.text.casefold()
+        if not head or head.startswith(("note", "comment", "#")):
+            return
+        if head in self.columns:
+            cell.fault(f"there is a second column '{cell.text}': rename or delete one")
+        elif head in self.heads or head in self.optional:
+            self.columns[head] = cell.column
+        elif open_end:
+            self.others.append(cell)
+        else:
+            meant = self._meant(head, {tidy(text).casefold() for text in heads})
+            cell.fault(f"'{cell.text}' is no column of this sheet: " + (f"did you mean '{meant}'?" if meant else "delete it, or begin its head with #"))
+
+    def _check_heads(self, columns: Collection[int], number: int) -> None:
+        """A fault names the first cell of each column without a head. The given columns have one, in the row of this number."""
+        first: Dict[int, Cell] = {}
+        for row in self.rows:
+            for cell in row.outside(columns):
+                first.setdefault(cell.column, cell)
+        with Gathering() as faults:
+            for _, cell in sorted(first.items()):
+                with faults.step():
+                    cell.fault(f"'{cell.text}' has no head above it: write one into row {number}, or # to leave the column out")
+
+    def _meant(self, head: str, taken: Collection[str]) -> Optional[str]:
+        """The column that a wrong head most likely means: none that the sheet has already."""
+        free = [name for name in (*self.heads, *self.optional) if name not in taken]
+        return closest(head, free) or next((name for name in free if {*head.split()} & {*name.split()}), None)
+
+
+def _joined_head(rows: Rows, first: int, open_end: bool) -> Tuple[List[str], int]:
+    """The heads, and the first row below them. A head over several columns is joined with the row below it, and dates with days."""
+    head = [tidy(cell) for cell in rows[first]]
+    below = [tidy(cell) for cell in (rows[first + 1] if first + 1 < len(rows) else [])]
+    width = max(len(head), len(below))
+    head, below = (row + [""] * (width - len(row)) for row in (head, below))
+    has_days = all(re.match("mon|tue|wed|thu|fri|sat|sun", cell.casefold()) for cell in below if cell)
+    is_over = any(under and not own for own, under in zip(head, below)) and not any(re.search("[0-9]", cell) for cell in below)
+    if not any(below) or below[0] or not (has_days if open_end else is_over):
+        return head, first + 1
+    joined, above = [], ""
+    for own, under in zip(head, below):
+        above = own or (above if under else "")
+        joined.append(f"{above} {under}".strip())
+    return joined, first + 2

@@ -1,0 +1,180 @@
+"""The ward and its first history, from the sheets shifts, contracts and nurses of a spreadsheet."""
+
+import re
+from typing import Collection, Dict, Iterator, List, NamedTuple, Optional, Tuple
+
+from ..judging.absences import readable
+from ..week.faults import Gathering
+from ..week.records import DAYS, Contract, History, Limits, Nurse, NurseHistory, Scenario, ShiftType
+from .sheet_files import Book
+from .sheet_rows import Cell, Row, Table
+from ..week.slots import MAX_NUMBER, closest
+
+_WEEKDAYS = ("Monday", "Tuesday", "Wednesday", "Thursday", "Friday", "Saturday", "Sunday")
+_YES, _NO = ("1", "yes", "x", "true"), ("", "0", "no", "-", "false")
+_HEADS = {
+    "shifts": (("shift",), ("min in a row", "max in a row", "not followed by")),
+    "contracts": (
+        ("contract",), ("shifts min", "shifts max", "work min", "work max", "off min", "off max", "weekends", "complete weekends"),
+    ),
+    "nurses": (
+        ("nurse", "contract", "skills"), ("never", "always off", "worked", "worked weekends", "last shift", "days on it", "days of work", "days off"),
+    ),
+    "needs": (("shift", "skill", *(day.casefold() for day in DAYS)), ("week",)),
+}  # fmt: skip
+
+
+class Ward(NamedTuple):
+    """A ward, its first history, each nurse's shift types that she never works and days of the week on which she is always off, and
+    the first cell with each skill."""
+
+    scenario: Scenario
+    history: History
+    never: Dict[str, Tuple[List[str], List[int]]]
+    skills: Dict[str, Cell]
+
+
+def read_ward(book: Book, name: str, weeks: int) -> Ward:
+    """The ward of these sheets, with this name and number of weeks."""
+    shift_types = _shift_types(table_of(book, "shifts"))
+    _check_number(book, "shifts", "shift types", len(shift_types), 16)
+    contracts = _contracts(table_of(book, "contracts"))
+    _check_number(book, "contracts", "contracts", len(contracts), 64)
+    asked = [cell.text for row in table_of(book, "needs").rows for cell in [row.of("skill")] if cell.text]
+    skills = _Skills(asked)
+    nurses: Dict[str, Nurse] = {}
+    past: Dict[str, NurseHistory] = {}
+    never: Dict[str, Tuple[List[str], List[int]]] = {}
+    with Gathering() as faults:
+        for row in table_of(book, "nurses").rows:
+            with faults.step():
+                nurse = row.of("nurse").new_name("nurse", nurses)
+                nurses[nurse] = Nurse(nurse, row.of("contract").known("contract", contracts), skills.of(row.of("skills")))
+                past[nurse] = _past(row, nurse, shift_types)
+                never[nurse] = ([part.known("shift type", shift_types) for part in row.of("never").parts()], _days_off(row.of("always off")))
+    scenario = Scenario(name, weeks, tuple(skills.cells), shift_types, contracts, nurses)
+    _check_number(book, "nurses", "nurses", len(nurses), 1000)
+    _check_number(book, "nurses", "skills", len(skills.cells), 16)
+    return Ward(scenario, History(0, name, past), never, skills.cells)
+
+
+def table_of(book: Book, name: str) -> Table:
+    """One of the sheets shifts, contracts, nurses and needs."""
+    heads, optional = _HEADS[name]
+    return Table(book, name, heads, optional)
+
+
+def _check_number(book: Book, sheet: str, kind: str, number: int, most: int) -> None:
+    if not 1 <= number <= most:
+        table_of(book, sheet).fault(f"it has {number} {kind}, and a ward has 1 to {most}: correct the rows")
+
+
+def _days_off(cell: Cell) -> List[int]:
+    """The days of the week that the cell names, with commas between."""
+    names = {name.casefold(): day for day, full in enumerate(_WEEKDAYS) for name in (full, DAYS[day])}
+    days = []
+    for part in cell.parts():
+        if part.text.casefold() not in names:
+            part.fault(f"'{part.text}' is no day of the week: write days with commas between, such as Mon, Tue")
+        days.append(names[part.text.casefold()])
+    return days
+
+
+def _shift_types(table: Table) -> Dict[str, ShiftType]:
+    names: Dict[str, Row] = {}
+    found: Dict[str, ShiftType] = {}
+    with Gathering() as faults:
+        for row in table.rows:
+            with faults.step():
+                cell = row.of("shift")
+                name = cell.new_name("shift type", names)
+                if name.casefold() in ("none", "any"):
+                    cell.fault(f"'{cell.text}' has a meaning of its own in the ward's files: use another name")
+                names[name] = row
+    with Gathering() as faults:
+        for name, row in names.items():
+            with faults.step():
+                after = dict.fromkeys(part.known("shift type", names) for part in row.of("not followed by").parts())
+                found[name] = ShiftType(name, _limits(row, "min in a row", "max in a row"), tuple(after))
+    return found
+
+
+def _contracts(table: Table) -> Dict[str, Contract]:
+    found: Dict[str, Contract] = {}
+    with Gathering() as faults:
+        for row in table.rows:
+            with faults.step():
+                name = row.of("contract").new_name("contract", found)
+                found[name] = _contract(row, name)
+    return found
+
+
+def _contract(row: Row, name: str) -> Contract:
+    return Contract(
+        name,
+        _limits(row, "shifts min", "shifts max"),
+        _limits(row, "work min", "work max"),
+        _limits(row, "off min", "off max"),
+        row.of("weekends").number(MAX_NUMBER),
+        _is_yes(row.of("complete weekends")),
+    )
+
+
+def _limits(row: Row, least: str, most: str) -> Limits:
+    """A minimum and a maximum; empty cells set no limit."""
+    limits = Limits(row.of(least).number(0), row.of(most).number(MAX_NUMBER))
+    if limits.minimum > limits.maximum:
+        row.of(least).fault(f"the minimum {limits.minimum} is above the maximum {limits.maximum}: correct one of the two")
+    return limits
+
+
+def _is_yes(cell: Cell) -> bool:
+    if cell.text.casefold() not in (*_YES, *_NO):
+        cell.fault(f"'{cell.text}' is neither yes nor no: write yes or no")
+    return cell.text.casefold() in _YES
+
+
+class _Skills:
+    """The skills that the needs ask for, as they are written, and the first cell with each skill of a nurse."""
+
+    def __init__(self, asked: Collection[str]) -> None:
+        self._asked = {name.casefold() for name in asked}
+        one = "|".join(map(re.escape, sorted(self._asked, key=len, reverse=True)))
+        self._several = re.compile(f"({one})((?: and | ?[&+] ?| )({one}))+")
+        self.cells: Dict[str, Cell] = {}
+
+    def of(self, cell: Cell) -> Tuple[str, ...]:
+        """The skills of a nurse."""
+        if not cell.parts():
+            cell.fault("the cell is empty: write the nurse's skills, such as Charge, Nurse")
+        found: List[str] = []
+        for part in cell.parts():
+            if part.text.casefold() not in self._asked and self._several.fullmatch(part.text.casefold()):
+                part.fault(f"'{part.text}' is no skill of the sheet needs, and has several in it: write commas between skills")
+            own = part.new_name("skill", found)
+            known = next((name for name in self.cells if name.casefold() == own.casefold()), own)
+            self.cells.setdefault(known, part)
+            found.append(known)
+        return tuple(found)
+
+
+def skill_warnings(ward: Ward, asked: Collection[str]) -> Iterator[str]:
+    """Warnings of skills for which the needs have no row. One with a name like a skill that they ask for is a fault."""
+    with Gathering() as faults:
+        for name, cell in ward.skills.items():
+            if name in asked:
+                continue
+            meant = closest(name, [one for one in ward.skills if one in asked])
+            with faults.step():
+                if meant:
+                    cell.fault(f"no row of the sheet needs has the skill '{cell.text}': write {readable(meant)} if you mean it, else add a row for it")
+            yield f"no row of the sheet needs has the skill {name}"
+
+
+def _past(row: Row, nurse: str, shift_types: Dict[str, ShiftType]) -> NurseHistory:
+    """The nurse's history; empty cells are 0, and an empty last shift is a day off."""
+    cell = row.of("last shift")
+    last: Optional[str] = None if cell.text.casefold() in ("", "none", "off", "-") else cell.known("shift type", shift_types)
+    totals = [row.of(head).number(0) for head in ("worked", "worked weekends")]
+    runs = [row.of(head).number(0) for head in ("days on it", "days of work", "days off")]
+    return NurseHistory(nurse, totals[0], totals[1], last, *runs)

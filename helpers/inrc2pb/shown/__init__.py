@@ -1,0 +1,1 @@
+"""Rosters as tables, pages, pictures, calendars and words."""

@@ -1,0 +1,100 @@
+"""A calendar file for each nurse, as RFC 5545 defines it: shifts with their times, else with their days, in local time."""
+
+import datetime
+import re
+import uuid
+from pathlib import Path
+from typing import Dict, Iterable, Iterator, List, Mapping, Sequence, Tuple
+
+from ..week.dates import DAY, Times
+from .markup import allowed
+from .roster_view import Cell, RosterView
+from ..week.writing import write_text
+
+# The maximum number of bytes of a line.
+_LINE = 75
+
+
+def _text(value: str) -> str:
+    """A value of type TEXT."""
+    return re.sub(r"([\\;,])", r"\\\1", allowed(value)).replace("\r", " ").replace("\n", "\\n").replace("\t", " ")
+
+
+def _folded(line: str) -> str:
+    """A content line, folded between letters."""
+    parts, size = [""], 0
+    for letter in line:
+        width = len(letter.encode())
+        if size + width > _LINE:
+            parts.append(" ")
+            size = 1
+        parts[-1] += letter
+        size += width
+    return "\r\n".join(parts)
+
+
+def _day(date: datetime.date) -> str:
+    return date.isoformat().replace("-", "")
+
+
+def _event(names: Sequence[str], stamp: str, summary: str, when: Iterable[str]) -> Iterator[str]:
+    """The lines of an event. Its names make it the same event in a later calendar."""
+    yield "BEGIN:VEVENT"
+    yield f"UID:{uuid.uuid5(uuid.NAMESPACE_URL, ' '.join(['inrc2pb', *names]))}"
+    yield f"DTSTAMP:{stamp}"
+    yield from when
+    yield f"SUMMARY:{_text(summary)}"
+    yield "END:VEVENT"
+
+
+def _when(date: datetime.date, shift: str, times: Mapping[str, Times]) -> Iterator[str]:
+    """The times of a shift, without a time zone, or its day."""
+    if shift not in times:
+        yield f"DTSTART;VALUE=DATE:{_day(date)}"
+        return
+    start = datetime.datetime.combine(date, times[shift].start)
+    for name, time in (("DTSTART", start), ("DTEND", start + times[shift].length)):
+        yield f"{name}:{_day(time.date())}T{time:%H%M%S}"
+
+
+def calendar(view: RosterView, nurse: str, monday: datetime.date, times: Mapping[str, Times]) -> str:
+    """The text of a nurse's calendar. One without shifts says so, since a calendar may not be empty."""
+    stamp, ward = f"{_day(monday)}T000000Z", allowed(view.name)
+    lines = ["BEGIN:VCALENDAR", "VERSION:2.0", "PRODID:-//inrc2pb//inrc2pb-table//EN"]
+    shifts: List[Tuple[datetime.date, int, Cell]] = [
+        (monday + (7 * week + day) * DAY, at, cell)
+        for week in range(len(view.weeks))
+        for day in range(7)
+        for at, cell in enumerate(view.cells(week, nurse, day))
+    ]
+    for date, at, cell in shifts:
+        names = [ward, allowed(nurse), _day(date), *[str(at)] * bool(at)]
+        lines += _event(names, stamp, f"{cell.shift} {cell.skill}".replace("_", " "), _when(date, cell.shift, times))
+    if not shifts:
+        end = monday + 7 * len(view.weeks) * DAY
+        when = [f"DTSTART;VALUE=DATE:{_day(monday)}", f"DTEND;VALUE=DATE:{_day(end)}", "TRANSP:TRANSPARENT"]
+        lines += _event([ward, allowed(nurse), _day(monday), "none"], stamp, "no shift", when)
+    return "".join(f"{_folded(line)}\r\n" for line in [*lines, "END:VCALENDAR"])
+
+
+def file_names(nurses: Iterable[str]) -> Dict[str, str]:
+    """A file's name for each nurse, which each system takes; no two differ in case only."""
+    found: Dict[str, str] = {}
+    taken = set()
+    for nurse in nurses:
+        plain = re.sub(r'[/\\:*?"<>|\ufffd\t\n\r]|^\.', "_", allowed(nurse))[:60]
+        name, number = plain, 1
+        while name.lower() in taken:
+            number += 1
+            name = f"{plain}-{number}"
+        taken.add(name.lower())
+        found[nurse] = f"{name}.ics"
+    return found
+
+
+def write_calendars(view: RosterView, folder: Path, monday: datetime.date, times: Mapping[str, Times]) -> None:
+    """Writes a calendar for each nurse to the folder, which is made if it does not exist."""
+    texts = {name: calendar(view, nurse, monday, times) for nurse, name in file_names(view.nurses).items()}
+    folder.mkdir(parents=True, exist_ok=True)
+    for name, text in texts.items():
+        write_text(folder / name, text)

@@ -1,0 +1,79 @@
+"""What differs in two rosters of the same weeks, and swaps of two nurses' days."""
+
+from dataclasses import replace
+from typing import Iterator, List, NamedTuple, Sequence, Tuple
+
+from ..week.faults import Misuse
+from ..week.hints import quoted
+from ..week.records import DAYS
+from .roster_view import Cell, RosterView
+from ..week.slots import closest
+
+
+class Change(NamedTuple):
+    """A nurse's day whose cells differ in two rosters."""
+
+    week: int
+    nurse: str
+    day: int
+    before: Sequence[Cell]
+    now: Sequence[Cell]
+
+
+def changes(old: RosterView, new: RosterView) -> List[Change]:
+    """The days of nurses that differ, in the order of weeks, days and nurses."""
+    found = []
+    for week in range(len(new.weeks)):
+        for day in range(7):
+            for nurse in dict.fromkeys([*new.nurses, *old.nurses]):
+                before, now = old.cells(week, nurse, day), new.cells(week, nurse, day)
+                if {cell[:2] for cell in before} != {cell[:2] for cell in now}:
+                    found.append(Change(week, nurse, day, before, now))
+    return found
+
+
+def cells_text(cells: Sequence[Cell]) -> str:
+    """The shift types and skills of a nurse's day."""
+    return " and ".join(f"{cell.shift} {cell.skill}" for cell in cells) or "off"
+
+
+def changed_lines(old: RosterView, new: RosterView) -> Iterator[str]:
+    """A line for each change."""
+    for change in changes(old, new):
+        week = new.prefix(new.weeks[change.week])
+        yield f"{week}{change.nurse} {DAYS[change.day]}: {cells_text(change.now)}, before {cells_text(change.before)}"
+
+
+# ---- swaps
+
+
+def swapped(view: RosterView, swaps: Sequence[Tuple[str, str]]) -> RosterView:
+    """The roster of one week after swaps in turn: two nurses and days, as `Chen Fri` and `Grace Fri`, get each other's cells."""
+    if len(view.weeks) != 1:
+        raise Misuse("--swap is for one roster: change a copy of one of these, and give the others with --old")
+    rows = list(view.weeks[0].rows)
+    for pair in swaps:
+        one, two = (_place(view, text) for text in pair)
+        if one == two:
+            raise Misuse(f"--swap {_quoted(pair)}: these are one cell: give two")
+        others = {one: two, two: one}
+        places = [others.get((row.nurse, row.day), (row.nurse, row.day)) for row in rows]
+        rows = [row._replace(nurse=nurse, day=day) for row, (nurse, day) in zip(rows, places)]
+    return replace(view, weeks=[replace(view.weeks[0], rows=rows)])
+
+
+def _quoted(pair: Tuple[str, str]) -> str:
+    return " ".join(f'"{text}"' for text in pair)
+
+
+def _place(view: RosterView, text: str) -> Tuple[str, int]:
+    """The nurse and the day that a text names."""
+    *names, day = text.split() or [""]
+    if not names:
+        raise Misuse(f'--swap "{text}": give a nurse and a day, as in "Chen Fri"')
+    nurse = "_".join(names)
+    for word, known, what in ((nurse, view.nurses, "nurse"), (day, DAYS, "day")):
+        if word not in known:
+            meant = closest(word, known)
+            raise Misuse(f'--swap "{text}": \'{word}\' is no {what}: {f"did you mean {meant}?" if meant else f"give one of {quoted(known)}"}')
+    return nurse, DAYS.index(day)

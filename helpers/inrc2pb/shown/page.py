@@ -1,0 +1,168 @@
+"""A roster as one HTML page, to print or to read on a screen. It needs no network and no script."""
+
+from typing import Dict, Iterator, List, Optional
+
+from .charge_words import costs_text, in_words
+from ..week.dates import date_text
+from ..week.hints import plural
+from .markup import Markup, element, joined
+from .page_tables import Content, RosterTable, changes_table, coverage_tables, plain, totals_table, wishes_table
+from .roster_text import COLORS, ink_on
+from ..judging.rules import Charge, cost_by_rule
+from .why import breach_lines
+
+STYLE = """
+:root { color-scheme: light }
+body { font: 10pt/1.3 sans-serif; margin: 1.2em; color: #111; background: #fff; max-width: 1200px }
+h1 { font-size: 1.4em; margin: 0 0 .2em }
+h2 { font-size: 1.15em; margin: 1.2em 0 .3em }
+p, ul { margin: .3em 0 }
+section { overflow-x: auto }
+table { border-collapse: collapse; margin: .6em 0 1em }
+caption { text-align: left; padding: .2em 0; font-size: .9em }
+th, td { border: 1px solid #999; padding: .15em .4em; text-align: center; font-variant-numeric: tabular-nums }
+th { font-weight: 600 }
+thead th { background: #eee; vertical-align: bottom }
+tbody th, thead th:first-child, .words td { text-align: left }
+td small { font-size: .82em }
+.date { display: block; font-weight: normal; font-size: .85em; white-space: nowrap }
+.sat { border-left: 2.5px solid #111 }
+.sun { border-right: 2.5px solid #111 }
+.roster { width: 100% }
+.roster thead tr > :first-child { width: 8em }
+.roster tbody th { overflow-wrap: anywhere }
+.many td, .many thead th { padding: .15em .2em; min-width: 1.5em }
+.many td small { font-size: .7em; margin-left: .1em }
+.many { table-layout: fixed }
+.many .date { font-size: .7em; white-space: normal }
+.mark { font-weight: bold; margin-left: .25em }
+.away { font-style: italic; font-size: .85em }
+.changed { border: 2.5px dashed #111 }
+.few { border: 2.5px solid #111 }
+.coverage small { white-space: nowrap }
+.hidden { position: absolute; width: 1px; height: 1px; overflow: hidden; clip-path: inset(50%); white-space: nowrap }
+.folds { columns: 27em }
+.folds ul { padding-left: 1.6em }
+details { margin: 0 0 .5em; break-inside: avoid }
+summary { cursor: pointer }
+.legend { padding: 0 }
+.legend li { display: inline-block; margin-right: 1.4em }
+@page { size: A4 landscape; margin: 10mm }
+@media print {
+body { margin: 0; font-size: 9pt; max-width: none; -webkit-print-color-adjust: exact; print-color-adjust: exact }
+section { overflow: visible }
+thead { display: table-header-group }
+.many { line-height: 1.15; margin: .2em 0 .4em }
+.many td, .many tbody th { padding-top: .02em; padding-bottom: .02em }
+tr, caption, li, .coverage, .changes { break-inside: avoid }
+caption, h2, summary { break-after: avoid }
+.sheet { break-before: page }
+}
+"""
+RULES = {
+    "S1": "fewer nurses than best", "S2": "days in a row with work or on one shift type", "S3": "days in a row off", "S4": "a wish that is not granted",
+    "S5": "half a weekend", "S6": "shifts in the period", "S7": "weekends in the period",
+}  # fmt: skip
+
+
+def _style(page: Content) -> Markup:
+    """The style, with the colors of the shift types. Browsers print them only if `print-color-adjust` says so."""
+    colors = "".join(f".s{number} {{ background: {color}; color: {ink_on(color)} }}\n" for number, color in enumerate(COLORS))
+    return Markup(STYLE + colors)
+
+
+def title(page: Content) -> str:
+    """The ward and its weeks, with their dates if they are known."""
+    view = page.view
+    if page.monday is None:
+        return f"{plain(view.name)}, {view.weeks_text}"
+    last = page.monday + (7 * len(view.weeks) - 1) * (page.monday.resolution)
+    year = f" {page.monday.year}" if page.monday.year != last.year else ""
+    return f"{plain(view.name)}, {date_text(page.monday)}{year} to {date_text(last)} {last.year}"
+
+
+def _summary(page: Content) -> Iterator[str]:
+    """Sentences below the title."""
+    view = page.view
+    count = sum(len(week.rows) for week in view.weeks)
+    cost = f", penalty {view.penalty}" if view.penalty is not None and not page.only_table else ""
+    old = page.old.penalty if page.old and not page.old.breaks_absences else None
+    before = f", before {old}" if cost and old is not None else ""
+    named = f"{view.weeks_text}: " if page.monday else ""
+    yield f"{named}{plural(len(view.nurses), 'nurse')}, {plural(count, 'shift')}{cost}{before}"
+    yield from breach_lines(view)
+
+
+def _roster(page: Content) -> Markup:
+    roster = RosterTable(page)
+    lines = [element("p", line) for line in _summary(page)]
+    legend = roster.legend()
+    items = element("ul", *(element("li", line) for line in legend), class_="legend") if legend else ""
+    return element("section", element("h1", title(page)), *lines, *roster.tables(), items)
+
+
+def section(heading: str, *inside: str, class_: Optional[str] = None) -> Markup:
+    """A part of the page."""
+    return element("section", element("h2", heading), *inside, class_=class_)
+
+
+# ---- charges
+
+
+def _charge(page: Content, week: int, charge: Charge) -> Markup:
+    prefix = "" if page.monday else page.view.prefix(page.view.weeks[week])
+    words = plain(f"{prefix}{in_words(charge, False, page.days(week))}")
+    return element("li", f"{charge.cost} ({charge.rule}) {words}")
+
+
+def _foldable(name: str, charged: List[Charge], items: List[Markup]) -> Markup:
+    """The charges of a nurse, or of the places. They are open, so that they are printed."""
+    cost = sum(charge.cost for charge in charged)
+    summary = element("summary", element("b", name), f": {cost} ({costs_text(cost_by_rule(charged))})")
+    return element("details", summary, element("ul", *items), open="")
+
+
+def charges_section(page: Content) -> Markup:
+    """What the roster is charged, by nurse."""
+    view = page.view
+    charged: Dict[Optional[str], List[Charge]] = {}
+    items: Dict[Optional[str], List[Markup]] = {}
+    for at, week in enumerate(view.weeks):
+        for charge in week.charges or ():
+            charged.setdefault(charge.nurse, []).append(charge)
+            items.setdefault(charge.nurse, []).append(_charge(page, at, charge))
+    folds = [_foldable(plain(nurse), charged[nurse], items[nurse]) for nurse in view.nurses if nurse in charged]
+    if None in charged:
+        folds.append(_foldable("Places with fewer nurses than best", charged[None], items[None]))
+    free = [plain(nurse) for nurse in view.nurses if nurse not in charged]
+    rules = sorted({charge.rule for of_nurse in charged.values() for charge in of_nurse})
+    lines = [element("p", f"Nothing is charged to {', '.join(free)}.")] * bool(free)
+    lines += [element("p", "; ".join(f"{rule}: {RULES[rule]}" for rule in rules))] * bool(rules)
+    return section(f"Cost: {view.penalty} points" if view.penalty is not None else "Cost", *lines, element("div", *folds, class_="folds"))
+
+
+def _details(page: Content) -> List[Markup]:
+    """The sections below the roster. In print the first of them begins a page."""
+    changed, counted, wished, parts = changes_table(page), totals_table(page), wishes_table(page), []
+    if page.old:
+        nothing = element("p", "Nothing is changed since the older roster.")
+        parts.append(section("Changes", changed or nothing, class_="changes sheet"))
+    if counted:
+        parts.append(section("Totals", counted, wished or "", class_=None if page.old else "sheet"))
+    covered = list(coverage_tables(page))
+    if covered:
+        parts.append(section("Coverage", *covered))
+    if page.view.has_costs:
+        parts.append(charges_section(page))
+    return parts
+
+
+def page_text(page: Content) -> str:
+    """The page: well-formed XML, and HTML."""
+    parts = [_roster(page), *([] if page.only_table else _details(page))]
+    head = element(
+        "head", element("meta", charset="utf-8"), element("meta", name="viewport", content="width=device-width"),
+        element("title", title(page)), element("style", _style(page)),
+    )  # fmt: skip
+    body = element("body", element("main", *(joined(part, Markup("\n")) for part in parts)))
+    return f"<!DOCTYPE html>\n{element('html', head, Markup(chr(10)), body, lang='en')}\n"

@@ -1,0 +1,253 @@
+"""The tables of a page: the roster, totals, coverage, wishes and changes. They mean the same without colors and without sight."""
+
+import datetime
+from dataclasses import dataclass, field
+from typing import Dict, Iterator, List, Mapping, Optional, Sequence
+
+from .changes import Change, cells_text, changes
+from ..judging.coverage import Covered, coverage
+from ..week.dates import Times, day_names
+from .markup import Markup, element, hidden, joined, shown
+from .roster_text import COLORS, cuts
+from .roster_view import AWAY, MEANINGS, Cell, RosterView
+from .totals import Totals, Wish, totals
+
+# Weeks next to one another in a table of the roster and of the coverage, so that it fits a page.
+WEEKS_OF_ROSTER, WEEKS_OF_COVERAGE = 4, 2
+CHANGED, CHANGED_MEANING = "\u0394", "changed since the older roster"
+MINUS = "\u2212"
+
+
+def plain(name: str) -> str:
+    """A name with blanks, which files cannot have."""
+    return name.replace("_", " ")
+
+
+@dataclass(frozen=True)
+class Content:
+    """What a page shows: the roster, an older one, the date of the first Monday, and the times of shift types, as far as they are known.
+
+    `only_table` is for a wall: nothing on what the roster costs, nor on wishes and held shifts.
+    """
+
+    view: RosterView
+    old: Optional[RosterView] = None
+    monday: Optional[datetime.date] = None
+    times: Mapping[str, Times] = field(default_factory=dict)
+    only_table: bool = False
+
+    def days(self, week: int) -> Sequence[str]:
+        """The names of a week's days."""
+        return day_names(self.monday, week)
+
+    def marks(self, marks: str) -> str:
+        """Those marks of a cell that the page shows."""
+        return "".join(mark for mark in marks if mark == AWAY or not self.only_table)
+
+    @property
+    def changes(self) -> List[Change]:
+        """What differs from the older roster."""
+        return changes(self.old, self.view) if self.old else []
+
+
+def table(caption: str, heads: Sequence[Markup], rows: Sequence[Sequence[Markup]], class_: Optional[str] = None) -> Markup:
+    """A table with its caption, the rows of its head and its rows."""
+    head = joined(*(element("tr", row) for row in heads))
+    body = joined(*(Markup(f"{element('tr', *row)}\n") for row in rows))
+    return element("table", element("caption", caption), element("thead", head), element("tbody", body), class_=class_)
+
+
+def column(text: str, class_: Optional[str] = None) -> Markup:
+    """The head of a column."""
+    return element("th", text, scope="col", class_=class_)
+
+
+def first(text: str) -> Markup:
+    """The head of a row."""
+    return element("th", text, scope="row")
+
+
+def _weekend(day: int) -> Optional[str]:
+    return {5: "sat", 6: "sun"}.get(day)
+
+
+def _groups(shown_weeks: int, size: int) -> List[range]:
+    return [range(at, min(at + size, shown_weeks)) for at in range(0, shown_weeks, size)]
+
+
+def day_heads(page: Content, weeks: Sequence[int], corner: str) -> List[Markup]:
+    """The heads of the columns of some weeks: the weeks, if there are several, and their days."""
+    days = []
+    for week in weeks:
+        for day, name in enumerate(page.days(week)):
+            word, _, date = name.partition(" ")
+            days.append(column(joined(word, *[element("span", f" {date}", class_="date")] * bool(date)), _weekend(day)))
+    row = joined(column(corner), *days)
+    if len(page.view.weeks) == 1:
+        return [row]
+    named = [element("th", f"week {page.view.weeks[week].number}", scope="colgroup", colspan="7") for week in weeks]
+    return [joined(element("td"), *named), row]
+
+
+# ---- the roster
+
+
+def _small(names: Dict[str, str]) -> Dict[str, str]:
+    """Short names of skills in small letters, so that none looks like a shift type, if they still differ."""
+    small = {name: short.lower() for name, short in names.items()}
+    return small if len(set(small.values())) == len(names) else names
+
+
+class RosterTable:
+    """The table of the roster."""
+
+    def __init__(self, page: Content) -> None:
+        self.page, self.view = page, page.view
+        self.single = len(self.view.weeks) == 1
+        self.short, self.skills = cuts(self.view.shifts, 1), _small(cuts(self.view.skills, 1))
+        self.changed = {(change.week, change.nurse, change.day): change for change in page.changes}
+
+    def tables(self) -> Iterator[Markup]:
+        """A table for each four weeks."""
+        for weeks in _groups(len(self.view.weeks), WEEKS_OF_ROSTER):
+            rows = [
+                [first(plain(nurse)), *(self._cell(week, nurse, day) for week in weeks for day in range(7))] for nurse in self.view.nurses
+            ]
+            yield table("Shifts of each nurse", day_heads(self.page, weeks, "nurse"), rows, "roster" if self.single else "roster many")
+
+    def _cell(self, week: int, nurse: str, day: int) -> Markup:
+        cells = self.view.cells(week, nurse, day)
+        change = self.changed.get((week, nurse, day))
+        parts = [self._shift(cell) for cell in cells]
+        if not cells and self.view.is_away(week, nurse, day):
+            parts.append(element("span", "away", class_="away"))
+        elif not cells and change:
+            parts.append(element("span", "off", class_="away"))
+        if change:
+            parts.append(joined(shown(CHANGED, class_="mark"), hidden(f" {CHANGED_MEANING}, before: {plain(cells_text(change.before))}")))
+        number = self.view.shifts.index(cells[0].shift) % len(COLORS) if cells else None
+        kinds = [_weekend(day), f"s{number}" if cells else None, "changed" if change else None]
+        return element("td", *parts, class_=" ".join(kind for kind in kinds if kind) or None)
+
+    def _shift(self, cell: Cell) -> Markup:
+        shift, skill = plain(cell.shift), plain(cell.skill)
+        marks = [joined(shown(mark, class_="mark"), hidden(f", {MEANINGS[mark]}")) for mark in self.page.marks(cell.marks)]
+        if self.single:
+            return joined(element("b", shift), " ", element("small", skill), *marks)
+        short = joined(element("b", self.short[cell.shift]), *[element("small", self.skills[cell.skill])] * (len(self.skills) > 1))
+        return joined(shown(short), hidden(f"{shift} {skill}"), *marks)
+
+    def legend(self) -> List[str]:
+        """The meaning of short names, the times of shift types, and the marks."""
+        lines = []
+        for shift in self.view.shifts:
+            short = "" if self.single or self.short[shift] == shift else f"{self.short[shift]} = "
+            times = f", {self.page.times[shift]}" if shift in self.page.times else ""
+            lines += [f"{short}{plain(shift)}{times}"] * bool(short or times)
+        if not self.single and len(self.skills) > 1:
+            lines += [f"{short} = {plain(skill)}" for skill, short in self.skills.items() if short != skill]
+        marks = {mark for week in self.view.weeks for row in week.rows for mark in self.page.marks(week.marks(row))}
+        meanings = {**MEANINGS, CHANGED: CHANGED_MEANING}
+        return lines + [f"{mark} = {meaning}" for mark, meaning in meanings.items() if mark in marks or mark == CHANGED and self.changed]
+
+
+# ---- totals
+
+
+def _left(of: Totals, is_last: bool) -> str:
+    """The shifts that are left in the period, or how the contract is missed."""
+    least, greatest = of.contract.minimum - of.shifts, of.contract.maximum - of.shifts
+    if greatest < 0:
+        return f"{-greatest} too many"
+    if is_last:
+        return f"{least} too few" if least > 0 else "within"
+    return f"{max(0, least)} to {greatest} left"
+
+
+def totals_table(page: Content) -> Optional[Markup]:
+    """The totals of each nurse, if they are known."""
+    view, found = page.view, totals(page.view)
+    if not found:
+        return None
+    is_last = any(week.week and week.week.is_last for week in view.weeks[-1:])
+    heads = ["nurse", "shifts", "contract", "difference", *map(plain, view.shifts), "weekends", "at most", "wishes", "granted", "missed"]
+    rows = []
+    for nurse, of in found.items():
+        over = of.weekends - of.max_weekends
+        numbers = [str(of.shifts), f"{of.contract.minimum} to {of.contract.maximum}", _left(of, is_last), *map(str, of.by_shift.values())]
+        numbers += [f"{of.weekends}{f' ({over} too many)' if over > 0 else ''}", str(of.max_weekends)]
+        numbers += [str(len(of.wishes)), str(of.granted), str(len(of.wishes) - of.granted)]
+        if view.has_costs:
+            numbers.append(str(sum(view.costs[nurse].values())))
+        rows.append([first(plain(nurse)), *(element("td", number) for number in numbers)])
+    head = joined(*map(column, [*heads, *["cost"] * view.has_costs]))
+    caption = "Totals: shifts and weekends in the period until now, shifts of each type and wishes in these weeks"
+    return table(caption, [head], rows, "totals")
+
+
+# ---- coverage
+
+
+def _covered(place: Covered, day: int) -> Markup:
+    """The number of nurses, and beside it how many are missing or too many."""
+    words, sign = "", ""
+    if place.number < place.wanted:
+        low = place.number < place.minimum
+        words = f"{place.wanted - place.number} too few{', below the minimum' if low else ''}"
+        sign = f"{MINUS}{place.wanted - place.number}{'!' * low}"
+    elif place.number > place.wanted:
+        words, sign = f"{place.number - place.wanted} too many", f"+{place.number - place.wanted}"
+    range_ = f"{place.minimum}\u2013{place.optimal}" if any(place[1:]) else ""
+    kinds = [_weekend(day), "few" if sign.startswith(MINUS) else "more" if sign else None]
+    return element(
+        "td", element("b", str(place.number)) if any(place) else "", *[joined(" ", shown(sign, class_="mark"), hidden(words))] * bool(sign),
+        *[joined(" ", element("small", shown(range_), hidden(f"minimum {place.minimum}, best {place.optimal}")))] * bool(range_),
+        class_=" ".join(kind for kind in kinds if kind) or None,
+    )  # fmt: skip
+
+
+def coverage_tables(page: Content) -> Iterator[Markup]:
+    """The nurses at each place beside those that it needs, for each two weeks."""
+    known = [week.week and coverage(week.week, week.rows) for week in page.view.weeks]
+    for weeks in _groups(len(known), WEEKS_OF_COVERAGE):
+        places: Dict[Sequence[str], Dict[int, Sequence[Covered]]] = {}
+        for week in weeks:
+            for shift, skill, days in known[week] or ():
+                places.setdefault((shift, skill), {})[week] = days
+        rows = [
+            [first(plain(f"{shift} {skill}"))]
+            + [_covered(place, day) for week in weeks for day, place in enumerate(of.get(week, [Covered(0, 0, 0)] * 7))]
+            for (shift, skill), of in places.items()
+        ]
+        if rows:
+            caption = f"Nurses at each place, and (minimum\u2013best). {MINUS}1: one fewer than best; !: below the minimum; +1: one more than best"
+            yield table(caption, day_heads(page, weeks, "place"), rows, "coverage")
+
+
+# ---- wishes and changes
+
+
+def _wish(page: Content, wish: Wish) -> str:
+    asked = f"no {plain(wish.request.shift)}" if wish.request.shift else "off"
+    return f"{page.days(wish.week)[wish.request.day]} {asked}"
+
+
+def wishes_table(page: Content) -> Optional[Markup]:
+    """The wishes of each nurse who has some."""
+    rows = []
+    for nurse, of in (totals(page.view) or {}).items():
+        if of.wishes:
+            texts = [", ".join(_wish(page, wish) for wish in of.wishes if wish.granted == granted) for granted in (True, False)]
+            rows.append([first(plain(nurse)), *(element("td", text) for text in texts)])
+    return table("Wishes", [joined(*map(column, ("nurse", "granted", "missed")))], rows, "words") if rows else None
+
+
+def changes_table(page: Content) -> Optional[Markup]:
+    """The changes since the older roster."""
+    rows = [
+        [first(plain(change.nurse)), *(element("td", text) for text in (
+            page.days(change.week)[change.day], plain(cells_text(change.before)), plain(cells_text(change.now))))]
+        for change in page.changes
+    ]  # fmt: skip
+    heads = joined(*map(column, ("nurse", "day", "before", "now")))
+    return table(f"{len(rows)} changes since the older roster", [heads], rows, "words") if rows else None

@@ -1,0 +1,117 @@
+"""Reads the files of a table: rosters of one or more weeks, and what else is known of these weeks."""
+
+from dataclasses import dataclass, field, replace
+from pathlib import Path
+from typing import Dict, Iterable, Iterator, List, Mapping, Optional, Sequence
+
+from ..week.faults import Misuse
+from ..week.files import History, Scenario, Solution, Week, check_week_number, read_history, read_scenario, read_solution, read_week
+from ..week.hints import plural
+from ..judging.misfits import other_week
+from ..judging.next_history import next_history
+from .roster_view import RosterView, WeekView
+from ..week.slots import text_of
+
+
+@dataclass(frozen=True)
+class RosterFiles:
+    """The files of a table: one roster for each week, and what else is known of these weeks.
+
+    `fixes` has fix files by the number of their week, or by None if there is only one week.
+    """
+
+    rosters: Sequence[Path]
+    scenario: Optional[Path] = None
+    histories: Sequence[Path] = ()
+    weeks: Sequence[Path] = ()
+    fixes: Mapping[Optional[int], Path] = field(default_factory=dict)
+    early: bool = False
+
+
+def read_view(files: RosterFiles) -> RosterView:
+    """Reads the files of a table."""
+    _check_numbers(files)
+    scenario = read_scenario(files.scenario) if files.scenario else None
+    texts = {path: text_of(path) for path in (*files.rosters, *files.fixes.values())}
+    solutions = [read_solution(path, scenario, texts[path]) for path in files.rosters]
+    datas = [read_week(path, scenario) for path in files.weeks] if scenario else []
+    histories = _histories(files, scenario, solutions) if scenario else []
+    fixes = _fix_of_each(files, [of_week.week for of_week in histories or solutions])
+    views = []
+    for at, (solution, fix) in enumerate(zip(solutions, fixes)):
+        held = read_solution(fix, scenario, texts[fix]).assignments if fix else ()
+        data = datas[at] if datas else None
+        week = Week(scenario, histories[at], data) if scenario and histories and data else None
+        number = histories[at].week if week else solution.week
+        views.append(WeekView(number, solution.assignments, data, week, held, files.early))
+    if scenario:
+        warnings = [*_other_weeks(files.rosters, texts, scenario, histories), *_other_weeks(fixes, texts, scenario, histories)]
+        return RosterView(scenario.name, list(scenario.nurses), list(scenario.shift_types), list(scenario.skills), views, warnings)
+    shown = [row for view in views for row in view.rows]
+    nurses, shifts, skills = (row.nurse for row in shown), (row.shift for row in shown), (row.skill for row in shown)
+    return RosterView(solutions[0].scenario, _each_once(nurses), _each_once(shifts), _each_once(skills), views)
+
+
+def read_old(files: RosterFiles, rosters: Sequence[Path]) -> RosterView:
+    """Reads the older rosters of the same weeks and ward; that they are of others is a Misuse."""
+    if len(rosters) != len(files.rosters):
+        raise Misuse(f"--old is given {plural(len(rosters), 'time')} for {plural(len(files.rosters), 'roster')}: give it once for each, in their order")
+    for old, new in zip(rosters, files.rosters):
+        before, now = (read_solution(path, None) for path in (old, new))
+        if before.scenario != now.scenario:
+            raise Misuse(f"{old} is a roster of '{before.scenario}', and {new} of '{now.scenario}': give two rosters of one ward")
+        if before.week != now.week:
+            raise Misuse(f"{old} is a roster of week {before.week}, and {new} of week {now.week}: give two rosters of one week")
+    return replace(read_view(replace(files, rosters=rosters)), warnings=())
+
+
+def _each_once(names: Iterable[str]) -> List[str]:
+    """The names in the order in which they first occur."""
+    return list(dict.fromkeys(names))
+
+
+def _check_numbers(files: RosterFiles) -> None:
+    """Each roster has its files, or none does."""
+    count = len(files.rosters)
+    if len(files.weeks) not in (0, count):
+        raise Misuse(f"--week is given {plural(len(files.weeks), 'time')} for {plural(count, 'roster')}: give it once for each, in their order")
+    if len(files.histories) not in (0, 1, count):
+        raise Misuse(f"--his is given {plural(len(files.histories), 'time')} for {plural(count, 'roster')}: give the first week's, or each week's in order")
+    if files.weeks and not files.scenario:
+        raise Misuse("--week needs --sce: give the scenario too")
+    if files.histories and not (files.scenario and files.weeks):
+        raise Misuse("--his needs --sce and --week: give all three for the costs")
+
+
+def _histories(files: RosterFiles, scenario: Scenario, solutions: Sequence[Solution]) -> List[History]:
+    """The history of each week: as given, or computed from the first one and the rosters."""
+    histories = [read_history(path, scenario) for path in files.histories]
+    for path, history in zip(files.histories, histories):
+        check_week_number(path, history, scenario)
+    while histories and len(histories) < len(solutions):
+        at = len(histories) - 1
+        if histories[at].week + 1 >= scenario.weeks:
+            raise Misuse(f"{files.rosters[at]}: week {histories[at].week} is the last of {scenario.weeks}: give --his once for each roster")
+        try:
+            histories.append(next_history(scenario, histories[at], solutions[at].assignments))
+        except Misuse as fault:
+            raise Misuse(f"{files.rosters[at]}: {fault}") from fault
+    return histories
+
+
+def _fix_of_each(files: RosterFiles, numbers: Sequence[int]) -> List[Optional[Path]]:
+    """The fix file of each week, if it has one."""
+    for number, path in files.fixes.items():
+        if number is not None and number not in numbers:
+            raise Misuse(f"--fix {number}={path}: no roster is of week {number}, the weeks are {', '.join(map(str, numbers))}")
+    return [files.fixes.get(number, files.fixes.get(None)) for number in numbers]
+
+
+def _other_weeks(
+    paths: Sequence[Optional[Path]], texts: Dict[Path, str], scenario: Scenario, histories: Sequence[History]
+) -> Iterator[str]:
+    """A warning for each file, one of each week, that is of another ward or week than it is shown with."""
+    for at, path in enumerate(paths):
+        found = other_week(path, scenario, histories[at] if histories else None, texts[path]) if path else ""
+        if found:
+            yield f"{path}: {found}"

@@ -1,0 +1,179 @@
+"""A roster of one or more weeks, ready to be shown: cells with marks, charges, and lines that go below."""
+
+from dataclasses import dataclass
+from functools import cached_property
+from typing import Callable, Dict, FrozenSet, Iterator, List, NamedTuple, Optional, Sequence
+
+from ..judging import rules
+from ..judging.absences import Absence, absences_of, is_broken_by
+from ..judging.breaches import Breach, breaches
+from ..judging.coverage import missing_nurses, spare_nurses
+from ..week.files import Assignment, Week, WeekData
+
+HELD, REFUSED, AWAY = "*", "!", "#"
+MEANINGS = {HELD: "held", REFUSED: "a request to be off was not granted", AWAY: "on duty while away"}
+
+
+class Cell(NamedTuple):
+    """A shift with a skill in the table, and its marks."""
+
+    shift: str
+    skill: str
+    marks: str
+
+
+@dataclass
+class WeekView:
+    """One week of a table: its roster, the requests and held rows if they are known, and all files of the week if they are."""
+
+    number: int
+    rows: Sequence[Assignment]
+    data: Optional[WeekData] = None
+    week: Optional[Week] = None
+    held: Sequence[Assignment] = ()
+    early: bool = False
+
+    def marks(self, row: Assignment) -> str:
+        """The marks of an assignment."""
+        away = is_broken_by(self.absences, row)
+        return HELD * (row in self._held) + AWAY * away + REFUSED * (not away and self._is_refused(row))
+
+    @cached_property
+    def _held(self) -> FrozenSet[Assignment]:
+        return frozenset(self.held)
+
+    @cached_property
+    def absences(self) -> FrozenSet[Absence]:
+        """The absences of the week's file."""
+        return absences_of(self.data) if self.data else frozenset()
+
+    @cached_property
+    def _asked(self) -> FrozenSet[object]:
+        """The nurses, days and shift types of the requests; None is any shift type."""
+        return frozenset((request.nurse, request.day, request.shift) for request in self.data.requests) if self.data else frozenset()
+
+    def _is_refused(self, row: Assignment) -> bool:
+        return (row.nurse, row.day, row.shift) in self._asked or (row.nurse, row.day, None) in self._asked
+
+    @cached_property
+    def breaches(self) -> List[Breach]:
+        """The hard rules that the roster breaks, if the week's files are known."""
+        return breaches(self.week, self.rows, self.held) if self.week else []
+
+    @cached_property
+    def charges(self) -> Optional[List[rules.Charge]]:
+        """What the soft rules charge; None if the week's files are not known, or the roster breaks a hard rule."""
+        return list(rules.charges(self.week, self.rows, self.early)) if self.week and not self.breaches else None
+
+    @property
+    def penalty(self) -> Optional[int]:
+        """The penalty of the roster, if it has one."""
+        return None if self.charges is None else sum(charge.cost for charge in self.charges)
+
+    @property
+    def notes(self) -> List[str]:
+        """Lines on held rows that are missing, and on the cost."""
+        rows = set(self.rows)
+        lines = [f"held, and not in the roster: {row.row()}" for row in self.held if row not in rows]
+        if self.breaches:
+            lines.append(f"roster breaks {self.breaches[0].rule}: it has no penalty")
+        if self.charges is not None:
+            places = sum(charge.cost for charge in self.charges if charge.nurse is None)
+            whole = sum(charge.cost for charge in self.charges)
+            lines.append(f"cost: of the nurses {whole - places}, of places not filled (S1) {places}; penalty {whole}")
+        return lines
+
+    @property
+    def misfilled(self) -> List[str]:
+        """A line for each day with places that have too few nurses, and then for each with too many."""
+        return [*missing_nurses(self.week, self.rows), *spare_nurses(self.week, self.rows)] if self.week else []
+
+
+@dataclass
+class RosterView:
+    """A table: nurses, shift types and skills in the order in which they are shown, its weeks, and warnings of its files."""
+
+    name: str
+    nurses: Sequence[str]
+    shifts: Sequence[str]
+    skills: Sequence[str]
+    weeks: Sequence[WeekView]
+    warnings: Sequence[str] = ()
+
+    @cached_property
+    def _cells(self) -> Dict[object, List[Cell]]:
+        cells: Dict[object, List[Cell]] = {}
+        for at, week in enumerate(self.weeks):
+            for row in week.rows:
+                cells.setdefault((at, row.nurse, row.day), []).append(Cell(row.shift, row.skill, week.marks(row)))
+        return cells
+
+    @property
+    def title(self) -> str:
+        """The name of the ward, the weeks, and the number of assignments."""
+        count = sum(len(week.rows) for week in self.weeks)
+        return f"{self.name}, {self.weeks_text}: {count} assignment{'' if count == 1 else 's'}"
+
+    @property
+    def weeks_text(self) -> str:
+        """The numbers of the weeks, as `weeks 0 to 3`."""
+        numbers = [week.number for week in self.weeks]
+        if len(numbers) == 1:
+            return f"week {numbers[0]}"
+        if numbers == list(range(numbers[0], numbers[-1] + 1)):
+            return f"weeks {numbers[0]} to {numbers[-1]}"
+        return f"weeks {', '.join(map(str, numbers))}"
+
+    def cells(self, week: int, nurse: str, day: int) -> List[Cell]:
+        """A nurse's cells on a day; weeks are counted from 0 in the table."""
+        return self._cells.get((week, nurse, day), [])
+
+    def is_away(self, week: int, nurse: str, day: int) -> bool:
+        """Whether the nurse is away on this day by the week's file."""
+        return Absence(nurse, day, None) in self.weeks[week].absences
+
+    @property
+    def has_costs(self) -> bool:
+        """Whether the cost of each nurse is known."""
+        return any(week.charges is not None for week in self.weeks)
+
+    @cached_property
+    def costs(self) -> Dict[str, Dict[str, int]]:
+        """The cost of each nurse in all weeks, by rule."""
+        paid = {nurse: dict.fromkeys(rules.SOFT_RULES, 0) for nurse in self.nurses}
+        for charge in (charge for week in self.weeks for charge in week.charges or ()):
+            if charge.nurse is not None:
+                paid[charge.nurse][charge.rule] += charge.cost
+        return {nurse: {rule: cost for rule, cost in by_rule.items() if cost} for nurse, by_rule in paid.items()}
+
+    def legend(self) -> List[str]:
+        """The meaning of the marks, and notes on the whole roster."""
+        marks = {mark for week in self.weeks for row in week.rows for mark in week.marks(row)}
+        meanings = [f"{mark} = {MEANINGS[mark]}" for mark in sorted(marks, reverse=True)]
+        return [*meanings, *self._with_week(lambda week: week.notes), *self._sum()]
+
+    @property
+    def breaks_absences(self) -> bool:
+        """Whether someone works while she is away."""
+        return any(AWAY in week.marks(row) for week in self.weeks for row in week.rows)
+
+    @property
+    def penalty(self) -> Optional[int]:
+        """The penalty of all weeks together, if each has one."""
+        penalties = [week.penalty for week in self.weeks if week.penalty is not None]
+        return sum(penalties) if len(penalties) == len(self.weeks) else None
+
+    def _sum(self) -> Iterator[str]:
+        if len(self.weeks) > 1 and self.penalty is not None:
+            yield f"all {len(self.weeks)} weeks: penalty {self.penalty}"
+
+    def misfilled(self) -> List[str]:
+        """The lines of each week on places with too few or too many nurses."""
+        return self._with_week(lambda week: week.misfilled)
+
+    def _with_week(self, lines_of: Callable[[WeekView], List[str]]) -> List[str]:
+        return [f"{self.prefix(week)}{line}" for week in self.weeks for line in lines_of(week)]
+
+    def prefix(self, week: WeekView) -> str:
+        """The beginning of a line on this week, if there are several."""
+        return f"week {week.number}: " if len(self.weeks) > 1 else ""

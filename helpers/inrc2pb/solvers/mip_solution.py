@@ -1,0 +1,246 @@
+"""Reads the result files of MIP solvers, as answers that `inrc2pb decode` reads.
+
+Known are the files of cbc, glpsol, HiGHS and SCIP, Gurobi's list of names and values, and toulbar2's list.
+"""
+
+import re
+from array import array
+from dataclasses import dataclass, field
+from typing import Callable, Iterable, Iterator, List, Optional, TextIO, Tuple
+
+from ..week.faults import Misuse
+
+# How a solver ended, and the status of its answer.
+STATUSES = {"optimal": "OPTIMUM FOUND", "stopped": "SATISFIABLE", "infeasible": "UNSATISFIABLE", "unknown": "UNKNOWN"}
+# A value may be off by a millionth; the factor allows for the rounding of binary numbers.
+TOLERANCE = 1e-6 * (1 + 1e-9)
+# A value that is off by no more is an integer by some solver's tolerance, such as Gurobi's own of 1e-5.
+SOLVER_TOLERANCE = 1e-3
+# An objective of more than 17 digits is not kept.
+MAX_OBJECTIVE = 1e17
+LITERALS_PER_LINE = 20
+_VARIABLE = re.compile(r"x([1-9][0-9]{0,8})")
+_NUMBER = re.compile(r"[+-]?(?:[0-9]+\.?[0-9]*|\.[0-9]+)(?:[eE][+-]?[0-9]+)?")
+
+Line = Tuple[int, str]
+
+
+class SolutionFault(Misuse):
+    """A file that is no solution of a model."""
+
+
+class NotInteger(SolutionFault):
+    """A variable with another value than 0 and 1."""
+
+
+@dataclass
+class Answer:
+    """A solver's answer: its status, its objective if it is known, and the variables that are true."""
+
+    status: str
+    objective: Optional[int] = None
+    variables: "array[int]" = field(default_factory=lambda: array("L"))
+
+    def write(self, target: TextIO) -> None:
+        """Writes the `s`, `o` and `v` lines. Variables that no line names are false."""
+        target.write(f"s {self.status}\n")
+        if self.status not in ("OPTIMUM FOUND", "SATISFIABLE"):
+            return
+        if self.objective is not None:
+            target.write(f"o {self.objective}\n")
+        for at in range(0, len(self.variables), LITERALS_PER_LINE):
+            target.write("v" + "".join(f" x{number}" for number in self.variables[at : at + LITERALS_PER_LINE]) + "\n")
+
+
+def read_answer(solution: TextIO, ended: Optional[str] = None) -> Answer:
+    """The answer in a result file. `ended`, a key of STATUSES, counts if the file does not say how the solver ended."""
+    lines = ((number, line.strip()) for number, line in enumerate(solution, 1))
+    lines = ((number, line) for number, line in lines if line)
+    first = next(lines, None)
+    if first is None:
+        return Answer(STATUSES[ended or "unknown"]) if ended in (None, "infeasible", "unknown") else _no_values()
+    for begins, reader in _READERS:
+        if begins.match(first[1]):
+            answer = reader(first, lines, ended or "stopped")
+            break
+    else:
+        raise SolutionFault(f"line {first[0]} is of no known result file: {first[1][:60]}")
+    if answer.status in ("OPTIMUM FOUND", "SATISFIABLE") and not answer.variables:
+        _no_values()
+    return answer
+
+
+def _no_values() -> Answer:
+    raise SolutionFault("the solution has no variable that is 1, not even the unit variable: the file is cut, or of another model")
+
+
+def _objective(text: str) -> Optional[int]:
+    """The objective, if the text is a number that is an integer but for rounding."""
+    if not _NUMBER.fullmatch(text):
+        return None
+    value = float(text)
+    if abs(value) >= MAX_OBJECTIVE or abs(value - round(value)) > SOLVER_TOLERANCE:
+        return None
+    return round(value)
+
+
+def _put_value(line: int, name: str, text: str, variables: "array[int]") -> None:
+    """Keeps the variable if its value is 1."""
+    match = _VARIABLE.fullmatch(name)
+    if not match:
+        raise SolutionFault(f"line {line}: '{name[:40]}' is no variable of the model: is this a solution of another model?")
+    if not _NUMBER.fullmatch(text):
+        raise SolutionFault(f"line {line}: '{text[:40]}' is no value for {name}")
+    value = float(text)
+    off = min(abs(value), abs(value - 1))
+    if off > SOLVER_TOLERANCE:
+        raise NotInteger(f"line {line}: {name} is {text}, neither 0 nor 1: let the solver solve the model with integers")
+    if off > TOLERANCE:
+        advice = "give the solver a smaller integrality tolerance (Gurobi: IntFeasTol=1e-9; HiGHS: mip_feasibility_tolerance = 1e-9)"
+        raise SolutionFault(f"line {line}: {name} is {text}, off by more than a millionth: {advice}")
+    if value > 0.5:
+        variables.append(int(match.group(1)))
+
+
+def _values(rows: Iterable[Tuple[int, List[str]]], name: int = 0, value: int = 1) -> "array[int]":
+    """The true variables of rows that have the name and the value at these indices."""
+    variables = array("L")
+    for number, words in rows:
+        if len(words) <= value:
+            raise SolutionFault(f"line {number} has no value: the file is cut")
+        _put_value(number, words[name], words[value], variables)
+    return variables
+
+
+def _words(lines: Iterable[Line]) -> Iterator[Tuple[int, List[str]]]:
+    return ((number, line.split()) for number, line in lines)
+
+
+def _of_cbc(first: Line, lines: Iterator[Line], _ended: str) -> Answer:
+    """`Optimal - objective value 320.0`, then index, name, value and reduced cost; `**` marks an infeasible row."""
+    says, _, objective = first[1].partition(" - objective value")
+    if "nfeasible" in says:
+        return Answer("UNSATISFIABLE")
+    if says not in ("Optimal", "Optimal (within gap tolerance)") and not re.fullmatch(r"Stopped on [a-zA-Z -]+", says):
+        return Answer("UNKNOWN")
+    rows = ((number, [word for word in words if word != "**"]) for number, words in _words(lines))
+    try:
+        return Answer(STATUSES["optimal" if says == "Optimal" else "stopped"], _objective(objective.strip()), _values(rows, 1, 2))
+    except NotInteger:
+        if says.startswith("Optimal"):
+            raise
+        # cbc was stopped before it had a roster, and wrote the values that it had.
+        return Answer("UNKNOWN")
+
+
+_GLPSOL = {
+    "INTEGER OPTIMAL": "OPTIMUM FOUND",
+    "INTEGER NON-OPTIMAL": "SATISFIABLE",
+    "INTEGER EMPTY": "UNSATISFIABLE",
+    "INTEGER UNDEFINED": "UNKNOWN",
+}
+
+
+def _of_glpsol(_first: Line, lines: Iterator[Line], _ended: str) -> Answer:
+    """The printed form, `glpsol -o`: a table of rows, then one of columns: number, name, `*`, value and bounds."""
+    status, objective = "", None
+    for _number, line in lines:
+        key, _, value = line.partition(":")
+        if key == "Status":
+            status = value.strip()
+        elif key == "Objective":
+            objective = _objective(value.partition("=")[2].split("(")[0].strip())
+        elif "Column name" in line:
+            break
+    if status not in _GLPSOL:
+        raise SolutionFault(f"the solution's status is '{status}': let glpsol solve the model with integers")
+    if status not in ("INTEGER OPTIMAL", "INTEGER NON-OPTIMAL"):
+        return Answer(_GLPSOL[status])
+    return Answer(_GLPSOL[status], objective, _values(_columns(lines), 1, 2))
+
+
+def _columns(lines: Iterator[Line]) -> Iterator[Tuple[int, List[str]]]:
+    """The rows of the table of columns, without `*`."""
+    for number, words in _words(lines):
+        if words[0].isdigit():
+            yield number, [word for word in words if word != "*"]
+        elif not words[0].startswith("--"):
+            return
+
+
+def _of_highs(_first: Line, lines: Iterator[Line], _ended: str) -> Answer:
+    """`Model status`, the status, and the section of the columns."""
+    says = next(lines, (0, ""))[1]
+    if says in ("Infeasible", "Primal infeasible or unbounded", "Unbounded or infeasible"):
+        return Answer("UNSATISFIABLE" if says == "Infeasible" else "UNKNOWN")
+    objective, feasible = None, False
+    for _number, line in lines:
+        words = line.split()
+        if line == "Feasible":
+            feasible = True
+        elif words[0] == "Objective" and len(words) == 2:
+            objective = _objective(words[1])
+        elif line.startswith("# Columns"):
+            break
+        elif line == "None" or line == "Infeasible":
+            return Answer("UNKNOWN")
+    if not feasible:
+        return Answer("UNKNOWN")
+    return Answer(STATUSES["optimal" if says == "Optimal" else "stopped"], objective, _values(_until_comment(lines)))
+
+
+def _until_comment(lines: Iterator[Line]) -> Iterator[Tuple[int, List[str]]]:
+    for number, words in _words(lines):
+        if words[0].startswith("#"):
+            return
+        yield number, words
+
+
+def _of_scip(first: Line, lines: Iterator[Line], _ended: str) -> Answer:
+    """`solution status: ..`, `objective value: ..`, then a name, a value and `(obj:..)` a line."""
+    says = first[1].partition(":")[2].strip()
+    if says == "infeasible":
+        return Answer("UNSATISFIABLE")
+    second = next(lines, (0, ""))[1]
+    if not second.startswith("objective value:"):
+        return Answer("UNKNOWN")
+    status = "optimal" if says == "optimal solution found" else "stopped"
+    return Answer(STATUSES[status], _objective(second.partition(":")[2].strip()), _values(_words(lines)))
+
+
+def _of_raw_glpsol(_first: Line, _lines: Iterator[Line], _ended: str) -> Answer:
+    raise SolutionFault("this is the solution without names that `glpsol -w` writes: let `glpsol -o` write it")
+
+
+def _of_list(first: Line, lines: Iterator[Line], ended: str) -> Answer:
+    """Names and values, as Gurobi and others write them; `# Objective value = ..` in front, if at all."""
+    objective = None
+    while first[1].startswith("#"):
+        key, _, value = first[1].lstrip("# ").partition("=")
+        objective = _objective(value.strip()) if key.strip() == "Objective value" else objective
+        first = next(lines, (0, ""))
+    rows = [first] if first[1] else []
+    return Answer(STATUSES[ended], objective, _values(_words(line for part in (rows, lines) for line in part)))
+
+
+def _of_toulbar2(first: Line, lines: Iterator[Line], ended: str) -> Answer:
+    """`x1=v0 x2=v1 ..` on one line: the last line is the last solution."""
+    last = first
+    for last in lines:
+        pass
+    variables = array("L")
+    for word in last[1].split():
+        name, _, value = word.partition("=")
+        _put_value(last[0], name, value[1:] if value.startswith("v") else value, variables)
+    return Answer(STATUSES[ended], None, variables)
+
+
+_READERS: List[Tuple["re.Pattern[str]", Callable[[Line, Iterator[Line], str], Answer]]] = [
+    (re.compile(r"solution status:"), _of_scip),
+    (re.compile(r"Model status$"), _of_highs),
+    (re.compile(r"Problem:"), _of_glpsol),
+    (re.compile(r"c Problem:"), _of_raw_glpsol),
+    (re.compile(r".* - objective value"), _of_cbc),
+    (re.compile(r"x[0-9]+="), _of_toulbar2),
+    (re.compile(r"#|x[0-9]+\s"), _of_list),
+]

@@ -1,0 +1,1 @@
+"""The files of a week: values, readers, writers, and their faults."""

@@ -1,0 +1,128 @@
+"""The faults that a helper reports, each in one line, and the advice that the line ends with."""
+
+import contextlib
+import errno
+from pathlib import Path
+from typing import Iterator, List, Optional, Sequence, Type, Union
+
+# Advice after a fault of the operating system, by its number.
+_ADVICE = {
+    "ENOENT": "look at its name and folder",
+    "EACCES": "you may not read or write it: look at its permissions and those of its folder, or choose another folder",
+    "EPERM": "you may not read or write it: look at its permissions and those of its folder, or choose another folder",
+    "EROFS": "choose another folder",
+    "EISDIR": "this is a folder: name a file in it",
+    "ENOTDIR": "a part of its path is no folder",
+    "ENOSPC": "the disk is full: free some space, or choose another folder (TMPDIR has the temporary files)",
+    "EDQUOT": "your quota is used up: free some space, or choose another folder",
+    "EFBIG": "raise your limit for the size of a file (ulimit -f), or choose another folder",
+    "EIO": "the disk or its connection fails: look after it, or choose another folder",
+    "EEXIST": "choose another name, or remove this file",
+    "ENAMETOOLONG": "give a shorter name",
+    "ELOOP": "its links lead in a circle: correct them",
+    "ENOEXEC": "it is no program of this machine; a script needs a first line such as #!/bin/sh",
+    "EMFILE": "raise your limit for open files (ulimit -n), or give a smaller --jobs",
+    "EAGAIN": "end other programs, or give a smaller --jobs",
+    "ENOMEM": "end other programs",
+}
+
+
+class Misuse(Exception):
+    """Something that the user has to change, in one line."""
+
+
+class FileFault(Exception):
+    """A file that is not as docs/formats.md says: its path, the line (0 is the whole file), and what to change.
+
+    `fault` is the text with which `inrc2pb` reports the same fault, such as `unknown name`.
+    """
+
+    def __init__(self, path: Union[str, Path], line: int, message: str, fault: str = "") -> None:
+        super().__init__(path, line, message, fault)
+        self.path = Path(path)
+        self.line = line
+        self.message = message
+        self.fault = fault
+
+    def __str__(self) -> str:
+        where = f"{self.path} line {self.line}" if self.line else f"{self.path}"
+        return f"{where}: {self.message}"
+
+
+class FileFaults(Exception):
+    """Several faults of a file, which are reported together."""
+
+    def __init__(self, faults: Sequence[FileFault]) -> None:
+        super().__init__(faults)
+        self.faults = faults
+
+
+class Gathering:
+    """A block at whose end the faults of its steps are raised together."""
+
+    def __init__(self) -> None:
+        self._found: List[FileFault] = []
+
+    def __enter__(self) -> "Gathering":
+        return self
+
+    @contextlib.contextmanager
+    def step(self) -> Iterator[None]:
+        """A fault within this step is kept for the end of the block."""
+        try:
+            yield
+        except FileFault as fault:
+            self._found.append(fault)
+
+    def __exit__(self, kind: Optional[Type[BaseException]], *_: object) -> None:
+        if kind is None and self._found:
+            raise FileFaults(self._found) if len(self._found) > 1 else self._found[0]
+
+
+class ProgramFault(Exception):
+    """A run of `inrc2pb` that failed: its exit status, and the fault line that it printed."""
+
+    def __init__(self, status: int, message: str) -> None:
+        super().__init__(status, message)
+        self.status = status
+        self.message = message
+
+    def __str__(self) -> str:
+        return self.message
+
+
+def page(name: str) -> str:
+    """The path of a page: in a clone, or in an installation."""
+    home = Path(__file__).resolve().parents[3]
+    places = [folder / name for folder in (home / "docs", home / "doc/inrc2pb/docs")]
+    return next((str(place) for place in places if place.is_file()), f"docs/{name}")
+
+
+# Advice after a fault of `inrc2pb`, by a part of its line.
+_PROGRAM_ADVICE = (
+    ("write failed", "look at the folder's name and permissions and at the free space (TMPDIR has the temporary files)"),
+    ("read failed", "look at the file's name, folder and permissions"),
+    ("out of memory", "end other programs"),
+    ("UNSATISFIABLE", f"the minimum numbers cannot all be met; {page('your_ward.md')} shows how to find out why"),
+    ("UNKNOWN", "give the solver more time"),
+    ("answer: ", "look at what the solver prints, or use another solver"),
+    ("roster breaks", "correct its file, or leave it out"),
+    ("is not satisfied", "the solver's answer does not fit this week: use another solver"),
+    (" line ", "inrc2pb-check names the word and how to correct it"),
+)
+
+
+def fault_line(fault: BaseException) -> str:
+    """A fault in one line that says what to do."""
+    line, advice = str(fault), ""
+    if isinstance(fault, OSError):
+        named = f"{fault.filename}: " if fault.filename is not None else ""
+        line, advice = f"{named}{fault.strerror or fault}", _os_advice(fault)
+    elif isinstance(fault, ProgramFault):
+        of_line = next((advice for part, advice in _PROGRAM_ADVICE if part in fault.message), "")
+        advice = _os_advice(fault.__cause__) if isinstance(fault.__cause__, OSError) else of_line
+    return (f"{line}: {advice}" if advice and not line.endswith("?") else line).replace("\n", " ")
+
+
+def _os_advice(fault: OSError) -> str:
+    return _ADVICE.get(errno.errorcode.get(fault.errno or 0, ""), "")
