@@ -1,0 +1,99 @@
+-- The bound of a certificate: the minimum of the bounds of its leaves. The nodes are a tree in preorder. The case of a node is the list of
+-- the conditions on its way to the root, and of those that all plans are asked to meet.
+use Rattle.std.specs.Prelude.{ℕ, ◌+◌, ◌/◌, ◌*◌, ◌≤◌, ◌++◌, Bool, true, false, min, if◌then◌else◌, Option, Some, None, List, [], ◌∷◌, map, reverse, slice_index_or}
+use Rattle.std.specs.List.{list_any}
+use Rattle.std.specs.Option.{option_map_or}
+use Rattle.rota_core.specs.PriceTables.{prices_of}
+use Rattle.rota_core.specs.Prices.{Prices}
+use Rattle.rota_core.specs.Problem.{Problem}
+use Rattle.rota_core.specs.Roster.{Roster}
+use Rattle.rota_core.specs.declared.certificate.Certificate.{Certificate}
+use Rattle.rota_core.specs.declared.certificate.Condition.{Condition}
+use Rattle.rota_core.specs.declared.certificate.Fact.{Fact}
+use Rattle.rota_core.specs.declared.certificate.Fact.TheVariants.{EvenShiftRuns}
+use Rattle.rota_core.specs.declared.certificate.Leaf.{Leaf}
+use Rattle.rota_core.specs.declared.certificate.Node.{Node}
+use Rattle.rota_core.specs.declared.certificate.Node.TheVariants as nodes
+use Rattle.rota_certificate.specs.Facts.{Case, IsIn}
+use Rattle.rota_certificate.specs.LeafBounds.{leaf_bound}
+use Rattle.rota_certificate.specs.Plans.{KeepRules, plan_cost, plan_of}
+
+-- the value of a point, in thousandths
+abbrev pub thousandths : ℕ
+thousandths = 1000
+
+-- ---- rounding
+
+-- whether the condition says that the number of charges of shift runs is even, or that it is odd
+abbrev pub says_even : Fact → (holds : Bool) → Bool
+says_even EvenShiftRuns true = true
+says_even _ _ = false
+
+abbrev pub says_odd : Fact → (holds : Bool) → Bool
+says_odd EvenShiftRuns false = true
+says_odd _ _ = false
+
+-- each penalty is a multiple of 5 points; it is a multiple of 10 if the number of charges of shift runs is even, and otherwise 5 more than one.
+-- The minimum such number that is not below this number of thousandths:
+abbrev pub rounded_up : Case → (sum : ℕ) → ℕ
+rounded_up case sum =
+    (if list_any (λ one. says_even one.fact one.holds) case then (sum + 9999) / 10000 * 10
+    else (if list_any (λ one. says_odd one.fact one.holds) case then (sum + 4999) / 10000 * 10 + 5
+    else (sum + 4999) / 5000 * 5))
+
+-- ---- the tree
+
+-- the conditions from a node to the root
+abbrev pub Path : Type 0
+Path = List Condition
+
+-- the condition that the fact holds, and that it does not hold
+abbrev pub with : Fact → Condition
+with fact = record { fact = fact; holds = true }
+
+abbrev pub without : Fact → Condition
+without fact = record { fact = fact; holds = false }
+
+-- the way to the case that comes next in the tree, after all cases below the end of this way
+unfoldable pub next_path : Path → Option Path
+next_path [] = None
+next_path (condition ∷ path) = (if condition.holds then Some (without condition.fact ∷ path) else next_path path)
+
+-- the minimum of the bounds of the leaves from this node on; a case without a leaf has the bound 0
+unfoldable pub least_bound : (Path → Leaf → ℕ) → Path → List Node → ℕ
+least_bound bound path [] = 0
+least_bound bound path (nodes.Split fact ∷ later) = least_bound bound (with fact ∷ path) later
+least_bound bound path (nodes.Leaf leaf ∷ later) =
+    option_map_or (λ next. min (bound path leaf) (least_bound bound next later)) (next_path path) (bound path leaf)
+
+-- ---- the certificate
+
+-- the case of a way: its conditions from the root on, then those that all plans are asked to meet
+abbrev pub case_of : Path → (given : Case) → Case
+case_of path given = reverse path ++ given
+
+-- the prices of a leaf
+abbrev pub prices_of_leaf : Certificate → Leaf → List Prices
+prices_of_leaf certificate leaf = map prices_of (slice_index_or (map (λ list. list.items) certificate.prices.items) leaf.prices [])
+
+-- the bound of a leaf of the certificate
+abbrev pub bound_at : ℕ → List Problem → (given : Case) → Certificate → Path → Leaf → ℕ
+bound_at unit weeks given certificate path leaf =
+    leaf_bound unit weeks (case_of path given) (prices_of_leaf certificate leaf) leaf.surcharges.items
+
+-- the lower bound of the cost of all plans of the weeks that meet the given conditions, in points
+abbrev pub lower_bound : List Problem → (given : Case) → Certificate → ℕ
+lower_bound weeks given certificate =
+    least_bound (λ path leaf. rounded_up (case_of path given) (bound_at thousandths weeks given certificate path leaf)) [] certificate.nodes.items
+
+-- the bound with the soft rules and the surcharges left out: no plan meets the given conditions if it is above 0
+abbrev pub minimums_bound : List Problem → (given : Case) → Certificate → ℕ
+minimums_bound weeks given certificate =
+    least_bound (λ path leaf. leaf_bound 0 weeks (case_of path given) (prices_of_leaf certificate leaf) []) [] certificate.nodes.items
+
+-- no rosters that keep the hard rules of the weeks and meet the given conditions cost less than these, which do
+pub record AreOptimal (weeks : List Problem) (given : Case) (rosters : List Roster) : Type 0 where
+  pub keep : KeepRules weeks rosters
+  pub meet : IsIn (plan_of weeks rosters) given
+  pub least : (others : List Roster) → KeepRules weeks others → IsIn (plan_of weeks others) given →
+      plan_cost (plan_of weeks rosters) ≤ plan_cost (plan_of weeks others)

@@ -1,0 +1,14 @@
+pub mod CertificateBounds
+pub mod DayCharges
+pub mod FirstBelow
+pub mod Facts
+pub mod LeafBounds
+pub mod Minimums
+pub mod NurseBounds
+pub mod NurseCosts
+pub mod Optimality
+pub mod PlaceBounds
+pub mod PlaceCases
+pub mod Plans
+pub mod ShiftCharges
+pub mod Tariffs
