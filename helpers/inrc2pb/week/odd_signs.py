@@ -14,6 +14,7 @@ _FILES = {
     "HISTORY": "a history: give it with --his",
     "WEEK_DATA": "a week's file: give it with --week",
     "SOLUTION": "a roster or a fix file: give it with --fix, --roster or --from",
+    "FACTS": "a file of facts: give it with --given",
 }  # fmt: skip
 
 
