@@ -19,8 +19,10 @@ from typing import Callable, Dict, Iterator, List, Sequence, TypeVar
 
 sys.path.insert(0, str(Path(__file__).resolve().parents[1] / "helpers"))
 
-from inrc2pb.week.files import ANY, DAYS, Contract, History, Limits, Nurse, NurseHistory, Place, Request, Requirement, Scenario  # noqa: E402
-from inrc2pb.week.files import ShiftType, WeekData, history_text, scenario_text, week_text, write_text  # noqa: E402
+from inrc2pb.week.records import ANY, DAYS, Contract, History, Limits, Nurse, NurseHistory, Place, Request, Requirement  # noqa: E402
+from inrc2pb.week.records import Scenario, ShiftType, WeekData  # noqa: E402
+from inrc2pb.week.files import history_text, scenario_text, week_text  # noqa: E402
+from inrc2pb.week.writing import write_text  # noqa: E402
 
 SKILLS = ("HeadNurse", "Nurse", "Caretaker", "Trainee")
 SHIFT_TYPES = (

@@ -16,7 +16,8 @@ sys.path.insert(0, str(Path(__file__).resolve().parent))
 
 from make_weeks import CONTRACTS, WEEKS, Numbers, write_week  # noqa: E402
 
-from inrc2pb.week.files import DAYS, History, Limits, Nurse, NurseHistory, Place, Request, Requirement, Scenario, ShiftType, WeekData  # noqa: E402
+from inrc2pb.week.records import DAYS, History, Limits, Nurse, NurseHistory, Place, Request, Requirement, Scenario  # noqa: E402
+from inrc2pb.week.records import ShiftType, WeekData  # noqa: E402
 
 # The days that a nurse works in the made-up roster, and in each of the weeks before, at least.
 WORKS = {"FullTime": (5, 4), "PartTime": (4, 3), "HalfTime": (3, 2)}

@@ -4,7 +4,7 @@ from typing import Collection, Dict, Iterator, List, Optional, Sequence, Tuple
 
 from .absences import Absence, absences_of, joined
 from .odd_values import IMPOSSIBLE
-from ..week.records import DAYS, Assignment, History, Place, Scenario, WeekData
+from ..week.records import DAYS, Cell, History, Place, Scenario, WeekData
 
 _KEEPING = "no roster can meet it and keep every absence"
 
@@ -101,9 +101,9 @@ def _shortage_text(scenario: Scenario, data: WeekData, short: Sequence[Place], h
     return f"{need} with {skill} needed at once ({', '.join(some)}), and {has}"
 
 
-def hindrance(scenario: Scenario, history: History, away: Collection[Absence], rows: Sequence[Assignment], nurse: str, place: Place) -> str:
+def hindrance(scenario: Scenario, history: History, away: Collection[Absence], cells: Sequence[Cell], nurse: str, place: Place) -> str:
     """Why a nurse with the skill does not fill a place in a roster; empty if nothing hinders her."""
-    shifts = {row.day: row.shift for row in rows if row.nurse == nurse}
+    shifts = {cell.day: cell.shift for cell in cells if cell.nurse == nurse}
     before = history.nurses[nurse].last_shift if place.day == 0 else shifts.get(place.day - 1)
     after = shifts.get(place.day + 1)
     if Absence(nurse, place.day, None) in away:

@@ -2,7 +2,7 @@
 
 from typing import Dict, Iterator, List, Tuple
 
-from ..week.files import DAYS, Contract, History, Limits, NurseHistory, Requirement, Scenario, WeekData
+from ..week.records import DAYS, Contract, History, Limits, NurseHistory, Requirement, Scenario, WeekData
 from ..week.hints import plural
 from ..week.slots import is_utf8
 

@@ -3,7 +3,7 @@
 from typing import Dict, List, Optional, Sequence, Set
 
 from .plan import POINT, WEEK_DAYS, Plan
-from .pricing import Crews, Pricing, Row
+from .pricing import Crews, Pricing, NurseWeek
 from ..week.records import Place
 from .row_graph import Check
 from .row_program import BELOW_MINIMUM
@@ -98,7 +98,7 @@ class _Matching:
         return False
 
 
-def matched_rows(plan: Plan, crews: Crews, check: Check) -> List[Row]:
+def matched_rows(plan: Plan, crews: Crews, check: Check) -> List[NurseWeek]:
     """A row for each nurse. Minimums that a day cannot meet after the days before it stay open."""
     matching = _Matching(plan, crews)
     for day in range(plan.days):
@@ -129,7 +129,7 @@ class _Worth(Dict[int, int]):
 class Descent:
     """Rows that get better: one nurse after another has the best row beside those of all others."""
 
-    def __init__(self, pricing: Pricing, rows: Sequence[Row]) -> None:
+    def __init__(self, pricing: Pricing, rows: Sequence[NurseWeek]) -> None:
         self._pricing, self.rows = pricing, list(rows)
         crews = pricing.crews
         self._number = [0] * len(crews.places)

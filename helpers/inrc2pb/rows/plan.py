@@ -7,7 +7,7 @@ from dataclasses import dataclass, replace
 from typing import Dict, FrozenSet, Iterable, List, Optional, Sequence, Tuple
 
 from ..judging.absences import Absence, absences_of
-from ..week.files import Assignment, History, Place, Request, Requirement, Scenario, WeekData
+from ..week.records import Cell, History, Place, Request, Requirement, Scenario, WeekData
 from ..judging.rules import MISSING_NURSE, REQUEST
 
 WEEK_DAYS = 7
@@ -18,7 +18,7 @@ NEVER = 1 << 50
 # The costs of all rosters are multiples of it.
 STEP = 5
 
-Held = Dict[Tuple[str, int], List[Assignment]]
+Held = Dict[Tuple[str, int], List[Cell]]
 
 
 @dataclass(frozen=True)
@@ -42,7 +42,7 @@ class Plan:
 
     @staticmethod
     def of(
-        scenario: Scenario, history: History, weeks: Sequence[WeekData], early: bool = False, held: Iterable[Assignment] = (), keeps: bool = True
+        scenario: Scenario, history: History, weeks: Sequence[WeekData], early: bool = False, held: Iterable[Cell] = (), keeps: bool = True
     ) -> "Plan":
         """The plan of these weeks, which follow the history. The days of held rows are those of the plan. Its rows keep all absences, if `keeps`."""
         rows: Held = {}

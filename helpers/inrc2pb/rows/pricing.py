@@ -9,7 +9,7 @@ from .row_graph import Check, Graph, RunState, Runs, Totals
 
 # The highest price in a file of prices.
 MAX_PRICE = 999_999_999
-Row = bytes
+NurseWeek = bytes
 # A price in thousandths for each place of a plan, in its order.
 Prices = List[int]
 # The price of a nurse of each crew, in thousandths.
@@ -21,7 +21,7 @@ class Priced(NamedTuple):
     """A nurse's cheapest row at some prices: its cost less what it earns, in thousandths, and its own cost in points."""
 
     value: int
-    row: Row
+    row: NurseWeek
     cost: int
 
 
@@ -104,7 +104,7 @@ class Pricing:
         part.base, part.wishes = [self.base[number] for number in numbers], [self.wishes[number] for number in numbers]
         return part
 
-    def on_days(self, days: range, rows: Sequence[Row]) -> "Pricing":
+    def on_days(self, days: range, rows: Sequence[NurseWeek]) -> "Pricing":
         """The same for rows that are the given ones, except on these days."""
         part = copy.copy(self)
         part.wishes = []
@@ -141,13 +141,13 @@ class Pricing:
         earned = sum(gains[crews[choice]] for crews, choice in zip(self.crews.of[nurse], row))
         return Priced(value, row, (value + earned) // POINT)
 
-    def cost(self, nurse: int, row: Row) -> Optional[int]:
+    def cost(self, nurse: int, row: NurseWeek) -> Optional[int]:
         """What a row costs its nurse, in points; None if a hard rule forbids it."""
         wishes = sum(of[row[day]] for day, of in self.wishes[nurse].items())
         cost = self.graphs[nurse].cost(self.starts[nurse], row) + wishes + self.base[nurse]
         return None if cost >= NEVER // 2 else cost // POINT
 
-    def within(self, nurse: int, gains: Gains, gap: int, most: int) -> List[Row]:
+    def within(self, nurse: int, gains: Gains, gap: int, most: int) -> List[NurseWeek]:
         """The nurse's rows that cost at most this gap more than her cheapest one, but no more than `most` + 1."""
         pay, graph, start = self._pay(nurse, gains), self.graphs[nurse], self.starts[nurse]
         return graph.within(start, pay, graph.cheapest(start, pay)[0] + gap, most)

@@ -9,7 +9,7 @@ from typing import Callable, Dict, Iterable, List, Optional, Sequence
 from ..programs.clock import Clock
 from ..solvers.linear_solvers import LinearSolver
 from .plan import POINT, STEP
-from .pricing import Priced, Prices, Pricing, Row, in_steps
+from .pricing import Priced, Prices, Pricing, NurseWeek, in_steps
 from ..week.records import Place
 from .row_program import MOST_BELOW, RowProgram, Solved
 from .skills import staffed
@@ -59,7 +59,7 @@ class RowGeneration:
 
     # ---- known rows
 
-    def add_roster(self, rows: Sequence[Row]) -> None:
+    def add_roster(self, rows: Sequence[NurseWeek]) -> None:
         """Adds the rows of a roster, with the places at which its nurses are."""
         crews = self.pricing.crews
         numbers, names = {place: at for at, place in enumerate(crews.places)}, {nurse: at for at, nurse in enumerate(self.plan.nurses)}
@@ -71,7 +71,7 @@ class RowGeneration:
             if cost is not None:
                 self._add(nurse_number, row, cost, self.prices, places[nurse_number])
 
-    def begin_with(self, whole: "RowGeneration", nurses: Sequence[int], rows: Sequence[Row], days: range) -> None:
+    def begin_with(self, whole: "RowGeneration", nurses: Sequence[int], rows: Sequence[NurseWeek], days: range) -> None:
         """Begins with the prices for more nurses, and with the known rows of these nurses, who keep the given rows on all other days."""
         known = dict(zip(whole.pricing.crews.places, whole.prices))
         self.prices = [known.get(place, 0) for place in self.pricing.crews.places]
@@ -81,13 +81,13 @@ class RowGeneration:
                 number = numbers[column.nurse]
                 self.add_row(number, rows[number][: days.start] + column.row[days.start : days.stop] + rows[number][days.stop :])
 
-    def add_row(self, nurse: int, row: Row) -> None:
+    def add_row(self, nurse: int, row: NurseWeek) -> None:
         """Adds a row to the program, if no hard rule forbids it."""
         cost = self.pricing.cost(nurse, row)
         if cost is not None:
             self._add(nurse, row, cost, self.prices)
 
-    def _add(self, nurse: int, row: Row, cost: int, prices: Prices, at: Sequence[Optional[int]] = ()) -> bool:
+    def _add(self, nurse: int, row: NurseWeek, cost: int, prices: Prices, at: Sequence[Optional[int]] = ()) -> bool:
         """Adds a row to those in use. Returns whether it was none of them."""
         column, before = self.program.add(nurse, row, cost, prices, at), len(self._used)
         self._used[column] = None
@@ -118,7 +118,7 @@ class RowGeneration:
         self._goes_on = True
         return self.program.solved(found)
 
-    def _earned(self, prices: Prices, nurse: int, row: Row) -> int:
+    def _earned(self, prices: Prices, nurse: int, row: NurseWeek) -> int:
         crews = self.pricing.crews
         return sum(max([prices[place] for place in crews.members[of[choice]]], default=0) for of, choice in zip(crews.of[nurse], row))
 

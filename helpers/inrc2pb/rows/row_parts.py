@@ -12,7 +12,7 @@ from typing import Callable, Dict, List, NamedTuple, Optional, Sequence, Set, Tu
 from ..programs.clock import Clock, TimeIsOver
 from ..solvers.linear_solvers import LinearSolver, SolverFault
 from .plan import POINT, WEEK_DAYS
-from .pricing import Pricing, Row
+from .pricing import Pricing, NurseWeek
 from ..week.records import Place, Requirement
 from .row_search import RowSearch
 from .skills import staffed
@@ -138,7 +138,7 @@ class RowParts:
             assert whole.rows is not None
             rows = list(whole.rows)
 
-        def offer(found: List[Row], finder: str) -> Optional[int]:
+        def offer(found: List[NurseWeek], finder: str) -> Optional[int]:
             # Meanwhile another thread may have found better rows of other nurses, or on other days.
             with self._lock:
                 assert whole.rows is not None
@@ -158,14 +158,14 @@ class RowParts:
                 return True
         return search.is_proved or search.choose(search.known_within(), clock, name)
 
-    def _pricing(self, part: Part, rows: Sequence[Row]) -> Pricing:
+    def _pricing(self, part: Part, rows: Sequence[NurseWeek]) -> Pricing:
         """The rows of a neighborhood, with the demand that the other nurses leave on its days."""
         whole, names = self._search, tuple(self._search.plan.nurses[nurse] for nurse in part.nurses)
         left = {place: asked for place, asked in self._left(rows, set(names)).items() if place.day in part.days}
         pricing = whole.pricing.part(replace(whole.plan, nurses=names, demand=left))
         return pricing.on_days(part.days, [rows[nurse] for nurse in part.nurses])
 
-    def _left(self, rows: Sequence[Row], names: "set[str]") -> Dict[Place, Requirement]:
+    def _left(self, rows: Sequence[NurseWeek], names: "set[str]") -> Dict[Place, Requirement]:
         """The demand that the other nurses leave."""
         search = self._search
         number: Dict[Place, int] = {}
@@ -181,7 +181,7 @@ class RowParts:
         return left
 
 
-def _with(rows: Sequence[Row], part: Part, found: Sequence[Row]) -> List[Row]:
+def _with(rows: Sequence[NurseWeek], part: Part, found: Sequence[NurseWeek]) -> List[NurseWeek]:
     """The rows with those of a neighborhood replaced, on its days."""
     new, days = dict(zip(part.nurses, found)), part.days
     return [row[: days.start] + new.get(nurse, row)[days.start : days.stop] + row[days.stop :] for nurse, row in enumerate(rows)]

@@ -5,7 +5,7 @@ from typing import Dict, Iterable, List, NamedTuple, Optional, Sequence, Tuple
 
 from ..solvers.linear_solvers import Relaxed, SolverFault
 from .plan import POINT, Plan
-from .pricing import MAX_PRICE, Crews, Prices, Row
+from .pricing import MAX_PRICE, Crews, Prices, NurseWeek
 
 # The cost of a nurse below a minimum at first, in points, and the maximum cost.
 BELOW_MINIMUM, MOST_BELOW = 3000, 900_000
@@ -17,7 +17,7 @@ class Column(NamedTuple):
     """A row of a nurse with its cost in points, the crews for which it counts if it names no places, and its text."""
 
     nurse: int
-    row: Row
+    row: NurseWeek
     cost: int
     crews: Tuple[int, ...]
     text: str
@@ -46,13 +46,13 @@ class RowProgram:
         self.columns: List[Column] = []
         self._crews, self._nurses, self._missing = crews, len(plan.nurses), plan.missing_cost
         self.below = BELOW_MINIMUM if plan.charging else 1
-        self._known: Dict[Tuple[int, Row, Tuple[int, ...]], int] = {}
+        self._known: Dict[Tuple[int, NurseWeek, Tuple[int, ...]], int] = {}
         # The number of each crew at each of its places: names are the same in all programs.
         self._at: Dict[Tuple[int, int], int] = {}
         # Whether a column names the places of its row. Then the columns of a row have some of its places, and not all.
         self.names_places = sum(len(places) > 1 for places in crews.members) > MOST_LINKS
 
-    def add(self, nurse: int, row: Row, cost: int, prices: Prices, at: Sequence[Optional[int]] = ()) -> int:
+    def add(self, nurse: int, row: NurseWeek, cost: int, prices: Prices, at: Sequence[Optional[int]] = ()) -> int:
         """Adds a row, if it is new. Returns its column. If columns name places, they are these on each day, or else those of the highest
         prices."""
         of = self._crews.of[nurse]
@@ -64,7 +64,7 @@ class RowProgram:
             self.columns.append(self._column_at(len(self.columns), nurse, row, cost, places))
         return self._known[key]
 
-    def _column_at(self, number: int, nurse: int, row: Row, cost: int, places: Sequence[Optional[int]]) -> Column:
+    def _column_at(self, number: int, nurse: int, row: NurseWeek, cost: int, places: Sequence[Optional[int]]) -> Column:
         """The column of this number. If columns name places, these are its own."""
         of = self._crews.of[nurse]
         crews = [of[day][choice] for day, choice in enumerate(row)]

@@ -11,7 +11,7 @@ from ..programs.clock import Clock
 from .first_rows import Descent
 from ..solvers.linear_solvers import LinearSolver
 from .plan import POINT, STEP
-from .pricing import Pricing, Row
+from .pricing import Pricing, NurseWeek
 from .row_generation import EXACT, WORTH, RowGeneration
 from .row_program import Solved
 from .skills import staffed
@@ -27,7 +27,7 @@ MOST_SWEEPS = 4
 GIVEN = "the given roster"
 
 # Takes rows of all nurses and the name of what found them, and returns their penalty, or None if they are no roster.
-Offer = Callable[[List[Row], str], Optional[int]]
+Offer = Callable[[List[NurseWeek], str], Optional[int]]
 
 
 class RowSearch(RowGeneration):
@@ -37,7 +37,7 @@ class RowSearch(RowGeneration):
         super().__init__(pricing, solver, heard)
         self.clock, self._offer = clock, offer
         # The rows and the penalty of the best roster.
-        self.rows: Optional[List[Row]] = None
+        self.rows: Optional[List[NurseWeek]] = None
         self.penalty: Optional[int] = None
 
     @property
@@ -45,7 +45,7 @@ class RowSearch(RowGeneration):
         """Whether the best roster costs no more than the bound."""
         return self.penalty is not None and self.lower_bound is not None and self.penalty <= self.lower_bound
 
-    def keep(self, rows: List[Row], finder: str) -> bool:
+    def keep(self, rows: List[NurseWeek], finder: str) -> bool:
         """Offers rows that may be better than the best roster. Returns whether they are."""
         value = self.value_of(rows)
         if value is None or (self.penalty is not None and value >= self.penalty):
@@ -56,7 +56,7 @@ class RowSearch(RowGeneration):
         self.rows, self.penalty = rows, penalty
         return True
 
-    def value_of(self, rows: Sequence[Row]) -> Optional[int]:
+    def value_of(self, rows: Sequence[NurseWeek]) -> Optional[int]:
         """What rows cost, in points; None if they break a hard rule."""
         found = staffed(self.plan, self.pricing.crews, rows)
         costs = [self.pricing.cost(nurse, row) for nurse, row in enumerate(rows)]
@@ -66,7 +66,7 @@ class RowSearch(RowGeneration):
 
     # ---- a first roster
 
-    def begin(self, rows: List[Row], penalty: Optional[int]) -> None:
+    def begin(self, rows: List[NurseWeek], penalty: Optional[int]) -> None:
         """Begins with these rows, and the penalty of their roster if they are one. Makes them better without a solver, if that is easy."""
         if penalty is not None:
             self.rows, self.penalty = rows, penalty
@@ -81,7 +81,7 @@ class RowSearch(RowGeneration):
 
     # ---- fixed rows
 
-    def dive(self, clock: Clock) -> Optional[List[Row]]:
+    def dive(self, clock: Clock) -> Optional[List[NurseWeek]]:
         """Fixes rows a few at a time, with new ones in between. Returns a row of each nurse, None if they cannot be better than the best."""
         columns, chosen = self.program.columns, dict.fromkeys(range(0), 0)
         share, last = FIRST_SHARE, -math.inf
@@ -133,11 +133,11 @@ class RowSearch(RowGeneration):
         found = self._priced(self.prices, range(len(self.plan.nurses)), self.clock)
         return [priced.value for priced in found.values()]
 
-    def costly(self, rows: Sequence[Row], least: Sequence[int]) -> List[int]:
+    def costly(self, rows: Sequence[NurseWeek], least: Sequence[int]) -> List[int]:
         """The nurses whose rows cost more at the best prices than these least values."""
         return [nurse for nurse, row in enumerate(rows) if self._reduced(nurse, row, self.pricing.cost(nurse, row) or 0) > least[nurse]]
 
-    def _reduced(self, nurse: int, row: Row, cost: int) -> int:
+    def _reduced(self, nurse: int, row: NurseWeek, cost: int) -> int:
         """What a row costs less what it earns at the best prices, in thousandths."""
         return cost * POINT - self._earned(self.prices, nurse, row)
 

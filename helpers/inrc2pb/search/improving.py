@@ -11,7 +11,8 @@ from .best_roster import BestRoster
 from .bounds import CASES, PROVER
 from ..programs.clock import Clock
 from ..week.faults import Misuse, ProgramFault
-from ..week.files import Assignment, Week, read_files
+from ..week.files import read_files
+from ..week.records import Cell, Week
 from ..programs.interrupts import interrupts
 from ..judging.misfits import read_held
 from ..programs.program import NO_ROSTER, Report, WeekFiles
@@ -142,6 +143,6 @@ def _result(
     return SearchResult(report, running, best, stopped, fault, prices)
 
 
-def held_rows(fix: Path, week: Week, progress: Progress) -> Sequence[Assignment]:
+def held_rows(fix: Path, week: Week, progress: Progress) -> Sequence[Cell]:
     """The rows of the fix file. A warning is printed if it is of another ward or week."""
-    return read_held(fix, week.scenario, week.history, lambda warning: progress.warn(f"{fix}: {warning}")).assignments
+    return read_held(fix, week.scenario, week.history, lambda warning: progress.warn(f"{fix}: {warning}")).cells

@@ -7,9 +7,9 @@ from typing import Collection, Dict, Iterator, List, NamedTuple, Optional, Tuple
 from ..judging.absences import Absence, is_broken_by, readable
 from ..week.faults import Gathering
 from ..week.hints import plural
-from ..week.records import DAYS, Assignment, Place, Request, Requirement, Scenario
+from ..week.records import DAYS, Cell, Place, Request, Requirement, Scenario
 from .sheet_files import Book
-from .sheet_rows import Cell, Row, Table
+from .sheet_rows import SheetCell, SheetRow, Table
 from ..week.slots import MAX_NUMBER
 from .ward_sheets import Ward, table_of
 
@@ -25,8 +25,8 @@ _SERIAL = re.compile(r"\b[2-9][0-9]{4}\b")
 class Held(NamedTuple):
     """A shift that a nurse has for certain, and its cell."""
 
-    row: Assignment
-    cell: Cell
+    row: Cell
+    cell: SheetCell
 
 
 class WeekSheet:
@@ -44,7 +44,7 @@ class Days(NamedTuple):
     """The columns of the plan, one for each day, and the date of the first, if the heads have dates."""
 
     plan: Table
-    columns: List[Cell]
+    columns: List[SheetCell]
     monday: Optional[datetime.date]
 
     @property
@@ -74,7 +74,7 @@ def read_days(book: Book) -> Days:
     return Days(plan, columns, monday)
 
 
-def _day_of(cell: Cell) -> int:
+def _day_of(cell: SheetCell) -> int:
     """The day of the week with which a head begins, as Wed or Wednesday 0."""
     short = cell.text[:3].casefold()
     for day, name in enumerate(DAYS):
@@ -83,7 +83,7 @@ def _day_of(cell: Cell) -> int:
     cell.fault(f"'{cell.text}' is no day of the week: write one of {','.join(DAYS)}, or begin the head with #")
 
 
-def _date_of(cell: Cell) -> Optional[datetime.date]:
+def _date_of(cell: SheetCell) -> Optional[datetime.date]:
     """The date in a head: written out, or as a number of a spreadsheet."""
     found, serial = _DATE.search(cell.text), _SERIAL.search(cell.text)
     if not found:
@@ -112,9 +112,9 @@ def read_weeks(book: Book, ward: Ward, days: Days) -> List[WeekSheet]:
     return weeks
 
 
-def _plan_rows(days: Days, scenario: Scenario, faults: Gathering) -> Dict[str, Row]:
+def _plan_rows(days: Days, scenario: Scenario, faults: Gathering) -> Dict[str, SheetRow]:
     """The row of each nurse in the plan."""
-    rows: Dict[str, Row] = {}
+    rows: Dict[str, SheetRow] = {}
     for row in days.plan.rows:
         with faults.step():
             cell = row.of("nurse")
@@ -142,7 +142,7 @@ def _read_needs(table: Table, scenario: Scenario, weeks: List[WeekSheet]) -> Non
                 one.requirements.update({Place(day, shift, skill): asked for day, asked in enumerate(needed)})
 
 
-def _needed(cell: Cell) -> Requirement:
+def _needed(cell: SheetCell) -> Requirement:
     """The numbers of a cell: `2`, `2+1` (at least two, three are best), `2..3` or nothing."""
     if cell.text in _NO_WISH:
         return Requirement(0, 0)
@@ -168,7 +168,7 @@ def _pair_for(text: str) -> str:
     return f"{least}+{best - least} for {least} at least and better {best}"
 
 
-def _read_day(cell: Cell, nurse: str, at: int, scenario: Scenario, weeks: List[WeekSheet]) -> None:
+def _read_day(cell: SheetCell, nurse: str, at: int, scenario: Scenario, weeks: List[WeekSheet]) -> None:
     """One cell of the plan: a wish, an absence, or a shift that is held."""
     week, day = weeks[at // len(DAYS)], at % len(DAYS)
     text = cell.text.casefold()
@@ -185,18 +185,18 @@ def _read_day(cell: Cell, nurse: str, at: int, scenario: Scenario, weeks: List[W
         week.held.append(_held(cell, nurse, day, week, scenario))
 
 
-def _held(cell: Cell, nurse: str, day: int, week: WeekSheet, scenario: Scenario) -> Held:
+def _held(cell: SheetCell, nurse: str, day: int, week: WeekSheet, scenario: Scenario) -> Held:
     """A shift, or a shift and a skill."""
     named, _, with_skill = (part.strip() for part in cell.text.partition("/"))
     others = ("wish", *AWAY, f"no {readable(next(iter(scenario.shift_types)))}")
     shift = cell._replace(text=named).known("shift type", scenario.shift_types, others)
     own = scenario.nurses[nurse].skills
     if with_skill:
-        return Held(Assignment(nurse, day, shift, cell._replace(text=with_skill).known(f"skill of {readable(nurse)}", own)), cell)
+        return Held(Cell(nurse, day, shift, cell._replace(text=with_skill).known(f"skill of {readable(nurse)}", own)), cell)
     asked = [skill for skill in own if week.requirements.get(Place(day, shift, skill), Requirement(0, 0)).optimal]
     if len(asked or own) > 1:
         cell.fault(f"{readable(nurse)} has more than one skill for it: write {readable(shift)}/{readable((asked or own)[0])}, for example")
-    return Held(Assignment(nurse, day, shift, (asked or own)[0]), cell)
+    return Held(Cell(nurse, day, shift, (asked or own)[0]), cell)
 
 
 def check_held(ward: Ward, weeks: List[WeekSheet]) -> None:

@@ -84,7 +84,7 @@ def title(page: Content) -> str:
 def _summary(page: Content) -> Iterator[str]:
     """Sentences below the title."""
     view = page.view
-    count = sum(len(week.rows) for week in view.weeks)
+    count = sum(len(week.cells) for week in view.weeks)
     cost = f", penalty {view.penalty}" if view.penalty is not None and not page.only_table else ""
     old = page.old.penalty if page.old and not page.old.breaks_absences else None
     before = f", before {old}" if cost and old is not None else ""

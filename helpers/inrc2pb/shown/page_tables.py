@@ -9,7 +9,7 @@ from ..judging.coverage import Covered, coverage
 from ..week.dates import Times, day_names
 from .markup import Markup, element, hidden, joined, shown
 from .roster_text import COLORS, cuts
-from .roster_view import AWAY, MEANINGS, Cell, RosterView
+from .roster_view import AWAY, MEANINGS, ShownCell, RosterView
 from .totals import Totals, Wish, totals
 
 # Weeks next to one another in a table of the roster and of the coverage, so that it fits a page.
@@ -129,7 +129,7 @@ class RosterTable:
         kinds = [_weekend(day), f"s{number}" if cells else None, "changed" if change else None]
         return element("td", *parts, class_=" ".join(kind for kind in kinds if kind) or None)
 
-    def _shift(self, cell: Cell) -> Markup:
+    def _shift(self, cell: ShownCell) -> Markup:
         shift, skill = plain(cell.shift), plain(cell.skill)
         marks = [joined(shown(mark, class_="mark"), hidden(f", {MEANINGS[mark]}")) for mark in self.page.marks(cell.marks)]
         if self.single:
@@ -146,7 +146,7 @@ class RosterTable:
             lines += [f"{short}{plain(shift)}{times}"] * bool(short or times)
         if not self.single and len(self.skills) > 1:
             lines += [f"{short} = {plain(skill)}" for skill, short in self.skills.items() if short != skill]
-        marks = {mark for week in self.view.weeks for row in week.rows for mark in self.page.marks(week.marks(row))}
+        marks = {mark for week in self.view.weeks for row in week.cells for mark in self.page.marks(week.marks(row))}
         meanings = {**MEANINGS, CHANGED: CHANGED_MEANING}
         return lines + [f"{mark} = {meaning}" for mark, meaning in meanings.items() if mark in marks or mark == CHANGED and self.changed]
 
@@ -208,7 +208,7 @@ def _covered(place: Covered, day: int) -> Markup:
 
 def coverage_tables(page: Content) -> Iterator[Markup]:
     """The nurses at each place beside those that it needs, for each two weeks."""
-    known = [week.week and coverage(week.week, week.rows) for week in page.view.weeks]
+    known = [week.week and coverage(week.week, week.cells) for week in page.view.weeks]
     for weeks in _groups(len(known), WEEKS_OF_COVERAGE):
         places: Dict[Sequence[str], Dict[int, Sequence[Covered]]] = {}
         for week in weeks:

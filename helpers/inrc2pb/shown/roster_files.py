@@ -5,7 +5,8 @@ from pathlib import Path
 from typing import Dict, Iterable, Iterator, List, Mapping, Optional, Sequence
 
 from ..week.faults import Misuse
-from ..week.files import History, Scenario, Solution, Week, check_week_number, read_history, read_scenario, read_solution, read_week
+from ..week.files import check_week_number, read_history, read_scenario, read_solution, read_week
+from ..week.records import History, Scenario, Solution, Week
 from ..week.hints import plural
 from ..judging.misfits import other_week
 from ..judging.next_history import next_history
@@ -39,15 +40,15 @@ def read_view(files: RosterFiles) -> RosterView:
     fixes = _fix_of_each(files, [of_week.week for of_week in histories or solutions])
     views = []
     for at, (solution, fix) in enumerate(zip(solutions, fixes)):
-        held = read_solution(fix, scenario, texts[fix]).assignments if fix else ()
+        held = read_solution(fix, scenario, texts[fix]).cells if fix else ()
         data = datas[at] if datas else None
         week = Week(scenario, histories[at], data) if scenario and histories and data else None
         number = histories[at].week if week else solution.week
-        views.append(WeekView(number, solution.assignments, data, week, held, files.early))
+        views.append(WeekView(number, solution.cells, data, week, held, files.early))
     if scenario:
         warnings = [*_other_weeks(files.rosters, texts, scenario, histories), *_other_weeks(fixes, texts, scenario, histories)]
         return RosterView(scenario.name, list(scenario.nurses), list(scenario.shift_types), list(scenario.skills), views, warnings)
-    shown = [row for view in views for row in view.rows]
+    shown = [cell for view in views for cell in view.cells]
     nurses, shifts, skills = (row.nurse for row in shown), (row.shift for row in shown), (row.skill for row in shown)
     return RosterView(solutions[0].scenario, _each_once(nurses), _each_once(shifts), _each_once(skills), views)
 
@@ -93,7 +94,7 @@ def _histories(files: RosterFiles, scenario: Scenario, solutions: Sequence[Solut
         if histories[at].week + 1 >= scenario.weeks:
             raise Misuse(f"{files.rosters[at]}: week {histories[at].week} is the last of {scenario.weeks}: give --his once for each roster")
         try:
-            histories.append(next_history(scenario, histories[at], solutions[at].assignments))
+            histories.append(next_history(scenario, histories[at], solutions[at].cells))
         except Misuse as fault:
             raise Misuse(f"{files.rosters[at]}: {fault}") from fault
     return histories

@@ -4,11 +4,11 @@ import textwrap
 from html import escape
 from typing import Dict, Iterator, List, Sequence, Tuple
 
-from ..week.files import DAYS
+from ..week.records import DAYS
 from .charge_words import costs_text
 from .markup import allowed
 from .roster_text import COLORS, abbreviations, columns, cuts, ink_on
-from .roster_view import HELD, Cell, RosterView
+from .roster_view import HELD, ShownCell, RosterView
 from .totals import HEADS, LEGEND, totals
 
 STYLE = """<style>
@@ -38,7 +38,7 @@ class CellTexts:
             if self.longest <= room:
                 break
 
-    def text(self, cell: Cell) -> str:
+    def text(self, cell: ShownCell) -> str:
         """The text of a cell."""
         return f"{self.shifts[cell.shift]} {self.skills[cell.skill]}{cell.marks}"
 
@@ -133,7 +133,7 @@ class Picture:
             yield x, column
             x += width
 
-    def cells(self, cells: Sequence[Cell], x: int, y: int) -> Iterator[str]:
+    def cells(self, cells: Sequence[ShownCell], x: int, y: int) -> Iterator[str]:
         """The cells of one nurse and day."""
         width, height = self.wide - 4, HIGH - 4
         if not cells:

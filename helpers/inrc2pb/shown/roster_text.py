@@ -4,7 +4,7 @@ import unicodedata
 from typing import Dict, Iterator, List, Sequence
 
 from .charge_words import costs_text
-from ..week.files import DAYS
+from ..week.records import DAYS
 from .roster_view import RosterView
 from .totals import HEADS, LEGEND, totals
 

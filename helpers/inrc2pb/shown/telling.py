@@ -5,7 +5,7 @@ from typing import Collection, Dict, Iterable, Iterator, List, Optional, Tuple
 from ..judging.absences import absences_of, joined, wishes_of
 from ..judging.demand import asked_shifts, supplied_shifts
 from ..week.hints import plural
-from ..week.records import DAYS, Assignment, Contract, History, Limits, Place, Request, Requirement, Scenario, WeekData
+from ..week.records import DAYS, Cell, Contract, History, Limits, Place, Request, Requirement, Scenario, WeekData
 
 _WEEK = len(DAYS)
 
@@ -115,7 +115,7 @@ def _away(nurse: str, shift: Optional[str], days: Collection[int]) -> Iterator[s
         yield f"{nurse} never works {shift}" + ("." if len(days) == _WEEK else f" on {_days(days)}.")
 
 
-def held_sentences(held: Iterable[Assignment]) -> Iterator[str]:
+def held_sentences(held: Iterable[Cell]) -> Iterator[str]:
     """Held shifts, those of a nurse, a shift type and a skill together."""
     found: Dict[Tuple[str, str, str], List[int]] = {}
     for row in held:

@@ -45,7 +45,7 @@ LEGEND = "shifts and weekends: in the period until now / the contract's limits; 
 
 def wishes_by_nurse(week: WeekView, at: int) -> Dict[str, List[Wish]]:
     """The wishes of a week, each once."""
-    works = {(row.nurse, row.day, shift) for row in week.rows for shift in (row.shift, None)}
+    works = {(row.nurse, row.day, shift) for row in week.cells for shift in (row.shift, None)}
     found: Dict[str, List[Wish]] = {}
     for request in dict.fromkeys(wishes_of(week.data)) if week.data else ():
         refused = (request.nurse, request.day, request.shift) in works
@@ -59,9 +59,9 @@ def totals(view: RosterView) -> Optional[Dict[str, Totals]]:
     if not last.week:
         return None
     wishes = [wishes_by_nurse(week, at) for at, week in enumerate(view.weeks)]
-    number = collections.Counter((row.nurse, row.shift) for week in view.weeks for row in week.rows)
+    number = collections.Counter((row.nurse, row.shift) for week in view.weeks for row in week.cells)
     days: Dict[str, List[int]] = {}
-    for row in last.rows:
+    for row in last.cells:
         days.setdefault(row.nurse, []).append(row.day)
     found = {}
     for nurse in view.nurses:

@@ -12,7 +12,7 @@ from pathlib import Path
 from typing import Callable, Iterator, List, Optional, TextIO, Tuple
 
 from ..week.faults import Misuse
-from ..week.files import replacing
+from ..week.writing import replacing
 
 # A term has at most 31 characters: a sign, 17 digits, a blank, `x` and 10 digits, and a blank. A line may have 560. Models of
 # `inrc2pb` have at most 10 and 8 digits.
