@@ -5,8 +5,8 @@ from pathlib import Path
 from typing import Callable, List, Optional, Sequence, Tuple
 
 from ..judging.absences import absences_of, working_while_away
-from ..week.faults import ProgramFault
-from ..week.files import write_solution
+from ..week.faults import FileFault, ProgramFault
+from ..week.files import read_solution, write_solution
 from ..week.records import Cell, Solution, Week
 from ..judging.misfits import explained, other_week, read_roster
 from ..programs.program import BROKEN_RULE, Report, WeekFiles, decode, extend
@@ -70,6 +70,17 @@ class BestRoster:
             raise said from fault
         self.offer(cells, "the given roster")
         return cells
+
+    def resume(self) -> Optional[Sequence[Cell]]:
+        """Begins with the roster that the file has, if it is one of this week and keeps the hard rules."""
+        week = self._week
+        try:
+            found = read_solution(self._solution, week.scenario) if self._solution.is_file() else None
+        except (FileFault, OSError):
+            return None
+        if not found or (found.week, found.scenario) != (week.history.week, week.scenario.name):
+            return None
+        return found.cells if self.offer(found.cells, "the earlier roster") is not None else None
 
     def report(self) -> Optional[Report]:
         """The report of the roster in the file, if there is one; its status is OPTIMUM FOUND if it is proved."""

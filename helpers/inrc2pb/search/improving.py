@@ -70,7 +70,7 @@ def improve(
 ) -> SearchResult:
     """Searches for these seconds, writes the best roster to `solution`, and returns its report and lower bound.
 
-    `start` is the roster to begin with, `solver` a command that solves the whole week in place of the search over rows, and
+    `start` is the roster to begin with, if it is not the one that `solution` has of this week, `solver` a command that solves the whole week in place of the search over rows, and
     `prices` the file for the prices, or the cases with prices, that prove the bound. Ctrl-C, TERM or a fault end the search: the roster is written, then
     KeyboardInterrupt or the fault is raised.
     """
@@ -106,7 +106,7 @@ def search(
     with interrupts() as signals:
         folder = Path(tempfile.mkdtemp(prefix="inrc2pb-improve-"))
         try:
-            rows = best.start(start, held) if start else None
+            rows = best.start(start, held) if start else best.resume()
             with signals.calling(running.interrupt):
                 if own:
                     running.by_solver(own, folder)
