@@ -41,8 +41,8 @@ def next_history(scenario: Scenario, history: History, cells: Iterable[Cell], ne
     shifts: Dict[str, Dict[int, str]] = {nurse: {} for nurse in history.nurses}
     for cell in cells:
         if cell.day in shifts[cell.nurse]:
-            raise Misuse(f"{assignment.row()}: {assignment.nurse} has two assignments on this day, remove one")
-        shifts[assignment.nurse][assignment.day] = assignment.shift
+            raise Misuse(f"{cell.row()}: {cell.nurse} has two assignments on this day, remove one")
+        shifts[cell.nurse][cell.day] = cell.shift
     nurses = {nurse: next_nurse_history(past, shifts[nurse], new_period) for nurse, past in history.nurses.items()}
     for nurse, next_one in nurses.items():
         if max(next_one.assignments, next_one.weekends) > MAX_NUMBER:
