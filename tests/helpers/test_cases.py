@@ -17,7 +17,8 @@ from inrc2pb.search.bounds import PLAIN, PROVER, cases_text
 from inrc2pb.rows.case_hunt import CaseHunt
 from inrc2pb.rows.cases import Case, PricedCase, needed, plain_cases_bound, pricing_of as pricing_of_case
 from inrc2pb.programs.clock import Clock, TimeIsOver
-from inrc2pb.solvers.linear_solvers import LinearSolvers, SolverFault
+from inrc2pb.solvers.answers import SolverFault
+from inrc2pb.solvers.linear_solvers import LinearSolvers
 from inrc2pb.rows.plan import Plan
 from inrc2pb.rows.pricing import MAX_PRICE
 from inrc2pb.programs.processes import Processes

@@ -12,7 +12,8 @@ from ward import HAS_CBC, ROOT, HelperTest, files, records
 
 from inrc2pb.rows import row_generation, row_program
 from inrc2pb.programs.clock import Clock
-from inrc2pb.solvers.linear_solvers import Chosen, LinearSolver, LinearSolvers, SolverFault
+from inrc2pb.solvers.answers import Chosen, SolverFault
+from inrc2pb.solvers.linear_solvers import LinearSolver, LinearSolvers
 from inrc2pb.rows.plan import Plan
 from inrc2pb.rows.pricing import Crews, Pricing
 from inrc2pb.programs.processes import Processes

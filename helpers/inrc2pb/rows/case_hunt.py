@@ -6,7 +6,8 @@ from typing import Dict, FrozenSet, List, Optional, Sequence, Set
 
 from .cases import Case, CaseSearch, NurseDay, PricedCase, needed, open_days
 from ..programs.clock import Clock, TimeIsOver
-from ..solvers.linear_solvers import LinearSolver, SolverFault
+from ..solvers.answers import SolverFault
+from ..solvers.linear_solvers import LinearSolver
 from .row_generation import RowGeneration
 from .row_search import RowSearch
 

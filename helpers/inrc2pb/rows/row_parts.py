@@ -10,7 +10,8 @@ from dataclasses import replace
 from typing import Callable, Dict, List, NamedTuple, Optional, Sequence, Set, Tuple
 
 from ..programs.clock import Clock, TimeIsOver
-from ..solvers.linear_solvers import LinearSolver, SolverFault
+from ..solvers.answers import SolverFault
+from ..solvers.linear_solvers import LinearSolver
 from .plan import POINT, WEEK_DAYS
 from .pricing import Pricing, NurseWeek
 from ..week.records import Place, Requirement

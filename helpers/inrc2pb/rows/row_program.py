@@ -3,7 +3,7 @@
 import copy
 from typing import Dict, Iterable, List, NamedTuple, Optional, Sequence, Tuple
 
-from ..solvers.linear_solvers import Relaxed, SolverFault
+from ..solvers.answers import Relaxed, SolverFault
 from .plan import POINT, Plan
 from .pricing import MAX_PRICE, Crews, Prices, NurseWeek
 

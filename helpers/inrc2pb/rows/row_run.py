@@ -8,7 +8,8 @@ from .case_hunt import CaseHunt
 from .cases import PricedCase
 from ..programs.clock import Clock, TimeIsOver
 from .first_rows import matched_rows
-from ..solvers.linear_solvers import LinearSolver, SolverFault
+from ..solvers.answers import SolverFault
+from ..solvers.linear_solvers import LinearSolver
 from .plan import POINT, STEP, Plan
 from .pricing import Crews, Prices, Pricing, NurseWeek
 from ..programs.processes import processors
