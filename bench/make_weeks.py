@@ -73,10 +73,10 @@ def scenario(name: str, nurses: Sequence[Nurse]) -> Scenario:
 
 def history(ward: Scenario, week: int, numbers: Numbers) -> History:
     """A nurse worked on the last days up to Sunday, or she was off on them."""
-    least = {"FullTime": 4, "PartTime": 3, "HalfTime": 2}
+    minimum = {"FullTime": 4, "PartTime": 3, "HalfTime": 2}
     pasts = {}
     for nurse in ward.nurses.values():
-        assignments = week * least[nurse.contract] + numbers.below(2 * week)
+        assignments = week * minimum[nurse.contract] + numbers.below(2 * week)
         weekends = numbers.below(min(week, 2) + 1)
         if numbers.below(5) < 3:
             run = 1 + numbers.below(4)
@@ -113,10 +113,10 @@ def demands_of_ward(numbers: Numbers, nurses: int = WARD, percent: int = 100) ->
     wanted, whole = nurses * percent, WARD * 100
     demands = {}
     for at, (shift, skill, day) in enumerate(itertools.product(SHIFTS, SKILLS, range(len(DAYS)))):
-        least = int(skill in ("Nurse", "Caretaker")) + (day < 5 and skill == "Nurse" and shift == "Early")
-        best = least + (numbers.below(3) > 0)
+        minimum = int(skill in ("Nurse", "Caretaker")) + (day < 5 and skill == "Nurse" and shift == "Early")
+        best = minimum + (numbers.below(3) > 0)
         up = 7 * at % WARD * 100
-        demands[Place(day, shift, skill)] = Requirement((least * wanted + up) // whole, (best * wanted + up) // whole)
+        demands[Place(day, shift, skill)] = Requirement((minimum * wanted + up) // whole, (best * wanted + up) // whole)
     return demands
 
 

@@ -126,7 +126,7 @@ class Period:
     def table(self) -> List[str]:
         """The penalty and the costs of each week, and their sums."""
         weeks = {f"week {number}": [report.penalty, *report.by_rule.values()] for number, report in self.reports.items()}
-        sums = [sum(costs[at] for costs in weeks.values()) for at in range(1 + len(SOFT_RULES))]
+        sums = [sum(costs[column] for costs in weeks.values()) for column in range(1 + len(SOFT_RULES))]
         lines = [_table_line("", ("penalty", *SOFT_RULES))]
         lines += [_table_line(name, map(str, costs)) for name, costs in weeks.items()]
         return [*lines, _table_line("period", map(str, sums))]

@@ -119,10 +119,10 @@ def main() -> Optional[int]:
     history = credited(history, shifts) if history else None
     held = read_held(given.fix, scenario, history, lambda hint: print(f"{given.fix}: warning: {hint}")).cells if given.fix else ()
     results = []
-    for at, (path, one) in enumerate(zip(given.week, data)):
-        requests = (*one.requests, *(Request(dated.nurse, dated.shift, dated.day) for dated in of_week(wishes, at)))
-        week = Week(scenario, history, replace(one, requests=requests)) if history and not at else None
-        results.append(_written(scenario, path, replace(one, requests=requests), of_week([*away, *never], at), week, held))
+    for number, (path, one) in enumerate(zip(given.week, data)):
+        requests = (*one.requests, *(Request(dated.nurse, dated.shift, dated.day) for dated in of_week(wishes, number)))
+        week = Week(scenario, history, replace(one, requests=requests)) if history and not number else None
+        results.append(_written(scenario, path, replace(one, requests=requests), of_week([*away, *never], number), week, held))
     for target, result in zip(_targets(given), results):
         write_text(target, week_text(result.data))
         print(f"{target}: {_summary(result)}")

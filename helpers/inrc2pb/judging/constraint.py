@@ -125,12 +125,12 @@ def block_of(number: int, week: Week, held: Sequence[Cell] = (), early: bool = F
 def row_of(number: int, model: Path) -> Tuple[int, str]:
     """The line of constraint `number` in the model's file, counted from 1, and its text."""
     with open(model, encoding="ascii", errors="replace") as lines:
-        for at, line in enumerate(lines, 1):
+        for row, line in enumerate(lines, 1):
             if line.startswith(("*", "min:")):
                 continue
             number -= 1
             if number == 0:
-                return at, line.rstrip("\n")
+                return row, line.rstrip("\n")
     raise Misuse("the model ends before this constraint: is inrc2pb of another version?")
 
 
@@ -139,7 +139,7 @@ def named_row(row: str, week: Week) -> str:
     scenario = week.scenario
     cells = product(scenario.nurses, DAYS, scenario.shift_types, scenario.skills)
     wanted = {int(number) for number in re.findall(r"x(\d+)", row)}
-    names = {at: " ".join(cell) for at, cell in enumerate(cells, 1) if at in wanted}
+    names = {variable: " ".join(cell) for variable, cell in enumerate(cells, 1) if variable in wanted}
     unit = 7 * len(scenario.nurses) * len(scenario.shift_types) * len(scenario.skills) + 1
 
     def name(found: "re.Match[str]") -> str:

@@ -40,8 +40,8 @@ def missing_nurses(week: Week, cells: Iterable[Cell]) -> Iterator[str]:
         for place, required in week.data.requirements.items():
             wanted = max(required.minimum, required.optimal)
             if place.day == day and number[place] < wanted:
-                least = f", at least {required.minimum}" * (number[place] < required.minimum)
-                places.append(f"{place.shift} {place.skill} ({number[place]} of {wanted}{least})")
+                minimum = f", at least {required.minimum}" * (number[place] < required.minimum)
+                places.append(f"{place.shift} {place.skill} ({number[place]} of {wanted}{minimum})")
         if places:
             yield f"missing on {name}: {', '.join(places)}"
 

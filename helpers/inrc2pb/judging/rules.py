@@ -101,21 +101,21 @@ def first_broken(week: Week, roster: Sequence[Cell], held: Iterable[Cell] = ()) 
 def run_charges(base: Charge, has: Sequence[bool], before: int, limits: Limits) -> Iterator[Charge]:
     """The days above the maximum and below the minimum in each run of a property, given the days that have it, and the length of
     its run on the Sunday before. `base` has the rest of the charges."""
-    least, greatest = limits
+    minimum, maximum = limits
     first = 0
     for day in range(8):
         if day < 7 and has[day]:
             continue
         length = before + day - first
-        above = min(day - first, length - greatest)
+        above = min(day - first, length - maximum)
         # A run that goes on after Sunday may still grow.
-        below = least - length if 0 < length and day < 7 else 0
+        below = minimum - length if 0 < length and day < 7 else 0
         if above > 0 or below > 0:
             found = base._replace(days=(first, day - 1) if first < day else None, number=length, before=before)
             if above > 0:
-                yield found._replace(what=f"{base.what} above", limit=greatest, times=above)
+                yield found._replace(what=f"{base.what} above", limit=maximum, times=above)
             if below > 0:
-                yield found._replace(what=f"{base.what} below", limit=least, times=below)
+                yield found._replace(what=f"{base.what} below", limit=minimum, times=below)
         first, before = day + 1, 0
 
 
@@ -169,14 +169,14 @@ def _request_charges(nurse: str, shift_on: Sequence[List[str]], requests: Sequen
 
 def _total_charges(week: Week, contract: Contract, history: NurseHistory, works: int, weekend: bool, early: bool) -> Iterator[Charge]:
     """What S6 and S7 charge a nurse."""
-    (least, greatest), most = contract.assignments, contract.max_weekends
+    (minimum, maximum), most = contract.assignments, contract.max_weekends
     total, weekends = history.assignments + works, history.weekends + weekend
-    if week.is_last and total < least:
-        charge = Charge("S6", "below", history.nurse, ASSIGNMENT_TOTAL, number=total, limit=least, times=least - total)
+    if week.is_last and total < minimum:
+        charge = Charge("S6", "below", history.nurse, ASSIGNMENT_TOTAL, number=total, limit=minimum, times=minimum - total)
         yield charge._replace(before=history.assignments)
     if week.is_last or early:
         for rule, now, limit, before, weight in (
-            ("S6", total, greatest, history.assignments, ASSIGNMENT_TOTAL),
+            ("S6", total, maximum, history.assignments, ASSIGNMENT_TOTAL),
             ("S7", weekends, most, history.weekends, WEEKEND_TOTAL),
         ):
             times = now - max(limit, before) if early else now - limit

@@ -101,4 +101,4 @@ class CaseHunt:
             self.found = [case for case in self._closed if case.off in works] + [PricedCase(None, search.prices)]
         elif search.solved:
             self._left, self._works = search, works
-            self._next = sorted(open_days(search), key=lambda of: self._tried.get(of, 0))
+            self._next = sorted(open_days(search), key=lambda nurse_day: self._tried.get(nurse_day, 0))

@@ -35,7 +35,7 @@ class Crews:
         self.places = list(plan.demand)
         self.minimum = [asked.minimum for asked in plan.demand.values()]
         self.optimal = [asked.optimal for asked in plan.demand.values()]
-        self._number = {place: at for at, place in enumerate(self.places)}
+        self._number = {place: number for number, place in enumerate(self.places)}
         self._index: Dict[Tuple[int, ...], int] = {(): 0}
         tables: Dict[Tuple[str, ...], List[List[int]]] = {}
         self.of: List[List[List[int]]] = []
@@ -80,15 +80,15 @@ class Pricing:
         runs = {name: Runs(plan, contract) for name, contract in scenario.contracts.items()}
         kinds: Dict[Tuple[str, Totals], List[int]] = {}
         states: List[RunState] = []
-        for at, nurse in enumerate(plan.nurses):
+        for index, nurse in enumerate(plan.nurses):
             contract = scenario.contract_of(nurse)
             states.append(runs[contract.name].before(pasts[nurse]))
-            kinds.setdefault((contract.name, Totals.of(plan, contract, pasts[nurse])), []).append(at)
+            kinds.setdefault((contract.name, Totals.of(plan, contract, pasts[nurse])), []).append(index)
         self.graphs: List[Graph] = [None] * len(plan.nurses)  # type: ignore[list-item]
         for (name, totals), members in kinds.items():
-            graph = Graph(runs[name], totals, [states[at] for at in members], check)
-            for at in members:
-                self.graphs[at] = graph
+            graph = Graph(runs[name], totals, [states[index] for index in members], check)
+            for index in members:
+                self.graphs[index] = graph
         self.starts = [graph.starts[state] for graph, state in zip(self.graphs, states)]
         self.base = [POINT * Totals.base(plan, scenario.contract_of(nurse), pasts[nurse]) for nurse in plan.nurses]
         requests = plan.requests()
@@ -97,8 +97,8 @@ class Pricing:
     def part(self, plan: Plan) -> "Pricing":
         """The same for some of the nurses, with another demand."""
         part = object.__new__(Pricing)
-        at = {nurse: number for number, nurse in enumerate(self.plan.nurses)}
-        numbers = [at[nurse] for nurse in plan.nurses]
+        index = {nurse: number for number, nurse in enumerate(self.plan.nurses)}
+        numbers = [index[nurse] for nurse in plan.nurses]
         part.plan, part.crews = plan, Crews(plan)
         part.graphs, part.starts = [self.graphs[number] for number in numbers], [self.starts[number] for number in numbers]
         part.base, part.wishes = [self.base[number] for number in numbers], [self.wishes[number] for number in numbers]
@@ -143,7 +143,7 @@ class Pricing:
 
     def cost(self, nurse: int, row: NurseWeek) -> Optional[int]:
         """What a row costs its nurse, in points; None if a hard rule forbids it."""
-        wishes = sum(of[row[day]] for day, of in self.wishes[nurse].items())
+        wishes = sum(costs[row[day]] for day, costs in self.wishes[nurse].items())
         cost = self.graphs[nurse].cost(self.starts[nurse], row) + wishes + self.base[nurse]
         return None if cost >= NEVER // 2 else cost // POINT
 
@@ -156,7 +156,7 @@ class Pricing:
         """What all places cost at least, if they pay these prices to their nurses, in thousandths."""
         asked = zip(self.crews.minimum, self.crews.optimal, prices)
         most = self.plan.missing_cost * POINT
-        return sum(least * price + (best - least) * min(most, price) for least, best, price in asked)
+        return sum(minimum * price + (best - minimum) * min(most, price) for minimum, best, price in asked)
 
 
 def plain_bound(pricing: Pricing, prices: Prices) -> int:

@@ -62,7 +62,7 @@ class RowGeneration:
     def add_roster(self, rows: Sequence[NurseWeek]) -> None:
         """Adds the rows of a roster, with the places at which its nurses are."""
         crews = self.pricing.crews
-        numbers, names = {place: at for at, place in enumerate(crews.places)}, {nurse: at for at, nurse in enumerate(self.plan.nurses)}
+        numbers, names = {place: index for index, place in enumerate(crews.places)}, {nurse: index for index, nurse in enumerate(self.plan.nurses)}
         places: List[List[Optional[int]]] = [[None] * self.plan.days for _ in rows]
         for nurse, day, shift, skill in staffed(self.plan, crews, rows).cells:
             places[names[nurse]][day] = numbers.get(Place(day, shift, skill))
@@ -87,9 +87,9 @@ class RowGeneration:
         if cost is not None:
             self._add(nurse, row, cost, self.prices)
 
-    def _add(self, nurse: int, row: NurseWeek, cost: int, prices: Prices, at: Sequence[Optional[int]] = ()) -> bool:
+    def _add(self, nurse: int, row: NurseWeek, cost: int, prices: Prices, places: Sequence[Optional[int]] = ()) -> bool:
         """Adds a row to those in use. Returns whether it was none of them."""
-        column, before = self.program.add(nurse, row, cost, prices, at), len(self._used)
+        column, before = self.program.add(nurse, row, cost, prices, places), len(self._used)
         self._used[column] = None
         return len(self._used) > before
 
@@ -120,7 +120,7 @@ class RowGeneration:
 
     def _earned(self, prices: Prices, nurse: int, row: NurseWeek) -> int:
         crews = self.pricing.crews
-        return sum(max([prices[place] for place in crews.members[of[choice]]], default=0) for of, choice in zip(crews.of[nurse], row))
+        return sum(max([prices[place] for place in crews.members[table[choice]]], default=0) for table, choice in zip(crews.of[nurse], row))
 
     def generate(self, clock: Clock) -> None:
         """Adds rows until none is missing, or the bound is as good as the linear program's value."""
@@ -159,8 +159,8 @@ class RowGeneration:
         """Drops the most expensive columns, if there are too many. Each nurse keeps one."""
         nurses = len(self.plan.nurses)
         keep = max(LEAST_USED, KEPT * nurses) - len(now.shares)
-        if len(self._used) > max(LEAST_USED, MOST_USED * nurses) and len({self.program.columns[at].nurse for at in now.shares}) == nurses:
-            cheap = sorted((at for at in self._used if at not in now.shares), key=lambda at: now.rises.get(at, 0.0))
+        if len(self._used) > max(LEAST_USED, MOST_USED * nurses) and len({self.program.columns[number].nurse for number in now.shares}) == nurses:
+            cheap = sorted((number for number in self._used if number not in now.shares), key=lambda number: now.rises.get(number, 0.0))
             self._used = dict.fromkeys([*now.shares, *cheap[: max(0, keep)]])
 
     def _meets(self, value: float) -> bool:

@@ -45,7 +45,7 @@ class RowParts:
     def __init__(self, search: RowSearch, solvers: Sequence[LinearSolver]) -> None:
         self._search, self._solvers = search, solvers
         self._chance = random.Random(1)
-        self._least = search.least_values()
+        self._minimums = search.minimum_values()
         lengths = dict.fromkeys(math.ceil(share * search.plan.days) for share in DAYS_SHARES)
         # For each number of days the number of nurses of the next neighborhood, and the seconds that all have taken.
         self._sizes = {length: min(len(search.plan.nurses), FIRST_SIZE * (WEEK_DAYS / length) ** 0.5) for length in lengths}
@@ -118,7 +118,7 @@ class RowParts:
         neighborhood the others are those who share the most skills with one of them."""
         rows = self._search.rows
         assert rows is not None
-        costly = self._search.costly(rows, self._least)
+        costly = self._search.costly(rows, self._minimums)
         first = self._chance.sample(costly, min(len(costly), size // 2))
         rest = [nurse for nurse in range(len(rows)) if nurse not in first]
         self._chance.shuffle(rest)

@@ -71,8 +71,8 @@ def staffed(plan: Plan, crews: Crews, rows: Sequence[NurseWeek]) -> Staffed:
                 shifts.setdefault((day, choice), {}).setdefault(crews.of[nurse][day][choice], []).append(nurse)
     numbers = {shift: number for number, shift in enumerate(plan.scenario.shift_types, 1)}
     asked: Dict[Tuple[int, int], List[int]] = {}
-    for at, place in enumerate(crews.places):
-        asked.setdefault((place.day, numbers[place.shift]), []).append(at)
+    for index, place in enumerate(crews.places):
+        asked.setdefault((place.day, numbers[place.shift]), []).append(index)
     cells: List[Cell] = []
     below = missing = 0
     for key in dict.fromkeys([*shifts, *asked]):
@@ -90,7 +90,7 @@ def _cells(plan: Plan, crews: Crews, key: Tuple[int, int], members: Dict[int, Li
     name = list(plan.scenario.shift_types)[choice - 1]
     for crew, nurses in members.items():
         skills = [crews.places[place].skill for place in crews.members[crew] for _ in range(shift.given.get((crew, place), 0))]
-        for at, nurse in enumerate(nurses):
+        for index, nurse in enumerate(nurses):
             own = plan.nurses[nurse]
-            skill = skills[at] if at < len(skills) else plan.held_skill(own, day) or plan.scenario.nurses[own].skills[0]
+            skill = skills[index] if index < len(skills) else plan.held_skill(own, day) or plan.scenario.nurses[own].skills[0]
             yield Cell(own, day, name, skill)

@@ -123,7 +123,7 @@ class PeriodSearch:
         history, rows = plan.history, [b""] * len(plan.nurses)
         seconds = self._clock.left() * FIRST_SHARE / len(plan.weeks)
         for number, data in enumerate(plan.weeks):
-            held = [row._replace(day=row.day % WEEK_DAYS) for of in plan.held.values() for row in of if row.day // WEEK_DAYS == number]
+            held = [row._replace(day=row.day % WEEK_DAYS) for kept in plan.held.values() for row in kept if row.day // WEEK_DAYS == number]
             found: List[List[NurseWeek]] = []
 
             def offer(better: List[NurseWeek], _finder: str) -> Optional[int]:

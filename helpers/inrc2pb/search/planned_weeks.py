@@ -68,7 +68,7 @@ class PlannedWeeks:
     def later(self) -> List[WeekData]:
         """A forecast of the weeks that are not known: the numbers of the known ones in turn, without requests."""
         missing = self.scenario.weeks - self.numbers.stop if self.files.ahead else 0
-        return [replace(self.data[at % len(self.data)], requests=()) for at in range(missing)]
+        return [replace(self.data[number % len(self.data)], requests=()) for number in range(missing)]
 
     def plan(self) -> Plan:
         """All weeks as one plan, those of the forecast included."""
@@ -82,23 +82,23 @@ class PlannedWeeks:
     def options(self) -> List[List[str]]:
         """The files of each week as options of `inrc2pb-period-bound`; those of all weeks come with the first."""
         of_all = ["--sce", str(self.files.scenario), "--his", str(self.files.history), *["--early"] * self.files.early]
-        return [[*(of_all if at == 0 else ()), "--week", str(path)] for at, path in enumerate(self.files.weeks)]
+        return [[*(of_all if number == 0 else ()), "--week", str(path)] for number, path in enumerate(self.files.weeks)]
 
     def broken_absences(self, cells: Sequence[Cell]) -> List[str]:
         """The weeks in which these assignments break an absence, who works then, and what to do."""
         broken = []
-        for at, (number, data) in enumerate(zip(self.numbers, self.data)):
-            working = working_while_away(absences_of(data), _rows_of(at, cells))
+        for index, (number, data) in enumerate(zip(self.numbers, self.data)):
+            working = working_while_away(absences_of(data), _rows_of(index, cells))
             if working:
                 broken.append(f"week {number}: no roster was found that keeps every absence: {in_words(working)}")
-                broken.append(f"week {number}: {way_out(self.scenario, _rows_of(at, self.held), working)}")
+                broken.append(f"week {number}: {way_out(self.scenario, _rows_of(index, self.held), working)}")
         return broken
 
     def write(self, cells: Sequence[Cell], folder: Path) -> List[WrittenWeek]:
         """Writes the weeks' rosters, of assignments whose days count from the first week, and the history after each week."""
         history, path, written = self.history, self.files.history, []
-        for at, number in enumerate(self.numbers):
-            rows = _rows_of(at, cells)
+        for index, number in enumerate(self.numbers):
+            rows = _rows_of(index, cells)
             roster = folder / roster_name(number)
             write_solution(roster, Solution(number, self.scenario.name, rows))
             written.append(WrittenWeek(self.week_files(number, path), roster))
@@ -109,9 +109,9 @@ class PlannedWeeks:
         return written
 
 
-def _rows_of(at: int, cells: Sequence[Cell]) -> Tuple[Cell, ...]:
+def _rows_of(week: int, cells: Sequence[Cell]) -> Tuple[Cell, ...]:
     """The assignments of the week at this index, with days from its Monday."""
-    return tuple(cell._replace(day=cell.day % WEEK_DAYS) for cell in cells if cell.day // WEEK_DAYS == at)
+    return tuple(cell._replace(day=cell.day % WEEK_DAYS) for cell in cells if cell.day // WEEK_DAYS == week)
 
 
 def roster_name(number: int) -> str:

@@ -86,7 +86,7 @@ def _missing(week: Week, cells: Sequence[Cell], found: SearchResult) -> Iterator
 def _owners(week: Week, cells: Sequence[Cell], place: Place) -> Iterator[str]:
     """The nurses who have the skill of a place that is not filled, and what they do in this roster."""
     away = absences_of(week.data)
-    owners = [nurse for nurse, of in week.scenario.nurses.items() if place.skill in of.skills]
+    owners = [nurse for nurse, known in week.scenario.nurses.items() if place.skill in known.skills]
     if not owners:
         yield f"    nobody has the skill {place.skill}"
     there = {cell.nurse for cell in cells if Place(cell.day, cell.shift, cell.skill) == place}

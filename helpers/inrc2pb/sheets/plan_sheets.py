@@ -59,15 +59,15 @@ def read_days(book: Book) -> Days:
     columns = plan.others
     dates = [_date_of(cell) for cell in columns]
     monday = dates[0] if dates else None
-    for at, (cell, date) in enumerate(zip(columns, dates)):
-        if cell.column != columns[0].column + at:
+    for index, (cell, date) in enumerate(zip(columns, dates)):
+        if cell.column != columns[0].column + index:
             cell.fault("the column before this one is no day: delete it, or move it after the last day")
-        if date and monday and (date - monday).days != at:
+        if date and monday and (date - monday).days != index:
             cell.fault(f"{date} does not follow the day before: write one column for each day")
         if bool(date) != bool(monday):
             cell.fault(f"'{cell.text}' has {'a date' if date else 'no date'}, unlike the first day: write dates for all days or for none")
-        wanted = DAYS[at % len(DAYS)]
-        if (date.weekday() if date else _day_of(cell)) != at % len(DAYS):
+        wanted = DAYS[index % len(DAYS)]
+        if (date.weekday() if date else _day_of(cell)) != index % len(DAYS):
             cell.fault(f"'{cell.text}' should be a {wanted}: the plan begins on a Monday, and has each day once")
     if not columns or len(columns) % len(DAYS):
         plan.fault(f"it has {plural(len(columns), 'day')}: plan whole weeks, from Monday to Sunday")
@@ -102,9 +102,9 @@ def read_weeks(book: Book, ward: Ward, days: Days) -> List[WeekSheet]:
     _read_needs(table_of(book, "needs"), ward.scenario, weeks)
     with Gathering() as faults:
         for nurse, row in _plan_rows(days, ward.scenario, faults).items():
-            for at, head in enumerate(days.columns):
+            for index, head in enumerate(days.columns):
                 with faults.step():
-                    _read_day(row.at(head.column), nurse, at, ward.scenario, weeks)
+                    _read_day(row.at(head.column), nurse, index, ward.scenario, weeks)
     for nurse, (shifts, weekdays) in ward.never.items():
         for week in weeks:
             week.absences += [Absence(nurse, day, shift) for shift in shifts for day in range(len(DAYS))]
@@ -150,27 +150,27 @@ def _needed(cell: SheetCell) -> Requirement:
     if not pair:
         number = cell.number(pair=_pair_for(cell.text))
         return Requirement(number, number)
-    least, sign, second = int(pair[1]), pair[2], int(pair[3])
-    best = least + second if sign == "+" else second
-    if least > best:
-        cell.fault(f"at least {least} are needed, and {best} are best: write the smaller number first")
+    minimum, sign, second = int(pair[1]), pair[2], int(pair[3])
+    best = minimum + second if sign == "+" else second
+    if minimum > best:
+        cell.fault(f"at least {minimum} are needed, and {best} are best: write the smaller number first")
     if best > MAX_NUMBER:
         cell.fault(f"{best} is more than {MAX_NUMBER}: correct the number")
-    return Requirement(least, best)
+    return Requirement(minimum, best)
 
 
 def _pair_for(text: str) -> str:
     """How the needs have a minimum and a best number, such as those of the text `2-3`, of which a spreadsheet may make a date."""
     found = _RANGE.fullmatch(text)
-    least, best = (int(found[1]), int(found[2])) if found else (2, 3)
-    if least >= best:
-        least, best = 2, 3
-    return f"{least}+{best - least} for {least} at least and better {best}"
+    minimum, best = (int(found[1]), int(found[2])) if found else (2, 3)
+    if minimum >= best:
+        minimum, best = 2, 3
+    return f"{minimum}+{best - minimum} for {minimum} at least and better {best}"
 
 
-def _read_day(cell: SheetCell, nurse: str, at: int, scenario: Scenario, weeks: List[WeekSheet]) -> None:
+def _read_day(cell: SheetCell, nurse: str, index: int, scenario: Scenario, weeks: List[WeekSheet]) -> None:
     """One cell of the plan: a wish, an absence, or a shift that is held."""
-    week, day = weeks[at // len(DAYS)], at % len(DAYS)
+    week, day = weeks[index // len(DAYS)], index % len(DAYS)
     text = cell.text.casefold()
     if text in _NO_WISH:
         return

@@ -131,7 +131,7 @@ class Table:
         missing = [wanted for wanted in heads if wanted not in self.columns]
         if missing:
             raise FileFault(book.path, 0, f"sheet {name}, row {first + 1}: there is no column '{missing[0]}': add it")
-        self.rows = [SheetRow(self, at + 1, rows[at]) for at in range(begin, len(rows)) if any(map(str.strip, rows[at]))]
+        self.rows = [SheetRow(self, number + 1, rows[number]) for number in range(begin, len(rows)) if any(map(str.strip, rows[number]))]
         self._check_heads({column for column, text in enumerate(head) if tidy(text)}, first + 1)
 
     def fault(self, message: str) -> NoReturn:
@@ -145,9 +145,9 @@ class Table:
 
     def _find_head(self, rows: Rows) -> int:
         """The row with the heads: titles may be above it."""
-        for at, row in enumerate(rows):
+        for number, row in enumerate(rows):
             if any(tidy(cell).casefold() == self.heads[0] for cell in row):
-                return at
+                return number
         raise FileFault(self.book.path, 0, f"sheet {self.name}: no row has the head '{self.heads[0]}': write {quoted(self.heads)} into the first row")
 
     def _take_head(self, cell: SheetCell, heads: Sequence[str], open_end: bool) -> None:

@@ -120,11 +120,11 @@ def _contract(row: SheetRow, name: str) -> Contract:
     )
 
 
-def _limits(row: SheetRow, least: str, most: str) -> Limits:
+def _limits(row: SheetRow, minimum: str, most: str) -> Limits:
     """A minimum and a maximum; empty cells set no limit."""
-    limits = Limits(row.of(least).number(0), row.of(most).number(MAX_NUMBER))
+    limits = Limits(row.of(minimum).number(0), row.of(most).number(MAX_NUMBER))
     if limits.minimum > limits.maximum:
-        row.of(least).fault(f"the minimum {limits.minimum} is above the maximum {limits.maximum}: correct one of the two")
+        row.of(minimum).fault(f"the minimum {limits.minimum} is above the maximum {limits.maximum}: correct one of the two")
     return limits
 
 

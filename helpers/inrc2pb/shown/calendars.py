@@ -62,13 +62,13 @@ def calendar(view: RosterView, nurse: str, monday: datetime.date, times: Mapping
     stamp, ward = f"{_day(monday)}T000000Z", allowed(view.name)
     lines = ["BEGIN:VCALENDAR", "VERSION:2.0", "PRODID:-//inrc2pb//inrc2pb-table//EN"]
     shifts: List[Tuple[datetime.date, int, ShownCell]] = [
-        (monday + (7 * week + day) * DAY, at, cell)
+        (monday + (7 * week + day) * DAY, index, cell)
         for week in range(len(view.weeks))
         for day in range(7)
-        for at, cell in enumerate(view.cells(week, nurse, day))
+        for index, cell in enumerate(view.cells(week, nurse, day))
     ]
-    for date, at, cell in shifts:
-        names = [ward, allowed(nurse), _day(date), *[str(at)] * bool(at)]
+    for date, index, cell in shifts:
+        names = [ward, allowed(nurse), _day(date), *[str(index)] * bool(index)]
         lines += _event(names, stamp, f"{cell.shift} {cell.skill}".replace("_", " "), _when(date, cell.shift, times))
     if not shifts:
         end = monday + 7 * len(view.weeks) * DAY

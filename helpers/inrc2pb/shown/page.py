@@ -127,10 +127,10 @@ def charges_section(page: Content) -> Markup:
     view = page.view
     charged: Dict[Optional[str], List[Charge]] = {}
     items: Dict[Optional[str], List[Markup]] = {}
-    for at, week in enumerate(view.weeks):
+    for index, week in enumerate(view.weeks):
         for charge in week.charges or ():
             charged.setdefault(charge.nurse, []).append(charge)
-            items.setdefault(charge.nurse, []).append(_charge(page, at, charge))
+            items.setdefault(charge.nurse, []).append(_charge(page, index, charge))
     folds = [_foldable(plain(nurse), charged[nurse], items[nurse]) for nurse in view.nurses if nurse in charged]
     if None in charged:
         folds.append(_foldable("Places with fewer nurses than best", charged[None], items[None]))

@@ -103,9 +103,9 @@ class RosterView:
     @cached_property
     def _cells(self) -> Dict[object, List[ShownCell]]:
         cells: Dict[object, List[ShownCell]] = {}
-        for at, week in enumerate(self.weeks):
+        for index, week in enumerate(self.weeks):
             for row in week.cells:
-                cells.setdefault((at, row.nurse, row.day), []).append(ShownCell(row.shift, row.skill, week.marks(row)))
+                cells.setdefault((index, row.nurse, row.day), []).append(ShownCell(row.shift, row.skill, week.marks(row)))
         return cells
 
     @property

@@ -43,8 +43,8 @@ def _range(limits: Limits, no_limit: int) -> str:
     return f"at most {limits.maximum}" if not limits.minimum else _numbers(*limits)
 
 
-def _numbers(least: int, most: int) -> str:
-    return str(least) if least == most else f"{least} to {most}"
+def _numbers(minimum: int, most: int) -> str:
+    return str(minimum) if minimum == most else f"{minimum} to {most}"
 
 
 def _in_a_row(limits: Limits) -> str:
@@ -73,8 +73,8 @@ def week_sentences(scenario: Scenario, history: Optional[History], data: WeekDat
         rows[place.shift, place.skill] = [data.requirements.get(Place(day, place.shift, place.skill), Requirement(0, 0)) for day in range(_WEEK)]
     for (shift, skill), numbers in rows.items():
         yield f"{shift} {skill}: {_numbers_by_day(numbers)}."
-    (least, best), (low, high) = asked_shifts(data), supplied_shifts(scenario, history)
-    yield f"The week asks for {_numbers(least, best)} shifts; the contracts supply {_numbers(low, high)} a week."
+    (minimum, best), (low, high) = asked_shifts(data), supplied_shifts(scenario, history)
+    yield f"The week asks for {_numbers(minimum, best)} shifts; the contracts supply {_numbers(low, high)} a week."
     away = absences_of(data)
     for nurse in scenario.nurses:
         for named in (None, *scenario.shift_types):

@@ -124,7 +124,7 @@ def _terms(text: str, last: str) -> List[str]:
 
 def _lines(words: List[str]) -> List[str]:
     """The terms, some on each line."""
-    return [" ".join(words[at : at + 2 * TERMS_PER_LINE]) for at in range(0, len(words), 2 * TERMS_PER_LINE)]
+    return [" ".join(words[index : index + 2 * TERMS_PER_LINE]) for index in range(0, len(words), 2 * TERMS_PER_LINE)]
 
 
 def _write_constraint(number: int, text: str, lp: TextIO, last: str) -> None:

@@ -131,12 +131,12 @@ class Coin(LinearSolver):
         names = [name for name, value, _ in self._entries(lines, 4) if _number(value, self.name) > 0.5]
         return Chosen(names, head.startswith("Optimal"))
 
-    def _entries(self, lines: Sequence[str], least: int) -> Iterator[List[str]]:
+    def _entries(self, lines: Sequence[str], minimum: int) -> Iterator[List[str]]:
         """The name, value and price of each line."""
         for line in lines:
             words = line.split()
             words = words[1:] if words and words[0] == "**" else words
-            if len(words) < least:
+            if len(words) < minimum:
                 raise SolverFault(f"the answer of {self.name} is cut: {line[:60]}")
             yield words[1:4]
 

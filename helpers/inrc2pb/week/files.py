@@ -201,7 +201,7 @@ def scenario_text(scenario: Scenario) -> str:
     lines += [_row(shift.name, len(shift.forbidden_next), *shift.forbidden_next) for shift in types]
     lines += ["", f"CONTRACTS = {len(contracts)}"]
     lines += [
-        _row(of.name, of.assignments, of.working_days, of.days_off, of.max_weekends, int(of.complete_weekends)) for of in contracts
+        _row(contract.name, contract.assignments, contract.working_days, contract.days_off, contract.max_weekends, int(contract.complete_weekends)) for contract in contracts
     ]
     lines += ["", f"NURSES = {len(nurses)}", *(_row(nurse.name, nurse.contract, len(nurse.skills), *nurse.skills) for nurse in nurses)]
     return "\n".join(lines) + "\n"
@@ -212,7 +212,7 @@ def week_text(data: WeekData) -> str:
     lines = ["WEEK_DATA", data.name, "", "REQUIREMENTS"]
     for shift, skill in dict.fromkeys((place.shift, place.skill) for place in data.requirements):
         pairs = [data.requirements.get(Place(day, shift, skill), Requirement(0, 0)) for day in range(len(DAYS))]
-        lines.append(_row(shift, skill, *(Limits(of.minimum, of.optimal) for of in pairs)))
+        lines.append(_row(shift, skill, *(Limits(required.minimum, required.optimal) for required in pairs)))
     lines += ["", f"SHIFT_OFF_REQUESTS = {len(data.requests)}"]
     lines += [_row(request.nurse, request.shift or ANY, DAYS[request.day]) for request in data.requests]
     return "\n".join(lines) + "\n"
