@@ -8,7 +8,8 @@ from typing import Dict, FrozenSet, Iterable, List, NamedTuple, Optional, Sequen
 
 from ..programs.clock import Clock
 from ..solvers.linear_solvers import LinearSolver
-from .plan import NEVER, STEP
+from .plan import STEP
+from ..judging.runs import NEVER
 from .pricing import MAX_PRICE, Prices, Pricing, in_steps, plain_bound
 from .row_generation import EXACT, NoRow, RowGeneration
 from .row_program import Solved

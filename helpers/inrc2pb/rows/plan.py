@@ -9,12 +9,11 @@ from typing import Dict, FrozenSet, Iterable, List, Optional, Sequence, Tuple
 from ..judging.absences import Absence, absences_of
 from ..week.records import Cell, History, Place, Request, Requirement, Scenario, WeekData
 from ..judging.rules import MISSING_NURSE, REQUEST
+from ..judging.runs import NEVER
 
 WEEK_DAYS = 7
 # Costs and prices are whole numbers of thousandths of a point.
 POINT = 1000
-# More than any cost: a choice that a hard rule forbids.
-NEVER = 1 << 50
 # The costs of all rosters are multiples of it.
 STEP = 5
 

@@ -3,9 +3,10 @@
 import copy
 from typing import Dict, List, NamedTuple, Optional, Sequence, Tuple, Union
 
-from .plan import NEVER, POINT, STEP, Plan
+from .plan import POINT, STEP, Plan
+from ..judging.runs import NEVER, Runs, RunState
 from ..week.records import Place
-from .row_graph import Check, Graph, RunState, Runs, Totals
+from .row_graph import Check, Graph, Totals
 
 # The highest price in a file of prices.
 MAX_PRICE = 999_999_999
@@ -77,7 +78,8 @@ class Pricing:
     def __init__(self, plan: Plan, crews: Crews, check: Check) -> None:
         self.plan, self.crews = plan, crews
         scenario, pasts = plan.scenario, plan.history.nurses
-        runs = {name: Runs(plan, contract) for name, contract in scenario.contracts.items()}
+        types = tuple(scenario.shift_types.values())
+        runs = {name: Runs(types, contract, plan.days, plan.charging) for name, contract in scenario.contracts.items()}
         kinds: Dict[Tuple[str, Totals], List[int]] = {}
         states: List[RunState] = []
         for index, nurse in enumerate(plan.nurses):
