@@ -19,8 +19,10 @@ from typing import Callable, Dict, Iterator, List, Sequence, TypeVar
 
 sys.path.insert(0, str(Path(__file__).resolve().parents[1] / "helpers"))
 
-from inrc2pb.week.files import ANY, DAYS, Contract, History, Limits, Nurse, NurseHistory, Place, Request, Requirement, Scenario  # noqa: E402
-from inrc2pb.week.files import ShiftType, WeekData, history_text, scenario_text, week_text, write_text  # noqa: E402
+from inrc2pb.week.records import ANY, DAYS, Contract, History, Limits, Nurse, NurseHistory, Place, Request, Requirement  # noqa: E402
+from inrc2pb.week.records import Scenario, ShiftType, WeekData  # noqa: E402
+from inrc2pb.week.files import history_text, scenario_text, week_text  # noqa: E402
+from inrc2pb.week.writing import write_text  # noqa: E402
 
 SKILLS = ("HeadNurse", "Nurse", "Caretaker", "Trainee")
 SHIFT_TYPES = (
@@ -71,10 +73,10 @@ def scenario(name: str, nurses: Sequence[Nurse]) -> Scenario:
 
 def history(ward: Scenario, week: int, numbers: Numbers) -> History:
     """A nurse worked on the last days up to Sunday, or she was off on them."""
-    least = {"FullTime": 4, "PartTime": 3, "HalfTime": 2}
+    minimum = {"FullTime": 4, "PartTime": 3, "HalfTime": 2}
     pasts = {}
     for nurse in ward.nurses.values():
-        assignments = week * least[nurse.contract] + numbers.below(2 * week)
+        assignments = week * minimum[nurse.contract] + numbers.below(2 * week)
         weekends = numbers.below(min(week, 2) + 1)
         if numbers.below(5) < 3:
             run = 1 + numbers.below(4)
@@ -111,10 +113,10 @@ def demands_of_ward(numbers: Numbers, nurses: int = WARD, percent: int = 100) ->
     wanted, whole = nurses * percent, WARD * 100
     demands = {}
     for at, (shift, skill, day) in enumerate(itertools.product(SHIFTS, SKILLS, range(len(DAYS)))):
-        least = int(skill in ("Nurse", "Caretaker")) + (day < 5 and skill == "Nurse" and shift == "Early")
-        best = least + (numbers.below(3) > 0)
+        minimum = int(skill in ("Nurse", "Caretaker")) + (day < 5 and skill == "Nurse" and shift == "Early")
+        best = minimum + (numbers.below(3) > 0)
         up = 7 * at % WARD * 100
-        demands[Place(day, shift, skill)] = Requirement((least * wanted + up) // whole, (best * wanted + up) // whole)
+        demands[Place(day, shift, skill)] = Requirement((minimum * wanted + up) // whole, (best * wanted + up) // whole)
     return demands
 
 

@@ -20,8 +20,10 @@ from typing import List, NamedTuple
 ROOT = Path(__file__).resolve().parent.parent
 sys.path.append(str(ROOT / "helpers"))
 
-from inrc2pb.week.files import DAYS, Contract, History, Limits, Nurse, NurseHistory, Place, Request, Requirement, Scenario  # noqa: E402
-from inrc2pb.week.files import ShiftType, Week, WeekData, history_text, scenario_text, week_text, write_text  # noqa: E402
+from inrc2pb.week.records import DAYS, Contract, History, Limits, Nurse, NurseHistory, Place, Request, Requirement, Scenario  # noqa: E402
+from inrc2pb.week.records import ShiftType, Week, WeekData  # noqa: E402
+from inrc2pb.week.files import history_text, scenario_text, week_text  # noqa: E402
+from inrc2pb.week.writing import write_text  # noqa: E402
 
 NAME = "bench"
 WEEKS, SHORT_PERIOD = 4, 2

@@ -16,7 +16,8 @@ sys.path.insert(0, str(Path(__file__).resolve().parent))
 
 from make_weeks import CONTRACTS, WEEKS, Numbers, write_week  # noqa: E402
 
-from inrc2pb.week.files import DAYS, History, Limits, Nurse, NurseHistory, Place, Request, Requirement, Scenario, ShiftType, WeekData  # noqa: E402
+from inrc2pb.week.records import DAYS, History, Limits, Nurse, NurseHistory, Place, Request, Requirement, Scenario  # noqa: E402
+from inrc2pb.week.records import ShiftType, WeekData  # noqa: E402
 
 # The days that a nurse works in the made-up roster, and in each of the weeks before, at least.
 WORKS = {"FullTime": (5, 4), "PartTime": (4, 3), "HalfTime": (3, 2)}
@@ -33,9 +34,9 @@ def shift_types(numbers: Numbers, kinds: int) -> List[ShiftType]:
     """Shift types in the order of their times: one that is much earlier may not follow."""
     types = []
     for number in range(kinds):
-        least = 1 + numbers.below(3)
+        minimum = 1 + numbers.below(3)
         earlier = tuple(f"shift{other}" for other in range(number - kinds // 3))
-        types.append(ShiftType(f"shift{number}", Limits(least, least + 2 + numbers.below(3)), earlier))
+        types.append(ShiftType(f"shift{number}", Limits(minimum, minimum + 2 + numbers.below(3)), earlier))
     return types
 
 
@@ -83,10 +84,10 @@ def last_week(of: Scenario, history: History, percent: int, numbers: Numbers) ->
     asked = {}
     for place in (Place(day, shift, skill) for day in range(len(DAYS)) for shift in of.shift_types for skill in of.skills):
         number = there.get(place, 0)
-        least = min(number, (6 * number + numbers.below(9)) // 10)
-        best = max(least, (number * percent + numbers.below(100)) // 100) + (numbers.below(100) < 15)
+        minimum = min(number, (6 * number + numbers.below(9)) // 10)
+        best = max(minimum, (number * percent + numbers.below(100)) // 100) + (numbers.below(100) < 15)
         if best:
-            asked[place] = Requirement(least, best)
+            asked[place] = Requirement(minimum, best)
     nurses, shifts = list(of.nurses), [None, *of.shift_types]
     requests = (Request(numbers.one_of(nurses), numbers.one_of(shifts), numbers.below(len(DAYS))) for _ in nurses)
     return WeekData(of.name, asked, tuple(requests))

@@ -4,13 +4,13 @@ import itertools
 import unittest
 from dataclasses import replace
 
-from ward import HAS_CBC, HAS_CLASP, HISTORY, ROSTER, SCENARIO, WEEK, WEEK_FILES, WEEK_OPTIONS, HelperTest, files, run
+from ward import HAS_CBC, HAS_CLASP, HISTORY, ROSTER, SCENARIO, WEEK, WEEK_FILES, WEEK_OPTIONS, HelperTest, files, run, writing
 
 from inrc2pb.judging import rules
 from inrc2pb.judging.absences import MARK, ROWS, Absence, absences_of, in_words, way_out, wishes_of, with_absences, working_while_away
 from inrc2pb.search.best_roster import BestRoster
 from inrc2pb.programs.program import penalty_of
-from inrc2pb.week.records import Assignment, Contract, History, Limits, Nurse, NurseHistory, Place, Request, Requirement, Scenario, ShiftType, Week, WeekData
+from inrc2pb.week.records import Cell, Contract, History, Limits, Nurse, NurseHistory, Place, Request, Requirement, Scenario, ShiftType, Week, WeekData
 from inrc2pb.judging.savings import largest_saving
 
 WARD, DATA = files.read_scenario(SCENARIO), files.read_week(WEEK, files.read_scenario(SCENARIO))
@@ -30,7 +30,7 @@ def differences(scenario, pasts):
         week = Week(scenario, History(0, "small", {"Ann": past}), data)
         costs = []
         for shifts in itertools.product((None, *scenario.shift_types), repeat=7):
-            rows = [Assignment("Ann", day, shift, "Nurse") for day, shift in enumerate(shifts) if shift]
+            rows = [Cell("Ann", day, shift, "Nurse") for day, shift in enumerate(shifts) if shift]
             if not rules.first_broken(week, rows):
                 costs.append(sum(rules.costs(week, rows).values()))
         yield max(costs) - min(costs)
@@ -84,14 +84,14 @@ class Writing(unittest.TestCase):
         self.assertLess(written.requests, written.certain)
 
     def test_rows_that_break_absences(self):
-        rows = [Assignment("Chen", 4, "Late", "Nurse"), Assignment("Ewa", 0, "Day", "Nurse"), Assignment("Chen", 3, "Late", "Nurse")]
+        rows = [Cell("Chen", 4, "Late", "Nurse"), Cell("Ewa", 0, "Day", "Nurse"), Cell("Chen", 3, "Late", "Nurse")]
         away = {AWAY, Absence("Chen", 3, None), Absence("Ewa", 0, "Night")}
         self.assertEqual(working_while_away(away, rows), [rows[0], rows[2]])
         self.assertEqual(in_words(rows), "Chen works Late on Thu and Fri, Ewa works Day on Mon")
 
     def test_the_way_out(self):
-        broken = [Assignment("Chen", 4, "Day", "Charge")]
-        held = [Assignment("Amara", 4, "Late", "Nurse"), Assignment("Grace", 4, "Late", "Nurse"), Assignment("Bruno", 3, "Day", "Charge")]
+        broken = [Cell("Chen", 4, "Day", "Charge")]
+        held = [Cell("Amara", 4, "Late", "Nurse"), Cell("Grace", 4, "Late", "Nurse"), Cell("Bruno", 3, "Day", "Charge")]
         self.assertEqual(way_out(WARD, held, broken), "hold fewer shifts with --fix; these nurses have the skill: Amara Fri Late")
         self.assertIn("type inrc2pb-check with the same files and --why-none: ", way_out(WARD, held[1:], broken))
 
@@ -208,23 +208,23 @@ class Kept(HelperTest):
         away = Absence("Chen", 6, None)
         week = files.read_files(SCENARIO, HISTORY, WEEK)
         week = replace(week, data=with_absences(WARD, DATA, [away], known_cost=0).data)
-        costly, cheap = (files.read_solution(path).assignments for path in (self.swapped("Chen", "Grace"), ROSTER))
+        costly, cheap = (files.read_solution(path).cells for path in (self.swapped("Chen", "Grace"), ROSTER))
         self.assertFalse(working_while_away({away}, costly))
         self.assertLess(penalty_of(WEEK_FILES, ROSTER), penalty_of(WEEK_FILES, self.folder / "start.txt"))
         for offers in ((costly, cheap), (cheap, costly)):
             best = BestRoster(WEEK_FILES, week, self.folder / "best.txt", lambda penalty, finder: None)
             for offer in offers:
                 best.offer(offer, "test")
-            self.assertEqual((set(files.read_solution(self.folder / "best.txt").assignments), best.breaks()), (set(costly), []))
+            self.assertEqual((set(files.read_solution(self.folder / "best.txt").cells), best.breaks()), (set(costly), []))
 
     @unittest.skipUnless(HAS_CBC, "needs cbc")
     def test_rows_keep_absences_unless_no_roster_can(self):
         target = self.folder / "roster.txt"
         for away, kept in (({AWAY, Absence("Grace", 6, "Day")}, True), ({Absence(nurse, 4, None) for nurse in ("Amara", "Bruno", "Ewa")}, False)):
-            files.write_text(self.folder / "away.txt", files.week_text(with_absences(WARD, DATA, away).data))
+            writing.write_text(self.folder / "away.txt", files.week_text(with_absences(WARD, DATA, away).data))
             status, report, said = run("improve", *WEEK_OPTIONS[:4], "--week", self.folder / "away.txt", "--sol", target)
             self.assertEqual(status, 0, said)
-            self.assertEqual(working_while_away(away, files.read_solution(target).assignments) == [], kept)
+            self.assertEqual(working_while_away(away, files.read_solution(target).cells) == [], kept)
             self.assertEqual("no roster was found that keeps every absence: " in said, not kept)
             self.assertIn("no roster costs less", report)
             self.assertEqual(("--why-none" in said, report.endswith("no roster costs less, but this one breaks an absence\n")), (not kept, not kept))

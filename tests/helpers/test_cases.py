@@ -11,13 +11,14 @@ from pathlib import Path
 from unittest import mock
 
 from test_rows import POINT, pricing_of, random_plan
-from ward import HAS_CBC, HelperTest, files, program, run
+from ward import HAS_CBC, HelperTest, files, program, records, run
 
 from inrc2pb.search.bounds import PLAIN, PROVER, cases_text
 from inrc2pb.rows.case_hunt import CaseHunt
 from inrc2pb.rows.cases import Case, PricedCase, needed, plain_cases_bound, pricing_of as pricing_of_case
 from inrc2pb.programs.clock import Clock, TimeIsOver
-from inrc2pb.solvers.linear_solvers import LinearSolvers, SolverFault
+from inrc2pb.solvers.answers import SolverFault
+from inrc2pb.solvers.linear_solvers import LinearSolvers
 from inrc2pb.rows.plan import Plan
 from inrc2pb.rows.pricing import MAX_PRICE
 from inrc2pb.programs.processes import Processes
@@ -62,7 +63,7 @@ class CaseBounds(unittest.TestCase):
     def test_no_cases_give_a_bound_above_a_roster(self):
         for seed in range(60):
             plan, chance = random_plan(seed)
-            pricing, week = pricing_of(plan), files.Week(plan.scenario, plan.history, plan.weeks[0])
+            pricing, week = pricing_of(plan), records.Week(plan.scenario, plan.history, plan.weeks[0])
             bound = plain_cases_bound(pricing, random_cases(plan, chance, chance.randrange(4)))
             for _ in range(4):
                 rows = [chance.choice([pricing.cheapest(nurse, [chance.randrange(200) * POINT for _ in pricing.crews.members]).row, bytes(7)]) for nurse in range(4)]
@@ -85,7 +86,7 @@ class CaseBounds(unittest.TestCase):
 
     def test_the_text_of_cases(self):
         week = files.read_files(FILES.scenario, FILES.history, FILES.week)
-        places = [files.Place(day, "Late", "Nurse") for day in (0, 6)]
+        places = [records.Place(day, "Late", "Nurse") for day in (0, 6)]
         text = cases_text(week.scenario, places, list(week.scenario.nurses), [PricedCase((1, 2), [5, 0]), PricedCase(None, [0, 0])])
         self.assertEqual(text, "CASES\ncases\n\nOFF = 1\nBerta Wed ROWS = 1\nLate Nurse 5 0 0 0 0 0 0\nREST ROWS = 0\n")
 

@@ -6,7 +6,7 @@ import unittest
 from collections import Counter
 from dataclasses import replace
 
-from ward import HISTORY, ROOT, ROSTER, SCENARIO, THIRTY_FILES, WARD, WEEK, WEEK_FILES, WEEK_OPTIONS, EARLY_ANSWER, HelperTest, files, program, run
+from ward import HISTORY, ROOT, ROSTER, SCENARIO, THIRTY_FILES, WARD, WEEK, WEEK_FILES, WEEK_OPTIONS, EARLY_ANSWER, HelperTest, program, records, run
 
 from inrc2pb.judging import rules
 from inrc2pb.judging.breaches import breaches
@@ -39,7 +39,7 @@ class Words(unittest.TestCase):
     def charged(self, has, before, least, greatest):
         base = rules.Charge("S3", "off", "Chen", 30)
         days = [letter == "#" for letter in has]
-        return [(charge.times, in_words(charge)) for charge in rules.run_charges(base, days, before, files.Limits(least, greatest))]
+        return [(charge.times, in_words(charge)) for charge in rules.run_charges(base, days, before, records.Limits(least, greatest))]
 
     def test_runs(self):
         # The first is the example of docs/rules.md.

@@ -5,7 +5,7 @@ import resource
 import unittest
 from unittest import mock
 
-from ward import HISTORY, ROSTER, SCENARIO, WEEK, HelperTest, files
+from ward import HISTORY, ROSTER, SCENARIO, WEEK, HelperTest, files, writing
 
 
 class RoundTrips(HelperTest):
@@ -29,8 +29,8 @@ class RoundTrips(HelperTest):
         target = self.folder / "roster.txt"
         target.write_text("old")
         with self.assertRaises(OSError):
-            files.write_text(self.folder / "missing" / "roster.txt", "new")
-        files.write_text(target, "new")
+            writing.write_text(self.folder / "missing" / "roster.txt", "new")
+        writing.write_text(target, "new")
         self.assertEqual((target.read_text(), [path.name for path in self.folder.iterdir()]), ("new", ["roster.txt"]))
 
     def test_a_new_file_has_the_permissions_of_the_umask(self):
@@ -40,8 +40,8 @@ class RoundTrips(HelperTest):
         self.addCleanup(os.umask, os.umask(0o027))
         # All threads share the umask, so a thread must not change it, not even to ask for it.
         with mock.patch("os.umask", side_effect=AssertionError):
-            files.write_text(new, "new")
-            files.write_text(private, "new")
+            writing.write_text(new, "new")
+            writing.write_text(private, "new")
         self.assertEqual([path.stat().st_mode & 0o777 for path in (new, private)], [0o640, 0o600])
 
     def test_a_file_that_cannot_be_replaced_gets_its_old_bytes_back(self):
@@ -52,19 +52,19 @@ class RoundTrips(HelperTest):
             self.addCleanup(resource.setrlimit, resource.RLIMIT_FSIZE, (soft, hard))
             resource.setrlimit(resource.RLIMIT_FSIZE, (20, hard))
             with self.assertRaises(OSError) as caught:
-                files.write_text(target, "new" * 100)
+                writing.write_text(target, "new" * 100)
             self.assertEqual((caught.exception.filename, target.read_text()), (str(target), "old text"))
-            files.write_text(target, "new")
+            writing.write_text(target, "new")
         self.assertEqual((target.read_text(), len(list(self.folder.iterdir()))), ("new", 1))
 
     def test_a_file_with_the_longest_name(self):
         target = self.folder / ("\u00e9" * 127 + "s")
-        files.write_text(target, "new")
+        writing.write_text(target, "new")
         self.assertEqual(target.read_text(), "new")
 
     def test_a_full_disk_is_a_fault(self):
         with self.assertRaises(OSError) as caught:
-            files.write_text("/dev/full", "new")
+            writing.write_text("/dev/full", "new")
         self.assertEqual(caught.exception.filename, "/dev/full")
 
 

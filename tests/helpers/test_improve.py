@@ -86,6 +86,15 @@ class Searches(HelperTest):
         self.assertEqual(said.count("there is no cbc, clp or glpsol, so this is only a first roster: install one (Debian: apt-get install coinor-cbc)\n"), 1)
         self.assertIn(f"penalty {program.penalty_of(WEEK_FILES, self.target)}\n", report)
 
+    def test_a_second_run_keeps_a_better_roster_of_this_week(self):
+        rows, tools = ROSTER.read_text().splitlines()[4:], self.folder / "tools"
+        tools.mkdir()
+        for week, ward, costs in ((0, "ward", True), (1, "ward", False), (0, "other", False)):
+            target = self.solution(*rows, week=week, ward=ward)
+            status, report, _ = run("improve", *WEEK_OPTIONS, "--sol", target, environment={"PATH": str(tools)})
+            self.assertEqual((status, "penalty 20\n" in report), (0, costs))
+            self.assertTrue(target.read_text().startswith("SOLUTION\n0 ward\n"))
+
     @unittest.skipUnless(HAS_CBC, "needs cbc")
     def test_a_roster_written_to_standard_output(self):
         status, printed, _ = run("improve", *WEEK_OPTIONS, "--sol", "/dev/stdout", "--time", 60)

@@ -8,7 +8,7 @@ import threading
 import unittest
 from unittest import mock
 
-from ward import HAS_CBC, HELPERS, ROOT, THIRTY_FILES, HelperTest, files
+from ward import HAS_CBC, HELPERS, ROOT, THIRTY_FILES, HelperTest, files, records
 
 from inrc2pb.programs.clock import Clock, TimeIsOver
 from inrc2pb.rows.first_rows import matched_rows
@@ -77,12 +77,12 @@ def costs_by_rules(rows):
     names, history, paid = list(SCENARIO.shift_types), HISTORY, dict.fromkeys(SCENARIO.nurses, 0)
     for number, data in enumerate(WEEKS):
         cells = [
-            files.Assignment(nurse, day, names[row[WEEK_DAYS * number + day] - 1], SCENARIO.nurses[nurse].skills[0])
+            records.Cell(nurse, day, names[row[WEEK_DAYS * number + day] - 1], SCENARIO.nurses[nurse].skills[0])
             for nurse, row in zip(SCENARIO.nurses, rows)
             for day in range(WEEK_DAYS)
             if row[WEEK_DAYS * number + day]
         ]
-        for nurse, by_rule in nurse_costs(files.Week(SCENARIO, history, data), cells).items():
+        for nurse, by_rule in nurse_costs(records.Week(SCENARIO, history, data), cells).items():
             paid[nurse] += sum(by_rule.values())
         history = next_history(SCENARIO, history, cells) if number < 3 else history
     return list(paid.values())

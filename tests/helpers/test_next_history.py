@@ -3,7 +3,7 @@
 import unittest
 from dataclasses import replace
 
-from ward import HISTORY, SCENARIO, files
+from ward import HISTORY, SCENARIO, files, records
 
 from inrc2pb.week.faults import Misuse
 from inrc2pb.judging.next_history import next_history
@@ -17,7 +17,7 @@ class Histories(unittest.TestCase):
         nurses = {**history.nurses, "Chen": past}
         after = next_history(scenario, replace(history, nurses=nurses), ())
         self.assertEqual((after.nurses["Chen"].days_off, after.nurses["Chen"].assignments), (9999, 9999))
-        row = files.Assignment("Chen", 0, "Day", "Nurse")
+        row = records.Cell("Chen", 0, "Day", "Nurse")
         with self.assertRaisesRegex(Misuse, "Chen would have more than 9999 assignments or weekends: correct her history"):
             next_history(scenario, replace(history, nurses=nurses), [row])
 

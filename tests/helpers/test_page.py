@@ -256,7 +256,7 @@ class Calendars(PageTest):
 
     def test_the_events_are_the_shifts(self):
         found = self.calendars("--times", "Day=06:00-14:15", "--times", "Night=22:00-06:15", ROSTER)
-        rows = files.read_solution(ROSTER).assignments
+        rows = files.read_solution(ROSTER).cells
         self.assertEqual({name: lines.count("BEGIN:VEVENT") for name, lines in found.items()}, Counter(f"{row.nurse}.ics" for row in rows))
         chen = found["Chen.ics"]
         for lines in (("DTSTART;VALUE=DATE:20261202", "SUMMARY:Late Nurse"), ("DTSTART:20261206T220000", "DTEND:20261207T061500", "SUMMARY:Night Nurse")):

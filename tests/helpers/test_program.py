@@ -29,7 +29,7 @@ class Program(HelperTest):
     def test_the_rules_find_the_same_costs(self):
         _, report = program.extend(WEEK_FILES, ROSTER)
         week = files.read_files(SCENARIO, HISTORY, WEEK)
-        self.assertEqual(rules.costs(week, files.read_solution(ROSTER).assignments), report.by_rule)
+        self.assertEqual(rules.costs(week, files.read_solution(ROSTER).cells), report.by_rule)
 
     def test_faults_have_the_status_and_the_line(self):
         target = self.folder / "roster.txt"

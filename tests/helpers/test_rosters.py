@@ -7,7 +7,7 @@ import subprocess
 import unittest
 import xml.dom.minidom
 
-from ward import HELPERS, HISTORY, ROOT, ROSTER, SCENARIO, WARD, WEEK, WEEK_OPTIONS, HelperTest, files, run
+from ward import HELPERS, HISTORY, ROOT, ROSTER, SCENARIO, WARD, WEEK, WEEK_OPTIONS, HelperTest, files, records, run
 
 from inrc2pb.judging.absences import Absence, absences_of, wishes_of
 
@@ -20,11 +20,11 @@ class Keep(HelperTest):
         status, printed, said = run("keep", *words, ROSTER)
         self.assertEqual((status, said), (0, ""))
         kept = files.read_solution("kept", None, printed)
-        self.assertIn(f"ASSIGNMENTS = {len(kept.assignments)}\n", printed)
-        return set(kept.assignments)
+        self.assertIn(f"ASSIGNMENTS = {len(kept.cells)}\n", printed)
+        return set(kept.cells)
 
     def test_days_and_nurses(self):
-        every = set(files.read_solution(ROSTER).assignments)
+        every = set(files.read_solution(ROSTER).cells)
         self.assertEqual(self.rows("--keep", "Mon,Tue"), {row for row in every if row.day < 2})
         self.assertEqual(self.rows("--nurses", "Chen,Ewa"), {row for row in every if row.nurse in ("Chen", "Ewa")})
         both = {row for row in every if row.nurse == "Chen" and row.day == 2}
@@ -32,7 +32,7 @@ class Keep(HelperTest):
         self.assertEqual(self.rows("--nurses", "Chen", "--keep", "Wed", "--others"), every - both)
 
     def test_promised_shifts_are_kept_too(self):
-        every = set(files.read_solution(ROSTER).assignments)
+        every = set(files.read_solution(ROSTER).cells)
         monday = {row for row in every if row.day == 0}
         promised = next(row for row in every if row.day == 5)
         fix = self.solution(promised.row(), "Chen Sun Day Nurse")
@@ -47,7 +47,7 @@ class Keep(HelperTest):
     def test_days_off_are_kept_as_absences(self):
         scenario = files.read_scenario(SCENARIO)
         before = files.read_week(WEEK, scenario).requests
-        works = {(row.nurse, row.day) for row in files.read_solution(ROSTER).assignments}
+        works = {(row.nurse, row.day) for row in files.read_solution(ROSTER).cells}
         for words, nurses, days in (
             (("--keep", "Mon,Tue"), scenario.nurses, (0, 1)),
             (("--nurses", "Chen,Chen", "--keep", "Sat,Sat"), ("Chen",), (5,)),
@@ -185,7 +185,7 @@ class Tables(HelperTest):
         """The week with limits and requests that the roster breaks."""
         ward = self.changed(SCENARIO, "(17,21) (3,5) (2,3) 2 1", "(0,0) (7,7) (7,7) 0 1", "ward.txt")
         ward.write_text(ward.read_text().replace("WEEKS = 4", "WEEKS = 1"))
-        requests = "".join(f"Amara Any {day}\n" for day in files.DAYS)
+        requests = "".join(f"Amara Any {day}\n" for day in records.DAYS)
         week = self.changed(WEEK, "SHIFT_OFF_REQUESTS = 5\n", f"SHIFT_OFF_REQUESTS = 12\n{requests}", "week.txt")
         return "--sce", ward, "--his", HISTORY, "--week", week
 

@@ -8,11 +8,12 @@ import unittest
 from pathlib import Path
 from unittest import mock
 
-from ward import HAS_CBC, ROOT, HelperTest, files
+from ward import HAS_CBC, ROOT, HelperTest, files, records
 
 from inrc2pb.rows import row_generation, row_program
 from inrc2pb.programs.clock import Clock
-from inrc2pb.solvers.linear_solvers import Chosen, LinearSolver, LinearSolvers, SolverFault
+from inrc2pb.solvers.answers import Chosen, SolverFault
+from inrc2pb.solvers.linear_solvers import LinearSolver, LinearSolvers
 from inrc2pb.rows.plan import Plan
 from inrc2pb.rows.pricing import Crews, Pricing
 from inrc2pb.programs.processes import Processes
@@ -86,7 +87,7 @@ class RowSearches(HelperTest):
     @unittest.skipUnless(HAS_CBC, "needs cbc")
     def test_held_rows_and_early_charges(self):
         week = week_of("ward")
-        held = [files.Assignment("Grace", 5, "Day", "Nurse")]
+        held = [records.Cell("Grace", 5, "Day", "Nurse")]
         search = self.run_rows(week, held=held, early=True).search
         self.assertTrue(search.is_proved)
 
@@ -101,7 +102,7 @@ class RowSearches(HelperTest):
 
     def test_contradictory_held_rows(self):
         week = week_of("ward")
-        held = [files.Assignment("Grace", 5, shift, "Nurse") for shift in ("Day", "Late")]
+        held = [records.Cell("Grace", 5, shift, "Nurse") for shift in ("Day", "Late")]
         run = self.run_rows(week, held=held)
         self.assertEqual((run.without_row, run.search.penalty), ("Grace", None))
 

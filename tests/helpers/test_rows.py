@@ -5,7 +5,7 @@ import random
 import unittest
 from dataclasses import replace
 
-from ward import ROOT, files
+from ward import ROOT, files, records
 
 from inrc2pb.judging.absences import MARK
 from inrc2pb.programs.clock import Clock, TimeIsOver
@@ -22,21 +22,21 @@ def random_plan(seed, weeks=1, nurses=4, shifts=4):
     """A plan with hostile numbers: limits of 0 and 9999, histories that contradict themselves, nurses without skills."""
     chance = random.Random(seed)
     number = lambda: chance.choice([0, 0, 1, 1, 2, 3, 4, 5, 6, 7, 9, 15, 9999] if seed % 2 else range(7))  # noqa: E731
-    limits = lambda: files.Limits(number(), number())  # noqa: E731
+    limits = lambda: records.Limits(number(), number())  # noqa: E731
     names, skills = [f"s{n}" for n in range(chance.randint(1, shifts))], ["a", "b"][: chance.randint(1, 2)]
-    types = {name: files.ShiftType(name, limits(), tuple(t for t in names if chance.random() < 0.25)) for name in names}
-    contracts = {name: files.Contract(name, limits(), limits(), limits(), number(), chance.random() < 0.5) for name in "cd"}
-    people = {f"n{n}": files.Nurse(f"n{n}", chance.choice("cd"), tuple(s for s in skills if chance.random() < 0.8)) for n in range(nurses)}
-    ward = files.Scenario("x", 3, tuple(skills), types, contracts, people)
+    types = {name: records.ShiftType(name, limits(), tuple(t for t in names if chance.random() < 0.25)) for name in names}
+    contracts = {name: records.Contract(name, limits(), limits(), limits(), number(), chance.random() < 0.5) for name in "cd"}
+    people = {f"n{n}": records.Nurse(f"n{n}", chance.choice("cd"), tuple(s for s in skills if chance.random() < 0.8)) for n in range(nurses)}
+    ward = records.Scenario("x", 3, tuple(skills), types, contracts, people)
     few = lambda: min(number(), 9900)  # noqa: E731
-    pasts = {name: files.NurseHistory(name, few(), few(), chance.choice([None, *names]), number(), number(), number()) for name in people}
-    history = files.History(chance.randint(0, 3 - weeks), "x", pasts)
+    pasts = {name: records.NurseHistory(name, few(), few(), chance.choice([None, *names]), number(), number(), number()) for name in people}
+    history = records.History(chance.randint(0, 3 - weeks), "x", pasts)
     data = []
     for _ in range(weeks):
-        places = [files.Place(*place) for place in itertools.product(range(7), names, skills) if chance.random() < 0.7]
-        asked = {place: files.Requirement(chance.choice([0, 0, 0, 1]), chance.choice([0, 1, 2])) for place in places}
-        requests = [files.Request(chance.choice(list(people)), chance.choice([None, *names]), chance.randrange(7)) for _ in range(6)]
-        data.append(files.WeekData("x", asked, tuple(requests)))
+        places = [records.Place(*place) for place in itertools.product(range(7), names, skills) if chance.random() < 0.7]
+        asked = {place: records.Requirement(chance.choice([0, 0, 0, 1]), chance.choice([0, 1, 2])) for place in places}
+        requests = [records.Request(chance.choice(list(people)), chance.choice([None, *names]), chance.randrange(7)) for _ in range(6)]
+        data.append(records.WeekData("x", asked, tuple(requests)))
     return Plan.of(ward, history, data, chance.random() < 0.5), chance
 
 
@@ -49,7 +49,7 @@ def cost_by_rules(plan, nurse, cells):
     """What a nurse's cells cost by `rules`, week by week; None if they break H3."""
     history, total = plan.history, 0
     for number, data in enumerate(plan.weeks):
-        week, now = files.Week(plan.scenario, history, data), [cell._replace(day=cell.day - 7 * number) for cell in cells if cell.day // 7 == number]
+        week, now = records.Week(plan.scenario, history, data), [cell._replace(day=cell.day - 7 * number) for cell in cells if cell.day // 7 == number]
         if "H3" in broken(week, now):
             return None
         total += sum(nurse_costs(week, now, plan.early)[nurse].values())
@@ -60,7 +60,7 @@ def cost_by_rules(plan, nurse, cells):
 def cells_of(plan, nurse, row):
     """The cells of a row, with any skill."""
     shifts = list(plan.scenario.shift_types)
-    return [files.Assignment(nurse, day, shifts[choice - 1], "a") for day, choice in enumerate(row) if choice]
+    return [records.Cell(nurse, day, shifts[choice - 1], "a") for day, choice in enumerate(row) if choice]
 
 
 class Rows(unittest.TestCase):
@@ -97,7 +97,7 @@ class Rows(unittest.TestCase):
     def test_no_prices_give_a_bound_above_a_roster(self):
         for seed in range(60):
             plan, chance = random_plan(seed)
-            pricing, week = pricing_of(plan), files.Week(plan.scenario, plan.history, plan.weeks[0])
+            pricing, week = pricing_of(plan), records.Week(plan.scenario, plan.history, plan.weeks[0])
             prices = [chance.choice([0, 15, 30, 200]) * POINT for _ in pricing.crews.places]
             found = [pricing.cheapest(nurse, pricing.crews.gains(prices)) for nurse in range(4)]
             bound = sum(priced.value for priced in found) + pricing.places_cost(prices)
@@ -115,7 +115,7 @@ class Rows(unittest.TestCase):
     def test_a_bound_counts_rosters_that_break_absences(self):
         for seed in range(10):
             plan, chance = random_plan(seed)
-            away = files.Request(chance.choice(plan.nurses), None, chance.randrange(7))
+            away = records.Request(chance.choice(plan.nurses), None, chance.randrange(7))
             data = [replace(plan.weeks[0], requests=(away,) * MARK)]
             keeping, free = (Plan.of(plan.scenario, plan.history, data, plan.early, keeps=keeps) for keeps in (True, False))
             self.assertTrue(keeping.is_away(away.nurse, away.day, next(iter(plan.scenario.shift_types))))

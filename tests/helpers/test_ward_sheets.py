@@ -26,7 +26,7 @@ class Contents(unittest.TestCase):
         scenario = files.read_scenario("ward.txt", found["ward.txt"])
         return scenario, files.read_history("h", scenario, found["history-0.txt"]), [
             files.read_week("w", scenario, found[f"week-{number}.txt"]) for number in (0, 1)
-        ], [files.read_solution("f", scenario, found[f"fix-{number}.txt"]).assignments for number in (0, 1)]
+        ], [files.read_solution("f", scenario, found[f"fix-{number}.txt"]).cells for number in (0, 1)]
 
     def test_the_example(self):
         scenario, history, weeks, held = self.read(SHEETS)

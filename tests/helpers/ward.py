@@ -15,7 +15,7 @@ HELPERS = ROOT / "helpers"
 sys.path.insert(0, str(HELPERS))
 
 from inrc2pb.programs import program  # noqa: E402
-from inrc2pb.week import files  # noqa: E402
+from inrc2pb.week import files, records, writing  # noqa: E402
 from inrc2pb.commands.launch import launch  # noqa: E402
 
 WARD = ROOT / "examples" / "ward"
@@ -92,7 +92,7 @@ class HelperTest(unittest.TestCase):
     def swapped(self, one, two):
         """The ward's roster with the weeks of two nurses swapped, in the file start.txt."""
         names = {one: two, two: one}
-        rows = files.read_solution(ROSTER).assignments
+        rows = files.read_solution(ROSTER).cells
         return self.solution(*(row._replace(nurse=names.get(row.nurse, row.nurse)).row() for row in rows), name="start.txt")
 
     def script(self, name, text):

@@ -12,7 +12,7 @@ import re
 import sys
 from typing import Callable, Dict, List, Set, Tuple
 
-from drafts import ROOT, FileFault, files
+from drafts import ROOT, FileFault, files, records
 from inrc2pb.week.slots import Slots
 
 SOURCE = f"{ROOT}/crates/run_tests/src/changed_tokens.rt"
@@ -20,7 +20,7 @@ KINDS = ["end of file", "another word expected", "number expected", "out of limi
 MAX_PRICE = 999999999
 
 
-def rows_of_prices(slots: Slots, ward: files.Scenario) -> None:
+def rows_of_prices(slots: Slots, ward: records.Scenario) -> None:
     """Reads the number of rows of prices, and the rows."""
     slots.words("ROWS", "=")
     known: Set[Tuple[str, str]] = set()
@@ -34,7 +34,7 @@ def rows_of_prices(slots: Slots, ward: files.Scenario) -> None:
             slots.number("a price", 0, MAX_PRICE)
 
 
-def read_prices(path: str, ward: files.Scenario, text: str) -> None:
+def read_prices(path: str, ward: records.Scenario, text: str) -> None:
     """Reads the prices' file of a scenario."""
     slots = Slots(path, text)
     slots.words("PRICES")
@@ -43,7 +43,7 @@ def read_prices(path: str, ward: files.Scenario, text: str) -> None:
     slots.end("row")
 
 
-def read_cases(path: str, ward: files.Scenario, text: str) -> None:
+def read_cases(path: str, ward: records.Scenario, text: str) -> None:
     """Reads the cases' file of a scenario."""
     slots = Slots(path, text)
     slots.words("CASES")
@@ -51,7 +51,7 @@ def read_cases(path: str, ward: files.Scenario, text: str) -> None:
     slots.words("OFF", "=")
     for _ in range(slots.number("the number of cases")):
         slots.known_name("nurse", ward.nurses, "NURSES")
-        slots.known_name("day", files.DAYS, "the week")
+        slots.known_name("day", records.DAYS, "the week")
         rows_of_prices(slots, ward)
     slots.words("REST")
     rows_of_prices(slots, ward)

@@ -12,30 +12,30 @@ ROOT = os.path.abspath(f"{os.path.dirname(__file__)}/../..")
 sys.path.insert(0, f"{ROOT}/helpers")
 
 from inrc2pb.judging import rules  # noqa: E402
-from inrc2pb.week import faults, files  # noqa: E402
+from inrc2pb.week import faults, files, records  # noqa: E402
 
-DAYS, SOFT_RULES, FileFault = list(files.DAYS), rules.SOFT_RULES, faults.FileFault
+DAYS, SOFT_RULES, FileFault = list(records.DAYS), rules.SOFT_RULES, faults.FileFault
 
 
 def week_of(draft):
     """The library's value of a draft."""
-    limits = files.Limits
+    limits = records.Limits
     shifts = {
-        shift: files.ShiftType(shift, limits(*pair), tuple(after for after in draft.shifts if (shift, after) in draft.forbidden))
+        shift: records.ShiftType(shift, limits(*pair), tuple(after for after in draft.shifts if (shift, after) in draft.forbidden))
         for shift, pair in draft.shifts.items()}
     contracts = {
-        name: files.Contract(name, limits(*of.total), limits(*of.work), limits(*of.off), of.weekends, bool(of.complete))
+        name: records.Contract(name, limits(*of.total), limits(*of.work), limits(*of.off), of.weekends, bool(of.complete))
         for name, of in draft.contracts.items()}
-    nurses = {name: files.Nurse(name, of.contract, tuple(of.skills)) for name, of in draft.nurses.items()}
+    nurses = {name: records.Nurse(name, of.contract, tuple(of.skills)) for name, of in draft.nurses.items()}
     history = {
-        name: files.NurseHistory(name, of.assignments, of.weekends, None if of.last == "None" else of.last, of.same, of.work, of.off)
+        name: records.NurseHistory(name, of.assignments, of.weekends, None if of.last == "None" else of.last, of.same, of.work, of.off)
         for name, of in draft.history.items()}
-    required = {files.Place(*place): files.Requirement(*pair) for place, pair in draft.required.items()}
-    requests = tuple(files.Request(nurse, None if shift == "Any" else shift, day) for nurse, shift, day in draft.requests)
-    return files.Week(
-        files.Scenario(draft.name, draft.weeks, tuple(draft.skills), shifts, contracts, nurses),
-        files.History(draft.number, draft.name, history),
-        files.WeekData(draft.name, required, requests))
+    required = {records.Place(*place): records.Requirement(*pair) for place, pair in draft.required.items()}
+    requests = tuple(records.Request(nurse, None if shift == "Any" else shift, day) for nurse, shift, day in draft.requests)
+    return records.Week(
+        records.Scenario(draft.name, draft.weeks, tuple(draft.skills), shifts, contracts, nurses),
+        records.History(draft.number, draft.name, history),
+        records.WeekData(draft.name, required, requests))
 
 
 def draft_of(week):
@@ -66,17 +66,17 @@ def read_week(scenario, history, week):
     past = files.read_history("his", ward, history)
     data = files.read_week("week", ward, week)
     files.check_week_number("his", past, ward)
-    return draft_of(files.Week(ward, past, data))
+    return draft_of(records.Week(ward, past, data))
 
 
 def read_roster(text, path="roster", ward=None):
     """The cells of a solution or fix file, in the order of its rows."""
-    return [tuple(row) for row in files.read_solution(path, ward, text).assignments]
+    return [tuple(row) for row in files.read_solution(path, ward, text).cells]
 
 
 def rows(cells):
     """The library's values of these cells."""
-    return [files.Assignment(*cell) for cell in cells]
+    return [records.Cell(*cell) for cell in cells]
 
 
 def files_of(draft):
@@ -87,7 +87,7 @@ def files_of(draft):
 
 def solution_text(draft, cells):
     """The text of a solution or fix file."""
-    return files.solution_text(files.Solution(draft.number, draft.name, tuple(rows(cells))))
+    return files.solution_text(records.Solution(draft.number, draft.name, tuple(rows(cells))))
 
 
 def first_broken(draft, cells, held=()):

@@ -2,6 +2,7 @@ pub mod Bits
 pub mod CaseTables
 pub mod CellIndex
 pub mod CellLists
+pub mod Certificates
 pub mod Decimal
 pub mod Defaults
 pub mod FaultTexts

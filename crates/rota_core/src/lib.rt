@@ -27,6 +27,7 @@
 mod bits;
 mod cases;
 mod cell_indices;
+mod certificate;
 mod fault;
 mod history;
 mod instance;
@@ -48,6 +49,9 @@ mod week;
 
 pub use bits::Bits;
 pub use cases::{Cases, OffCase};
+pub use certificate::{
+    Certificate, ChargeKind, ChargeLimit, Condition, DayChoice, Fact, Leaf, Node, NurseLimit,
+};
 pub use fault::{FileFault, FileName, Kind};
 pub use history::{History, HistoryParts};
 pub use instance::Instance;

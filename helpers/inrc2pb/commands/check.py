@@ -11,7 +11,7 @@ from .command import add_week_options, parser, week_files
 from ..judging.constraint import block_of, blocks, named_row, row_of
 from ..judging.demand import demand_warnings
 from ..week.faults import FileFault, Misuse, ProgramFault, fault_line
-from ..week.files import DAYS, Assignment, History, Scenario, Week, WeekData
+from ..week.records import DAYS, Cell, History, Scenario, Week, WeekData
 from ..week.files import check_week_number, read_history, read_scenario, read_solution, read_week
 from ..judging.misfits import explained, other_week, read_held, read_roster
 from ..judging.odd_values import IMPOSSIBLE, history_warnings, scenario_warnings, week_warnings
@@ -56,10 +56,10 @@ class Check:
         if name != scenario.name:
             yield f"it is of '{name}', and the scenario is '{scenario.name}'"
 
-    def held(self, path: Path, scenario: Scenario, history: Optional[History]) -> List[Assignment]:
+    def held(self, path: Path, scenario: Scenario, history: Optional[History]) -> List[Cell]:
         """Checks a fix file: its assignments, if it has no mistake."""
         solution = self.reads(lambda: read_held(path, scenario, history, lambda warning: self.warns(path, iter([warning]))))
-        return list(solution.assignments) if solution else []
+        return list(solution.cells) if solution else []
 
     def roster(self, path: Path, scenario: Scenario, history: Optional[History]) -> None:
         """Checks a roster."""
@@ -91,7 +91,7 @@ class Check:
             self.warns(path, demand_warnings(scenario, history, data))
         return data
 
-    def all_files(self) -> Tuple[Optional[Week], List[Assignment]]:
+    def all_files(self) -> Tuple[Optional[Week], List[Cell]]:
         """Checks each file that is given: the week, if its three files have no mistake, and the held assignments."""
         given = self.given
         scenario = self.reads(lambda: read_scenario(given.sce))
@@ -113,7 +113,7 @@ class Check:
         week = Week(scenario, history, data) if history and data else None
         return week, held
 
-    def tell(self, scenario: Scenario, history: Optional[History], data: Optional[WeekData], held: List[Assignment]) -> None:
+    def tell(self, scenario: Scenario, history: Optional[History], data: Optional[WeekData], held: List[Cell]) -> None:
         """Prints the files in sentences."""
         lines = [*scenario_sentences(scenario), ""]
         lines += [*history_sentences(history), ""] if history else []
@@ -121,7 +121,7 @@ class Check:
         lines += [*held_sentences(held), ""] if held else []
         print(readable("\n".join(lines)))
 
-    def model(self, week: Week, held: List[Assignment]) -> None:
+    def model(self, week: Week, held: List[Cell]) -> None:
         """Lets `inrc2pb` check the files too. If it cannot be run, the rosters are compared with `rules`, and a warning says so."""
         files = week_files(self.given)
         has_program = True
@@ -146,7 +146,7 @@ class Check:
 
     def away(self, roster: Path, week: Week) -> None:
         """A roster may not break an absence of its week."""
-        for row in working_while_away(absences_of(week.data), read_solution(roster, week.scenario).assignments):
+        for row in working_while_away(absences_of(week.data), read_solution(roster, week.scenario).cells):
             self.mistake(f"{roster}: {row.nurse} works {row.shift} on {DAYS[row.day]}, and is away")
 
 
@@ -155,14 +155,14 @@ def _said(fault: ProgramFault) -> str:
     return str(fault) if fault.status in (FAULT, BROKEN_RULE) else fault_line(fault)
 
 
-def _compare(roster: Path, week: Week, held: List[Assignment]) -> None:
+def _compare(roster: Path, week: Week, held: List[Cell]) -> None:
     """Raises the fault of `inrc2pb extend` if the roster breaks a hard rule."""
-    rule = first_broken(week, read_solution(roster, week.scenario).assignments, held)
+    rule = first_broken(week, read_solution(roster, week.scenario).cells, held)
     if rule:
         raise ProgramFault(BROKEN_RULE, f"roster breaks {rule}")
 
 
-def _explain(number: int, week: Week, held: List[Assignment], given: argparse.Namespace) -> None:
+def _explain(number: int, week: Week, held: List[Cell], given: argparse.Namespace) -> None:
     """Prints where constraint `number` is in the model, its rule, and its row with names."""
     block = block_of(number, week, held, given.early)
     if block is None or number < 1:

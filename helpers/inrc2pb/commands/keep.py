@@ -7,24 +7,25 @@ from typing import Collection, Iterable, Iterator, List, Optional, Sequence
 from ..judging.absences import Absence, TooMany, with_absences
 from .command import parser
 from ..week.faults import Misuse
-from ..week.files import DAYS, Assignment, Scenario, Solution
-from ..week.files import read_scenario, read_solution, read_week, solution_text, week_text, write_text
+from ..week.records import DAYS, Cell, Scenario, Solution
+from ..week.files import read_scenario, read_solution, read_week, solution_text, week_text
+from ..week.writing import write_text
 from ..week.hints import quoted
 from ..week.slots import closest
 from ..week.targets import check_inputs_stay
 
 
 def kept(
-    rows: Iterable[Assignment], days: Iterable[int] = (), nurses: Iterable[str] = (), others: bool = False, promised: Collection[Assignment] = ()
-) -> List[Assignment]:
+    cells: Iterable[Cell], days: Iterable[int] = (), nurses: Iterable[str] = (), others: bool = False, promised: Collection[Cell] = ()
+) -> List[Cell]:
     """The rows of these days and nurses (no days or nurses: of all); with `others` all rows but these. Promised rows are always kept."""
     on, who = set(days) or set(range(7)), set(nurses)
-    return [row for row in rows if row in promised or (row.day in on and (not who or row.nurse in who)) != others]
+    return [cell for cell in cells if cell in promised or (cell.day in on and (not who or cell.nurse in who)) != others]
 
 
-def days_off(nurses: Iterable[str], days: Iterable[int], rows: Iterable[Assignment]) -> List[Absence]:
+def days_off(nurses: Iterable[str], days: Iterable[int], cells: Iterable[Cell]) -> List[Absence]:
     """An absence for each day on which one of these nurses is off in the roster."""
-    works = {(row.nurse, row.day) for row in rows}
+    works = {(cell.nurse, cell.day) for cell in cells}
     return [Absence(nurse, day, None) for nurse in nurses for day in days if (nurse, day) not in works]
 
 
@@ -63,10 +64,10 @@ def _options() -> argparse.ArgumentParser:
     return options
 
 
-def _week_text(week: Path, scenario: Scenario, nurses: Sequence[str], days: Sequence[int], rows: Sequence[Assignment]) -> str:
+def _week_text(week: Path, scenario: Scenario, nurses: Sequence[str], days: Sequence[int], cells: Sequence[Cell]) -> str:
     """The text of the week's file with absences for days off."""
     try:
-        written = with_absences(scenario, read_week(week, scenario), days_off(nurses or list(scenario.nurses), days or range(len(DAYS)), rows))
+        written = with_absences(scenario, read_week(week, scenario), days_off(nurses or list(scenario.nurses), days or range(len(DAYS)), cells))
     except TooMany as fault:
         raise Misuse(f"{week}: {fault}: give fewer days or nurses") from fault
     return week_text(written.data)
@@ -84,13 +85,13 @@ def main() -> Optional[int]:
     scenario = read_scenario(given.sce) if given.sce else None
     solution = read_solution(given.roster, scenario)
     days = list(dict.fromkeys(_days(given.keep))) if given.keep is not None else []
-    known = list(scenario.nurses) if scenario else list(dict.fromkeys(row.nurse for row in solution.assignments))
+    known = list(scenario.nurses) if scenario else list(dict.fromkeys(row.nurse for row in solution.cells))
     nurses = _nurses(given.nurses, known, str(given.sce or given.roster)) if given.nurses is not None else []
     if given.off_in and scenario:
-        text = _week_text(given.off_in, scenario, nurses, days, solution.assignments)
+        text = _week_text(given.off_in, scenario, nurses, days, solution.cells)
     else:
-        promised = read_solution(given.fix, scenario).assignments if given.fix else ()
-        rows = kept(solution.assignments, days, nurses, given.others, promised)
+        promised = read_solution(given.fix, scenario).cells if given.fix else ()
+        rows = kept(solution.cells, days, nurses, given.others, promised)
         text = solution_text(Solution(solution.week, solution.scenario, tuple(rows)))
     if given.out:
         write_text(given.out, text)

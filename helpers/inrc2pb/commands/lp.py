@@ -8,7 +8,7 @@ from pathlib import Path
 from typing import List, Optional
 
 from .command import parser
-from ..week.files import replacing
+from ..week.writing import replacing
 from ..solvers.mip_solution import STATUSES, read_answer
 from ..week.targets import check_inputs_stay
 from ..solvers.linear_program import ModelFault, write_linear_program

@@ -5,7 +5,8 @@ from typing import Optional
 
 from .command import parser
 from ..week.faults import Misuse
-from ..week.files import history_text, read_history, read_scenario, read_solution, write_text
+from ..week.files import history_text, read_history, read_scenario, read_solution
+from ..week.writing import write_text
 from ..week.targets import check_inputs_stay
 from ..judging.next_history import next_history
 
@@ -36,7 +37,7 @@ def main() -> Optional[int]:
             f"not of week {history.week} of {history.scenario}: give the roster and the history of one week"
         )
     try:
-        text = history_text(next_history(scenario, history, roster.assignments, given.new_period))
+        text = history_text(next_history(scenario, history, roster.cells, given.new_period))
     except Misuse as fault:
         raise Misuse(f"{given.roster}: {fault}") from fault
     if given.out:

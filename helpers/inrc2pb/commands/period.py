@@ -11,7 +11,8 @@ from typing import Dict, Iterable, List, Optional, Sequence
 from ..programs.clock import Clock
 from .command import add_solver_option, check_seconds, fixes_by_week, number_of_seconds, parser
 from ..week.faults import FileFault, Misuse, ProgramFault, fault_line
-from ..week.files import Assignment, read_solution, write_history
+from ..week.files import read_solution, write_history
+from ..week.records import Cell
 from ..search.improving import search
 from ..programs.interrupts import Interrupts, interrupts
 from ..judging.next_history import next_history
@@ -72,7 +73,7 @@ class Period:
                 self.bound_lines = [running.line()]
             self._end(signals)
 
-    def _keep(self, cells: Sequence[Assignment]) -> None:
+    def _keep(self, cells: Sequence[Cell]) -> None:
         """Writes a better plan to the folder."""
         self._written = self.weeks.write(cells, self.folder)
 
@@ -92,7 +93,7 @@ class Period:
                 self._report(number, week)
                 self.bound_lines = outcome.lines() if len(self.numbers) == 1 else []
                 if number + 1 < self.weeks.scenario.weeks:
-                    history = next_history(self.weeks.scenario, history, read_solution(week.roster, self.weeks.scenario).assignments)
+                    history = next_history(self.weeks.scenario, history, read_solution(week.roster, self.weeks.scenario).cells)
                     path = self.folder / history_name(number + 1)
                     write_history(path, history)
                 if isinstance(outcome.fault, (FileFault, Misuse, ProgramFault)):
@@ -125,7 +126,7 @@ class Period:
     def table(self) -> List[str]:
         """The penalty and the costs of each week, and their sums."""
         weeks = {f"week {number}": [report.penalty, *report.by_rule.values()] for number, report in self.reports.items()}
-        sums = [sum(costs[at] for costs in weeks.values()) for at in range(1 + len(SOFT_RULES))]
+        sums = [sum(costs[column] for costs in weeks.values()) for column in range(1 + len(SOFT_RULES))]
         lines = [_table_line("", ("penalty", *SOFT_RULES))]
         lines += [_table_line(name, map(str, costs)) for name, costs in weeks.items()]
         return [*lines, _table_line("period", map(str, sums))]

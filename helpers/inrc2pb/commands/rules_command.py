@@ -14,8 +14,8 @@ def main() -> None:
     options.add_argument("roster", type=Path, help="a solution file")
     given = options.parse_args()
     week = read_files(given.sce, given.his, given.week)
-    held = read_solution(given.fix, week.scenario).assignments if given.fix else ()
-    roster = read_solution(given.roster, week.scenario).assignments
+    held = read_solution(given.fix, week.scenario).cells if given.fix else ()
+    roster = read_solution(given.roster, week.scenario).cells
     rule = first_broken(week, roster, held)
     if rule:
         print(f"roster breaks {rule}")

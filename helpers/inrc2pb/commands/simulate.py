@@ -9,7 +9,9 @@ from typing import Optional, Sequence, Tuple
 from ..programs.clock import Clock
 from .command import add_solver_option, check_seconds, number_of_seconds, parser
 from ..week.faults import Misuse, ProgramFault
-from ..week.files import Assignment, Solution, write_solution, write_text
+from ..week.files import write_solution
+from ..week.records import Cell, Solution
+from ..week.writing import write_text
 from ..search.improving import search
 from ..programs.interrupts import interrupts
 from ..search.period_search import PeriodSearch
@@ -43,7 +45,7 @@ def plan_ahead(weeks: PlannedWeeks, solution: Path, seconds: float) -> Tuple[Rep
     after the roster was found."""
     week = weeks.history.week
 
-    def keep(cells: Sequence[Assignment]) -> None:
+    def keep(cells: Sequence[Cell]) -> None:
         write_solution(solution, Solution(week, weeks.scenario.name, tuple(cell for cell in cells if cell.day < 7)))
 
     running = PeriodSearch(weeks, keep, Clock(seconds), Progress(None))

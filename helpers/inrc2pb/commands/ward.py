@@ -10,8 +10,9 @@ from ..judging.absences import NO_SKILL, TooMany, joined, readable, with_absence
 from .command import parser
 from ..judging.demand import demand_warnings
 from ..week.faults import FileFault, Misuse
-from ..week.files import History, Scenario, Solution, Week, WeekData, history_text, scenario_text, solution_text, week_text
-from ..week.files import replacing
+from ..week.files import history_text, scenario_text, solution_text, week_text
+from ..week.records import History, Scenario, Solution, Week, WeekData
+from ..week.writing import replacing
 from ..rows.first_roster import first_cost
 from ..week.hints import quoted
 from ..judging.odd_values import history_warnings, scenario_warnings, week_warnings

@@ -9,8 +9,9 @@ from ..judging.absences import NO_SKILL, Absence, TooMany, Written, absences_of,
 from .command import parser
 from ..week.faults import Misuse
 from ..judging.leave import credit_line, credited, shifts_of_leave
-from ..week.files import DAYS, Assignment, Request, Scenario, Week, WeekData, check_week_number, check_weeks_left, history_text, read_history
-from ..week.files import read_scenario, read_week, week_text, write_text
+from ..week.files import check_week_number, check_weeks_left, history_text, read_history, read_scenario, read_week, week_text
+from ..week.records import DAYS, Cell, Request, Scenario, Week, WeekData
+from ..week.writing import write_text
 from ..rows.first_roster import first_cost
 from ..week.hints import plural
 from ..judging.misfits import read_held
@@ -42,7 +43,7 @@ def _options() -> argparse.ArgumentParser:
     return options
 
 
-def _known_cost(week: Week, added: Sequence[Absence], held: Sequence[Assignment]) -> Optional[int]:
+def _known_cost(week: Week, added: Sequence[Absence], held: Sequence[Cell]) -> Optional[int]:
     """The cost of a roster that keeps these absences, those of the week, and the held rows; None if none is found."""
     for row in working_while_away({*absences_of(week.data), *added}, held):
         without = f"inrc2pb-keep --nurses {row.nurse} --keep {DAYS[row.day]} --others FILE"
@@ -51,7 +52,7 @@ def _known_cost(week: Week, added: Sequence[Absence], held: Sequence[Assignment]
 
 
 def _written(
-    scenario: Scenario, path: Path, data: WeekData, away: Sequence[Absence], week: Optional[Week], held: Sequence[Assignment]
+    scenario: Scenario, path: Path, data: WeekData, away: Sequence[Absence], week: Optional[Week], held: Sequence[Cell]
 ) -> Written:
     """The data of a week's file with these absences; the whole week makes fewer requests certain."""
     if len(data.requests) > MAX_NUMBER:
@@ -116,12 +117,12 @@ def main() -> Optional[int]:
     days = _days_away(scenario, away) if given.credit else {}
     shifts = shifts_of_leave(scenario, days)
     history = credited(history, shifts) if history else None
-    held = read_held(given.fix, scenario, history, lambda hint: print(f"{given.fix}: warning: {hint}")).assignments if given.fix else ()
+    held = read_held(given.fix, scenario, history, lambda hint: print(f"{given.fix}: warning: {hint}")).cells if given.fix else ()
     results = []
-    for at, (path, one) in enumerate(zip(given.week, data)):
-        requests = (*one.requests, *(Request(dated.nurse, dated.shift, dated.day) for dated in of_week(wishes, at)))
-        week = Week(scenario, history, replace(one, requests=requests)) if history and not at else None
-        results.append(_written(scenario, path, replace(one, requests=requests), of_week([*away, *never], at), week, held))
+    for number, (path, one) in enumerate(zip(given.week, data)):
+        requests = (*one.requests, *(Request(dated.nurse, dated.shift, dated.day) for dated in of_week(wishes, number)))
+        week = Week(scenario, history, replace(one, requests=requests)) if history and not number else None
+        results.append(_written(scenario, path, replace(one, requests=requests), of_week([*away, *never], number), week, held))
     for target, result in zip(_targets(given), results):
         write_text(target, week_text(result.data))
         print(f"{target}: {_summary(result)}")

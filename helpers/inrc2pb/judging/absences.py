@@ -10,7 +10,7 @@ from dataclasses import replace
 from typing import Collection, Dict, FrozenSet, Iterable, List, NamedTuple, Optional, Tuple
 
 from ..week.hints import plural
-from ..week.records import DAYS, Assignment, Request, Scenario, WeekData
+from ..week.records import DAYS, Cell, Request, Scenario, WeekData
 from .rules import REQUEST
 from .savings import largest_saving
 from ..week.slots import MAX_NUMBER
@@ -43,25 +43,25 @@ def _asked(request: Request) -> Absence:
     return Absence(request.nurse, request.day, request.shift)
 
 
-def is_broken_by(absences: Collection[Absence], row: Assignment) -> bool:
+def is_broken_by(absences: Collection[Absence], cell: Cell) -> bool:
     """Whether the nurse of this row is away."""
-    return Absence(row.nurse, row.day, None) in absences or Absence(row.nurse, row.day, row.shift) in absences
+    return Absence(cell.nurse, cell.day, None) in absences or Absence(cell.nurse, cell.day, cell.shift) in absences
 
 
-def working_while_away(absences: Collection[Absence], rows: Iterable[Assignment]) -> List[Assignment]:
+def working_while_away(absences: Collection[Absence], cells: Iterable[Cell]) -> List[Cell]:
     """The rows that break an absence, in their order."""
-    return [row for row in rows if is_broken_by(absences, row)]
+    return [cell for cell in cells if is_broken_by(absences, cell)]
 
 
-def in_words(rows: Iterable[Assignment]) -> str:
+def in_words(cells: Iterable[Cell]) -> str:
     """Who works when, as `Chen works Late on Fri and Sat, Grace works Night on Sun`."""
     days: Dict[Tuple[str, str], List[int]] = {}
-    for row in rows:
-        days.setdefault((row.nurse, row.shift), []).append(row.day)
+    for cell in cells:
+        days.setdefault((cell.nurse, cell.shift), []).append(cell.day)
     return ", ".join(f"{readable(nurse)} works {readable(shift)} on {joined(DAYS[day] for day in sorted(on))}" for (nurse, shift), on in days.items())
 
 
-def way_out(scenario: Scenario, held: Iterable[Assignment], broken: Collection[Assignment]) -> str:
+def way_out(scenario: Scenario, held: Iterable[Cell], broken: Collection[Cell]) -> str:
     """What to do if these rows break absences: the held shifts of nurses who could work them instead, or how to find the cause."""
     wanted = {(row.day, row.shift, row.skill) for row in broken}
     able = [

@@ -6,7 +6,7 @@ from pathlib import Path
 from typing import Iterator, List, NamedTuple, Optional, Sequence, Tuple
 
 from ..week.faults import Misuse
-from ..week.files import DAYS, Assignment, Limits, Place, Week
+from ..week.records import DAYS, Cell, Limits, Place, Week
 
 
 class Block(NamedTuple):
@@ -34,7 +34,7 @@ def _places(week: Week) -> List[Place]:
     return [Place(*place) for place in product(range(7), week.scenario.shift_types, week.scenario.skills)]
 
 
-def _hard_blocks(week: Week, held: Sequence[Assignment]) -> Iterator[Block]:
+def _hard_blocks(week: Week, held: Sequence[Cell]) -> Iterator[Block]:
     yield Block("the unit variable", "it has to be true; an answer that violates it is cut off, or is of another week", 1)
     for nurse in week.scenario.nurses:
         for day in DAYS:
@@ -53,10 +53,10 @@ def _hard_blocks(week: Week, held: Sequence[Assignment]) -> Iterator[Block]:
         yield Block("H5", f"{row.row()} is held", 1)
 
 
-def _cell_key(week: Week, row: Assignment) -> Tuple[int, int, int, int]:
+def _cell_key(week: Week, cell: Cell) -> Tuple[int, int, int, int]:
     scenario = week.scenario
     shifts, nurses = list(scenario.shift_types), list(scenario.nurses)
-    return nurses.index(row.nurse), row.day, shifts.index(row.shift), scenario.skills.index(row.skill)
+    return nurses.index(cell.nurse), cell.day, shifts.index(cell.shift), scenario.skills.index(cell.skill)
 
 
 def _successions(week: Week, nurse: str) -> Iterator[Block]:
@@ -107,13 +107,13 @@ def _totals(week: Week, nurse: str, early: bool) -> Iterator[Block]:
         yield Block("S6", f"too many assignments of {nurse}", int(limits.maximum - before < 7))
 
 
-def blocks(week: Week, held: Sequence[Assignment] = (), early: bool = False) -> Iterator[Block]:
+def blocks(week: Week, held: Sequence[Cell] = (), early: bool = False) -> Iterator[Block]:
     """The constraints of the model in their order, as blocks."""
     yield from _hard_blocks(week, held)
     yield from _soft_blocks(week, early)
 
 
-def block_of(number: int, week: Week, held: Sequence[Assignment] = (), early: bool = False) -> Optional[Block]:
+def block_of(number: int, week: Week, held: Sequence[Cell] = (), early: bool = False) -> Optional[Block]:
     """The block that has constraint `number`, counted from 1."""
     for block in blocks(week, held, early):
         if number <= block.size:
@@ -125,12 +125,12 @@ def block_of(number: int, week: Week, held: Sequence[Assignment] = (), early: bo
 def row_of(number: int, model: Path) -> Tuple[int, str]:
     """The line of constraint `number` in the model's file, counted from 1, and its text."""
     with open(model, encoding="ascii", errors="replace") as lines:
-        for at, line in enumerate(lines, 1):
+        for row, line in enumerate(lines, 1):
             if line.startswith(("*", "min:")):
                 continue
             number -= 1
             if number == 0:
-                return at, line.rstrip("\n")
+                return row, line.rstrip("\n")
     raise Misuse("the model ends before this constraint: is inrc2pb of another version?")
 
 
@@ -139,7 +139,7 @@ def named_row(row: str, week: Week) -> str:
     scenario = week.scenario
     cells = product(scenario.nurses, DAYS, scenario.shift_types, scenario.skills)
     wanted = {int(number) for number in re.findall(r"x(\d+)", row)}
-    names = {at: " ".join(cell) for at, cell in enumerate(cells, 1) if at in wanted}
+    names = {variable: " ".join(cell) for variable, cell in enumerate(cells, 1) if variable in wanted}
     unit = 7 * len(scenario.nurses) * len(scenario.shift_types) * len(scenario.skills) + 1
 
     def name(found: "re.Match[str]") -> str:

@@ -4,7 +4,7 @@ import itertools
 from typing import Iterable, Iterator, List, NamedTuple, Tuple
 
 from . import rules
-from ..week.records import DAYS, Assignment, Place, Requirement, Week
+from ..week.records import DAYS, Cell, Place, Requirement, Week
 
 
 class Covered(NamedTuple):
@@ -20,9 +20,9 @@ class Covered(NamedTuple):
         return max(self.minimum, self.optimal)
 
 
-def coverage(week: Week, rows: Iterable[Assignment]) -> List[Tuple[str, str, List[Covered]]]:
+def coverage(week: Week, cells: Iterable[Cell]) -> List[Tuple[str, str, List[Covered]]]:
     """The shift types and skills that are needed or filled, each with its seven days."""
-    number, found = rules.numbers(rows), []
+    number, found = rules.numbers(cells), []
     for shift, skill in itertools.product(week.scenario.shift_types, week.scenario.skills):
         places = [Place(day, shift, skill) for day in range(7)]
         needs = [week.data.requirements.get(place, Requirement(0, 0)) for place in places]
@@ -32,23 +32,23 @@ def coverage(week: Week, rows: Iterable[Assignment]) -> List[Tuple[str, str, Lis
     return found
 
 
-def missing_nurses(week: Week, rows: Iterable[Assignment]) -> Iterator[str]:
+def missing_nurses(week: Week, cells: Iterable[Cell]) -> Iterator[str]:
     """A line for each day on which a place has fewer nurses than it asks for."""
-    number = rules.numbers(rows)
+    number = rules.numbers(cells)
     for day, name in enumerate(DAYS):
         places = []
         for place, required in week.data.requirements.items():
             wanted = max(required.minimum, required.optimal)
             if place.day == day and number[place] < wanted:
-                least = f", at least {required.minimum}" * (number[place] < required.minimum)
-                places.append(f"{place.shift} {place.skill} ({number[place]} of {wanted}{least})")
+                minimum = f", at least {required.minimum}" * (number[place] < required.minimum)
+                places.append(f"{place.shift} {place.skill} ({number[place]} of {wanted}{minimum})")
         if places:
             yield f"missing on {name}: {', '.join(places)}"
 
 
-def spare_nurses(week: Week, rows: Iterable[Assignment]) -> Iterator[str]:
+def spare_nurses(week: Week, cells: Iterable[Cell]) -> Iterator[str]:
     """A line for each day on which a place has more nurses than are best, also one that asks for none. They cost nothing."""
-    number = rules.numbers(rows)
+    number = rules.numbers(cells)
     for day, name in enumerate(DAYS):
         places = []
         for shift, skill in itertools.product(week.scenario.shift_types, week.scenario.skills):

@@ -4,7 +4,7 @@ from typing import Collection, Dict, Iterator, List, Optional, Sequence, Tuple
 
 from .absences import Absence, absences_of, joined
 from .odd_values import IMPOSSIBLE
-from ..week.records import DAYS, Assignment, History, Place, Scenario, WeekData
+from ..week.records import DAYS, Cell, History, Place, Scenario, WeekData
 
 _KEEPING = "no roster can meet it and keep every absence"
 
@@ -31,13 +31,13 @@ def asked_shifts(data: WeekData) -> Tuple[int, int]:
 def supplied_shifts(scenario: Scenario, history: Optional[History]) -> Tuple[int, int]:
     """The shifts that the contracts ask for at least and allow at most, in the part of a week of those that are left, rounded outwards."""
     left = scenario.weeks - (history.week if history else 0)
-    least = most = 0
+    minimum = most = 0
     for name in scenario.nurses:
         done = history.nurses[name].assignments if history else 0
         limits = scenario.contract_of(name).assignments
-        least += max(0, limits.minimum - done)
+        minimum += max(0, limits.minimum - done)
         most += min(max(0, limits.maximum - done), 7 * left)
-    return least // left, -(-most // left)
+    return minimum // left, -(-most // left)
 
 
 def can_work(scenario: Scenario, history: Optional[History], away: Collection[Absence], nurse: str, place: Place) -> bool:
@@ -66,11 +66,11 @@ def _fill(slot: int, places: Sequence[Place], could: Dict[Place, List[str]], fil
     """Finds a nurse for a place, if need be by giving others another place. If there is none, returns all nurses who were tried."""
     came: Dict[str, int] = {}
     waiting = [slot]
-    for at in waiting:
-        for nurse in could[places[at]]:
+    for other in waiting:
+        for nurse in could[places[other]]:
             if nurse in came:
                 continue
-            came[nurse] = at
+            came[nurse] = other
             if nurse not in filled:
                 _move(nurse, slot, came, filled)
                 return None
@@ -80,12 +80,12 @@ def _fill(slot: int, places: Sequence[Place], could: Dict[Place, List[str]], fil
 
 def _move(nurse: str, slot: int, came: Dict[str, int], filled: Dict[str, int]) -> None:
     """Gives the nurse the place for which she was tried, the nurse of that place another one, and so on up to the slot."""
-    holders = {at: who for who, at in filled.items()}
+    holders = {left: who for who, left in filled.items()}
     while True:
-        at = filled[nurse] = came[nurse]
-        if at == slot:
+        left = filled[nurse] = came[nurse]
+        if left == slot:
             return
-        nurse = holders[at]
+        nurse = holders[left]
 
 
 def _shortage_text(scenario: Scenario, data: WeekData, short: Sequence[Place], have: int) -> str:
@@ -101,9 +101,9 @@ def _shortage_text(scenario: Scenario, data: WeekData, short: Sequence[Place], h
     return f"{need} with {skill} needed at once ({', '.join(some)}), and {has}"
 
 
-def hindrance(scenario: Scenario, history: History, away: Collection[Absence], rows: Sequence[Assignment], nurse: str, place: Place) -> str:
+def hindrance(scenario: Scenario, history: History, away: Collection[Absence], cells: Sequence[Cell], nurse: str, place: Place) -> str:
     """Why a nurse with the skill does not fill a place in a roster; empty if nothing hinders her."""
-    shifts = {row.day: row.shift for row in rows if row.nurse == nurse}
+    shifts = {cell.day: cell.shift for cell in cells if cell.nurse == nurse}
     before = history.nurses[nurse].last_shift if place.day == 0 else shifts.get(place.day - 1)
     after = shifts.get(place.day + 1)
     if Absence(nurse, place.day, None) in away:

@@ -5,7 +5,7 @@ from typing import Dict
 
 from .absences import readable
 from ..week.faults import Misuse
-from ..week.files import History, Scenario
+from ..week.records import History, Scenario
 from ..week.hints import plural
 from ..week.slots import MAX_NUMBER
 

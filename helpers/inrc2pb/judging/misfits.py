@@ -6,7 +6,8 @@ from typing import Callable, Iterable, Iterator, List, NamedTuple, Optional
 
 from .breaches import Shifts, breaches_by, held_breaches, minimum_breaches
 from ..week.faults import FileFault, ProgramFault
-from ..week.files import Assignment, History, Scenario, Solution, Week, read_solution
+from ..week.files import read_solution
+from ..week.records import Cell, History, Scenario, Solution, Week
 from ..week.slots import text_of, tokens_of
 
 # The indices of the week's number, of the scenario's name and of the first row among the tokens of a solution file, and the number of
@@ -60,7 +61,7 @@ def misfits(path: Path, solution: Solution, scenario: Scenario, history: Optiona
     """The rows that break H1, H3 or H4, alone or with rows above them, in the order of the file."""
     pasts = history.nurses.values() if history else ()
     shifts: Shifts = {(past.nurse, -1): [past.last_shift] for past in pasts if past.last_shift is not None}
-    for line, row in zip(_lines(text_of(path))[_ROWS::_ROW], solution.assignments):
+    for line, row in zip(_lines(text_of(path))[_ROWS::_ROW], solution.cells):
         for breach in breaches_by(row, shifts, scenario):
             yield Misfit(breach.rule, line, breach.reason)
         shifts.setdefault((row.nurse, row.day), []).append(row.shift)
@@ -78,7 +79,7 @@ def read_held(path: Path, scenario: Scenario, history: Optional[History], warn: 
     return solution
 
 
-def explained(fault: ProgramFault, path: Path, week: Week, held: Iterable[Assignment]) -> ProgramFault:
+def explained(fault: ProgramFault, path: Path, week: Week, held: Iterable[Cell]) -> ProgramFault:
     """The fault that `inrc2pb extend` found in the roster of this file; if it breaks a hard rule, with the line and the reason."""
     rule = re.search(r"roster breaks (H[1-5])", fault.message)
     if not rule:
@@ -89,9 +90,9 @@ def explained(fault: ProgramFault, path: Path, week: Week, held: Iterable[Assign
     return ProgramFault(fault.status, str(FileFault(path, found.line if found else 0, reason)))
 
 
-def _misfits_of(rule: str, path: Path, solution: Solution, week: Week, held: Iterable[Assignment]) -> Iterator[Misfit]:
+def _misfits_of(rule: str, path: Path, solution: Solution, week: Week, held: Iterable[Cell]) -> Iterator[Misfit]:
     yield from (found for found in misfits(path, solution, week.scenario, week.history) if found.rule == rule)
     if rule == "H2":
-        yield from (Misfit(rule, 0, breach.reason) for breach in minimum_breaches(week, solution.assignments))
+        yield from (Misfit(rule, 0, breach.reason) for breach in minimum_breaches(week, solution.cells))
     if rule == "H5":
-        yield from (Misfit(rule, 0, breach.reason) for breach in held_breaches(solution.assignments, held))
+        yield from (Misfit(rule, 0, breach.reason) for breach in held_breaches(solution.cells, held))

@@ -3,7 +3,7 @@
 from typing import Callable, Dict, Iterable
 
 from ..week.faults import Misuse
-from ..week.files import Assignment, History, NurseHistory, Scenario
+from ..week.records import Cell, History, NurseHistory, Scenario
 from .rules import SATURDAY, SUNDAY
 from ..week.slots import MAX_NUMBER
 
@@ -34,15 +34,15 @@ def next_nurse_history(past: NurseHistory, shifts: Dict[int, str], new_period: b
     )
 
 
-def next_history(scenario: Scenario, history: History, assignments: Iterable[Assignment], new_period: bool = False) -> History:
+def next_history(scenario: Scenario, history: History, cells: Iterable[Cell], new_period: bool = False) -> History:
     """The next week's history. A nurse with two assignments on one day, and a week after the last one, are a Misuse."""
     if not new_period and history.week + 1 >= scenario.weeks:
         raise Misuse(f"week {history.week} is the last of {scenario.weeks}: begin a new period with --new-period")
     shifts: Dict[str, Dict[int, str]] = {nurse: {} for nurse in history.nurses}
-    for assignment in assignments:
-        if assignment.day in shifts[assignment.nurse]:
-            raise Misuse(f"{assignment.row()}: {assignment.nurse} has two assignments on this day, remove one")
-        shifts[assignment.nurse][assignment.day] = assignment.shift
+    for cell in cells:
+        if cell.day in shifts[cell.nurse]:
+            raise Misuse(f"{cell.row()}: {cell.nurse} has two assignments on this day, remove one")
+        shifts[cell.nurse][cell.day] = cell.shift
     nurses = {nurse: next_nurse_history(past, shifts[nurse], new_period) for nurse, past in history.nurses.items()}
     for nurse, next_one in nurses.items():
         if max(next_one.assignments, next_one.weekends) > MAX_NUMBER:

@@ -2,7 +2,7 @@
 
 from typing import Dict, Iterator, List, Tuple
 
-from ..week.files import DAYS, Contract, History, Limits, NurseHistory, Requirement, Scenario, WeekData
+from ..week.records import DAYS, Contract, History, Limits, NurseHistory, Requirement, Scenario, WeekData
 from ..week.hints import plural
 from ..week.slots import is_utf8
 
@@ -33,15 +33,15 @@ def _reversed_limits(what: str, limits: Limits) -> Iterator[str]:
 
 def _too_many_assignments(contract: Contract, weeks: int) -> Iterator[str]:
     """A warning if the minimum of assignments does not fit the period, or not with the limits of days in a row."""
-    days, least = 7 * weeks, contract.assignments.minimum
+    days, minimum = 7 * weeks, contract.assignments.minimum
     work, off = contract.working_days.maximum, max(1, contract.days_off.minimum)
     rounds, rest = divmod(days, work + off)
     most = rounds * work + min(rest, work)
-    if least > days:
-        yield f"contract {contract.name}: at least {least} assignments are asked for, and the period has {days} days"
-    elif least > most:
+    if minimum > days:
+        yield f"contract {contract.name}: at least {minimum} assignments are asked for, and the period has {days} days"
+    elif minimum > most:
         in_a_row = f"with at most {work} working days and at least {off} off in a row"
-        yield f"contract {contract.name}: at least {least} assignments are asked for, and {days} days have {most} {in_a_row}"
+        yield f"contract {contract.name}: at least {minimum} assignments are asked for, and {days} days have {most} {in_a_row}"
 
 
 def history_warnings(history: History) -> Iterator[str]:

@@ -7,7 +7,7 @@ breaks as `extend` does; if it breaks none, the penalty and the costs as `decode
 import collections
 from typing import Counter, Dict, Iterable, Iterator, List, NamedTuple, Optional, Sequence, Set, Tuple
 
-from ..week.files import Assignment, Contract, Limits, NurseHistory, Place, Request, Week
+from ..week.records import Cell, Contract, Limits, NurseHistory, Place, Request, Week
 
 SATURDAY, SUNDAY = 5, 6
 SOFT_RULES = ("S1", "S2", "S3", "S4", "S5", "S6", "S7")
@@ -50,17 +50,17 @@ class Charge(NamedTuple):
 # ---- hard rules
 
 
-def shifts_by_day(roster: Iterable[Assignment]) -> Shifts:
+def shifts_by_day(roster: Iterable[Cell]) -> Shifts:
     """The shift types that a nurse has on a day."""
     shifts: Shifts = collections.defaultdict(list)
-    for assignment in roster:
-        shifts[assignment.nurse, assignment.day].append(assignment.shift)
+    for cell in roster:
+        shifts[cell.nurse, cell.day].append(cell.shift)
     return shifts
 
 
-def numbers(roster: Iterable[Assignment]) -> Counter[Place]:
+def numbers(roster: Iterable[Cell]) -> Counter[Place]:
     """The number of nurses at each place."""
-    return collections.Counter(Place(assignment.day, assignment.shift, assignment.skill) for assignment in roster)
+    return collections.Counter(Place(cell.day, cell.shift, cell.skill) for cell in roster)
 
 
 def _has_forbidden_succession(week: Week, shifts: Shifts, nurse: str) -> bool:
@@ -74,7 +74,7 @@ def _has_forbidden_succession(week: Week, shifts: Shifts, nurse: str) -> bool:
     return False
 
 
-def broken(week: Week, roster: Sequence[Assignment], held: Iterable[Assignment] = ()) -> Iterator[str]:
+def broken(week: Week, roster: Sequence[Cell], held: Iterable[Cell] = ()) -> Iterator[str]:
     """The hard rules that the roster breaks, in their order."""
     shifts, number, nurses = shifts_by_day(roster), numbers(roster), week.scenario.nurses
     if any(len(shifts[nurse, day]) > 1 for nurse in nurses for day in range(7)):
@@ -83,14 +83,14 @@ def broken(week: Week, roster: Sequence[Assignment], held: Iterable[Assignment] 
         yield "H2"
     if any(_has_forbidden_succession(week, shifts, nurse) for nurse in nurses):
         yield "H3"
-    if any(assignment.skill not in nurses[assignment.nurse].skills for assignment in roster):
+    if any(cell.skill not in nurses[cell.nurse].skills for cell in roster):
         yield "H4"
-    rows: Set[Assignment] = set(roster)
-    if any(assignment not in rows for assignment in held):
+    rows: Set[Cell] = set(roster)
+    if any(cell not in rows for cell in held):
         yield "H5"
 
 
-def first_broken(week: Week, roster: Sequence[Assignment], held: Iterable[Assignment] = ()) -> Optional[str]:
+def first_broken(week: Week, roster: Sequence[Cell], held: Iterable[Cell] = ()) -> Optional[str]:
     """The first hard rule that the roster breaks, or None."""
     return next(broken(week, roster, held), None)
 
@@ -101,25 +101,25 @@ def first_broken(week: Week, roster: Sequence[Assignment], held: Iterable[Assign
 def run_charges(base: Charge, has: Sequence[bool], before: int, limits: Limits) -> Iterator[Charge]:
     """The days above the maximum and below the minimum in each run of a property, given the days that have it, and the length of
     its run on the Sunday before. `base` has the rest of the charges."""
-    least, greatest = limits
+    minimum, maximum = limits
     first = 0
     for day in range(8):
         if day < 7 and has[day]:
             continue
         length = before + day - first
-        above = min(day - first, length - greatest)
+        above = min(day - first, length - maximum)
         # A run that goes on after Sunday may still grow.
-        below = least - length if 0 < length and day < 7 else 0
+        below = minimum - length if 0 < length and day < 7 else 0
         if above > 0 or below > 0:
             found = base._replace(days=(first, day - 1) if first < day else None, number=length, before=before)
             if above > 0:
-                yield found._replace(what=f"{base.what} above", limit=greatest, times=above)
+                yield found._replace(what=f"{base.what} above", limit=maximum, times=above)
             if below > 0:
-                yield found._replace(what=f"{base.what} below", limit=least, times=below)
+                yield found._replace(what=f"{base.what} below", limit=minimum, times=below)
         first, before = day + 1, 0
 
 
-def charges(week: Week, roster: Sequence[Assignment], early: bool = False) -> Iterator[Charge]:
+def charges(week: Week, roster: Sequence[Cell], early: bool = False) -> Iterator[Charge]:
     """Everything that the soft rules charge: first the places, then each nurse."""
     shifts, number = shifts_by_day(roster), numbers(roster)
     for place, required in week.data.requirements.items():
@@ -169,14 +169,14 @@ def _request_charges(nurse: str, shift_on: Sequence[List[str]], requests: Sequen
 
 def _total_charges(week: Week, contract: Contract, history: NurseHistory, works: int, weekend: bool, early: bool) -> Iterator[Charge]:
     """What S6 and S7 charge a nurse."""
-    (least, greatest), most = contract.assignments, contract.max_weekends
+    (minimum, maximum), most = contract.assignments, contract.max_weekends
     total, weekends = history.assignments + works, history.weekends + weekend
-    if week.is_last and total < least:
-        charge = Charge("S6", "below", history.nurse, ASSIGNMENT_TOTAL, number=total, limit=least, times=least - total)
+    if week.is_last and total < minimum:
+        charge = Charge("S6", "below", history.nurse, ASSIGNMENT_TOTAL, number=total, limit=minimum, times=minimum - total)
         yield charge._replace(before=history.assignments)
     if week.is_last or early:
         for rule, now, limit, before, weight in (
-            ("S6", total, greatest, history.assignments, ASSIGNMENT_TOTAL),
+            ("S6", total, maximum, history.assignments, ASSIGNMENT_TOTAL),
             ("S7", weekends, most, history.weekends, WEEKEND_TOTAL),
         ):
             times = now - max(limit, before) if early else now - limit
@@ -192,12 +192,12 @@ def cost_by_rule(charged: Iterable[Charge]) -> Dict[str, int]:
     return cost
 
 
-def costs(week: Week, roster: Sequence[Assignment], early: bool = False) -> Dict[str, int]:
+def costs(week: Week, roster: Sequence[Cell], early: bool = False) -> Dict[str, int]:
     """The cost of each soft rule; the penalty is their sum."""
     return cost_by_rule(charges(week, roster, early))
 
 
-def nurse_costs(week: Week, roster: Sequence[Assignment], early: bool = False) -> Dict[str, Dict[str, int]]:
+def nurse_costs(week: Week, roster: Sequence[Cell], early: bool = False) -> Dict[str, Dict[str, int]]:
     """The same of each nurse; no nurse pays for S1."""
     shifts, requests = shifts_by_day(roster), requests_by_nurse(week)
     return {nurse: cost_by_rule(nurse_charges(week, shifts, requests[nurse], nurse, early)) for nurse in week.scenario.nurses}

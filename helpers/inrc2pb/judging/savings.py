@@ -18,10 +18,11 @@ functions of the number, so it is greatest at an end: `_lengths` has these numbe
 
 import functools
 from dataclasses import replace
-from typing import Iterator, NamedTuple, Optional, Sequence, Set, Tuple
+from typing import Iterator, Sequence, Set, Tuple
 
 from ..week.records import DAYS, Contract, Limits, Scenario, ShiftType, WeekData
-from .rules import ASSIGNMENT_TOTAL, DAYS_OFF_RUN, HALF_WEEKEND, MISSING_NURSE, REQUEST, SHIFT_RUN, SUNDAY, WEEKEND_TOTAL, WORK_RUN
+from .rules import ASSIGNMENT_TOTAL, MISSING_NURSE, REQUEST, WEEKEND_TOTAL
+from .runs import NEVER, Runs, RunState
 
 _WEEK = len(DAYS)
 _TOTALS = ASSIGNMENT_TOTAL * _WEEK + WEEKEND_TOTAL
@@ -41,80 +42,31 @@ def _widest(types: Tuple[ShiftType, ...], contract: Contract) -> int:
     return _Weeks(types, contract).widest()
 
 
-class _Past(NamedTuple):
-    """The evening before a day: the last shift type, None after a day off, and the lengths of the runs so far."""
-
-    last: Optional[str]
-    on_shift: int
-    working: int
-    off: int
-
-
 class _Weeks:
     """The weeks of a nurse with this contract, by what S2, S3 and S5 charge."""
 
     def __init__(self, types: Sequence[ShiftType], contract: Contract) -> None:
-        self.types = {shift.name: shift for shift in types}
-        self.contract = contract
-        self._cheapest = functools.lru_cache(maxsize=None)(self._cheapest_from)
-        self._dearest = functools.lru_cache(maxsize=None)(self._dearest_from)
+        self._runs = Runs(types, contract, _WEEK)
+        self._costs = functools.lru_cache(maxsize=None)(self._costs_from)
 
     def widest(self) -> int:
         """The greatest difference between the dearest and the cheapest week after one history."""
-        return max(self._dearest(0, past) - self._cheapest(0, past) for past in self._histories())
+        return max(dearest - cheapest for cheapest, dearest in (self._costs(0, before) for before in self._histories()))
 
-    def _histories(self) -> Iterator[_Past]:
-        for off in {0, *_lengths(self.contract.days_off)}:
-            yield _Past(None, 0, 0, off)
-        for name, shift in self.types.items():
-            lengths = _lengths(shift.consecutive) | _lengths(self.contract.working_days)
-            yield from (_Past(name, on_shift, working, 0) for on_shift in lengths for working in lengths if on_shift <= working)
+    def _histories(self) -> Iterator[RunState]:
+        runs, contract = self._runs, self._runs.contract
+        for off in {0, *_lengths(contract.days_off)}:
+            yield runs.state(0, 0, 0, off, _WEEK)
+        for choice, limits in enumerate(runs.shifts[1:], 1):
+            lengths = _lengths(limits) | _lengths(contract.working_days)
+            yield from (runs.state(choice, on_shift, working, 0, _WEEK) for on_shift in lengths for working in lengths if on_shift <= working)
 
-    def _cheapest_from(self, day: int, past: _Past) -> int:
-        return 0 if day == _WEEK else min(self._cost(day, past, now) + self._cheapest(day + 1, self._after(past, now)) for now in self._may_follow(past))
-
-    def _dearest_from(self, day: int, past: _Past) -> int:
-        return 0 if day == _WEEK else max(self._cost(day, past, now) + self._dearest(day + 1, self._after(past, now)) for now in self._may_follow(past))
-
-    def _may_follow(self, past: _Past) -> Iterator[Optional[str]]:
-        """A day off, and the shift types that may follow the last one."""
-        forbidden = () if past.last is None else self.types[past.last].forbidden_next
-        yield None
-        yield from (name for name in self.types if name not in forbidden)
-
-    def _after(self, past: _Past, now: Optional[str]) -> _Past:
-        """The evening of a day with this shift type."""
-        if now is None:
-            return _Past(None, 0, 0, _longer(past.off, self.contract.days_off))
-        on_shift = past.on_shift if now == past.last else 0
-        return _Past(now, _longer(on_shift, self.types[now].consecutive), _longer(past.working, self.contract.working_days), 0)
-
-    def _cost(self, day: int, past: _Past, now: Optional[str]) -> int:
-        """What a day with this shift type costs: the days above a maximum, and below the minimum of the runs that end."""
-        contract, after = self.contract, self._after(past, now)
-        cost = WORK_RUN * _above(after.working, contract.working_days) + DAYS_OFF_RUN * _above(after.off, contract.days_off)
-        if now is None:
-            cost += WORK_RUN * _below(past.working, contract.working_days)
-        else:
-            cost += SHIFT_RUN * _above(after.on_shift, self.types[now].consecutive) + DAYS_OFF_RUN * _below(past.off, contract.days_off)
-        if past.last is not None and past.last != now:
-            cost += SHIFT_RUN * _below(past.on_shift, self.types[past.last].consecutive)
-        half = day == SUNDAY and contract.complete_weekends and (past.last is None) != (now is None)
-        return cost + HALF_WEEKEND * half
-
-
-def _above(length: int, limits: Limits) -> bool:
-    return length > limits.maximum
-
-
-def _below(length: int, limits: Limits) -> int:
-    """The days that a run of this length is too short, if it is one."""
-    return max(0, limits.minimum - length) if length else 0
-
-
-def _longer(length: int, limits: Limits) -> int:
-    """The length on the next day. All lengths above both limits cost the same."""
-    return min(length + 1, max(limits.minimum, limits.maximum + 1))
+    def _costs_from(self, day: int, before: RunState) -> Tuple[int, int]:
+        """What the cheapest and the dearest choices for this day and those after it cost."""
+        if day == _WEEK:
+            return 0, 0
+        steps = [(cost, *self._costs(day + 1, after)) for cost, after in self._runs.steps(day, before) if cost < NEVER]
+        return min(cost + cheapest for cost, cheapest, _ in steps), max(cost + dearest for cost, _, dearest in steps)
 
 
 def _lengths(limits: Limits) -> Set[int]:

@@ -1,5 +1,6 @@
 """Child processes that run for a limited time. Each is a group of its own, and is ended as a group."""
 
+import contextlib
 import functools
 import os
 import selectors
@@ -100,6 +101,29 @@ class Processes:
         output, errors = (data.decode("utf-8", errors="replace") for data in (found.output, found.errors))
         return Ended(status, output, found.timed_out, errors, found.flooded)
 
+    def open(self, words: Sequence[str], folder: Path) -> "subprocess.Popen[bytes]":
+        """Starts a process that answers on its standard output until `close`. It is ended with the others. Its words see to it that it ends
+        when this process does."""
+        with self._lock:
+            process = subprocess.Popen(
+                list(words), cwd=str(folder), stdin=subprocess.PIPE, stdout=subprocess.PIPE, stderr=subprocess.DEVNULL, start_new_session=True
+            )
+            self._running[process] = signal.SIGKILL
+            if self._stopped:
+                _signal_group(process, signal.SIGKILL)
+        return process
+
+    def close(self, process: "subprocess.Popen[bytes]") -> None:
+        """Ends a process of `open`."""
+        with self._lock:
+            self._running.pop(process, None)
+        _signal_group(process, signal.SIGKILL)
+        for stream in (process.stdin, process.stdout):
+            if stream:
+                with contextlib.suppress(OSError):
+                    stream.close()
+        process.wait()
+
     @property
     def stopped(self) -> bool:
         """Whether no process starts any more."""
@@ -156,6 +180,9 @@ def _wait_without_reaping(process: "subprocess.Popen[bytes]", seconds: float) ->
 
 
 def _signal_group(process: "subprocess.Popen[bytes]", number: int) -> None:
+    if process.returncode is not None:
+        # Its number may be that of another process now.
+        return
     try:
         os.killpg(process.pid, number)
     except (ProcessLookupError, PermissionError):

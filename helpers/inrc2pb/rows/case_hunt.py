@@ -6,7 +6,8 @@ from typing import Dict, FrozenSet, List, Optional, Sequence, Set
 
 from .cases import Case, CaseSearch, NurseDay, PricedCase, needed, open_days
 from ..programs.clock import Clock, TimeIsOver
-from ..solvers.linear_solvers import LinearSolver, SolverFault
+from ..solvers.answers import SolverFault
+from ..solvers.linear_solvers import LinearSolver
 from .row_generation import RowGeneration
 from .row_search import RowSearch
 
@@ -100,4 +101,4 @@ class CaseHunt:
             self.found = [case for case in self._closed if case.off in works] + [PricedCase(None, search.prices)]
         elif search.solved:
             self._left, self._works = search, works
-            self._next = sorted(open_days(search), key=lambda of: self._tried.get(of, 0))
+            self._next = sorted(open_days(search), key=lambda nurse_day: self._tried.get(nurse_day, 0))

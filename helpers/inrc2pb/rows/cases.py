@@ -8,7 +8,8 @@ from typing import Dict, FrozenSet, Iterable, List, NamedTuple, Optional, Sequen
 
 from ..programs.clock import Clock
 from ..solvers.linear_solvers import LinearSolver
-from .plan import NEVER, STEP
+from .plan import STEP
+from ..judging.runs import NEVER
 from .pricing import MAX_PRICE, Prices, Pricing, in_steps, plain_bound
 from .row_generation import EXACT, NoRow, RowGeneration
 from .row_program import Solved
@@ -87,11 +88,11 @@ def needed(pricing: Pricing, cases: Sequence[PricedCase], target: int) -> List[P
     off = [case.off for case in cases if case.off]
     days = _days_needed(pricing, Case(frozenset(off), None), cases[-1].prices, frozenset(), target)
     found = [cases[-1]]
-    for at in reversed(range(len(off))):
-        if off[at] in days:
-            earlier = frozenset(off[:at])
-            days |= _days_needed(pricing, Case(earlier, off[at]), cases[at].prices, days & earlier, target)
-            found.insert(0, cases[at])
+    for index in reversed(range(len(off))):
+        if off[index] in days:
+            earlier = frozenset(off[:index])
+            days |= _days_needed(pricing, Case(earlier, off[index]), cases[index].prices, days & earlier, target)
+            found.insert(0, cases[index])
     return found
 
 
@@ -106,10 +107,10 @@ class CaseSearch(RowGeneration):
         works: Dict[int, List[int]] = {}
         for nurse, day in case.works:
             works.setdefault(nurse, []).append(day)
-        for at in cheap_columns(begin):
-            column = self.program.columns[at]
+        for number in cheap_columns(begin):
+            column = self.program.columns[number]
             if all(column.row[day] for day in works.get(column.nurse, ())):
-                self._used[at] = None
+                self._used[number] = None
 
     @property
     def is_closed(self) -> bool:
@@ -135,16 +136,16 @@ class CaseSearch(RowGeneration):
 def cheap_columns(search: RowGeneration) -> List[int]:
     """The columns that a solution of the search has or might have at prices that are a little different."""
     now = search.solved
-    return [] if now is None else [*now.shares, *(at for at, rise in now.rises.items() if rise <= CHEAP and at not in now.shares)]
+    return [] if now is None else [*now.shares, *(column for column, rise in now.rises.items() if rise <= CHEAP and column not in now.shares)]
 
 
 def open_days(search: RowGeneration) -> List[NurseDay]:
     """The days on which nurses are partly off in the last solution of a search, those nearest to one half first."""
     shares: Dict[NurseDay, float] = {}
-    for at, share in search.solved.shares.items() if search.solved else ():
-        nurse, row = search.program.columns[at][:2]
+    for number, share in search.solved.shares.items() if search.solved else ():
+        nurse, row = search.program.columns[number][:2]
         for day, choice in enumerate(row):
             if not choice:
                 shares[nurse, day] = shares.get((nurse, day), 0.0) + share
-    partly = {of: abs(share - 0.5) for of, share in shares.items() if WHOLE < share < 1 - WHOLE}
-    return sorted(partly, key=lambda of: (round(partly[of], 3), of))
+    partly = {nurse_day: abs(share - 0.5) for nurse_day, share in shares.items() if WHOLE < share < 1 - WHOLE}
+    return sorted(partly, key=lambda nurse_day: (round(partly[nurse_day], 3), nurse_day))

@@ -5,8 +5,8 @@ from typing import List, Optional, Sequence
 from ..judging.absences import absences_of, working_while_away
 from ..programs.clock import Clock
 from .plan import Plan
-from .pricing import Row
-from ..week.records import Assignment, Week
+from .pricing import NurseWeek
+from ..week.records import Cell, Week
 from .row_run import RowRun
 from ..judging.rules import costs, first_broken
 from .skills import staffed
@@ -14,7 +14,7 @@ from .skills import staffed
 SECONDS = 3.0
 
 
-def first_cost(week: Week, held: Sequence[Assignment] = ()) -> Optional[int]:
+def first_cost(week: Week, held: Sequence[Cell] = ()) -> Optional[int]:
     """What a roster costs that keeps the hard rules, the held rows and all absences; None if none was found.
 
     It has early charges. So without them it costs no more, but for what its history costs with each roster.
@@ -23,7 +23,7 @@ def first_cost(week: Week, held: Sequence[Assignment] = ()) -> Optional[int]:
     away = absences_of(week.data)
     found: List[int] = []
 
-    def offer(rows: List[Row], finder: str) -> Optional[int]:
+    def offer(rows: List[NurseWeek], finder: str) -> Optional[int]:
         cells = staffed(plan, run.crews, rows).cells
         if first_broken(week, cells, held) or working_while_away(away, cells):
             return None

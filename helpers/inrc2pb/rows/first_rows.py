@@ -3,7 +3,7 @@
 from typing import Dict, List, Optional, Sequence, Set
 
 from .plan import POINT, WEEK_DAYS, Plan
-from .pricing import Crews, Pricing, Row
+from .pricing import Crews, Pricing, NurseWeek
 from ..week.records import Place
 from .row_graph import Check
 from .row_program import BELOW_MINIMUM
@@ -19,34 +19,34 @@ class _Matching:
     def __init__(self, plan: Plan, crews: Crews) -> None:
         self._plan, self._crews = plan, crews
         types = list(plan.scenario.shift_types.values())
-        self._numbers = {of.name: number for number, of in enumerate(types, 1)}
-        self._forbidden: List[Set[int]] = [set(), *({self._numbers[name] for name in of.forbidden_next} for of in types)]
+        self._numbers = {shift.name: number for number, shift in enumerate(types, 1)}
+        self._forbidden: List[Set[int]] = [set(), *({self._numbers[name] for name in shift.forbidden_next} for shift in types)]
         pasts = [plan.history.nurses[nurse] for nurse in plan.nurses]
         self._last = [0 if past.last_shift is None else self._numbers[past.last_shift] for past in pasts]
         self._run = [past.working_days for past in pasts]
         self._worked = [0] * len(pasts)
         self.rows = [bytearray() for _ in pasts]
         skills = [set(plan.scenario.nurses[nurse].skills) for nurse in plan.nurses]
-        self._skilled = {skill: {at for at, of in enumerate(skills) if skill in of} for skill in plan.scenario.skills}
+        self._skilled = {skill: {index for index, known in enumerate(skills) if skill in known} for skill in plan.scenario.skills}
 
     def day(self, day: int) -> None:
         """Chooses for each nurse on this day."""
-        held = {at: self._held(at, day) for at in range(len(self.rows))} if self._plan.held else {}
+        held = {nurse: self._held(nurse, day) for nurse in range(len(self.rows))} if self._plan.held else {}
         holder: Dict[int, int] = {}
-        choices = [held.get(at) or 0 for at in range(len(self.rows))]
-        left = {at: self._crews.minimum[at] for at, place in enumerate(self._crews.places) if place.day == day}
-        for at in left if held else ():
-            of = self._crews.places[at]
-            left[at] -= sum(choice == self._numbers[of.shift] and self._skill(nurse, day) == of.skill for nurse, choice in held.items() if choice)
-        asked = {at: self._crews.places[at] for at, number in left.items() if number > 0}
+        choices = [held.get(nurse) or 0 for nurse in range(len(self.rows))]
+        left = {entry: self._crews.minimum[entry] for entry, place in enumerate(self._crews.places) if place.day == day}
+        for entry in left if held else ():
+            asks = self._crews.places[entry]
+            left[entry] -= sum(choice == self._numbers[asks.shift] and self._skill(nurse, day) == asks.skill for nurse, choice in held.items() if choice)
+        asked = {entry: self._crews.places[entry] for entry, number in left.items() if number > 0}
         order = {shift: self._order(shift, day, held) for shift in dict.fromkeys(place.shift for place in asked.values())}
-        wants = {at: [nurse for nurse in order[place.shift] if nurse in self._skilled[place.skill]] for at, place in asked.items()}
+        wants = {entry: [nurse for nurse in order[place.shift] if nurse in self._skilled[place.skill]] for entry, place in asked.items()}
         tried = dict.fromkeys(wants, 0)
-        for at in sorted(wants, key=lambda at: len(wants[at])):
-            while left[at] > 0 and self._fill(at, wants, tried, holder):
-                left[at] -= 1
-        for nurse, at in holder.items():
-            choices[nurse] = self._numbers[self._crews.places[at].shift]
+        for entry in sorted(wants, key=lambda entry: len(wants[entry])):
+            while left[entry] > 0 and self._fill(entry, wants, tried, holder):
+                left[entry] -= 1
+        for nurse, entry in holder.items():
+            choices[nurse] = self._numbers[self._crews.places[entry].shift]
         for nurse, choice in enumerate(choices):
             self.rows[nurse].append(choice)
             self._last[nurse] = choice
@@ -98,7 +98,7 @@ class _Matching:
         return False
 
 
-def matched_rows(plan: Plan, crews: Crews, check: Check) -> List[Row]:
+def matched_rows(plan: Plan, crews: Crews, check: Check) -> List[NurseWeek]:
     """A row for each nurse. Minimums that a day cannot meet after the days before it stay open."""
     matching = _Matching(plan, crews)
     for day in range(plan.days):
@@ -129,12 +129,12 @@ class _Worth(Dict[int, int]):
 class Descent:
     """Rows that get better: one nurse after another has the best row beside those of all others."""
 
-    def __init__(self, pricing: Pricing, rows: Sequence[Row]) -> None:
+    def __init__(self, pricing: Pricing, rows: Sequence[NurseWeek]) -> None:
         self._pricing, self.rows = pricing, list(rows)
         crews = pricing.crews
         self._number = [0] * len(crews.places)
-        index = {place: at for at, place in enumerate(crews.places)}
-        names = {nurse: at for at, nurse in enumerate(pricing.plan.nurses)}
+        index = {place: number for number, place in enumerate(crews.places)}
+        names = {nurse: number for number, nurse in enumerate(pricing.plan.nurses)}
         self._at: List[List[int]] = [[] for _ in rows]
         for cell in staffed(pricing.plan, crews, rows).cells:
             place = index.get(Place(cell.day, cell.shift, cell.skill))
@@ -148,18 +148,18 @@ class Descent:
 
     def _improve(self, nurse: int, check: Check) -> bool:
         check()
-        crews, of = self._pricing.crews, self._pricing.crews.of[nurse]
+        crews, table = self._pricing.crews, self._pricing.crews.of[nurse]
         for place in self._at[nurse]:
             self._number[place] -= 1
         worth = _Worth(self._pricing, self._number)
         old, found = self._pricing.cost(nurse, self.rows[nurse]), self._pricing.cheapest(nurse, worth)
         better = False
         if found is not None:
-            value = None if old is None else old * POINT - sum(worth[of[day][choice]] for day, choice in enumerate(self.rows[nurse]))
+            value = None if old is None else old * POINT - sum(worth[table[day][choice]] for day, choice in enumerate(self.rows[nurse]))
             better = value is None or found.value < value
         if better and found is not None:
             self.rows[nurse] = found.row
-            members = (crews.members[of[day][choice]] for day, choice in enumerate(found.row))
+            members = (crews.members[table[day][choice]] for day, choice in enumerate(found.row))
             self._at[nurse] = [max(places, key=worth.of_place) for places in members if places]
         for place in self._at[nurse]:
             self._number[place] += 1

@@ -7,18 +7,17 @@ from dataclasses import dataclass, replace
 from typing import Dict, FrozenSet, Iterable, List, Optional, Sequence, Tuple
 
 from ..judging.absences import Absence, absences_of
-from ..week.files import Assignment, History, Place, Request, Requirement, Scenario, WeekData
+from ..week.records import Cell, History, Place, Request, Requirement, Scenario, WeekData
 from ..judging.rules import MISSING_NURSE, REQUEST
+from ..judging.runs import NEVER
 
 WEEK_DAYS = 7
 # Costs and prices are whole numbers of thousandths of a point.
 POINT = 1000
-# More than any cost: a choice that a hard rule forbids.
-NEVER = 1 << 50
 # The costs of all rosters are multiples of it.
 STEP = 5
 
-Held = Dict[Tuple[str, int], List[Assignment]]
+Held = Dict[Tuple[str, int], List[Cell]]
 
 
 @dataclass(frozen=True)
@@ -42,7 +41,7 @@ class Plan:
 
     @staticmethod
     def of(
-        scenario: Scenario, history: History, weeks: Sequence[WeekData], early: bool = False, held: Iterable[Assignment] = (), keeps: bool = True
+        scenario: Scenario, history: History, weeks: Sequence[WeekData], early: bool = False, held: Iterable[Cell] = (), keeps: bool = True
     ) -> "Plan":
         """The plan of these weeks, which follow the history. The days of held rows are those of the plan. Its rows keep all absences, if `keeps`."""
         rows: Held = {}

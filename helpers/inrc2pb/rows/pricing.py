@@ -3,13 +3,14 @@
 import copy
 from typing import Dict, List, NamedTuple, Optional, Sequence, Tuple, Union
 
-from .plan import NEVER, POINT, STEP, Plan
+from .plan import POINT, STEP, Plan
+from ..judging.runs import NEVER, Runs, RunState
 from ..week.records import Place
-from .row_graph import Check, Graph, RunState, Runs, Totals
+from .row_graph import Check, Graph, Totals
 
 # The highest price in a file of prices.
 MAX_PRICE = 999_999_999
-Row = bytes
+NurseWeek = bytes
 # A price in thousandths for each place of a plan, in its order.
 Prices = List[int]
 # The price of a nurse of each crew, in thousandths.
@@ -21,7 +22,7 @@ class Priced(NamedTuple):
     """A nurse's cheapest row at some prices: its cost less what it earns, in thousandths, and its own cost in points."""
 
     value: int
-    row: Row
+    row: NurseWeek
     cost: int
 
 
@@ -35,7 +36,7 @@ class Crews:
         self.places = list(plan.demand)
         self.minimum = [asked.minimum for asked in plan.demand.values()]
         self.optimal = [asked.optimal for asked in plan.demand.values()]
-        self._number = {place: at for at, place in enumerate(self.places)}
+        self._number = {place: number for number, place in enumerate(self.places)}
         self._index: Dict[Tuple[int, ...], int] = {(): 0}
         tables: Dict[Tuple[str, ...], List[List[int]]] = {}
         self.of: List[List[List[int]]] = []
@@ -77,18 +78,19 @@ class Pricing:
     def __init__(self, plan: Plan, crews: Crews, check: Check) -> None:
         self.plan, self.crews = plan, crews
         scenario, pasts = plan.scenario, plan.history.nurses
-        runs = {name: Runs(plan, contract) for name, contract in scenario.contracts.items()}
+        types = tuple(scenario.shift_types.values())
+        runs = {name: Runs(types, contract, plan.days, plan.charging) for name, contract in scenario.contracts.items()}
         kinds: Dict[Tuple[str, Totals], List[int]] = {}
         states: List[RunState] = []
-        for at, nurse in enumerate(plan.nurses):
+        for index, nurse in enumerate(plan.nurses):
             contract = scenario.contract_of(nurse)
             states.append(runs[contract.name].before(pasts[nurse]))
-            kinds.setdefault((contract.name, Totals.of(plan, contract, pasts[nurse])), []).append(at)
+            kinds.setdefault((contract.name, Totals.of(plan, contract, pasts[nurse])), []).append(index)
         self.graphs: List[Graph] = [None] * len(plan.nurses)  # type: ignore[list-item]
         for (name, totals), members in kinds.items():
-            graph = Graph(runs[name], totals, [states[at] for at in members], check)
-            for at in members:
-                self.graphs[at] = graph
+            graph = Graph(runs[name], totals, [states[index] for index in members], check)
+            for index in members:
+                self.graphs[index] = graph
         self.starts = [graph.starts[state] for graph, state in zip(self.graphs, states)]
         self.base = [POINT * Totals.base(plan, scenario.contract_of(nurse), pasts[nurse]) for nurse in plan.nurses]
         requests = plan.requests()
@@ -97,14 +99,14 @@ class Pricing:
     def part(self, plan: Plan) -> "Pricing":
         """The same for some of the nurses, with another demand."""
         part = object.__new__(Pricing)
-        at = {nurse: number for number, nurse in enumerate(self.plan.nurses)}
-        numbers = [at[nurse] for nurse in plan.nurses]
+        index = {nurse: number for number, nurse in enumerate(self.plan.nurses)}
+        numbers = [index[nurse] for nurse in plan.nurses]
         part.plan, part.crews = plan, Crews(plan)
         part.graphs, part.starts = [self.graphs[number] for number in numbers], [self.starts[number] for number in numbers]
         part.base, part.wishes = [self.base[number] for number in numbers], [self.wishes[number] for number in numbers]
         return part
 
-    def on_days(self, days: range, rows: Sequence[Row]) -> "Pricing":
+    def on_days(self, days: range, rows: Sequence[NurseWeek]) -> "Pricing":
         """The same for rows that are the given ones, except on these days."""
         part = copy.copy(self)
         part.wishes = []
@@ -141,13 +143,13 @@ class Pricing:
         earned = sum(gains[crews[choice]] for crews, choice in zip(self.crews.of[nurse], row))
         return Priced(value, row, (value + earned) // POINT)
 
-    def cost(self, nurse: int, row: Row) -> Optional[int]:
+    def cost(self, nurse: int, row: NurseWeek) -> Optional[int]:
         """What a row costs its nurse, in points; None if a hard rule forbids it."""
-        wishes = sum(of[row[day]] for day, of in self.wishes[nurse].items())
+        wishes = sum(costs[row[day]] for day, costs in self.wishes[nurse].items())
         cost = self.graphs[nurse].cost(self.starts[nurse], row) + wishes + self.base[nurse]
         return None if cost >= NEVER // 2 else cost // POINT
 
-    def within(self, nurse: int, gains: Gains, gap: int, most: int) -> List[Row]:
+    def within(self, nurse: int, gains: Gains, gap: int, most: int) -> List[NurseWeek]:
         """The nurse's rows that cost at most this gap more than her cheapest one, but no more than `most` + 1."""
         pay, graph, start = self._pay(nurse, gains), self.graphs[nurse], self.starts[nurse]
         return graph.within(start, pay, graph.cheapest(start, pay)[0] + gap, most)
@@ -156,7 +158,7 @@ class Pricing:
         """What all places cost at least, if they pay these prices to their nurses, in thousandths."""
         asked = zip(self.crews.minimum, self.crews.optimal, prices)
         most = self.plan.missing_cost * POINT
-        return sum(least * price + (best - least) * min(most, price) for least, best, price in asked)
+        return sum(minimum * price + (best - minimum) * min(most, price) for minimum, best, price in asked)
 
 
 def plain_bound(pricing: Pricing, prices: Prices) -> int:

@@ -29,16 +29,16 @@ class Arrays:
         return Arrays(days) if numpy is not None else None
 
     def cheapest(self, start: int, pay: Sequence[Sequence[int]]) -> Tuple[int, bytes]:
-        """The least cost of a row from this node on, and the first row that has it, if a choice costs this pay beside its own costs."""
-        least: Any = numpy.zeros(len(self._days[-1][2]), dtype=numpy.int64)
+        """The minimum cost of a row from this node on, and the first row that has it, if a choice costs this pay beside its own costs."""
+        minimum: Any = numpy.zeros(len(self._days[-1][2]), dtype=numpy.int64)
         paid = []
-        for (costs, heads, entered), of in zip(reversed(self._days), reversed(pay)):
-            reached = least + numpy.array(of, dtype=numpy.int64)[entered]
+        for (costs, heads, entered), today in zip(reversed(self._days), reversed(pay)):
+            reached = minimum + numpy.array(today, dtype=numpy.int64)[entered]
             paid.append(reached)
-            least = (reached[heads] + costs).min(axis=0)
+            minimum = (reached[heads] + costs).min(axis=0)
         node, row = start, bytearray()
         for (costs, heads, _), reached in zip(self._days, reversed(paid)):
             choice = int((costs[:, node] + reached[heads[:, node]]).argmin())
             row.append(choice)
             node = heads[choice, node]
-        return int(least[start]), bytes(row)
+        return int(minimum[start]), bytes(row)

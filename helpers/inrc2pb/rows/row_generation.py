@@ -9,7 +9,7 @@ from typing import Callable, Dict, Iterable, List, Optional, Sequence
 from ..programs.clock import Clock
 from ..solvers.linear_solvers import LinearSolver
 from .plan import POINT, STEP
-from .pricing import Priced, Prices, Pricing, Row, in_steps
+from .pricing import Priced, Prices, Pricing, NurseWeek, in_steps
 from ..week.records import Place
 from .row_program import MOST_BELOW, RowProgram, Solved
 from .skills import staffed
@@ -59,10 +59,10 @@ class RowGeneration:
 
     # ---- known rows
 
-    def add_roster(self, rows: Sequence[Row]) -> None:
+    def add_roster(self, rows: Sequence[NurseWeek]) -> None:
         """Adds the rows of a roster, with the places at which its nurses are."""
         crews = self.pricing.crews
-        numbers, names = {place: at for at, place in enumerate(crews.places)}, {nurse: at for at, nurse in enumerate(self.plan.nurses)}
+        numbers, names = {place: index for index, place in enumerate(crews.places)}, {nurse: index for index, nurse in enumerate(self.plan.nurses)}
         places: List[List[Optional[int]]] = [[None] * self.plan.days for _ in rows]
         for nurse, day, shift, skill in staffed(self.plan, crews, rows).cells:
             places[names[nurse]][day] = numbers.get(Place(day, shift, skill))
@@ -71,7 +71,7 @@ class RowGeneration:
             if cost is not None:
                 self._add(nurse_number, row, cost, self.prices, places[nurse_number])
 
-    def begin_with(self, whole: "RowGeneration", nurses: Sequence[int], rows: Sequence[Row], days: range) -> None:
+    def begin_with(self, whole: "RowGeneration", nurses: Sequence[int], rows: Sequence[NurseWeek], days: range) -> None:
         """Begins with the prices for more nurses, and with the known rows of these nurses, who keep the given rows on all other days."""
         known = dict(zip(whole.pricing.crews.places, whole.prices))
         self.prices = [known.get(place, 0) for place in self.pricing.crews.places]
@@ -81,15 +81,15 @@ class RowGeneration:
                 number = numbers[column.nurse]
                 self.add_row(number, rows[number][: days.start] + column.row[days.start : days.stop] + rows[number][days.stop :])
 
-    def add_row(self, nurse: int, row: Row) -> None:
+    def add_row(self, nurse: int, row: NurseWeek) -> None:
         """Adds a row to the program, if no hard rule forbids it."""
         cost = self.pricing.cost(nurse, row)
         if cost is not None:
             self._add(nurse, row, cost, self.prices)
 
-    def _add(self, nurse: int, row: Row, cost: int, prices: Prices, at: Sequence[Optional[int]] = ()) -> bool:
+    def _add(self, nurse: int, row: NurseWeek, cost: int, prices: Prices, places: Sequence[Optional[int]] = ()) -> bool:
         """Adds a row to those in use. Returns whether it was none of them."""
-        column, before = self.program.add(nurse, row, cost, prices, at), len(self._used)
+        column, before = self.program.add(nurse, row, cost, prices, places), len(self._used)
         self._used[column] = None
         return len(self._used) > before
 
@@ -118,9 +118,9 @@ class RowGeneration:
         self._goes_on = True
         return self.program.solved(found)
 
-    def _earned(self, prices: Prices, nurse: int, row: Row) -> int:
+    def _earned(self, prices: Prices, nurse: int, row: NurseWeek) -> int:
         crews = self.pricing.crews
-        return sum(max([prices[place] for place in crews.members[of[choice]]], default=0) for of, choice in zip(crews.of[nurse], row))
+        return sum(max([prices[place] for place in crews.members[table[choice]]], default=0) for table, choice in zip(crews.of[nurse], row))
 
     def generate(self, clock: Clock) -> None:
         """Adds rows until none is missing, or the bound is as good as the linear program's value."""
@@ -159,8 +159,8 @@ class RowGeneration:
         """Drops the most expensive columns, if there are too many. Each nurse keeps one."""
         nurses = len(self.plan.nurses)
         keep = max(LEAST_USED, KEPT * nurses) - len(now.shares)
-        if len(self._used) > max(LEAST_USED, MOST_USED * nurses) and len({self.program.columns[at].nurse for at in now.shares}) == nurses:
-            cheap = sorted((at for at in self._used if at not in now.shares), key=lambda at: now.rises.get(at, 0.0))
+        if len(self._used) > max(LEAST_USED, MOST_USED * nurses) and len({self.program.columns[number].nurse for number in now.shares}) == nurses:
+            cheap = sorted((number for number in self._used if number not in now.shares), key=lambda number: now.rises.get(number, 0.0))
             self._used = dict.fromkeys([*now.shares, *cheap[: max(0, keep)]])
 
     def _meets(self, value: float) -> bool:

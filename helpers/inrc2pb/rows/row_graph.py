@@ -5,93 +5,16 @@ are open, and what more assignments and weekends would cost. Nodes with the same
 """
 
 from operator import add, itemgetter
-from typing import Callable, Dict, Iterable, List, NamedTuple, Sequence, Set, Tuple
+from typing import Callable, Dict, Iterable, List, NamedTuple, Sequence, Tuple
 
-from .plan import NEVER, POINT, WEEK_DAYS, Plan
-from ..week.records import Contract, Limits, NurseHistory
+from .plan import POINT, WEEK_DAYS, Plan
+from ..week.records import Contract, NurseHistory
 from .row_arrays import Arrays
-from ..judging.rules import ASSIGNMENT_TOTAL, DAYS_OFF_RUN, HALF_WEEKEND, SHIFT_RUN, WEEKEND_TOTAL, WORK_RUN
+from ..judging.rules import ASSIGNMENT_TOTAL, WEEKEND_TOTAL
+from ..judging.runs import NEVER, Runs, RunState
 
 Gather = Callable[[Sequence[int]], Tuple[int, ...]]
 Check = Callable[[], None]
-
-
-class RunState(NamedTuple):
-    """The runs that are open at the end of a day, and the choice of that day."""
-
-    choice: int
-    shift_run: int
-    work_run: int
-    off_run: int
-
-
-Step = Tuple[int, RunState]
-
-
-def shortened(run: int, limits: Limits, left: int) -> int:
-    """The shortest run that costs the same as this one in the days that are left."""
-    enough = max(limits.minimum, 1)
-    if run >= enough and run + left <= limits.maximum:
-        return enough
-    return min(run, max(enough, limits.maximum))
-
-
-def ended(run: int, limits: Limits, weight: int) -> int:
-    """What the end of a run costs."""
-    return weight * max(0, limits.minimum - run) if run else 0
-
-
-class Runs:
-    """What a day adds to the runs of nurses with one contract."""
-
-    def __init__(self, plan: Plan, contract: Contract) -> None:
-        types = list(plan.scenario.shift_types.values())
-        self.days, self.charging, self.contract = plan.days, plan.charging, contract
-        self._known: Dict[Tuple[int, RunState], List[Step]] = {}
-        self.shifts = [Limits(0, 0), *(of.consecutive for of in types)]
-        self.numbers = {of.name: number for number, of in enumerate(types, 1)}
-        self.forbidden: List[Set[int]] = [set(), *({self.numbers[name] for name in of.forbidden_next} for of in types)]
-
-    def before(self, past: NurseHistory) -> RunState:
-        """The state before the first day. The numbers of a history may contradict one another: all of them count."""
-        choice = 0 if past.last_shift is None else self.numbers[past.last_shift]
-        return self._state(choice, past.consecutive_shifts if choice else 0, past.working_days, past.days_off, self.days)
-
-    def _state(self, choice: int, shift: int, work: int, off: int, left: int) -> RunState:
-        if not self.charging:
-            return RunState(choice, 0, 0, 0)
-        work_limits, off_limits = self.contract.working_days, self.contract.days_off
-        return RunState(
-            choice, shortened(shift, self.shifts[choice], left) if shift else 0,
-            shortened(work, work_limits, left) if work else 0, shortened(off, off_limits, left) if off else 0,
-        )  # fmt: skip
-
-    def steps(self, day: int, now: RunState) -> List[Step]:
-        """For each choice on a day what it costs, in points, and the state at its end; NEVER, if a hard rule forbids it."""
-        found = self._known.get((day, now))
-        if found is None:
-            found = self._known[day, now] = self._steps(day, now) if self.charging else self._free_steps(now)
-        return found
-
-    def _free_steps(self, now: RunState) -> List[Step]:
-        forbidden = self.forbidden[now.choice]
-        return [(NEVER, now) if choice in forbidden else (0, RunState(choice, 0, 0, 0)) for choice in range(len(self.shifts))]
-
-    def _steps(self, day: int, now: RunState) -> List[Step]:
-        work, off, left = self.contract.working_days, self.contract.days_off, self.days - day - 1
-        half = HALF_WEEKEND * (day % WEEK_DAYS == WEEK_DAYS - 1 and self.contract.complete_weekends)
-        closed = ended(now.shift_run, self.shifts[now.choice], SHIFT_RUN)
-        rest = closed + ended(now.work_run, work, WORK_RUN) + DAYS_OFF_RUN * (now.off_run + 1 > off.maximum) + half * (now.choice > 0)
-        found = [(rest, self._state(0, 0, 0, now.off_run + 1, left))]
-        works = ended(now.off_run, off, DAYS_OFF_RUN) + WORK_RUN * (now.work_run + 1 > work.maximum) + half * (now.choice == 0)
-        run, forbidden = shortened(now.work_run + 1, work, left), self.forbidden[now.choice]
-        for choice, limits in enumerate(self.shifts[1:], 1):
-            if choice in forbidden:
-                found.append((NEVER, now))
-            else:
-                length, cost = (now.shift_run + 1, works) if choice == now.choice else (1, works + closed)
-                found.append((cost + SHIFT_RUN * (length > limits.maximum), RunState(choice, shortened(length, limits, left), run, 0)))
-        return found
 
 
 class Totals(NamedTuple):
@@ -103,10 +26,10 @@ class Totals(NamedTuple):
     @staticmethod
     def of(plan: Plan, contract: Contract, past: NurseHistory) -> "Totals":
         """The totals of a nurse in the days of the plan."""
-        (least, greatest), most = contract.assignments, contract.max_weekends
+        (minimum, maximum), most = contract.assignments, contract.max_weekends
         counts = plan.charging and (plan.ends or plan.early)
         totals = range(past.assignments, past.assignments + plan.days)
-        works = [ASSIGNMENT_TOTAL * (counts * (total >= greatest) - (plan.charging and plan.ends and total < least)) for total in totals]
+        works = [ASSIGNMENT_TOTAL * (counts * (total >= maximum) - (plan.charging and plan.ends and total < minimum)) for total in totals]
         return Totals(
             tuple(works), tuple(WEEKEND_TOTAL * (counts and past.weekends + number >= most) for number in range(len(plan.weeks)))
         )
@@ -116,15 +39,15 @@ class Totals(NamedTuple):
         """What a nurse without any assignment in the plan pays for her totals, in points."""
         if not (plan.charging and plan.ends):
             return 0
-        (least, greatest), most = contract.assignments, contract.max_weekends
-        excess = ASSIGNMENT_TOTAL * max(0, past.assignments - greatest) + WEEKEND_TOTAL * max(0, past.weekends - most)
-        return ASSIGNMENT_TOTAL * max(0, least - past.assignments) + (0 if plan.early else excess)
+        (minimum, maximum), most = contract.assignments, contract.max_weekends
+        excess = ASSIGNMENT_TOTAL * max(0, past.assignments - maximum) + WEEKEND_TOTAL * max(0, past.weekends - most)
+        return ASSIGNMENT_TOTAL * max(0, minimum - past.assignments) + (0 if plan.early else excess)
 
 
 def _first_with(futures: Sequence[Tuple[int, ...]]) -> List[int]:
     """For each future the index of the first one that is the same."""
     first: Dict[Tuple[int, ...], int] = {}
-    return [first.setdefault(future, at) for at, future in enumerate(futures)]
+    return [first.setdefault(future, index) for index, future in enumerate(futures)]
 
 
 def _numbered(values: Sequence[Tuple[int, ...]]) -> Tuple[List[int], List[int]]:
@@ -132,8 +55,8 @@ def _numbered(values: Sequence[Tuple[int, ...]]) -> Tuple[List[int], List[int]]:
     index: Dict[Tuple[int, ...], int] = {}
     numbers = [index.setdefault(value, len(index)) for value in values]
     kept: Dict[int, int] = {}
-    for at, number in enumerate(numbers):
-        kept.setdefault(number, at)
+    for position, number in enumerate(numbers):
+        kept.setdefault(number, position)
     return numbers, list(kept.values())
 
 
@@ -159,7 +82,7 @@ class Graph:
         firsts = list(dict.fromkeys(states))
         found = self._forward([(state, 0, 0) for state in firsts])
         classes = self._merged(found)
-        self.starts = {state: classes[at] for at, state in enumerate(firsts)}
+        self.starts = {state: classes[index] for index, state in enumerate(firsts)}
         self.days = found
         self.entered = [_gather(day.entered) for day in found]
         self.arcs = [[(_gather(heads), costs) for heads, costs in zip(day.heads, day.costs)] for day in found]
@@ -173,8 +96,8 @@ class Graph:
             self._check()
             later: Dict[Tuple[RunState, int, int], int] = {}
             left = runs.days - day - 1
-            same_works = _first_with([works[at : at + left] for at in range(day + 2)])
-            same_weekends = _first_with([weekends[at : at - (-left // WEEK_DAYS)] for at in range(day // WEEK_DAYS + 2)])
+            same_works = _first_with([works[total : total + left] for total in range(day + 2)])
+            same_weekends = _first_with([weekends[total : total - (-left // WEEK_DAYS)] for total in range(day // WEEK_DAYS + 2)])
             sunday = day % WEEK_DAYS == WEEK_DAYS - 1
             costs: List[List[int]] = [[] for _ in runs.shifts]
             heads: List[List[int]] = [[] for _ in runs.shifts]
@@ -198,34 +121,34 @@ class Graph:
         for day in reversed(range(len(found))):
             self._check()
             costs, heads, entered = found[day]
-            heads = [[classes[head] for head in of] for of in heads]
-            entered = [entered[at] for at in kept]
+            heads = [[classes[head] for head in arcs] for arcs in heads]
+            entered = [entered[node] for node in kept]
             before = found[day - 1].entered if day else range(len(costs[0]))
             classes, kept = _numbered(list(zip(before, *costs, *heads)))
-            found[day] = _Day([[of[at] for at in kept] for of in costs], [[of[at] for at in kept] for of in heads], entered)
+            found[day] = _Day([[arcs[node] for node in kept] for arcs in costs], [[arcs[node] for node in kept] for arcs in heads], entered)
         return classes
 
     def values(self, pay: Sequence[Sequence[int]]) -> Tuple[List[int], List[List[int]]]:
-        """The least cost from each first node on, and for each day that from each node that it reaches on, with the cost of
+        """The minimum cost from each first node on, and for each day that from each node that it reaches on, with the cost of
         reaching it, if a choice costs this pay beside its own costs."""
-        least, paid = [0] * len(self.days[-1].entered), []
-        for entered, arcs, of in zip(reversed(self.entered), reversed(self.arcs), reversed(pay)):
-            reached = list(map(add, least, entered(of)))
+        minimum, paid = [0] * len(self.days[-1].entered), []
+        for entered, arcs, today in zip(reversed(self.entered), reversed(self.arcs), reversed(pay)):
+            reached = list(map(add, minimum, entered(today)))
             paid.append(reached)
-            least = list(map(min, *[map(add, gather(reached), costs) for gather, costs in arcs]))
-        return least, paid[::-1]
+            minimum = list(map(min, *[map(add, gather(reached), costs) for gather, costs in arcs]))
+        return minimum, paid[::-1]
 
     def cheapest(self, start: int, pay: Sequence[Sequence[int]]) -> Tuple[int, bytes]:
-        """The least cost of a row from this node on, and the first row that has it. NEVER or more: there is no row."""
+        """The minimum cost of a row from this node on, and the first row that has it. NEVER or more: there is no row."""
         if self._arrays:
             return self._arrays.cheapest(start, pay)
-        least, paid = self.values(pay)
+        minimum, paid = self.values(pay)
         node, row = start, bytearray()
         for day, reached in zip(self.days, paid):
             value, choice = min((costs[node] + reached[heads[node]], choice) for choice, (costs, heads) in enumerate(zip(day.costs, day.heads)))
             row.append(choice)
             node = day.heads[choice][node]
-        return least[start], bytes(row)
+        return minimum[start], bytes(row)
 
     def cost(self, start: int, row: Sequence[int]) -> int:
         """What this row costs without any pay; NEVER or more if a hard rule forbids it."""
@@ -237,16 +160,16 @@ class Graph:
 
     def within(self, start: int, pay: Sequence[Sequence[int]], limit: int, most: int) -> List[bytes]:
         """All rows that cost at most the limit, but no more than `most` + 1 of them."""
-        least, paid = self.values(pay)
+        minimum, paid = self.values(pay)
         found: List[bytes] = []
-        open_rows = [(start, 0, b"")] if least[start] <= limit else []
+        open_rows = [(start, 0, b"")] if minimum[start] <= limit else []
         while open_rows and len(found) <= most:
             node, spent, row = open_rows.pop()
             if len(row) == len(paid):
                 found.append(row)
                 continue
-            day, reached, of = self.days[len(row)], paid[len(row)], pay[len(row)]
+            day, reached, today = self.days[len(row)], paid[len(row)], pay[len(row)]
             for choice, (costs, heads) in enumerate(zip(day.costs, day.heads)):
                 if spent + costs[node] + reached[heads[node]] <= limit:
-                    open_rows.append((heads[node], spent + costs[node] + of[choice], row + bytes([choice])))
+                    open_rows.append((heads[node], spent + costs[node] + today[choice], row + bytes([choice])))
         return found

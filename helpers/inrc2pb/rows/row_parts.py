@@ -10,9 +10,10 @@ from dataclasses import replace
 from typing import Callable, Dict, List, NamedTuple, Optional, Sequence, Set, Tuple
 
 from ..programs.clock import Clock, TimeIsOver
-from ..solvers.linear_solvers import LinearSolver, SolverFault
+from ..solvers.answers import SolverFault
+from ..solvers.linear_solvers import LinearSolver
 from .plan import POINT, WEEK_DAYS
-from .pricing import Pricing, Row
+from .pricing import Pricing, NurseWeek
 from ..week.records import Place, Requirement
 from .row_search import RowSearch
 from .skills import staffed
@@ -44,7 +45,7 @@ class RowParts:
     def __init__(self, search: RowSearch, solvers: Sequence[LinearSolver]) -> None:
         self._search, self._solvers = search, solvers
         self._chance = random.Random(1)
-        self._least = search.least_values()
+        self._minimums = search.minimum_values()
         lengths = dict.fromkeys(math.ceil(share * search.plan.days) for share in DAYS_SHARES)
         # For each number of days the number of nurses of the next neighborhood, and the seconds that all have taken.
         self._sizes = {length: min(len(search.plan.nurses), FIRST_SIZE * (WEEK_DAYS / length) ** 0.5) for length in lengths}
@@ -117,7 +118,7 @@ class RowParts:
         neighborhood the others are those who share the most skills with one of them."""
         rows = self._search.rows
         assert rows is not None
-        costly = self._search.costly(rows, self._least)
+        costly = self._search.costly(rows, self._minimums)
         first = self._chance.sample(costly, min(len(costly), size // 2))
         rest = [nurse for nurse in range(len(rows)) if nurse not in first]
         self._chance.shuffle(rest)
@@ -138,7 +139,7 @@ class RowParts:
             assert whole.rows is not None
             rows = list(whole.rows)
 
-        def offer(found: List[Row], finder: str) -> Optional[int]:
+        def offer(found: List[NurseWeek], finder: str) -> Optional[int]:
             # Meanwhile another thread may have found better rows of other nurses, or on other days.
             with self._lock:
                 assert whole.rows is not None
@@ -158,14 +159,14 @@ class RowParts:
                 return True
         return search.is_proved or search.choose(search.known_within(), clock, name)
 
-    def _pricing(self, part: Part, rows: Sequence[Row]) -> Pricing:
+    def _pricing(self, part: Part, rows: Sequence[NurseWeek]) -> Pricing:
         """The rows of a neighborhood, with the demand that the other nurses leave on its days."""
         whole, names = self._search, tuple(self._search.plan.nurses[nurse] for nurse in part.nurses)
         left = {place: asked for place, asked in self._left(rows, set(names)).items() if place.day in part.days}
         pricing = whole.pricing.part(replace(whole.plan, nurses=names, demand=left))
         return pricing.on_days(part.days, [rows[nurse] for nurse in part.nurses])
 
-    def _left(self, rows: Sequence[Row], names: "set[str]") -> Dict[Place, Requirement]:
+    def _left(self, rows: Sequence[NurseWeek], names: "set[str]") -> Dict[Place, Requirement]:
         """The demand that the other nurses leave."""
         search = self._search
         number: Dict[Place, int] = {}
@@ -181,7 +182,7 @@ class RowParts:
         return left
 
 
-def _with(rows: Sequence[Row], part: Part, found: Sequence[Row]) -> List[Row]:
+def _with(rows: Sequence[NurseWeek], part: Part, found: Sequence[NurseWeek]) -> List[NurseWeek]:
     """The rows with those of a neighborhood replaced, on its days."""
     new, days = dict(zip(part.nurses, found)), part.days
     return [row[: days.start] + new.get(nurse, row)[days.start : days.stop] + row[days.stop :] for nurse, row in enumerate(rows)]

@@ -3,9 +3,9 @@
 import copy
 from typing import Dict, Iterable, List, NamedTuple, Optional, Sequence, Tuple
 
-from ..solvers.linear_solvers import Relaxed, SolverFault
+from ..solvers.answers import Relaxed, SolverFault
 from .plan import POINT, Plan
-from .pricing import MAX_PRICE, Crews, Prices, Row
+from .pricing import MAX_PRICE, Crews, Prices, NurseWeek
 
 # The cost of a nurse below a minimum at first, in points, and the maximum cost.
 BELOW_MINIMUM, MOST_BELOW = 3000, 900_000
@@ -17,7 +17,7 @@ class Column(NamedTuple):
     """A row of a nurse with its cost in points, the crews for which it counts if it names no places, and its text."""
 
     nurse: int
-    row: Row
+    row: NurseWeek
     cost: int
     crews: Tuple[int, ...]
     text: str
@@ -46,28 +46,28 @@ class RowProgram:
         self.columns: List[Column] = []
         self._crews, self._nurses, self._missing = crews, len(plan.nurses), plan.missing_cost
         self.below = BELOW_MINIMUM if plan.charging else 1
-        self._known: Dict[Tuple[int, Row, Tuple[int, ...]], int] = {}
+        self._known: Dict[Tuple[int, NurseWeek, Tuple[int, ...]], int] = {}
         # The number of each crew at each of its places: names are the same in all programs.
         self._at: Dict[Tuple[int, int], int] = {}
         # Whether a column names the places of its row. Then the columns of a row have some of its places, and not all.
         self.names_places = sum(len(places) > 1 for places in crews.members) > MOST_LINKS
 
-    def add(self, nurse: int, row: Row, cost: int, prices: Prices, at: Sequence[Optional[int]] = ()) -> int:
+    def add(self, nurse: int, row: NurseWeek, cost: int, prices: Prices, chosen: Sequence[Optional[int]] = ()) -> int:
         """Adds a row, if it is new. Returns its column. If columns name places, they are these on each day, or else those of the highest
         prices."""
-        of = self._crews.of[nurse]
-        crews = [of[day][choice] for day, choice in enumerate(row)]
-        places = tuple(at or (self._crews.best_place(crew, prices) for crew in crews)) if self.names_places else ()
+        table = self._crews.of[nurse]
+        crews = [table[day][choice] for day, choice in enumerate(row)]
+        places = tuple(chosen or (self._crews.best_place(crew, prices) for crew in crews)) if self.names_places else ()
         key = (nurse, row, tuple(-1 if place is None else place for place in places))
         if key not in self._known:
             self._known[key] = len(self.columns)
             self.columns.append(self._column_at(len(self.columns), nurse, row, cost, places))
         return self._known[key]
 
-    def _column_at(self, number: int, nurse: int, row: Row, cost: int, places: Sequence[Optional[int]]) -> Column:
+    def _column_at(self, number: int, nurse: int, row: NurseWeek, cost: int, places: Sequence[Optional[int]]) -> Column:
         """The column of this number. If columns name places, these are its own."""
-        of = self._crews.of[nurse]
-        crews = [of[day][choice] for day, choice in enumerate(row)]
+        table = self._crews.of[nurse]
+        crews = [table[day][choice] for day, choice in enumerate(row)]
         named = [self._crews.members[crew] for crew in crews]
         used = places if self.names_places else tuple(places[0] if len(places) == 1 else None for places in named)
         links = () if self.names_places else tuple(crew for crew, places in zip(crews, named) if len(places) > 1)
@@ -88,7 +88,7 @@ class RowProgram:
 
     def text(self, use: Iterable[int], whole: bool = False) -> str:
         """The program over these columns; `whole` makes them integers."""
-        columns = [self.columns[at] for at in use]
+        columns = [self.columns[number] for number in use]
         links = sorted({crew for column in columns for crew in column.crews})
         places = range(len(self._crews.places))
         lines = ["NAME          ROWS\nROWS\n N  obj\n"]
@@ -96,8 +96,8 @@ class RowProgram:
         lines += [f" E  n{nurse}\n" for nurse in range(self._nurses)]
         lines.append("COLUMNS\n")
         limits = []
-        for place, least, best in zip(places, self._crews.minimum, self._crews.optimal):
-            for name, most, cost in ((f"u{place}", best - least, self._missing), (f"b{place}", least, self.below)):
+        for place, minimum, best in zip(places, self._crews.minimum, self._crews.optimal):
+            for name, most, cost in ((f"u{place}", best - minimum, self._missing), (f"b{place}", minimum, self.below)):
                 if most:
                     lines.append((_entry(name, "obj", cost) if cost else "") + _entry(name, f"c{place}", 1))
                     limits.append(f" UP BND       {name:<8}  {most:>12}\n")
@@ -125,7 +125,7 @@ class RowProgram:
 
     def chosen(self, names: Iterable[str]) -> Optional[List[int]]:
         """The column of each nurse, by the names that an integer program took; None if a nurse has none or several."""
-        columns = {self.columns[at].nurse: at for at in map(self._column, (name for name in names if name[0] == "v"))}
+        columns = {self.columns[number].nurse: number for number in map(self._column, (name for name in names if name[0] == "v"))}
         return [columns[nurse] for nurse in range(self._nurses)] if len(columns) == self._nurses else None
 
     def _column(self, name: str) -> int:

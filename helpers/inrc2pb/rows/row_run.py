@@ -8,9 +8,10 @@ from .case_hunt import CaseHunt
 from .cases import PricedCase
 from ..programs.clock import Clock, TimeIsOver
 from .first_rows import matched_rows
-from ..solvers.linear_solvers import LinearSolver, SolverFault
+from ..solvers.answers import SolverFault
+from ..solvers.linear_solvers import LinearSolver
 from .plan import POINT, STEP, Plan
-from .pricing import Crews, Prices, Pricing, Row
+from .pricing import Crews, Prices, Pricing, NurseWeek
 from ..programs.processes import processors
 from ..week.records import Place
 from .row_generation import NoRow, RowGeneration
@@ -34,7 +35,7 @@ class RowRun:
     final."""
 
     def __init__(
-        self, plan: Plan, solver: Optional[LinearSolver], clock: Clock, offer: Offer, heard: Callable[[], None], start: Optional[List[Row]] = None
+        self, plan: Plan, solver: Optional[LinearSolver], clock: Clock, offer: Offer, heard: Callable[[], None], start: Optional[List[NurseWeek]] = None
     ) -> None:
         self._plan, self._solver, self._clock, self._offer, self._heard, self._start = plan, solver, clock, offer, heard, start
         self.crews = Crews(plan)

@@ -11,7 +11,7 @@ from ..programs.clock import Clock
 from .first_rows import Descent
 from ..solvers.linear_solvers import LinearSolver
 from .plan import POINT, STEP
-from .pricing import Pricing, Row
+from .pricing import Pricing, NurseWeek
 from .row_generation import EXACT, WORTH, RowGeneration
 from .row_program import Solved
 from .skills import staffed
@@ -27,7 +27,7 @@ MOST_SWEEPS = 4
 GIVEN = "the given roster"
 
 # Takes rows of all nurses and the name of what found them, and returns their penalty, or None if they are no roster.
-Offer = Callable[[List[Row], str], Optional[int]]
+Offer = Callable[[List[NurseWeek], str], Optional[int]]
 
 
 class RowSearch(RowGeneration):
@@ -37,7 +37,7 @@ class RowSearch(RowGeneration):
         super().__init__(pricing, solver, heard)
         self.clock, self._offer = clock, offer
         # The rows and the penalty of the best roster.
-        self.rows: Optional[List[Row]] = None
+        self.rows: Optional[List[NurseWeek]] = None
         self.penalty: Optional[int] = None
 
     @property
@@ -45,7 +45,7 @@ class RowSearch(RowGeneration):
         """Whether the best roster costs no more than the bound."""
         return self.penalty is not None and self.lower_bound is not None and self.penalty <= self.lower_bound
 
-    def keep(self, rows: List[Row], finder: str) -> bool:
+    def keep(self, rows: List[NurseWeek], finder: str) -> bool:
         """Offers rows that may be better than the best roster. Returns whether they are."""
         value = self.value_of(rows)
         if value is None or (self.penalty is not None and value >= self.penalty):
@@ -56,7 +56,7 @@ class RowSearch(RowGeneration):
         self.rows, self.penalty = rows, penalty
         return True
 
-    def value_of(self, rows: Sequence[Row]) -> Optional[int]:
+    def value_of(self, rows: Sequence[NurseWeek]) -> Optional[int]:
         """What rows cost, in points; None if they break a hard rule."""
         found = staffed(self.plan, self.pricing.crews, rows)
         costs = [self.pricing.cost(nurse, row) for nurse, row in enumerate(rows)]
@@ -66,7 +66,7 @@ class RowSearch(RowGeneration):
 
     # ---- a first roster
 
-    def begin(self, rows: List[Row], penalty: Optional[int]) -> None:
+    def begin(self, rows: List[NurseWeek], penalty: Optional[int]) -> None:
         """Begins with these rows, and the penalty of their roster if they are one. Makes them better without a solver, if that is easy."""
         if penalty is not None:
             self.rows, self.penalty = rows, penalty
@@ -81,7 +81,7 @@ class RowSearch(RowGeneration):
 
     # ---- fixed rows
 
-    def dive(self, clock: Clock) -> Optional[List[Row]]:
+    def dive(self, clock: Clock) -> Optional[List[NurseWeek]]:
         """Fixes rows a few at a time, with new ones in between. Returns a row of each nurse, None if they cannot be better than the best."""
         columns, chosen = self.program.columns, dict.fromkeys(range(0), 0)
         share, last = FIRST_SHARE, -math.inf
@@ -97,13 +97,13 @@ class RowSearch(RowGeneration):
             hurry = HURRY * (before - clock.left()) / max(EXACT, clock.left())
             most = max(1, int(max(share, hurry) * free))
             fixed = 0
-            for at in sorted((at for at in now.shares if columns[at].nurse not in chosen), key=lambda at: -now.shares[at]):
-                if columns[at].nurse not in chosen and (fixed < most or now.shares[at] > 0.999):
-                    chosen[columns[at].nurse] = at
+            for number in sorted((number for number in now.shares if columns[number].nurse not in chosen), key=lambda number: -now.shares[number]):
+                if columns[number].nurse not in chosen and (fixed < most or now.shares[number] > 0.999):
+                    chosen[columns[number].nurse] = number
                     fixed += 1
             if not fixed:
-                at = next(at for at in use if columns[at].nurse not in chosen)
-                chosen[columns[at].nurse] = at
+                number = next(number for number in use if columns[number].nurse not in chosen)
+                chosen[columns[number].nurse] = number
         return [columns[chosen[nurse]].row for nurse in range(len(self.plan.nurses))]
 
     def _relaxed_beside(self, chosen: Dict[int, int], clock: Clock) -> Tuple[Solved, List[int]]:
@@ -111,7 +111,7 @@ class RowSearch(RowGeneration):
         free = [nurse for nurse in range(len(self.plan.nurses)) if nurse not in chosen]
         rounds = DIVE_ROUNDS if chosen else 1
         for turn in range(rounds):
-            use = [at for at in self._used if chosen.get(self.program.columns[at].nurse, at) == at]
+            use = [number for number in self._used if chosen.get(self.program.columns[number].nurse, number) == number]
             now = self._relax(use, clock)
             new = 0
             for nurse, priced in self._priced(now.prices, free, clock).items() if turn < rounds - 1 else ():
@@ -128,16 +128,16 @@ class RowSearch(RowGeneration):
         assert self.penalty is not None and self.bound is not None
         return (self.penalty - STEP) * POINT - self.bound
 
-    def least_values(self) -> List[int]:
+    def minimum_values(self) -> List[int]:
         """What each nurse's cheapest row costs at the best prices, in thousandths."""
         found = self._priced(self.prices, range(len(self.plan.nurses)), self.clock)
         return [priced.value for priced in found.values()]
 
-    def costly(self, rows: Sequence[Row], least: Sequence[int]) -> List[int]:
-        """The nurses whose rows cost more at the best prices than these least values."""
-        return [nurse for nurse, row in enumerate(rows) if self._reduced(nurse, row, self.pricing.cost(nurse, row) or 0) > least[nurse]]
+    def costly(self, rows: Sequence[NurseWeek], minimum: Sequence[int]) -> List[int]:
+        """The nurses whose rows cost more at the best prices than these minimums."""
+        return [nurse for nurse, row in enumerate(rows) if self._reduced(nurse, row, self.pricing.cost(nurse, row) or 0) > minimum[nurse]]
 
-    def _reduced(self, nurse: int, row: Row, cost: int) -> int:
+    def _reduced(self, nurse: int, row: NurseWeek, cost: int) -> int:
         """What a row costs less what it earns at the best prices, in thousandths."""
         return cost * POINT - self._earned(self.prices, nurse, row)
 
@@ -147,7 +147,7 @@ class RowSearch(RowGeneration):
             return list(range(len(self.program.columns)))
         found, gap = self._priced(self.prices, range(len(self.plan.nurses)), self.clock), self.gap()
         columns = enumerate(self.program.columns)
-        return [at for at, (nurse, row, cost, *_) in columns if self._reduced(nurse, row, cost) <= found[nurse].value + gap]
+        return [number for number, (nurse, row, cost, *_) in columns if self._reduced(nurse, row, cost) <= found[nurse].value + gap]
 
     def choose(self, use: Sequence[int], clock: Clock, finder: str) -> bool:
         """Lets the integer program choose among these columns. Returns whether the solver claims that their rows have nothing better
@@ -157,7 +157,7 @@ class RowSearch(RowGeneration):
         cutoff = None if self.penalty is None else self.penalty - STEP
         found = self._solver.choose(self.program.text(use, whole=True), clock, cutoff, STEP)
         columns = self.program.chosen(found.names or ())
-        rows = [self.program.columns[at].row for at in columns or ()]
+        rows = [self.program.columns[number].row for number in columns or ()]
         if columns:
             self.keep(rows, finder)
         # An answer with nurses below minimums is no roster, and says nothing of the rosters that cost more than it.
@@ -176,4 +176,4 @@ class RowSearch(RowGeneration):
             clock.check()
             self.add_row(nurse, row)
         wanted = set(found)
-        return [at for at, column in enumerate(self.program.columns) if (column.nurse, column.row) in wanted]
+        return [number for number, column in enumerate(self.program.columns) if (column.nurse, column.row) in wanted]

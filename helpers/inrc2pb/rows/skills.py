@@ -3,14 +3,14 @@
 from typing import Dict, Iterable, List, NamedTuple, Sequence, Tuple
 
 from .plan import Plan
-from .pricing import Crews, Row
-from ..week.records import Assignment
+from .pricing import Crews, NurseWeek
+from ..week.records import Cell
 
 
 class Staffed(NamedTuple):
     """The rows of nurses with a skill for each shift; how many nurses are missing below minimums, and below optimal numbers beside them."""
 
-    cells: List[Assignment]
+    cells: List[Cell]
     below: int
     missing: int
 
@@ -62,7 +62,7 @@ class _Shift:
             crew, target = mover, further
 
 
-def staffed(plan: Plan, crews: Crews, rows: Sequence[Row]) -> Staffed:
+def staffed(plan: Plan, crews: Crews, rows: Sequence[NurseWeek]) -> Staffed:
     """The roster of these rows, with as few nurses missing as the skills allow: first below minimums, then below optimal numbers."""
     shifts: Dict[Tuple[int, int], Dict[int, List[int]]] = {}
     for nurse, row in enumerate(rows):
@@ -71,9 +71,9 @@ def staffed(plan: Plan, crews: Crews, rows: Sequence[Row]) -> Staffed:
                 shifts.setdefault((day, choice), {}).setdefault(crews.of[nurse][day][choice], []).append(nurse)
     numbers = {shift: number for number, shift in enumerate(plan.scenario.shift_types, 1)}
     asked: Dict[Tuple[int, int], List[int]] = {}
-    for at, place in enumerate(crews.places):
-        asked.setdefault((place.day, numbers[place.shift]), []).append(at)
-    cells: List[Assignment] = []
+    for index, place in enumerate(crews.places):
+        asked.setdefault((place.day, numbers[place.shift]), []).append(index)
+    cells: List[Cell] = []
     below = missing = 0
     for key in dict.fromkeys([*shifts, *asked]):
         members = shifts.get(key, {})
@@ -84,13 +84,13 @@ def staffed(plan: Plan, crews: Crews, rows: Sequence[Row]) -> Staffed:
     return Staffed(cells, below, missing)
 
 
-def _cells(plan: Plan, crews: Crews, key: Tuple[int, int], members: Dict[int, List[int]], shift: _Shift) -> Iterable[Assignment]:
+def _cells(plan: Plan, crews: Crews, key: Tuple[int, int], members: Dict[int, List[int]], shift: _Shift) -> Iterable[Cell]:
     """The assignments of a shift. A nurse who counts for no place has a skill of hers."""
     day, choice = key
     name = list(plan.scenario.shift_types)[choice - 1]
     for crew, nurses in members.items():
         skills = [crews.places[place].skill for place in crews.members[crew] for _ in range(shift.given.get((crew, place), 0))]
-        for at, nurse in enumerate(nurses):
+        for index, nurse in enumerate(nurses):
             own = plan.nurses[nurse]
-            skill = skills[at] if at < len(skills) else plan.held_skill(own, day) or plan.scenario.nurses[own].skills[0]
-            yield Assignment(own, day, name, skill)
+            skill = skills[index] if index < len(skills) else plan.held_skill(own, day) or plan.scenario.nurses[own].skills[0]
+            yield Cell(own, day, name, skill)

@@ -11,7 +11,8 @@ from .best_roster import BestRoster
 from .bounds import CASES, PROVER
 from ..programs.clock import Clock
 from ..week.faults import Misuse, ProgramFault
-from ..week.files import Assignment, Week, read_files
+from ..week.files import read_files
+from ..week.records import Cell, Week
 from ..programs.interrupts import interrupts
 from ..judging.misfits import read_held
 from ..programs.program import NO_ROSTER, Report, WeekFiles
@@ -69,7 +70,7 @@ def improve(
 ) -> SearchResult:
     """Searches for these seconds, writes the best roster to `solution`, and returns its report and lower bound.
 
-    `start` is the roster to begin with, `solver` a command that solves the whole week in place of the search over rows, and
+    `start` is the roster to begin with, if it is not the one that `solution` has of this week, `solver` a command that solves the whole week in place of the search over rows, and
     `prices` the file for the prices, or the cases with prices, that prove the bound. Ctrl-C, TERM or a fault end the search: the roster is written, then
     KeyboardInterrupt or the fault is raised.
     """
@@ -105,7 +106,7 @@ def search(
     with interrupts() as signals:
         folder = Path(tempfile.mkdtemp(prefix="inrc2pb-improve-"))
         try:
-            rows = best.start(start, held) if start else None
+            rows = best.start(start, held) if start else best.resume()
             with signals.calling(running.interrupt):
                 if own:
                     running.by_solver(own, folder)
@@ -142,6 +143,6 @@ def _result(
     return SearchResult(report, running, best, stopped, fault, prices)
 
 
-def held_rows(fix: Path, week: Week, progress: Progress) -> Sequence[Assignment]:
+def held_rows(fix: Path, week: Week, progress: Progress) -> Sequence[Cell]:
     """The rows of the fix file. A warning is printed if it is of another ward or week."""
-    return read_held(fix, week.scenario, week.history, lambda warning: progress.warn(f"{fix}: {warning}")).assignments
+    return read_held(fix, week.scenario, week.history, lambda warning: progress.warn(f"{fix}: {warning}")).cells

@@ -113,8 +113,8 @@ class PeriodBound:
     def _by_week(self, priced: _Priced) -> List[PricedWeek]:
         """The options and the text of the prices of each week."""
         found: List[PricedWeek] = []
-        for at, options in enumerate(self._weeks.options()):
-            of_week = [(place, price) for place, price in zip(priced.pricing.crews.places, priced.prices) if place.day // WEEK_DAYS == at]
+        for number, options in enumerate(self._weeks.options()):
+            of_week = [(place, price) for place, price in zip(priced.pricing.crews.places, priced.prices) if place.day // WEEK_DAYS == number]
             places = [place._replace(day=place.day % WEEK_DAYS) for place, _ in of_week]
             found.append((options, prices_text(self._weeks.scenario, places, [price for _, price in of_week])))
         return found

@@ -7,13 +7,13 @@ from typing import Callable, List, Optional, Sequence
 from .bounds import PERIOD_PROVER, Bound
 from ..programs.clock import Clock
 from ..week.faults import ProgramFault
-from ..week.files import Assignment
+from ..week.records import Cell
 from ..solvers.linear_solvers import INSTALL, LinearSolver, LinearSolvers, installed
 from ..judging.next_history import next_history
 from .period_bound import PeriodBound
 from ..rows.plan import WEEK_DAYS, Plan
 from .planned_weeks import PlannedWeeks
-from ..rows.pricing import Row
+from ..rows.pricing import NurseWeek
 from ..programs.processes import Processes
 from ..programs.program import BROKEN_RULE, NO_ROSTER, penalty_of
 from ..programs.progress import Progress, gap_share
@@ -29,7 +29,7 @@ LARGE = 400
 FIRST_SHARE = 0.25
 
 # Writes rosters of all weeks, whose days count from the first one, to where they belong.
-Keep = Callable[[Sequence[Assignment]], None]
+Keep = Callable[[Sequence[Cell]], None]
 
 
 class PeriodSearch:
@@ -45,7 +45,7 @@ class PeriodSearch:
         self._proof = PeriodBound(weeks, clock, progress.warn)
         self.penalty: Optional[int] = None
         self.bound: Optional[Bound] = None
-        self._cells: Sequence[Assignment] = ()
+        self._cells: Sequence[Cell] = ()
 
     def interrupt(self) -> None:
         """Ends the search now: the best plan was kept."""
@@ -94,7 +94,7 @@ class PeriodSearch:
     def _over_rows(self, plan: Plan, solver: Optional[LinearSolver], trial: Path) -> RowRun:
         """One search over the rows of the plan."""
 
-        def offer(rows: List[Row], finder: str) -> Optional[int]:
+        def offer(rows: List[NurseWeek], finder: str) -> Optional[int]:
             cells = staffed(plan, run.crews, rows).cells
             penalty = self._checked(cells, trial)
             if penalty is None:
@@ -118,15 +118,15 @@ class PeriodSearch:
         run.run()
         return run
 
-    def _week_after_week(self, plan: Plan, solver: Optional[LinearSolver]) -> Optional[List[Row]]:
+    def _week_after_week(self, plan: Plan, solver: Optional[LinearSolver]) -> Optional[List[NurseWeek]]:
         """Rows of all weeks, each planned before the next one and with what it may charge early; None if a week has no roster."""
         history, rows = plan.history, [b""] * len(plan.nurses)
         seconds = self._clock.left() * FIRST_SHARE / len(plan.weeks)
         for number, data in enumerate(plan.weeks):
-            held = [row._replace(day=row.day % WEEK_DAYS) for of in plan.held.values() for row in of if row.day // WEEK_DAYS == number]
-            found: List[List[Row]] = []
+            held = [row._replace(day=row.day % WEEK_DAYS) for kept in plan.held.values() for row in kept if row.day // WEEK_DAYS == number]
+            found: List[List[NurseWeek]] = []
 
-            def offer(better: List[Row], _finder: str) -> Optional[int]:
+            def offer(better: List[NurseWeek], _finder: str) -> Optional[int]:
                 found.append(better)
                 return run.search.value_of(better) if run.search else None
 
@@ -140,7 +140,7 @@ class PeriodSearch:
             rows = [row + more for row, more in zip(rows, found[-1])]
         return rows
 
-    def _checked(self, cells: Sequence[Assignment], folder: Path) -> Optional[int]:
+    def _checked(self, cells: Sequence[Cell], folder: Path) -> Optional[int]:
         """The penalty of the rosters of the known weeks, by `inrc2pb extend`; None if one breaks a hard rule."""
         try:
             return sum(penalty_of(week.files, week.roster) for week in self._weeks.write(cells, folder))

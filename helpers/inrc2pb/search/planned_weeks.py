@@ -6,7 +6,7 @@ from typing import Dict, List, NamedTuple, Optional, Sequence, Tuple
 
 from ..judging.absences import absences_of, in_words, way_out, working_while_away
 from ..week.faults import Misuse
-from ..week.files import Assignment, History, Scenario, Solution, WeekData
+from ..week.records import Cell, History, Scenario, Solution, WeekData
 from ..week.files import check_week_number, check_weeks_left, read_history, read_scenario, read_week, write_history, write_solution
 from ..judging.misfits import read_held
 from ..judging.next_history import next_history
@@ -51,7 +51,7 @@ class PlannedWeeks:
         check_week_number(files.history, self.history, self.scenario)
         check_weeks_left(len(files.weeks), self.history, self.scenario)
         self.numbers = range(self.history.week, self.history.week + len(files.weeks))
-        self.held: List[Assignment] = []
+        self.held: List[Cell] = []
         for number, path in files.fixes.items():
             self._hold(number, path)
         self.data: List[WeekData] = [read_week(path, self.scenario) for path in files.weeks]
@@ -62,13 +62,13 @@ class PlannedWeeks:
             raise Misuse(f"--fix {number}={path}: week {number} is not planned, the weeks are {self.numbers[0]} to {self.numbers[-1]}")
         known = self.history if number == self.numbers[0] else History(number, self.history.scenario, {})
         days = WEEK_DAYS * (number - self.numbers[0])
-        rows = read_held(path, self.scenario, known, lambda hint: self.hints.append(f"{path}: {hint}")).assignments
+        rows = read_held(path, self.scenario, known, lambda hint: self.hints.append(f"{path}: {hint}")).cells
         self.held += [row._replace(day=row.day + days) for row in rows]
 
     def later(self) -> List[WeekData]:
         """A forecast of the weeks that are not known: the numbers of the known ones in turn, without requests."""
         missing = self.scenario.weeks - self.numbers.stop if self.files.ahead else 0
-        return [replace(self.data[at % len(self.data)], requests=()) for at in range(missing)]
+        return [replace(self.data[number % len(self.data)], requests=()) for number in range(missing)]
 
     def plan(self) -> Plan:
         """All weeks as one plan, those of the forecast included."""
@@ -82,23 +82,23 @@ class PlannedWeeks:
     def options(self) -> List[List[str]]:
         """The files of each week as options of `inrc2pb-period-bound`; those of all weeks come with the first."""
         of_all = ["--sce", str(self.files.scenario), "--his", str(self.files.history), *["--early"] * self.files.early]
-        return [[*(of_all if at == 0 else ()), "--week", str(path)] for at, path in enumerate(self.files.weeks)]
+        return [[*(of_all if number == 0 else ()), "--week", str(path)] for number, path in enumerate(self.files.weeks)]
 
-    def broken_absences(self, cells: Sequence[Assignment]) -> List[str]:
+    def broken_absences(self, cells: Sequence[Cell]) -> List[str]:
         """The weeks in which these assignments break an absence, who works then, and what to do."""
         broken = []
-        for at, (number, data) in enumerate(zip(self.numbers, self.data)):
-            working = working_while_away(absences_of(data), _rows_of(at, cells))
+        for index, (number, data) in enumerate(zip(self.numbers, self.data)):
+            working = working_while_away(absences_of(data), _rows_of(index, cells))
             if working:
                 broken.append(f"week {number}: no roster was found that keeps every absence: {in_words(working)}")
-                broken.append(f"week {number}: {way_out(self.scenario, _rows_of(at, self.held), working)}")
+                broken.append(f"week {number}: {way_out(self.scenario, _rows_of(index, self.held), working)}")
         return broken
 
-    def write(self, cells: Sequence[Assignment], folder: Path) -> List[WrittenWeek]:
+    def write(self, cells: Sequence[Cell], folder: Path) -> List[WrittenWeek]:
         """Writes the weeks' rosters, of assignments whose days count from the first week, and the history after each week."""
         history, path, written = self.history, self.files.history, []
-        for at, number in enumerate(self.numbers):
-            rows = _rows_of(at, cells)
+        for index, number in enumerate(self.numbers):
+            rows = _rows_of(index, cells)
             roster = folder / roster_name(number)
             write_solution(roster, Solution(number, self.scenario.name, rows))
             written.append(WrittenWeek(self.week_files(number, path), roster))
@@ -109,9 +109,9 @@ class PlannedWeeks:
         return written
 
 
-def _rows_of(at: int, cells: Sequence[Assignment]) -> Tuple[Assignment, ...]:
+def _rows_of(week: int, cells: Sequence[Cell]) -> Tuple[Cell, ...]:
     """The assignments of the week at this index, with days from its Monday."""
-    return tuple(cell._replace(day=cell.day % WEEK_DAYS) for cell in cells if cell.day // WEEK_DAYS == at)
+    return tuple(cell._replace(day=cell.day % WEEK_DAYS) for cell in cells if cell.day // WEEK_DAYS == week)
 
 
 def roster_name(number: int) -> str:

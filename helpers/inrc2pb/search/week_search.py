@@ -10,10 +10,11 @@ from .bounds import Bound, Bounds
 from ..rows.cases import plain_cases_bound
 from ..programs.clock import Clock
 from ..week.faults import Misuse, ProgramFault, page
-from ..week.files import Assignment, Week, read_solution
+from ..week.files import read_solution
+from ..week.records import Cell, Week
 from ..solvers.linear_solvers import INSTALL, LinearSolvers, installed
 from ..rows.plan import Plan
-from ..rows.pricing import Row, plain_bound
+from ..rows.pricing import NurseWeek, plain_bound
 from ..programs.processes import Processes
 from ..programs.program import BROKEN_RULE, FAULT, NO_ROSTER, WeekFiles, decode
 from ..programs.progress import Progress
@@ -26,7 +27,7 @@ from ..solvers.solvers import Solver
 class WeekSearch:
     """A search over one week within the time of its clock. `bound` is the best lower bound, if there is one."""
 
-    def __init__(self, files: WeekFiles, week: Week, held: Sequence[Assignment], best: BestRoster, clock: Clock, progress: Progress) -> None:
+    def __init__(self, files: WeekFiles, week: Week, held: Sequence[Cell], best: BestRoster, clock: Clock, progress: Progress) -> None:
         self._files, self._week, self._held, self._best = files, week, held, best
         self._clock, self._progress = clock, progress
         self._processes = Processes()
@@ -50,7 +51,7 @@ class WeekSearch:
 
     # ---- over rows
 
-    def over_rows(self, folder: Path, start: Optional[Sequence[Assignment]], prices: Optional[Path]) -> None:
+    def over_rows(self, folder: Path, start: Optional[Sequence[Cell]], prices: Optional[Path]) -> None:
         """Searches over the rows of the nurses. `prices` is the file for the prices of the bound. Without a roster it is a ProgramFault if none exists.
 
         Rows keep all absences, unless no roster can.
@@ -75,10 +76,10 @@ class WeekSearch:
         number = collections.Counter((one.nurse, one.day, one.shift) for one in self._week.data.requests)
         return REQUEST * min(number[one.nurse, one.day, one.shift] for one in away)
 
-    def _run_rows(self, plan: Plan, solver: Optional[LinearSolvers], bounds: Bounds, start: Optional[List[Row]]) -> RowRun:
+    def _run_rows(self, plan: Plan, solver: Optional[LinearSolvers], bounds: Bounds, start: Optional[List[NurseWeek]]) -> RowRun:
         """One search over the rows of the plan."""
 
-        def offer(rows: List[Row], finder: str) -> Optional[int]:
+        def offer(rows: List[NurseWeek], finder: str) -> Optional[int]:
             self._see(run, bounds)
             cells = staffed(plan, run.crews, rows).cells
             penalty = self._best.offer(cells, finder)
@@ -141,12 +142,12 @@ class WeekSearch:
             if "UNSATISFIABLE" in fault.message and self._best.penalty is None:
                 raise ProgramFault(NO_ROSTER, f"no roster keeps the hard rules, says {solver.name}: {page('your_ward.md')} shows how to find out why") from fault
             return
-        self._best.offer(read_solution(path).assignments, solver.name)
+        self._best.offer(read_solution(path).cells, solver.name)
         if report.optimal and self._best.penalty == report.penalty:
             self.bound, self.claimed_by = Bound(report.penalty, solver.name), solver.name
 
 
-def _rows(plan: Plan, cells: Sequence[Assignment]) -> List[Row]:
+def _rows(plan: Plan, cells: Sequence[Cell]) -> List[NurseWeek]:
     """The rows of a roster."""
     numbers = {shift: number for number, shift in enumerate(plan.scenario.shift_types, 1)}
     rows = {nurse: bytearray(plan.days) for nurse in plan.nurses}

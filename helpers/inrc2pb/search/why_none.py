@@ -12,7 +12,9 @@ from typing import Iterator, Sequence
 from ..judging.absences import absences_of, in_words, wishes_of, working_while_away
 from ..week.faults import Misuse, ProgramFault
 from ..judging.demand import hindrance
-from ..week.files import DAYS, Assignment, Limits, Place, Requirement, Scenario, Week, WeekData, read_solution, scenario_text, week_text, write_text
+from ..week.files import read_solution, scenario_text, week_text
+from ..week.records import DAYS, Cell, Limits, Place, Requirement, Scenario, Week, WeekData
+from ..week.writing import write_text
 from .improving import SearchResult, improve
 from ..programs.program import NO_ROSTER, WeekFiles
 from ..judging.rules import numbers
@@ -45,7 +47,7 @@ def why_none(files: WeekFiles, week: Week) -> Iterator[str]:
         write_text(scenario, scenario_text(easy.scenario))
         write_text(data, week_text(easy.data))
         found = _solve(replace(files, scenario=scenario, week=data, early=False), roster)
-        rows = read_solution(roster).assignments
+        rows = read_solution(roster).cells
     yield from _missing(week, rows, found)
     working = working_while_away(absences_of(week.data), rows)
     if working:
@@ -62,11 +64,11 @@ def _solve(files: WeekFiles, roster: Path) -> SearchResult:
         raise
 
 
-def _missing(week: Week, rows: Sequence[Assignment], found: SearchResult) -> Iterator[str]:
-    number = numbers(rows)
+def _missing(week: Week, cells: Sequence[Cell], found: SearchResult) -> Iterator[str]:
+    number = numbers(cells)
     short = {place: asked.minimum - number[place] for place, asked in week.data.requirements.items() if number[place] < asked.minimum}
     away = absences_of(week.data)
-    kept = ", and keeps every absence" if away and not working_while_away(away, rows) else ""
+    kept = ", and keeps every absence" if away and not working_while_away(away, cells) else ""
     if not short:
         yield f"A roster exists that meets all minimum numbers{kept}."
         return
@@ -78,16 +80,16 @@ def _missing(week: Week, rows: Sequence[Assignment], found: SearchResult) -> Ite
         yield f"These minimum numbers, lowered by {lowered} in all, have a roster{kept}; fewer may be enough:"
     for place in short:
         yield f"{DAYS[place.day]} {place.shift} {place.skill}: lower {week.data.requirements[place].minimum} to {number[place]}"
-        yield from _owners(week, rows, place)
+        yield from _owners(week, cells, place)
 
 
-def _owners(week: Week, rows: Sequence[Assignment], place: Place) -> Iterator[str]:
+def _owners(week: Week, cells: Sequence[Cell], place: Place) -> Iterator[str]:
     """The nurses who have the skill of a place that is not filled, and what they do in this roster."""
     away = absences_of(week.data)
-    owners = [nurse for nurse, of in week.scenario.nurses.items() if place.skill in of.skills]
+    owners = [nurse for nurse, known in week.scenario.nurses.items() if place.skill in known.skills]
     if not owners:
         yield f"    nobody has the skill {place.skill}"
-    there = {row.nurse for row in rows if Place(row.day, row.shift, row.skill) == place}
+    there = {cell.nurse for cell in cells if Place(cell.day, cell.shift, cell.skill) == place}
     for nurse in owners:
         if nurse not in there:
-            yield f"    {nurse} {hindrance(week.scenario, week.history, away, rows, nurse, place) or 'could, if nothing else needs her'}"
+            yield f"    {nurse} {hindrance(week.scenario, week.history, away, cells, nurse, place) or 'could, if nothing else needs her'}"

@@ -7,9 +7,9 @@ from typing import Collection, Dict, Iterator, List, NamedTuple, Optional, Tuple
 from ..judging.absences import Absence, is_broken_by, readable
 from ..week.faults import Gathering
 from ..week.hints import plural
-from ..week.records import DAYS, Assignment, Place, Request, Requirement, Scenario
+from ..week.records import DAYS, Cell, Place, Request, Requirement, Scenario
 from .sheet_files import Book
-from .sheet_rows import Cell, Row, Table
+from .sheet_rows import SheetCell, SheetRow, Table
 from ..week.slots import MAX_NUMBER
 from .ward_sheets import Ward, table_of
 
@@ -25,8 +25,8 @@ _SERIAL = re.compile(r"\b[2-9][0-9]{4}\b")
 class Held(NamedTuple):
     """A shift that a nurse has for certain, and its cell."""
 
-    row: Assignment
-    cell: Cell
+    row: Cell
+    cell: SheetCell
 
 
 class WeekSheet:
@@ -44,7 +44,7 @@ class Days(NamedTuple):
     """The columns of the plan, one for each day, and the date of the first, if the heads have dates."""
 
     plan: Table
-    columns: List[Cell]
+    columns: List[SheetCell]
     monday: Optional[datetime.date]
 
     @property
@@ -59,22 +59,22 @@ def read_days(book: Book) -> Days:
     columns = plan.others
     dates = [_date_of(cell) for cell in columns]
     monday = dates[0] if dates else None
-    for at, (cell, date) in enumerate(zip(columns, dates)):
-        if cell.column != columns[0].column + at:
+    for index, (cell, date) in enumerate(zip(columns, dates)):
+        if cell.column != columns[0].column + index:
             cell.fault("the column before this one is no day: delete it, or move it after the last day")
-        if date and monday and (date - monday).days != at:
+        if date and monday and (date - monday).days != index:
             cell.fault(f"{date} does not follow the day before: write one column for each day")
         if bool(date) != bool(monday):
             cell.fault(f"'{cell.text}' has {'a date' if date else 'no date'}, unlike the first day: write dates for all days or for none")
-        wanted = DAYS[at % len(DAYS)]
-        if (date.weekday() if date else _day_of(cell)) != at % len(DAYS):
+        wanted = DAYS[index % len(DAYS)]
+        if (date.weekday() if date else _day_of(cell)) != index % len(DAYS):
             cell.fault(f"'{cell.text}' should be a {wanted}: the plan begins on a Monday, and has each day once")
     if not columns or len(columns) % len(DAYS):
         plan.fault(f"it has {plural(len(columns), 'day')}: plan whole weeks, from Monday to Sunday")
     return Days(plan, columns, monday)
 
 
-def _day_of(cell: Cell) -> int:
+def _day_of(cell: SheetCell) -> int:
     """The day of the week with which a head begins, as Wed or Wednesday 0."""
     short = cell.text[:3].casefold()
     for day, name in enumerate(DAYS):
@@ -83,7 +83,7 @@ def _day_of(cell: Cell) -> int:
     cell.fault(f"'{cell.text}' is no day of the week: write one of {','.join(DAYS)}, or begin the head with #")
 
 
-def _date_of(cell: Cell) -> Optional[datetime.date]:
+def _date_of(cell: SheetCell) -> Optional[datetime.date]:
     """The date in a head: written out, or as a number of a spreadsheet."""
     found, serial = _DATE.search(cell.text), _SERIAL.search(cell.text)
     if not found:
@@ -102,9 +102,9 @@ def read_weeks(book: Book, ward: Ward, days: Days) -> List[WeekSheet]:
     _read_needs(table_of(book, "needs"), ward.scenario, weeks)
     with Gathering() as faults:
         for nurse, row in _plan_rows(days, ward.scenario, faults).items():
-            for at, head in enumerate(days.columns):
+            for index, head in enumerate(days.columns):
                 with faults.step():
-                    _read_day(row.at(head.column), nurse, at, ward.scenario, weeks)
+                    _read_day(row.at(head.column), nurse, index, ward.scenario, weeks)
     for nurse, (shifts, weekdays) in ward.never.items():
         for week in weeks:
             week.absences += [Absence(nurse, day, shift) for shift in shifts for day in range(len(DAYS))]
@@ -112,9 +112,9 @@ def read_weeks(book: Book, ward: Ward, days: Days) -> List[WeekSheet]:
     return weeks
 
 
-def _plan_rows(days: Days, scenario: Scenario, faults: Gathering) -> Dict[str, Row]:
+def _plan_rows(days: Days, scenario: Scenario, faults: Gathering) -> Dict[str, SheetRow]:
     """The row of each nurse in the plan."""
-    rows: Dict[str, Row] = {}
+    rows: Dict[str, SheetRow] = {}
     for row in days.plan.rows:
         with faults.step():
             cell = row.of("nurse")
@@ -142,7 +142,7 @@ def _read_needs(table: Table, scenario: Scenario, weeks: List[WeekSheet]) -> Non
                 one.requirements.update({Place(day, shift, skill): asked for day, asked in enumerate(needed)})
 
 
-def _needed(cell: Cell) -> Requirement:
+def _needed(cell: SheetCell) -> Requirement:
     """The numbers of a cell: `2`, `2+1` (at least two, three are best), `2..3` or nothing."""
     if cell.text in _NO_WISH:
         return Requirement(0, 0)
@@ -150,27 +150,27 @@ def _needed(cell: Cell) -> Requirement:
     if not pair:
         number = cell.number(pair=_pair_for(cell.text))
         return Requirement(number, number)
-    least, sign, second = int(pair[1]), pair[2], int(pair[3])
-    best = least + second if sign == "+" else second
-    if least > best:
-        cell.fault(f"at least {least} are needed, and {best} are best: write the smaller number first")
+    minimum, sign, second = int(pair[1]), pair[2], int(pair[3])
+    best = minimum + second if sign == "+" else second
+    if minimum > best:
+        cell.fault(f"at least {minimum} are needed, and {best} are best: write the smaller number first")
     if best > MAX_NUMBER:
         cell.fault(f"{best} is more than {MAX_NUMBER}: correct the number")
-    return Requirement(least, best)
+    return Requirement(minimum, best)
 
 
 def _pair_for(text: str) -> str:
     """How the needs have a minimum and a best number, such as those of the text `2-3`, of which a spreadsheet may make a date."""
     found = _RANGE.fullmatch(text)
-    least, best = (int(found[1]), int(found[2])) if found else (2, 3)
-    if least >= best:
-        least, best = 2, 3
-    return f"{least}+{best - least} for {least} at least and better {best}"
+    minimum, best = (int(found[1]), int(found[2])) if found else (2, 3)
+    if minimum >= best:
+        minimum, best = 2, 3
+    return f"{minimum}+{best - minimum} for {minimum} at least and better {best}"
 
 
-def _read_day(cell: Cell, nurse: str, at: int, scenario: Scenario, weeks: List[WeekSheet]) -> None:
+def _read_day(cell: SheetCell, nurse: str, index: int, scenario: Scenario, weeks: List[WeekSheet]) -> None:
     """One cell of the plan: a wish, an absence, or a shift that is held."""
-    week, day = weeks[at // len(DAYS)], at % len(DAYS)
+    week, day = weeks[index // len(DAYS)], index % len(DAYS)
     text = cell.text.casefold()
     if text in _NO_WISH:
         return
@@ -185,18 +185,18 @@ def _read_day(cell: Cell, nurse: str, at: int, scenario: Scenario, weeks: List[W
         week.held.append(_held(cell, nurse, day, week, scenario))
 
 
-def _held(cell: Cell, nurse: str, day: int, week: WeekSheet, scenario: Scenario) -> Held:
+def _held(cell: SheetCell, nurse: str, day: int, week: WeekSheet, scenario: Scenario) -> Held:
     """A shift, or a shift and a skill."""
     named, _, with_skill = (part.strip() for part in cell.text.partition("/"))
     others = ("wish", *AWAY, f"no {readable(next(iter(scenario.shift_types)))}")
     shift = cell._replace(text=named).known("shift type", scenario.shift_types, others)
     own = scenario.nurses[nurse].skills
     if with_skill:
-        return Held(Assignment(nurse, day, shift, cell._replace(text=with_skill).known(f"skill of {readable(nurse)}", own)), cell)
+        return Held(Cell(nurse, day, shift, cell._replace(text=with_skill).known(f"skill of {readable(nurse)}", own)), cell)
     asked = [skill for skill in own if week.requirements.get(Place(day, shift, skill), Requirement(0, 0)).optimal]
     if len(asked or own) > 1:
         cell.fault(f"{readable(nurse)} has more than one skill for it: write {readable(shift)}/{readable((asked or own)[0])}, for example")
-    return Held(Assignment(nurse, day, shift, (asked or own)[0]), cell)
+    return Held(Cell(nurse, day, shift, (asked or own)[0]), cell)
 
 
 def check_held(ward: Ward, weeks: List[WeekSheet]) -> None:

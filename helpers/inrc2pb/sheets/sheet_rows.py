@@ -28,7 +28,7 @@ def letters_of(column: int) -> str:
     return letters
 
 
-class Cell(NamedTuple):
+class SheetCell(NamedTuple):
     """The text of a cell, and its place."""
 
     text: str
@@ -41,7 +41,7 @@ class Cell(NamedTuple):
         """Raises a fault of this cell."""
         raise FileFault(self.book.path, 0, f"sheet {self.sheet}, row {self.row}, column {letters_of(self.column)}: {message}")
 
-    def parts(self) -> List["Cell"]:
+    def parts(self) -> List["SheetCell"]:
         """The cell as several, if it has a list with commas, semicolons or slashes."""
         return [self._replace(text=part.strip()) for part in _SEVERAL.split(self.text) if part.strip()]
 
@@ -89,7 +89,7 @@ class Cell(NamedTuple):
         return found
 
 
-class Row:
+class SheetRow:
     """A row below the head."""
 
     def __init__(self, table: "Table", number: int, cells: Sequence[str]) -> None:
@@ -97,17 +97,17 @@ class Row:
         self._number = number
         self._cells = cells
 
-    def outside(self, columns: Collection[int]) -> Iterator[Cell]:
+    def outside(self, columns: Collection[int]) -> Iterator[SheetCell]:
         """The cells outside these columns that are not empty."""
         others = (self.at(column) for column in range(len(self._cells)) if column not in columns)
         return (cell for cell in others if cell.text)
 
-    def at(self, column: int) -> Cell:
+    def at(self, column: int) -> SheetCell:
         """The cell of the column with this number."""
         text = tidy(self._cells[column]) if column < len(self._cells) else ""
-        return Cell(text, self._table.book, self._table.name, self._number, column)
+        return SheetCell(text, self._table.book, self._table.name, self._number, column)
 
-    def of(self, head: str) -> Cell:
+    def of(self, head: str) -> SheetCell:
         """The cell of the column with this head; if there is none, an empty one."""
         return self.at(self._table.columns[head]) if head in self._table.columns else self.at(len(self._cells))
 
@@ -120,18 +120,18 @@ class Table:
         self.heads, self.optional = heads, optional
         self.columns: Dict[str, int] = {}
         # The columns after those with a known head, if the sheet may have any number of them.
-        self.others: List[Cell] = []
+        self.others: List[SheetCell] = []
         rows = self._sheet()
         first = self._find_head(rows)
         head, begin = _joined_head(rows, first, open_end)
         with Gathering() as faults:
             for column, text in enumerate(head):
                 with faults.step():
-                    self._take_head(Cell(tidy(text), book, name, first + 1, column), head, open_end)
+                    self._take_head(SheetCell(tidy(text), book, name, first + 1, column), head, open_end)
         missing = [wanted for wanted in heads if wanted not in self.columns]
         if missing:
             raise FileFault(book.path, 0, f"sheet {name}, row {first + 1}: there is no column '{missing[0]}': add it")
-        self.rows = [Row(self, at + 1, rows[at]) for at in range(begin, len(rows)) if any(map(str.strip, rows[at]))]
+        self.rows = [SheetRow(self, number + 1, rows[number]) for number in range(begin, len(rows)) if any(map(str.strip, rows[number]))]
         self._check_heads({column for column, text in enumerate(head) if tidy(text)}, first + 1)
 
     def fault(self, message: str) -> NoReturn:
@@ -145,12 +145,12 @@ class Table:
 
     def _find_head(self, rows: Rows) -> int:
         """The row with the heads: titles may be above it."""
-        for at, row in enumerate(rows):
+        for number, row in enumerate(rows):
             if any(tidy(cell).casefold() == self.heads[0] for cell in row):
-                return at
+                return number
         raise FileFault(self.book.path, 0, f"sheet {self.name}: no row has the head '{self.heads[0]}': write {quoted(self.heads)} into the first row")
 
-    def _take_head(self, cell: Cell, heads: Sequence[str], open_end: bool) -> None:
+    def _take_head(self, cell: SheetCell, heads: Sequence[str], open_end: bool) -> None:
         head = cell.text.casefold()
         if not head or head.startswith(("note", "comment", "#")):
             return
@@ -166,7 +166,7 @@ class Table:
 
     def _check_heads(self, columns: Collection[int], number: int) -> None:
         """A fault names the first cell of each column without a head. The given columns have one, in the row of this number."""
-        first: Dict[int, Cell] = {}
+        first: Dict[int, SheetCell] = {}
         for row in self.rows:
             for cell in row.outside(columns):
                 first.setdefault(cell.column, cell)

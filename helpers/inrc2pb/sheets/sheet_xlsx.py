@@ -42,17 +42,17 @@ def _rows(sheet: Element, name: str, shared: Sequence[str], parts: Parts) -> Row
     """The rows of a sheet. A row or cell without a number follows the one before."""
     rows: Rows = []
     for row in _all(sheet, "row"):
-        at = int(row.get("r", len(rows) + 1)) - 1
+        number = int(row.get("r", len(rows) + 1)) - 1
         cells: List[str] = []
         for cell in _all(row, "c"):
             value = _value(cell, shared)
             column = _column(cell.get("r", "")) if cell.get("r") else len(cells)
-            if value and (at >= MAX_ROWS or column >= MAX_COLUMNS):
+            if value and (number >= MAX_ROWS or column >= MAX_COLUMNS):
                 raise parts.too_large(name)
             if value or not cell.get("r"):
                 cells += [""] * (column - len(cells)) + [value]
         if any(cells):
-            rows += [[] for _ in range(at - len(rows))]
+            rows += [[] for _ in range(number - len(rows))]
             rows.append(cells)
     return trimmed(rows)
 

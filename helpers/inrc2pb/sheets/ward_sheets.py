@@ -7,7 +7,7 @@ from ..judging.absences import readable
 from ..week.faults import Gathering
 from ..week.records import DAYS, Contract, History, Limits, Nurse, NurseHistory, Scenario, ShiftType
 from .sheet_files import Book
-from .sheet_rows import Cell, Row, Table
+from .sheet_rows import SheetCell, SheetRow, Table
 from ..week.slots import MAX_NUMBER, closest
 
 _WEEKDAYS = ("Monday", "Tuesday", "Wednesday", "Thursday", "Friday", "Saturday", "Sunday")
@@ -31,7 +31,7 @@ class Ward(NamedTuple):
     scenario: Scenario
     history: History
     never: Dict[str, Tuple[List[str], List[int]]]
-    skills: Dict[str, Cell]
+    skills: Dict[str, SheetCell]
 
 
 def read_ward(book: Book, name: str, weeks: int) -> Ward:
@@ -69,7 +69,7 @@ def _check_number(book: Book, sheet: str, kind: str, number: int, most: int) -> 
         table_of(book, sheet).fault(f"it has {number} {kind}, and a ward has 1 to {most}: correct the rows")
 
 
-def _days_off(cell: Cell) -> List[int]:
+def _days_off(cell: SheetCell) -> List[int]:
     """The days of the week that the cell names, with commas between."""
     names = {name.casefold(): day for day, full in enumerate(_WEEKDAYS) for name in (full, DAYS[day])}
     days = []
@@ -81,7 +81,7 @@ def _days_off(cell: Cell) -> List[int]:
 
 
 def _shift_types(table: Table) -> Dict[str, ShiftType]:
-    names: Dict[str, Row] = {}
+    names: Dict[str, SheetRow] = {}
     found: Dict[str, ShiftType] = {}
     with Gathering() as faults:
         for row in table.rows:
@@ -109,7 +109,7 @@ def _contracts(table: Table) -> Dict[str, Contract]:
     return found
 
 
-def _contract(row: Row, name: str) -> Contract:
+def _contract(row: SheetRow, name: str) -> Contract:
     return Contract(
         name,
         _limits(row, "shifts min", "shifts max"),
@@ -120,15 +120,15 @@ def _contract(row: Row, name: str) -> Contract:
     )
 
 
-def _limits(row: Row, least: str, most: str) -> Limits:
+def _limits(row: SheetRow, minimum: str, most: str) -> Limits:
     """A minimum and a maximum; empty cells set no limit."""
-    limits = Limits(row.of(least).number(0), row.of(most).number(MAX_NUMBER))
+    limits = Limits(row.of(minimum).number(0), row.of(most).number(MAX_NUMBER))
     if limits.minimum > limits.maximum:
-        row.of(least).fault(f"the minimum {limits.minimum} is above the maximum {limits.maximum}: correct one of the two")
+        row.of(minimum).fault(f"the minimum {limits.minimum} is above the maximum {limits.maximum}: correct one of the two")
     return limits
 
 
-def _is_yes(cell: Cell) -> bool:
+def _is_yes(cell: SheetCell) -> bool:
     if cell.text.casefold() not in (*_YES, *_NO):
         cell.fault(f"'{cell.text}' is neither yes nor no: write yes or no")
     return cell.text.casefold() in _YES
@@ -141,9 +141,9 @@ class _Skills:
         self._asked = {name.casefold() for name in asked}
         one = "|".join(map(re.escape, sorted(self._asked, key=len, reverse=True)))
         self._several = re.compile(f"({one})((?: and | ?[&+] ?| )({one}))+")
-        self.cells: Dict[str, Cell] = {}
+        self.cells: Dict[str, SheetCell] = {}
 
-    def of(self, cell: Cell) -> Tuple[str, ...]:
+    def of(self, cell: SheetCell) -> Tuple[str, ...]:
         """The skills of a nurse."""
         if not cell.parts():
             cell.fault("the cell is empty: write the nurse's skills, such as Charge, Nurse")
@@ -171,7 +171,7 @@ def skill_warnings(ward: Ward, asked: Collection[str]) -> Iterator[str]:
             yield f"no row of the sheet needs has the skill {name}"
 
 
-def _past(row: Row, nurse: str, shift_types: Dict[str, ShiftType]) -> NurseHistory:
+def _past(row: SheetRow, nurse: str, shift_types: Dict[str, ShiftType]) -> NurseHistory:
     """The nurse's history; empty cells are 0, and an empty last shift is a day off."""
     cell = row.of("last shift")
     last: Optional[str] = None if cell.text.casefold() in ("", "none", "off", "-") else cell.known("shift type", shift_types)

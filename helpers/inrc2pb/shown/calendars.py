@@ -8,7 +8,7 @@ from typing import Dict, Iterable, Iterator, List, Mapping, Sequence, Tuple
 
 from ..week.dates import DAY, Times
 from .markup import allowed
-from .roster_view import Cell, RosterView
+from .roster_view import ShownCell, RosterView
 from ..week.writing import write_text
 
 # The maximum number of bytes of a line.
@@ -61,14 +61,14 @@ def calendar(view: RosterView, nurse: str, monday: datetime.date, times: Mapping
     """The text of a nurse's calendar. One without shifts says so, since a calendar may not be empty."""
     stamp, ward = f"{_day(monday)}T000000Z", allowed(view.name)
     lines = ["BEGIN:VCALENDAR", "VERSION:2.0", "PRODID:-//inrc2pb//inrc2pb-table//EN"]
-    shifts: List[Tuple[datetime.date, int, Cell]] = [
-        (monday + (7 * week + day) * DAY, at, cell)
+    shifts: List[Tuple[datetime.date, int, ShownCell]] = [
+        (monday + (7 * week + day) * DAY, index, cell)
         for week in range(len(view.weeks))
         for day in range(7)
-        for at, cell in enumerate(view.cells(week, nurse, day))
+        for index, cell in enumerate(view.cells(week, nurse, day))
     ]
-    for date, at, cell in shifts:
-        names = [ward, allowed(nurse), _day(date), *[str(at)] * bool(at)]
+    for date, index, cell in shifts:
+        names = [ward, allowed(nurse), _day(date), *[str(index)] * bool(index)]
         lines += _event(names, stamp, f"{cell.shift} {cell.skill}".replace("_", " "), _when(date, cell.shift, times))
     if not shifts:
         end = monday + 7 * len(view.weeks) * DAY

@@ -6,7 +6,7 @@ from typing import Iterator, List, NamedTuple, Sequence, Tuple
 from ..week.faults import Misuse
 from ..week.hints import quoted
 from ..week.records import DAYS
-from .roster_view import Cell, RosterView
+from .roster_view import ShownCell, RosterView
 from ..week.slots import closest
 
 
@@ -16,8 +16,8 @@ class Change(NamedTuple):
     week: int
     nurse: str
     day: int
-    before: Sequence[Cell]
-    now: Sequence[Cell]
+    before: Sequence[ShownCell]
+    now: Sequence[ShownCell]
 
 
 def changes(old: RosterView, new: RosterView) -> List[Change]:
@@ -32,7 +32,7 @@ def changes(old: RosterView, new: RosterView) -> List[Change]:
     return found
 
 
-def cells_text(cells: Sequence[Cell]) -> str:
+def cells_text(cells: Sequence[ShownCell]) -> str:
     """The shift types and skills of a nurse's day."""
     return " and ".join(f"{cell.shift} {cell.skill}" for cell in cells) or "off"
 
@@ -51,15 +51,15 @@ def swapped(view: RosterView, swaps: Sequence[Tuple[str, str]]) -> RosterView:
     """The roster of one week after swaps in turn: two nurses and days, as `Chen Fri` and `Grace Fri`, get each other's cells."""
     if len(view.weeks) != 1:
         raise Misuse("--swap is for one roster: change a copy of one of these, and give the others with --old")
-    rows = list(view.weeks[0].rows)
+    cells = list(view.weeks[0].cells)
     for pair in swaps:
         one, two = (_place(view, text) for text in pair)
         if one == two:
             raise Misuse(f"--swap {_quoted(pair)}: these are one cell: give two")
         others = {one: two, two: one}
-        places = [others.get((row.nurse, row.day), (row.nurse, row.day)) for row in rows]
-        rows = [row._replace(nurse=nurse, day=day) for row, (nurse, day) in zip(rows, places)]
-    return replace(view, weeks=[replace(view.weeks[0], rows=rows)])
+        places = [others.get((cell.nurse, cell.day), (cell.nurse, cell.day)) for cell in cells]
+        cells = [cell._replace(nurse=nurse, day=day) for cell, (nurse, day) in zip(cells, places)]
+    return replace(view, weeks=[replace(view.weeks[0], cells=cells)])
 
 
 def _quoted(pair: Tuple[str, str]) -> str:

@@ -84,7 +84,7 @@ def title(page: Content) -> str:
 def _summary(page: Content) -> Iterator[str]:
     """Sentences below the title."""
     view = page.view
-    count = sum(len(week.rows) for week in view.weeks)
+    count = sum(len(week.cells) for week in view.weeks)
     cost = f", penalty {view.penalty}" if view.penalty is not None and not page.only_table else ""
     old = page.old.penalty if page.old and not page.old.breaks_absences else None
     before = f", before {old}" if cost and old is not None else ""
@@ -127,10 +127,10 @@ def charges_section(page: Content) -> Markup:
     view = page.view
     charged: Dict[Optional[str], List[Charge]] = {}
     items: Dict[Optional[str], List[Markup]] = {}
-    for at, week in enumerate(view.weeks):
+    for index, week in enumerate(view.weeks):
         for charge in week.charges or ():
             charged.setdefault(charge.nurse, []).append(charge)
-            items.setdefault(charge.nurse, []).append(_charge(page, at, charge))
+            items.setdefault(charge.nurse, []).append(_charge(page, index, charge))
     folds = [_foldable(plain(nurse), charged[nurse], items[nurse]) for nurse in view.nurses if nurse in charged]
     if None in charged:
         folds.append(_foldable("Places with fewer nurses than best", charged[None], items[None]))

@@ -9,7 +9,7 @@ from ..judging.coverage import Covered, coverage
 from ..week.dates import Times, day_names
 from .markup import Markup, element, hidden, joined, shown
 from .roster_text import COLORS, cuts
-from .roster_view import AWAY, MEANINGS, Cell, RosterView
+from .roster_view import AWAY, MEANINGS, ShownCell, RosterView
 from .totals import Totals, Wish, totals
 
 # Weeks next to one another in a table of the roster and of the coverage, so that it fits a page.
@@ -72,7 +72,7 @@ def _weekend(day: int) -> Optional[str]:
 
 
 def _groups(shown_weeks: int, size: int) -> List[range]:
-    return [range(at, min(at + size, shown_weeks)) for at in range(0, shown_weeks, size)]
+    return [range(first, min(first + size, shown_weeks)) for first in range(0, shown_weeks, size)]
 
 
 def day_heads(page: Content, weeks: Sequence[int], corner: str) -> List[Markup]:
@@ -129,7 +129,7 @@ class RosterTable:
         kinds = [_weekend(day), f"s{number}" if cells else None, "changed" if change else None]
         return element("td", *parts, class_=" ".join(kind for kind in kinds if kind) or None)
 
-    def _shift(self, cell: Cell) -> Markup:
+    def _shift(self, cell: ShownCell) -> Markup:
         shift, skill = plain(cell.shift), plain(cell.skill)
         marks = [joined(shown(mark, class_="mark"), hidden(f", {MEANINGS[mark]}")) for mark in self.page.marks(cell.marks)]
         if self.single:
@@ -146,7 +146,7 @@ class RosterTable:
             lines += [f"{short}{plain(shift)}{times}"] * bool(short or times)
         if not self.single and len(self.skills) > 1:
             lines += [f"{short} = {plain(skill)}" for skill, short in self.skills.items() if short != skill]
-        marks = {mark for week in self.view.weeks for row in week.rows for mark in self.page.marks(week.marks(row))}
+        marks = {mark for week in self.view.weeks for row in week.cells for mark in self.page.marks(week.marks(row))}
         meanings = {**MEANINGS, CHANGED: CHANGED_MEANING}
         return lines + [f"{mark} = {meaning}" for mark, meaning in meanings.items() if mark in marks or mark == CHANGED and self.changed]
 
@@ -154,14 +154,14 @@ class RosterTable:
 # ---- totals
 
 
-def _left(of: Totals, is_last: bool) -> str:
+def _left(total: Totals, is_last: bool) -> str:
     """The shifts that are left in the period, or how the contract is missed."""
-    least, greatest = of.contract.minimum - of.shifts, of.contract.maximum - of.shifts
-    if greatest < 0:
-        return f"{-greatest} too many"
+    minimum, maximum = total.contract.minimum - total.shifts, total.contract.maximum - total.shifts
+    if maximum < 0:
+        return f"{-maximum} too many"
     if is_last:
-        return f"{least} too few" if least > 0 else "within"
-    return f"{max(0, least)} to {greatest} left"
+        return f"{minimum} too few" if minimum > 0 else "within"
+    return f"{max(0, minimum)} to {maximum} left"
 
 
 def totals_table(page: Content) -> Optional[Markup]:
@@ -172,11 +172,11 @@ def totals_table(page: Content) -> Optional[Markup]:
     is_last = any(week.week and week.week.is_last for week in view.weeks[-1:])
     heads = ["nurse", "shifts", "contract", "difference", *map(plain, view.shifts), "weekends", "at most", "wishes", "granted", "missed"]
     rows = []
-    for nurse, of in found.items():
-        over = of.weekends - of.max_weekends
-        numbers = [str(of.shifts), f"{of.contract.minimum} to {of.contract.maximum}", _left(of, is_last), *map(str, of.by_shift.values())]
-        numbers += [f"{of.weekends}{f' ({over} too many)' if over > 0 else ''}", str(of.max_weekends)]
-        numbers += [str(len(of.wishes)), str(of.granted), str(len(of.wishes) - of.granted)]
+    for nurse, total in found.items():
+        over = total.weekends - total.max_weekends
+        numbers = [str(total.shifts), f"{total.contract.minimum} to {total.contract.maximum}", _left(total, is_last), *map(str, total.by_shift.values())]
+        numbers += [f"{total.weekends}{f' ({over} too many)' if over > 0 else ''}", str(total.max_weekends)]
+        numbers += [str(len(total.wishes)), str(total.granted), str(len(total.wishes) - total.granted)]
         if view.has_costs:
             numbers.append(str(sum(view.costs[nurse].values())))
         rows.append([first(plain(nurse)), *(element("td", number) for number in numbers)])
@@ -208,7 +208,7 @@ def _covered(place: Covered, day: int) -> Markup:
 
 def coverage_tables(page: Content) -> Iterator[Markup]:
     """The nurses at each place beside those that it needs, for each two weeks."""
-    known = [week.week and coverage(week.week, week.rows) for week in page.view.weeks]
+    known = [week.week and coverage(week.week, week.cells) for week in page.view.weeks]
     for weeks in _groups(len(known), WEEKS_OF_COVERAGE):
         places: Dict[Sequence[str], Dict[int, Sequence[Covered]]] = {}
         for week in weeks:
@@ -216,8 +216,8 @@ def coverage_tables(page: Content) -> Iterator[Markup]:
                 places.setdefault((shift, skill), {})[week] = days
         rows = [
             [first(plain(f"{shift} {skill}"))]
-            + [_covered(place, day) for week in weeks for day, place in enumerate(of.get(week, [Covered(0, 0, 0)] * 7))]
-            for (shift, skill), of in places.items()
+            + [_covered(place, day) for week in weeks for day, place in enumerate(covered.get(week, [Covered(0, 0, 0)] * 7))]
+            for (shift, skill), covered in places.items()
         ]
         if rows:
             caption = f"Nurses at each place, and (minimum\u2013best). {MINUS}1: one fewer than best; !: below the minimum; +1: one more than best"
@@ -235,9 +235,9 @@ def _wish(page: Content, wish: Wish) -> str:
 def wishes_table(page: Content) -> Optional[Markup]:
     """The wishes of each nurse who has some."""
     rows = []
-    for nurse, of in (totals(page.view) or {}).items():
-        if of.wishes:
-            texts = [", ".join(_wish(page, wish) for wish in of.wishes if wish.granted == granted) for granted in (True, False)]
+    for nurse, total in (totals(page.view) or {}).items():
+        if total.wishes:
+            texts = [", ".join(_wish(page, wish) for wish in total.wishes if wish.granted == granted) for granted in (True, False)]
             rows.append([first(plain(nurse)), *(element("td", text) for text in texts)])
     return table("Wishes", [joined(*map(column, ("nurse", "granted", "missed")))], rows, "words") if rows else None
 

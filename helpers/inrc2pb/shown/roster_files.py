@@ -5,7 +5,8 @@ from pathlib import Path
 from typing import Dict, Iterable, Iterator, List, Mapping, Optional, Sequence
 
 from ..week.faults import Misuse
-from ..week.files import History, Scenario, Solution, Week, check_week_number, read_history, read_scenario, read_solution, read_week
+from ..week.files import check_week_number, read_history, read_scenario, read_solution, read_week
+from ..week.records import History, Scenario, Solution, Week
 from ..week.hints import plural
 from ..judging.misfits import other_week
 from ..judging.next_history import next_history
@@ -38,16 +39,16 @@ def read_view(files: RosterFiles) -> RosterView:
     histories = _histories(files, scenario, solutions) if scenario else []
     fixes = _fix_of_each(files, [of_week.week for of_week in histories or solutions])
     views = []
-    for at, (solution, fix) in enumerate(zip(solutions, fixes)):
-        held = read_solution(fix, scenario, texts[fix]).assignments if fix else ()
-        data = datas[at] if datas else None
-        week = Week(scenario, histories[at], data) if scenario and histories and data else None
-        number = histories[at].week if week else solution.week
-        views.append(WeekView(number, solution.assignments, data, week, held, files.early))
+    for index, (solution, fix) in enumerate(zip(solutions, fixes)):
+        held = read_solution(fix, scenario, texts[fix]).cells if fix else ()
+        data = datas[index] if datas else None
+        week = Week(scenario, histories[index], data) if scenario and histories and data else None
+        number = histories[index].week if week else solution.week
+        views.append(WeekView(number, solution.cells, data, week, held, files.early))
     if scenario:
         warnings = [*_other_weeks(files.rosters, texts, scenario, histories), *_other_weeks(fixes, texts, scenario, histories)]
         return RosterView(scenario.name, list(scenario.nurses), list(scenario.shift_types), list(scenario.skills), views, warnings)
-    shown = [row for view in views for row in view.rows]
+    shown = [cell for view in views for cell in view.cells]
     nurses, shifts, skills = (row.nurse for row in shown), (row.shift for row in shown), (row.skill for row in shown)
     return RosterView(solutions[0].scenario, _each_once(nurses), _each_once(shifts), _each_once(skills), views)
 
@@ -89,13 +90,13 @@ def _histories(files: RosterFiles, scenario: Scenario, solutions: Sequence[Solut
     for path, history in zip(files.histories, histories):
         check_week_number(path, history, scenario)
     while histories and len(histories) < len(solutions):
-        at = len(histories) - 1
-        if histories[at].week + 1 >= scenario.weeks:
-            raise Misuse(f"{files.rosters[at]}: week {histories[at].week} is the last of {scenario.weeks}: give --his once for each roster")
+        last = len(histories) - 1
+        if histories[last].week + 1 >= scenario.weeks:
+            raise Misuse(f"{files.rosters[last]}: week {histories[last].week} is the last of {scenario.weeks}: give --his once for each roster")
         try:
-            histories.append(next_history(scenario, histories[at], solutions[at].assignments))
+            histories.append(next_history(scenario, histories[last], solutions[last].cells))
         except Misuse as fault:
-            raise Misuse(f"{files.rosters[at]}: {fault}") from fault
+            raise Misuse(f"{files.rosters[last]}: {fault}") from fault
     return histories
 
 
@@ -111,7 +112,7 @@ def _other_weeks(
     paths: Sequence[Optional[Path]], texts: Dict[Path, str], scenario: Scenario, histories: Sequence[History]
 ) -> Iterator[str]:
     """A warning for each file, one of each week, that is of another ward or week than it is shown with."""
-    for at, path in enumerate(paths):
-        found = other_week(path, scenario, histories[at] if histories else None, texts[path]) if path else ""
+    for index, path in enumerate(paths):
+        found = other_week(path, scenario, histories[index] if histories else None, texts[path]) if path else ""
         if found:
             yield f"{path}: {found}"

@@ -4,11 +4,11 @@ import textwrap
 from html import escape
 from typing import Dict, Iterator, List, Sequence, Tuple
 
-from ..week.files import DAYS
+from ..week.records import DAYS
 from .charge_words import costs_text
 from .markup import allowed
 from .roster_text import COLORS, abbreviations, columns, cuts, ink_on
-from .roster_view import HELD, Cell, RosterView
+from .roster_view import HELD, ShownCell, RosterView
 from .totals import HEADS, LEGEND, totals
 
 STYLE = """<style>
@@ -38,7 +38,7 @@ class CellTexts:
             if self.longest <= room:
                 break
 
-    def text(self, cell: Cell) -> str:
+    def text(self, cell: ShownCell) -> str:
         """The text of a cell."""
         return f"{self.shifts[cell.shift]} {self.skills[cell.skill]}{cell.marks}"
 
@@ -55,7 +55,7 @@ class Picture:
         self.top = 60 if self.single else 80
         week = 7 * self.wide + WEEKEND_GAP
         left = max([LEFT, *(20 + LETTER * columns(nurse) for nurse in view.nurses)])
-        self.starts = [left + at * (week + WEEK_GAP) for at in range(len(view.weeks))]
+        self.starts = [left + number * (week + WEEK_GAP) for number in range(len(view.weeks))]
         self.costs = {nurse: _cost_of(view.costs[nurse]) for nurse in view.nurses} if view.has_costs else {}
         costs = max([COST_WIDTH, *(20 + round(COST_LETTER * len(text)) for text in self.costs.values())])
         self.totals = [(head, dict(zip(view.nurses, texts))) for head, texts in _totals_of(view)]
@@ -85,20 +85,20 @@ class Picture:
         yield STYLE
         yield f'<rect class="page" width="{self.right}" height="{end}"/>'
         yield f'<text class="ink" x="10" y="22" font-size="15" font-weight="bold">{escape(self.view.title)}</text>'
-        for at, week in enumerate(self.view.weeks):
-            yield from self.week_head(at, week.number)
+        for index, week in enumerate(self.view.weeks):
+            yield from self.week_head(index, week.number)
         for x, (head, _) in self.columns_of_totals():
             yield f'<text class="ink" x="{x}" y="{self.top - 10}">{escape(head)}</text>'
         if self.costs:
             yield f'<text class="ink" x="{self.end_of_days() + sum(self.total_widths)}" y="{self.top - 10}">cost</text>'
         for row, nurse in enumerate(self.view.nurses):
             yield from self.row(nurse, self.top + row * HIGH)
-        for at, shift in enumerate(self.view.shifts):
-            x, y = 10 + at % self.in_line * self.step, self.bottom + 18 + at // self.in_line * 20
-            yield _place(x, y, 14, 14, at, False)
+        for index, shift in enumerate(self.view.shifts):
+            x, y = 10 + index % self.in_line * self.step, self.bottom + 18 + index // self.in_line * 20
+            yield _place(x, y, 14, 14, index, False)
             yield f'<text class="ink" x="{x + 20}" y="{y + 12}">{escape(shift)}</text>'
-        for at, line in enumerate(self.below):
-            yield f'<text class="ink" x="10" y="{self.under + 10 + 18 * at}" xml:space="preserve">{escape(line)}</text>'
+        for index, line in enumerate(self.below):
+            yield f'<text class="ink" x="10" y="{self.under + 10 + 18 * index}" xml:space="preserve">{escape(line)}</text>'
         yield "</svg>"
 
     def week_head(self, week: int, number: int) -> Iterator[str]:
@@ -133,17 +133,17 @@ class Picture:
             yield x, column
             x += width
 
-    def cells(self, cells: Sequence[Cell], x: int, y: int) -> Iterator[str]:
+    def cells(self, cells: Sequence[ShownCell], x: int, y: int) -> Iterator[str]:
         """The cells of one nurse and day."""
         width, height = self.wide - 4, HIGH - 4
         if not cells:
             yield f'<rect class="off" x="{x}" y="{y}" width="{width}" height="{height}"/>'
-        for at, cell in enumerate(cells):
+        for index, cell in enumerate(cells):
             part, number = width / len(cells), self.view.shifts.index(cell.shift)
             text = escape(self.texts.text(cell))
-            yield _place(x + at * part, y, part, height, number, HELD in cell.marks)
+            yield _place(x + index * part, y, part, height, number, HELD in cell.marks)
             yield (
-                f'<text x="{x + (at + 0.5) * part:g}" y="{y + 15}" font-size="{11 if self.single else 10}" text-anchor="middle" '
+                f'<text x="{x + (index + 0.5) * part:g}" y="{y + 15}" font-size="{11 if self.single else 10}" text-anchor="middle" '
                 f'fill="{ink_on(COLORS[number % len(COLORS)])}">{text}<title>{escape(cell.shift)} {escape(cell.skill)}</title></text>'
             )
 
@@ -154,8 +154,8 @@ def _totals_of(view: RosterView) -> List[Tuple[str, Sequence[str]]]:
     if not counted:
         return []
     types = list(cuts(view.shifts, 1).values())
-    by_type = [" / ".join(map(str, of.by_shift.values())) for of in counted.values()]
-    return [(" / ".join(types), by_type), *zip(HEADS, zip(*(of.texts() for of in counted.values())))]
+    by_type = [" / ".join(map(str, total.by_shift.values())) for total in counted.values()]
+    return [(" / ".join(types), by_type), *zip(HEADS, zip(*(total.texts() for total in counted.values())))]
 
 
 def _cost_of(costs: Dict[str, int]) -> str:

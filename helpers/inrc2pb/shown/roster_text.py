@@ -4,7 +4,7 @@ import unicodedata
 from typing import Dict, Iterator, List, Sequence
 
 from .charge_words import costs_text
-from ..week.files import DAYS
+from ..week.records import DAYS
 from .roster_view import RosterView
 from .totals import HEADS, LEGEND, totals
 
@@ -18,7 +18,7 @@ AWAY = "-"
 
 def ink_on(color: str) -> str:
     """Black or white, whichever has the greater contrast with the color (by its luminance, as WCAG defines it)."""
-    parts = [int(color[at : at + 2], 16) / 255 for at in (1, 3, 5)]
+    parts = [int(color[index : index + 2], 16) / 255 for index in (1, 3, 5)]
     red, green, blue = (part / 12.92 if part <= 0.04045 else ((part + 0.055) / 1.055) ** 2.4 for part in parts)
     return "#000000" if 0.2126 * red + 0.7152 * green + 0.0722 * blue > 0.179 else "#ffffff"
 
@@ -33,9 +33,9 @@ def _filled(text: str, width: int) -> str:
     return text + " " * (width - columns(text))
 
 
-def cuts(names: Sequence[str], least: int) -> Dict[str, str]:
-    """Each name cut to the same length: the shortest, from `least` on, at which all of them differ."""
-    length = least
+def cuts(names: Sequence[str], minimum: int) -> Dict[str, str]:
+    """Each name cut to the same length: the shortest, from `minimum` on, at which all of them differ."""
+    length = minimum
     while len({name[:length] for name in names}) < len(set(names)):
         length += 1
     return {name: name[:length] for name in names}
@@ -80,11 +80,11 @@ class TextTable:
         found = []
         counted = totals(self.view)
         if counted:
-            of_types = [list(map(str, of.by_shift.values())) for of in counted.values()]
+            of_types = [list(map(str, total.by_shift.values())) for total in counted.values()]
             table = [list(self.types.values()), *of_types]
             wide = [max(map(columns, column)) for column in zip(*table)]
             found.append([" ".join(_filled(text, width) for text, width in zip(row, wide)) for row in table])
-            found += [[head, *texts] for head, *texts in zip(HEADS, *(of.texts() for of in counted.values()))]
+            found += [[head, *texts] for head, *texts in zip(HEADS, *(total.texts() for total in counted.values()))]
         if self.view.has_costs:
             found.append(["cost", *(f"{sum(self.view.costs[nurse].values()):4}  {costs_text(self.view.costs[nurse])}" for nurse in self.view.nurses)])
         return [[_filled(text, max(map(columns, column))) for text in column] for column in found]
@@ -140,6 +140,6 @@ def spreadsheet(view: RosterView) -> Iterator[List[object]]:
         if view.has_costs:
             row += [sum(view.costs[nurse].values()), costs_text(view.costs[nurse])]
         if counted:
-            of = counted[nurse]
-            row += [of.shifts, *of.contract, of.weekends, of.max_weekends, len(of.wishes), of.granted, *of.by_shift.values()]
+            total = counted[nurse]
+            row += [total.shifts, *total.contract, total.weekends, total.max_weekends, len(total.wishes), total.granted, *total.by_shift.values()]
         yield row

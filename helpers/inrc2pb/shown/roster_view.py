@@ -8,13 +8,13 @@ from ..judging import rules
 from ..judging.absences import Absence, absences_of, is_broken_by
 from ..judging.breaches import Breach, breaches
 from ..judging.coverage import missing_nurses, spare_nurses
-from ..week.files import Assignment, Week, WeekData
+from ..week.records import Cell, Week, WeekData
 
 HELD, REFUSED, AWAY = "*", "!", "#"
 MEANINGS = {HELD: "held", REFUSED: "a request to be off was not granted", AWAY: "on duty while away"}
 
 
-class Cell(NamedTuple):
+class ShownCell(NamedTuple):
     """A shift with a skill in the table, and its marks."""
 
     shift: str
@@ -27,19 +27,19 @@ class WeekView:
     """One week of a table: its roster, the requests and held rows if they are known, and all files of the week if they are."""
 
     number: int
-    rows: Sequence[Assignment]
+    cells: Sequence[Cell]
     data: Optional[WeekData] = None
     week: Optional[Week] = None
-    held: Sequence[Assignment] = ()
+    held: Sequence[Cell] = ()
     early: bool = False
 
-    def marks(self, row: Assignment) -> str:
+    def marks(self, cell: Cell) -> str:
         """The marks of an assignment."""
-        away = is_broken_by(self.absences, row)
-        return HELD * (row in self._held) + AWAY * away + REFUSED * (not away and self._is_refused(row))
+        away = is_broken_by(self.absences, cell)
+        return HELD * (cell in self._held) + AWAY * away + REFUSED * (not away and self._is_refused(cell))
 
     @cached_property
-    def _held(self) -> FrozenSet[Assignment]:
+    def _held(self) -> FrozenSet[Cell]:
         return frozenset(self.held)
 
     @cached_property
@@ -52,18 +52,18 @@ class WeekView:
         """The nurses, days and shift types of the requests; None is any shift type."""
         return frozenset((request.nurse, request.day, request.shift) for request in self.data.requests) if self.data else frozenset()
 
-    def _is_refused(self, row: Assignment) -> bool:
-        return (row.nurse, row.day, row.shift) in self._asked or (row.nurse, row.day, None) in self._asked
+    def _is_refused(self, cell: Cell) -> bool:
+        return (cell.nurse, cell.day, cell.shift) in self._asked or (cell.nurse, cell.day, None) in self._asked
 
     @cached_property
     def breaches(self) -> List[Breach]:
         """The hard rules that the roster breaks, if the week's files are known."""
-        return breaches(self.week, self.rows, self.held) if self.week else []
+        return breaches(self.week, self.cells, self.held) if self.week else []
 
     @cached_property
     def charges(self) -> Optional[List[rules.Charge]]:
         """What the soft rules charge; None if the week's files are not known, or the roster breaks a hard rule."""
-        return list(rules.charges(self.week, self.rows, self.early)) if self.week and not self.breaches else None
+        return list(rules.charges(self.week, self.cells, self.early)) if self.week and not self.breaches else None
 
     @property
     def penalty(self) -> Optional[int]:
@@ -73,8 +73,8 @@ class WeekView:
     @property
     def notes(self) -> List[str]:
         """Lines on held rows that are missing, and on the cost."""
-        rows = set(self.rows)
-        lines = [f"held, and not in the roster: {row.row()}" for row in self.held if row not in rows]
+        cells = set(self.cells)
+        lines = [f"held, and not in the roster: {cell.row()}" for cell in self.held if cell not in cells]
         if self.breaches:
             lines.append(f"roster breaks {self.breaches[0].rule}: it has no penalty")
         if self.charges is not None:
@@ -86,7 +86,7 @@ class WeekView:
     @property
     def misfilled(self) -> List[str]:
         """A line for each day with places that have too few nurses, and then for each with too many."""
-        return [*missing_nurses(self.week, self.rows), *spare_nurses(self.week, self.rows)] if self.week else []
+        return [*missing_nurses(self.week, self.cells), *spare_nurses(self.week, self.cells)] if self.week else []
 
 
 @dataclass
@@ -101,17 +101,17 @@ class RosterView:
     warnings: Sequence[str] = ()
 
     @cached_property
-    def _cells(self) -> Dict[object, List[Cell]]:
-        cells: Dict[object, List[Cell]] = {}
-        for at, week in enumerate(self.weeks):
-            for row in week.rows:
-                cells.setdefault((at, row.nurse, row.day), []).append(Cell(row.shift, row.skill, week.marks(row)))
+    def _cells(self) -> Dict[object, List[ShownCell]]:
+        cells: Dict[object, List[ShownCell]] = {}
+        for index, week in enumerate(self.weeks):
+            for row in week.cells:
+                cells.setdefault((index, row.nurse, row.day), []).append(ShownCell(row.shift, row.skill, week.marks(row)))
         return cells
 
     @property
     def title(self) -> str:
         """The name of the ward, the weeks, and the number of assignments."""
-        count = sum(len(week.rows) for week in self.weeks)
+        count = sum(len(week.cells) for week in self.weeks)
         return f"{self.name}, {self.weeks_text}: {count} assignment{'' if count == 1 else 's'}"
 
     @property
@@ -124,7 +124,7 @@ class RosterView:
             return f"weeks {numbers[0]} to {numbers[-1]}"
         return f"weeks {', '.join(map(str, numbers))}"
 
-    def cells(self, week: int, nurse: str, day: int) -> List[Cell]:
+    def cells(self, week: int, nurse: str, day: int) -> List[ShownCell]:
         """A nurse's cells on a day; weeks are counted from 0 in the table."""
         return self._cells.get((week, nurse, day), [])
 
@@ -148,14 +148,14 @@ class RosterView:
 
     def legend(self) -> List[str]:
         """The meaning of the marks, and notes on the whole roster."""
-        marks = {mark for week in self.weeks for row in week.rows for mark in week.marks(row)}
+        marks = {mark for week in self.weeks for row in week.cells for mark in week.marks(row)}
         meanings = [f"{mark} = {MEANINGS[mark]}" for mark in sorted(marks, reverse=True)]
         return [*meanings, *self._with_week(lambda week: week.notes), *self._sum()]
 
     @property
     def breaks_absences(self) -> bool:
         """Whether someone works while she is away."""
-        return any(AWAY in week.marks(row) for week in self.weeks for row in week.rows)
+        return any(AWAY in week.marks(row) for week in self.weeks for row in week.cells)
 
     @property
     def penalty(self) -> Optional[int]:

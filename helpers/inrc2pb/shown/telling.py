@@ -5,7 +5,7 @@ from typing import Collection, Dict, Iterable, Iterator, List, Optional, Tuple
 from ..judging.absences import absences_of, joined, wishes_of
 from ..judging.demand import asked_shifts, supplied_shifts
 from ..week.hints import plural
-from ..week.records import DAYS, Assignment, Contract, History, Limits, Place, Request, Requirement, Scenario, WeekData
+from ..week.records import DAYS, Cell, Contract, History, Limits, Place, Request, Requirement, Scenario, WeekData
 
 _WEEK = len(DAYS)
 
@@ -43,8 +43,8 @@ def _range(limits: Limits, no_limit: int) -> str:
     return f"at most {limits.maximum}" if not limits.minimum else _numbers(*limits)
 
 
-def _numbers(least: int, most: int) -> str:
-    return str(least) if least == most else f"{least} to {most}"
+def _numbers(minimum: int, most: int) -> str:
+    return str(minimum) if minimum == most else f"{minimum} to {most}"
 
 
 def _in_a_row(limits: Limits) -> str:
@@ -73,8 +73,8 @@ def week_sentences(scenario: Scenario, history: Optional[History], data: WeekDat
         rows[place.shift, place.skill] = [data.requirements.get(Place(day, place.shift, place.skill), Requirement(0, 0)) for day in range(_WEEK)]
     for (shift, skill), numbers in rows.items():
         yield f"{shift} {skill}: {_numbers_by_day(numbers)}."
-    (least, best), (low, high) = asked_shifts(data), supplied_shifts(scenario, history)
-    yield f"The week asks for {_numbers(least, best)} shifts; the contracts supply {_numbers(low, high)} a week."
+    (minimum, best), (low, high) = asked_shifts(data), supplied_shifts(scenario, history)
+    yield f"The week asks for {_numbers(minimum, best)} shifts; the contracts supply {_numbers(low, high)} a week."
     away = absences_of(data)
     for nurse in scenario.nurses:
         for named in (None, *scenario.shift_types):
@@ -115,7 +115,7 @@ def _away(nurse: str, shift: Optional[str], days: Collection[int]) -> Iterator[s
         yield f"{nurse} never works {shift}" + ("." if len(days) == _WEEK else f" on {_days(days)}.")
 
 
-def held_sentences(held: Iterable[Assignment]) -> Iterator[str]:
+def held_sentences(held: Iterable[Cell]) -> Iterator[str]:
     """Held shifts, those of a nurse, a shift type and a skill together."""
     found: Dict[Tuple[str, str, str], List[int]] = {}
     for row in held:

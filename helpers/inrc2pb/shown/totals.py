@@ -43,13 +43,13 @@ HEADS = ("shifts", "weekends", "wishes")
 LEGEND = "shifts and weekends: in the period until now / the contract's limits; wishes: granted / all"
 
 
-def wishes_by_nurse(week: WeekView, at: int) -> Dict[str, List[Wish]]:
+def wishes_by_nurse(week: WeekView, index: int) -> Dict[str, List[Wish]]:
     """The wishes of a week, each once."""
-    works = {(row.nurse, row.day, shift) for row in week.rows for shift in (row.shift, None)}
+    works = {(row.nurse, row.day, shift) for row in week.cells for shift in (row.shift, None)}
     found: Dict[str, List[Wish]] = {}
     for request in dict.fromkeys(wishes_of(week.data)) if week.data else ():
         refused = (request.nurse, request.day, request.shift) in works
-        found.setdefault(request.nurse, []).append(Wish(at, request, not refused))
+        found.setdefault(request.nurse, []).append(Wish(index, request, not refused))
     return found
 
 
@@ -58,10 +58,10 @@ def totals(view: RosterView) -> Optional[Dict[str, Totals]]:
     last = view.weeks[-1]
     if not last.week:
         return None
-    wishes = [wishes_by_nurse(week, at) for at, week in enumerate(view.weeks)]
-    number = collections.Counter((row.nurse, row.shift) for week in view.weeks for row in week.rows)
+    wishes = [wishes_by_nurse(week, index) for index, week in enumerate(view.weeks)]
+    number = collections.Counter((row.nurse, row.shift) for week in view.weeks for row in week.cells)
     days: Dict[str, List[int]] = {}
-    for row in last.rows:
+    for row in last.cells:
         days.setdefault(row.nurse, []).append(row.day)
     found = {}
     for nurse in view.nurses:

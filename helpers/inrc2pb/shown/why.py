@@ -13,10 +13,10 @@ def _charges(view: RosterView) -> List[Tuple[str, Charge]]:
     return [(view.prefix(week), charge) for week in view.weeks for charge in week.charges or ()]
 
 
-def breach_lines(view: RosterView, of: str = "roster") -> Iterator[str]:
+def breach_lines(view: RosterView, named: str = "roster") -> Iterator[str]:
     """A line for each hard rule that a roster breaks."""
     for week in view.weeks:
-        yield from (f"{view.prefix(week)}the {of} breaks {breach.rule}: {breach.reason}" for breach in week.breaches)
+        yield from (f"{view.prefix(week)}the {named} breaks {breach.rule}: {breach.reason}" for breach in week.breaches)
 
 
 def why_lines(view: RosterView) -> Iterator[str]:

@@ -12,7 +12,7 @@ from pathlib import Path
 from typing import Callable, Iterator, List, Optional, TextIO, Tuple
 
 from ..week.faults import Misuse
-from ..week.files import replacing
+from ..week.writing import replacing
 
 # A term has at most 31 characters: a sign, 17 digits, a blank, `x` and 10 digits, and a blank. A line may have 560. Models of
 # `inrc2pb` have at most 10 and 8 digits.
@@ -124,7 +124,7 @@ def _terms(text: str, last: str) -> List[str]:
 
 def _lines(words: List[str]) -> List[str]:
     """The terms, some on each line."""
-    return [" ".join(words[at : at + 2 * TERMS_PER_LINE]) for at in range(0, len(words), 2 * TERMS_PER_LINE)]
+    return [" ".join(words[index : index + 2 * TERMS_PER_LINE]) for index in range(0, len(words), 2 * TERMS_PER_LINE)]
 
 
 def _write_constraint(number: int, text: str, lp: TextIO, last: str) -> None:

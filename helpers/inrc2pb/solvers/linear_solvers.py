@@ -4,44 +4,20 @@ import math
 import shutil
 import signal
 from pathlib import Path
-from typing import Callable, Dict, Iterator, List, NamedTuple, Optional, Sequence
+from typing import Callable, Dict, Iterator, List, Optional, Sequence
 
+from .answers import MAX_FAULTS, MAX_VALUE, Chosen, NoSolution, Relaxed, SolverFault
 from ..programs.clock import Clock, TimeIsOver
-from ..week.faults import Misuse
 from ..programs.processes import Ended, Processes
+from .resident_program import Child, LinearProgram
 
 INSTALL = "install one (Debian: apt-get install coinor-cbc)"
-# The faults in a row after which another solver is used.
-MAX_FAULTS = 3
-# An answer beyond it is none.
-_MAX_VALUE = 1e15
 # With more rows of places and crews than this, cbc's simplex is faster after its "idiot" crash: nine times with 1800 of them.
 LARGE = 1500
 # With more whole columns than this, cbc's own heuristics take longer than its search.
 MANY = 500
 # Seconds that cbc has beyond its own limit to write its answer.
 _WRITING = 1.0
-
-
-class SolverFault(Misuse):
-    """A solver that crashed, or whose answer cannot be read."""
-
-
-class Relaxed(NamedTuple):
-    """An optimal solution of a linear program: its value, and by name the values that are not 0, the prices of the rows, and by how much
-    one of each other row of a nurse would raise the value."""
-
-    value: float
-    taken: Dict[str, float]
-    prices: Dict[str, float]
-    rises: Dict[str, float]
-
-
-class Chosen(NamedTuple):
-    """An answer of an integer program: the names that are 1, or None without one, and whether the solver claims that there is no better one."""
-
-    names: Optional[List[str]]
-    proved: bool
 
 
 class LinearSolver:
@@ -67,9 +43,16 @@ class LinearSolver:
         """The same solver with files of its own, so that it can run at the same time; the number is above 0."""
         raise NotImplementedError
 
+    def program(self) -> LinearProgram:
+        """A linear program of this solver, without rows and columns."""
+        return LinearProgram(None, self.relax)
+
     def end_all(self) -> None:
         """Ends what runs now, also in the solvers beside this one."""
         self._processes.end_running()
+
+    def close(self) -> None:
+        """Ends the process that it keeps, if there is one."""
 
     def _run(self, model: str, words: Sequence[str], clock: Clock, seconds: float) -> Ended:
         self._model.write_text(model)
@@ -97,7 +80,7 @@ def _number(text: str, solver: str) -> float:
         value = float(text)
     except ValueError:
         value = math.nan
-    if not abs(value) < _MAX_VALUE:
+    if not abs(value) < MAX_VALUE:
         raise SolverFault(f"{solver} wrote '{text[:40]}' for a number")
     return value
 
@@ -121,7 +104,7 @@ class Coin(LinearSolver):
         clock.check()
         head, *lines = self._lines(ended)
         if "ptimal" not in head:
-            raise SolverFault(f"{self.name} found no solution: {head[:60]}")
+            raise (NoSolution if "nfeasible" in head else SolverFault)(f"{self.name} found no solution: {head[:60]}")
         found = Relaxed(_number(head.split()[-1], self.name), {}, {}, {})
         for name, value, price in self._entries(lines, 4):
             if name[0] in "cn":
@@ -148,12 +131,12 @@ class Coin(LinearSolver):
         names = [name for name, value, _ in self._entries(lines, 4) if _number(value, self.name) > 0.5]
         return Chosen(names, head.startswith("Optimal"))
 
-    def _entries(self, lines: Sequence[str], least: int) -> Iterator[List[str]]:
+    def _entries(self, lines: Sequence[str], minimum: int) -> Iterator[List[str]]:
         """The name, value and price of each line."""
         for line in lines:
             words = line.split()
             words = words[1:] if words and words[0] == "**" else words
-            if len(words) < least:
+            if len(words) < minimum:
                 raise SolverFault(f"the answer of {self.name} is cut: {line[:60]}")
             yield words[1:4]
 
@@ -208,10 +191,14 @@ def installed() -> List[str]:
 
 
 class LinearSolvers(LinearSolver):
-    """Several solvers: after some faults in a row the next one is used. The faults of the last one are raised."""
+    """Several solvers: after some faults in a row the next one is used. The faults of the last one are raised. If they are `resident`, a
+    child keeps the linear programs, while it works."""
 
-    def __init__(self, names: Sequence[str], processes: Processes, folder: Path, warn: Callable[[str], None]) -> None:
+    def __init__(
+        self, names: Sequence[str], processes: Processes, folder: Path, warn: Callable[[str], None], resident: bool = False
+    ) -> None:
         super().__init__(processes, folder)
+        self._child = Child(processes, folder) if resident else None
         self._others = [Glpsol(processes, folder) if name == "glpsol" else Coin(name, processes, folder) for name in names]
         self._warn, self._faults = warn, 0
 
@@ -232,6 +219,8 @@ class LinearSolvers(LinearSolver):
                 found = self._others[0].relax(model, clock, goes_on)
                 self._faults = 0
                 return found
+            except NoSolution:
+                raise
             except SolverFault as fault:
                 self._blame(fault)
 
@@ -247,7 +236,17 @@ class LinearSolvers(LinearSolver):
         """The solvers that are still used, with files of their own; the number is above 0."""
         folder = self._model.parent / str(number)
         folder.mkdir(exist_ok=True)
-        return LinearSolvers([other.name for other in self._others], self._processes, folder, self._warn)
+        resident = self._child is not None and self._child.works
+        return LinearSolvers([other.name for other in self._others], self._processes, folder, self._warn, resident)
+
+    def program(self) -> LinearProgram:
+        """A linear program, kept by the child."""
+        return LinearProgram(self._child, self.relax)
+
+    def close(self) -> None:
+        """Ends the child."""
+        if self._child:
+            self._child.end()
 
     def _blame(self, fault: SolverFault) -> None:
         self._basis.unlink(missing_ok=True)

@@ -48,8 +48,8 @@ class Answer:
             return
         if self.objective is not None:
             target.write(f"o {self.objective}\n")
-        for at in range(0, len(self.variables), LITERALS_PER_LINE):
-            target.write("v" + "".join(f" x{number}" for number in self.variables[at : at + LITERALS_PER_LINE]) + "\n")
+        for index in range(0, len(self.variables), LITERALS_PER_LINE):
+            target.write("v" + "".join(f" x{number}" for number in self.variables[index : index + LITERALS_PER_LINE]) + "\n")
 
 
 def read_answer(solution: TextIO, ended: Optional[str] = None) -> Answer:

@@ -51,7 +51,7 @@ def day_names(monday: Optional[datetime.date], week: int) -> Sequence[str]:
     """The days of a week, counted from 0, as `Mon 30 Nov`, or as `Mon` if the date is not known."""
     if monday is None:
         return DAYS
-    return [f"{day} {date_text(monday + (7 * week + at) * DAY)}" for at, day in enumerate(DAYS)]
+    return [f"{day} {date_text(monday + (7 * week + number) * DAY)}" for number, day in enumerate(DAYS)]
 
 
 def read_times(texts: Sequence[str], shifts: Collection[str]) -> Dict[str, Times]:

@@ -7,17 +7,10 @@ layouts. The values that they return are those of `records`. A `text` is what th
 from typing import Dict, Iterable, List, Optional, Tuple
 
 from .faults import FileFault, Misuse
-from .records import ANY, DAYS, NONE, Assignment, Contract, History, Limits, Nurse, NurseHistory, Place, Request
+from .records import ANY, DAYS, NONE, Cell, Contract, History, Limits, Nurse, NurseHistory, Place, Request
 from .records import Requirement, Scenario, ShiftType, Solution, Week, WeekData
 from .slots import PathLike, Slots, Token
-from .writing import file_at, replacing, write_text
-
-__all__ = [
-    "ANY", "Assignment", "Contract", "DAYS", "FileFault", "History", "Limits", "NONE", "Nurse", "NurseHistory", "Place",
-    "Request", "Requirement", "Scenario", "ShiftType", "Solution", "Week", "WeekData", "check_week_number", "check_weeks_left", "file_at",
-    "history_text", "read_files", "read_history", "read_scenario", "read_solution", "read_week", "replacing", "scenario_text",
-    "solution_text", "week_text", "write_history", "write_solution", "write_text",
-]  # fmt: skip
+from .writing import write_text
 
 
 def read_scenario(path: PathLike, text: Optional[str] = None) -> Scenario:
@@ -181,13 +174,13 @@ def read_solution(path: PathLike, scenario: Optional[Scenario] = None, text: Opt
     week = slots.number("the week's number")
     name = slots.any_word("the scenario's name").text
     slots.words("ASSIGNMENTS", "=")
-    found: Dict[Assignment, None] = {}
+    found: Dict[Cell, None] = {}
     for _ in range(slots.number("the number of assignments")):
         nurse = slots.known_name("nurse", scenario.nurses, "NURSES") if scenario else slots.any_word("a nurse")
         day = _day(slots)
         shift = slots.known_name("shift type", scenario.shift_types, "SHIFT_TYPES") if scenario else slots.any_word("a shift type")
         skill = slots.known_name("skill", scenario.skills, "SKILLS") if scenario else slots.any_word("a skill")
-        row = Assignment(nurse.text, day, shift.text, skill.text)
+        row = Cell(nurse.text, day, shift.text, skill.text)
         _only_once(slots, skill, found, f"the row '{row.row()}' is", row)
         found[row] = None
     slots.end("assignment")
@@ -208,7 +201,7 @@ def scenario_text(scenario: Scenario) -> str:
     lines += [_row(shift.name, len(shift.forbidden_next), *shift.forbidden_next) for shift in types]
     lines += ["", f"CONTRACTS = {len(contracts)}"]
     lines += [
-        _row(of.name, of.assignments, of.working_days, of.days_off, of.max_weekends, int(of.complete_weekends)) for of in contracts
+        _row(contract.name, contract.assignments, contract.working_days, contract.days_off, contract.max_weekends, int(contract.complete_weekends)) for contract in contracts
     ]
     lines += ["", f"NURSES = {len(nurses)}", *(_row(nurse.name, nurse.contract, len(nurse.skills), *nurse.skills) for nurse in nurses)]
     return "\n".join(lines) + "\n"
@@ -219,7 +212,7 @@ def week_text(data: WeekData) -> str:
     lines = ["WEEK_DATA", data.name, "", "REQUIREMENTS"]
     for shift, skill in dict.fromkeys((place.shift, place.skill) for place in data.requirements):
         pairs = [data.requirements.get(Place(day, shift, skill), Requirement(0, 0)) for day in range(len(DAYS))]
-        lines.append(_row(shift, skill, *(Limits(of.minimum, of.optimal) for of in pairs)))
+        lines.append(_row(shift, skill, *(Limits(required.minimum, required.optimal) for required in pairs)))
     lines += ["", f"SHIFT_OFF_REQUESTS = {len(data.requests)}"]
     lines += [_row(request.nurse, request.shift or ANY, DAYS[request.day]) for request in data.requests]
     return "\n".join(lines) + "\n"
@@ -227,8 +220,8 @@ def week_text(data: WeekData) -> str:
 
 def solution_text(solution: Solution) -> str:
     """The text of a solution or fix file."""
-    rows = "".join(f"{assignment.row()}\n" for assignment in solution.assignments)
-    return f"SOLUTION\n{solution.week} {solution.scenario}\n\nASSIGNMENTS = {len(solution.assignments)}\n{rows}"
+    rows = "".join(f"{cell.row()}\n" for cell in solution.cells)
+    return f"SOLUTION\n{solution.week} {solution.scenario}\n\nASSIGNMENTS = {len(solution.cells)}\n{rows}"
 
 
 def history_text(history: History) -> str:

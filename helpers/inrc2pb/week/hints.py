@@ -54,9 +54,9 @@ def _heading_of(line: str) -> str:
     return words[0] if words[0] in HEADINGS else ""
 
 
-def _rows_below(lines: Sequence[str], at: int) -> Iterator[str]:
+def _rows_below(lines: Sequence[str], above: int) -> Iterator[str]:
     """The lines below a heading, but for empty ones. A line with = is a heading too, though perhaps a wrong one."""
-    for line in lines[at + 1 :]:
+    for line in lines[above + 1 :]:
         if _heading_of(line) or "=" in line:
             return
         if words_of(line):
@@ -65,18 +65,18 @@ def _rows_below(lines: Sequence[str], at: int) -> Iterator[str]:
 
 def _wrong_count(lines: Sequence[str], line: int) -> Iterator[str]:
     """The last list up to this line that has another number of lines than it announces."""
-    for at in reversed(range(line)):
-        heading = _COUNTED.match(lines[at])
-        rows = len(list(_rows_below(lines, at))) if heading else 0
+    for number in reversed(range(line)):
+        heading = _COUNTED.match(lines[number])
+        rows = len(list(_rows_below(lines, number))) if heading else 0
         if heading and rows != int(heading.group(1)):
             follow = f"{plural(rows, 'line')} {'follows' if rows == 1 else 'follow'} it"
-            yield f"'{lines[at].strip()}' on line {at + 1} announces {heading.group(1)}, and {follow}"
+            yield f"'{lines[number].strip()}' on line {number + 1} announces {heading.group(1)}, and {follow}"
             return
 
 
 def _without_line(lines: Sequence[str], names: Collection[str], heading: str) -> Iterator[str]:
     """The names with which no line below the heading begins."""
-    begins = {words_of(row)[0] for at, line in enumerate(lines) if heading and _heading_of(line) == heading for row in _rows_below(lines, at)}
+    begins = {words_of(row)[0] for number, line in enumerate(lines) if heading and _heading_of(line) == heading for row in _rows_below(lines, number)}
     missing = [name for name in names if name not in begins]
     if missing:
         yield f"no line begins with {quoted(missing)}"
@@ -84,10 +84,10 @@ def _without_line(lines: Sequence[str], names: Collection[str], heading: str) ->
 
 def _wrong_row(lines: Sequence[str], line: int) -> Iterator[str]:
     """The mistake in the row before the fault, else in the row of the fault: a wrong number of words, or a wrong order."""
-    rows = [at for at in range(line) if words_of(lines[at])]
-    for at in rows[-2:]:
-        section = next((heading for heading in map(_heading_of, reversed(lines[:at])) if heading), "")
-        reason = None if _heading_of(lines[at]) or section not in _ROWS else _ROWS[section](lines[at])
+    rows = [number for number in range(line) if words_of(lines[number])]
+    for number in rows[-2:]:
+        section = next((heading for heading in map(_heading_of, reversed(lines[:number])) if heading), "")
+        reason = None if _heading_of(lines[number]) or section not in _ROWS else _ROWS[section](lines[number])
         if reason:
             yield reason
             return

@@ -14,6 +14,7 @@ _FILES = {
     "HISTORY": "a history: give it with --his",
     "WEEK_DATA": "a week's file: give it with --week",
     "SOLUTION": "a roster or a fix file: give it with --fix, --roster or --from",
+    "FACTS": "a file of facts: give it with --given",
 }  # fmt: skip
 
 
@@ -23,10 +24,10 @@ def reason_of_signs(lines: Sequence[str], line: int, word: str) -> Optional[str]
 
 
 def _reasons(lines: Sequence[str], line: int, word: str) -> Iterator[str]:
-    for at in (line, line - 1):
-        text = lines[at - 1] if 0 < at <= len(lines) else ""
-        where = "" if at == line else f"line {at}: "
-        if at < line and len(text.split(" ")) > 1:
+    for number in (line, line - 1):
+        text = lines[number - 1] if 0 < number <= len(lines) else ""
+        where = "" if number == line else f"line {number}: "
+        if number < line and len(text.split(" ")) > 1:
             continue
         if '"' in text or "\u201c" in text or "\u201d" in text:
             yield f"{where}remove the quotation marks"

@@ -116,7 +116,7 @@ class WeekData:
     requests: Tuple[Request, ...]
 
 
-class Assignment(NamedTuple):
+class Cell(NamedTuple):
     """A nurse who has a shift with a skill on a day."""
 
     nurse: str
@@ -131,11 +131,11 @@ class Assignment(NamedTuple):
 
 @dataclass(frozen=True)
 class Solution:
-    """A solution or fix file: its week number, the scenario's name, and its rows in order."""
+    """A solution or fix file: its week number, the scenario's name, and its cells in order."""
 
     week: int
     scenario: str
-    assignments: Tuple[Assignment, ...]
+    cells: Tuple[Cell, ...]
 
 
 @dataclass(frozen=True)

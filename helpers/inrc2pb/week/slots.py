@@ -160,14 +160,14 @@ class Slots:
             self.fault(token, "another word expected", f"'{token.text}' where {what} should be")
         return token
 
-    def number(self, what: str, least: int = 0, most: int = MAX_NUMBER) -> int:
+    def number(self, what: str, minimum: int = 0, most: int = MAX_NUMBER) -> int:
         """A number in decimal digits within its limits."""
         token = self.next(what)
         if not re.fullmatch("[0-9]+", token.text):
             self.fault(token, "number expected", f"'{token.text}' where {what} should be, a whole number")
         digits = token.text.lstrip("0") or "0"
-        if len(digits) > 9 or not least <= int(digits) <= most:
-            self.fault(token, "out of limits", f"{what} is {token.text[:20]}: it has to be from {least} to {most}")
+        if len(digits) > 9 or not minimum <= int(digits) <= most:
+            self.fault(token, "out of limits", f"{what} is {token.text[:20]}: it has to be from {minimum} to {most}")
         return int(digits)
 
     def pair(self, what: str) -> Limits:

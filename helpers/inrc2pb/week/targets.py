@@ -8,8 +8,7 @@ from pathlib import Path
 from typing import Iterable, Optional
 
 from .faults import Misuse
-from .files import file_at
-from .writing import is_open_file
+from .writing import file_at, is_open_file
 
 
 def check_inputs_stay(inputs: Iterable[Optional[Path]], target: Path, what: str, choose: str = "file") -> None:

@@ -1,0 +1,76 @@
+-- Certificates for the plans of some weeks.
+use Rattle.std.specs.Prelude.{◌≡◌, ℕ, zero, suc, ◌≤◌, ◌<◌, List, [], ◌∷◌, length, Option, Some, None}
+use Rattle.std.specs.List.{AllByRecursion}
+use Rattle.std.specs.Option.{ForSome}
+use Rattle.rota_core.specs.Limits.{max_price}
+use Rattle.rota_core.specs.PriceTables.{IsForWeek}
+use Rattle.rota_core.specs.Problem.{Problem}
+use Rattle.rota_core.specs.Sizes.{DAYS, Numbers}
+use Rattle.rota_core.specs.declared.certificate.Certificate.{Certificate}
+use Rattle.rota_core.specs.declared.certificate.ChargeLimit.{ChargeLimit}
+use Rattle.rota_core.specs.declared.certificate.Condition.{Condition}
+use Rattle.rota_core.specs.declared.certificate.DayChoice.{DayChoice}
+use Rattle.rota_core.specs.declared.certificate.Fact.{Fact}
+use Rattle.rota_core.specs.declared.certificate.Fact.TheVariants as facts
+use Rattle.rota_core.specs.declared.certificate.Leaf.{Leaf}
+use Rattle.rota_core.specs.declared.certificate.Node.{Node}
+use Rattle.rota_core.specs.declared.certificate.Node.TheVariants as nodes
+use Rattle.rota_core.specs.declared.certificate.NurseLimit.{NurseLimit}
+
+-- the choice is of a nurse on a day of one of the weeks, and its shift type, if any, exists
+pub record IsChoiceFor (numbers : Numbers) (weeks : ℕ) (one : DayChoice) : Type 0 where
+  pub week : one.week < weeks
+  pub nurse : one.nurse < numbers.nurses
+  pub day : one.day < DAYS
+  pub choice : ForSome one.choice (λ s. s < numbers.shifts)
+
+-- the limit is of a place of one of the weeks
+pub record IsNurseLimitFor (numbers : Numbers) (weeks : ℕ) (one : NurseLimit) : Type 0 where
+  pub week : one.week < weeks
+  pub day : one.day < DAYS
+  pub shift : one.shift < numbers.shifts
+  pub skill : one.skill < numbers.skills
+
+-- the limit is of one of the nurses, or of all
+abbrev pub IsChargeLimitFor : Numbers → ChargeLimit → Type 0
+IsChargeLimitFor numbers one = ForSome one.nurse (λ n. n < numbers.nurses)
+
+-- the fact names a week, a nurse, a day, a shift type and a skill that exist
+abbrev pub IsFactFor : Numbers → (weeks : ℕ) → Fact → Type 0
+IsFactFor numbers weeks (facts.Choice one) = IsChoiceFor numbers weeks one
+IsFactFor numbers weeks (facts.Nurses one) = IsNurseLimitFor numbers weeks one
+IsFactFor numbers weeks (facts.Charges one) = IsChargeLimitFor numbers one
+IsFactFor numbers weeks facts.EvenShiftRuns = Unit {0}
+
+-- each condition is of such a fact
+abbrev pub AreConditionsFor : Numbers → (weeks : ℕ) → List Condition → Type 0
+AreConditionsFor numbers weeks conditions = AllByRecursion (λ (one : Condition). IsFactFor numbers weeks one.fact) conditions
+
+-- the leaf has one of this number of prices, and no surcharge is above the maximum
+pub record IsLeafFor (prices : ℕ) (leaf : Leaf) : Type 0 where
+  pub number : leaf.prices < prices
+  pub surcharges : AllByRecursion (λ surcharge. surcharge ≤ max_price) leaf.surcharges.items
+
+-- the node splits its case by such a fact, or is such a leaf
+abbrev pub IsNodeFor : Numbers → (weeks prices : ℕ) → Node → Type 0
+IsNodeFor numbers weeks prices (nodes.Split fact) = IsFactFor numbers weeks fact
+IsNodeFor numbers weeks prices (nodes.Leaf leaf) = IsLeafFor prices leaf
+
+-- The number of subtrees that are still to come, if this number of them comes before these nodes: a split has two subtrees, and a leaf
+-- has none. `None` if a node comes after the last subtree.
+unfoldable pub open_after : ℕ → List Node → Option ℕ
+open_after subtrees [] = Some subtrees
+open_after zero (node ∷ rest) = None
+open_after (suc subtrees) (nodes.Split fact ∷ rest) = open_after (suc (suc subtrees)) rest
+open_after (suc subtrees) (nodes.Leaf leaf ∷ rest) = open_after subtrees rest
+
+-- the nodes are one tree in preorder
+abbrev pub IsOneTree : List Node → Type 0
+IsOneTree tree = open_after 1 tree ≡ Some 0
+
+-- The certificate is for plans of this number of weeks: in each list of prices there is a table for each week, the nodes are one tree, and
+-- each fact and leaf of it is as above.
+pub record IsCertificateFor (problem : Problem) (weeks : ℕ) (certificate : Certificate) : Type 0 where
+  pub prices : AllByRecursion (λ list. (length list.items ≡ weeks) × AllByRecursion (IsForWeek problem) list.items) certificate.prices.items
+  pub nodes : AllByRecursion (IsNodeFor problem.numbers weeks (length certificate.prices.items)) certificate.nodes.items
+  pub tree : IsOneTree certificate.nodes.items

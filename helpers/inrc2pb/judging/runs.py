@@ -1,0 +1,90 @@
+"""What the runs of a nurse cost, day by day: S2, S3 and S5, with the shift types that may follow one another.
+
+A choice is 0 for a day off, and one more than the index of its shift type otherwise.
+"""
+
+from typing import Dict, List, NamedTuple, Sequence, Set, Tuple
+
+from ..week.records import DAYS, Contract, Limits, NurseHistory, ShiftType
+from .rules import DAYS_OFF_RUN, HALF_WEEKEND, SHIFT_RUN, SUNDAY, WORK_RUN
+
+# More than any cost: a choice that a hard rule forbids.
+NEVER = 1 << 50
+
+
+class RunState(NamedTuple):
+    """The runs that are open at the end of a day, and the choice of that day."""
+
+    choice: int
+    shift_run: int
+    work_run: int
+    off_run: int
+
+
+Step = Tuple[int, RunState]
+
+
+def shortened(run: int, limits: Limits, left: int) -> int:
+    """The shortest run that costs the same as this one in the days that are left."""
+    enough = max(limits.minimum, 1)
+    if run >= enough and run + left <= limits.maximum:
+        return enough
+    return min(run, max(enough, limits.maximum))
+
+
+def ended(run: int, limits: Limits, weight: int) -> int:
+    """What the end of a run costs."""
+    return weight * max(0, limits.minimum - run) if run else 0
+
+
+class Runs:
+    """What a day adds to the runs of nurses with one contract. Without `charging` only the shift types that may not follow count."""
+
+    def __init__(self, types: Sequence[ShiftType], contract: Contract, days: int, charging: bool = True) -> None:
+        self.days, self.charging, self.contract = days, charging, contract
+        self._known: Dict[Tuple[int, RunState], List[Step]] = {}
+        self.shifts = [Limits(0, 0), *(kind.consecutive for kind in types)]
+        self.numbers = {kind.name: number for number, kind in enumerate(types, 1)}
+        self.forbidden: List[Set[int]] = [set(), *({self.numbers[name] for name in kind.forbidden_next} for kind in types)]
+
+    def before(self, past: NurseHistory) -> RunState:
+        """The state before the first day. The numbers of a history may contradict one another: all of them count."""
+        choice = 0 if past.last_shift is None else self.numbers[past.last_shift]
+        return self.state(choice, past.consecutive_shifts if choice else 0, past.working_days, past.days_off, self.days)
+
+    def state(self, choice: int, shift: int, work: int, off: int, left: int) -> RunState:
+        """The state after a choice and runs of these lengths, if this number of days is left."""
+        if not self.charging:
+            return RunState(choice, 0, 0, 0)
+        work_limits, off_limits = self.contract.working_days, self.contract.days_off
+        return RunState(
+            choice, shortened(shift, self.shifts[choice], left) if shift else 0,
+            shortened(work, work_limits, left) if work else 0, shortened(off, off_limits, left) if off else 0,
+        )  # fmt: skip
+
+    def steps(self, day: int, now: RunState) -> List[Step]:
+        """For each choice on a day what it costs, in points, and the state at its end; NEVER, if a hard rule forbids it."""
+        found = self._known.get((day, now))
+        if found is None:
+            found = self._known[day, now] = self._steps(day, now) if self.charging else self._free_steps(now)
+        return found
+
+    def _free_steps(self, now: RunState) -> List[Step]:
+        forbidden = self.forbidden[now.choice]
+        return [(NEVER, now) if choice in forbidden else (0, RunState(choice, 0, 0, 0)) for choice in range(len(self.shifts))]
+
+    def _steps(self, day: int, now: RunState) -> List[Step]:
+        work, off, left = self.contract.working_days, self.contract.days_off, self.days - day - 1
+        half = HALF_WEEKEND * (day % len(DAYS) == SUNDAY and self.contract.complete_weekends)
+        closed = ended(now.shift_run, self.shifts[now.choice], SHIFT_RUN)
+        rest = closed + ended(now.work_run, work, WORK_RUN) + DAYS_OFF_RUN * (now.off_run + 1 > off.maximum) + half * (now.choice > 0)
+        found = [(rest, self.state(0, 0, 0, now.off_run + 1, left))]
+        works = ended(now.off_run, off, DAYS_OFF_RUN) + WORK_RUN * (now.work_run + 1 > work.maximum) + half * (now.choice == 0)
+        run, forbidden = shortened(now.work_run + 1, work, left), self.forbidden[now.choice]
+        for choice, limits in enumerate(self.shifts[1:], 1):
+            if choice in forbidden:
+                found.append((NEVER, now))
+            else:
+                length, cost = (now.shift_run + 1, works) if choice == now.choice else (1, works + closed)
+                found.append((cost + SHIFT_RUN * (length > limits.maximum), RunState(choice, shortened(length, limits, left), run, 0)))
+        return found

@@ -1,0 +1,35 @@
+"""What solvers of linear and integer programs answer."""
+
+from typing import Dict, List, NamedTuple, Optional
+
+from ..week.faults import Misuse
+
+# The faults in a row after which another solver is used.
+MAX_FAULTS = 3
+# An answer beyond it is none.
+MAX_VALUE = 1e15
+
+
+class SolverFault(Misuse):
+    """A solver that crashed, or whose answer cannot be read."""
+
+
+class NoSolution(SolverFault):
+    """A linear program that has no solution, as its solver says."""
+
+
+class Relaxed(NamedTuple):
+    """An optimal solution of a linear program: its value, and by name the values that are not 0, the prices of the rows, and by how much
+    one of each other row of a nurse would raise the value."""
+
+    value: float
+    taken: Dict[str, float]
+    prices: Dict[str, float]
+    rises: Dict[str, float]
+
+
+class Chosen(NamedTuple):
+    """An answer of an integer program: the names that are 1, or None without one, and whether the solver claims that there is no better one."""
+
+    names: Optional[List[str]]
+    proved: bool

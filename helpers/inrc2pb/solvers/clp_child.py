@@ -1,0 +1,181 @@
+"""A process that keeps linear programs in Clp's library: it reads requests from its standard input and answers on its standard output.
+
+A request is a list of operations, marshalled, after its length. Each `solve` has an answer: HEAD, then, if it is asked for, the rows' prices,
+the columns' values and what one of each column would add. It imports nothing of the package, and so starts fast.
+"""
+
+import array
+import ctypes
+import marshal
+import os
+import struct
+import sys
+import threading
+import time
+from typing import Any, BinaryIO, Dict, List, Tuple
+
+LENGTH = struct.Struct("<q")
+# The status of Clp, the iterations, the value, and the numbers of rows and of columns that follow.
+HEAD = struct.Struct("<iidii")
+OPTIMAL, INFEASIBLE, STOPPED = 0, 1, 3
+LIBRARY = "libClp.so.1"
+# The exit status without the library.
+NO_LIBRARY = 3
+DUAL, PRIMAL = "dual", "primal"
+# Seconds between two looks whether the parent is alive.
+LOOK_SECONDS = 0.5
+_MOST_ITERATIONS = 2**31 - 1
+# Clp's statuses of a basis for a new column and a new row.
+_AT_LOWER, _BASIC = b"\3", b"\1"
+_DOUBLE, _INT, _POINTER = ctypes.c_double, ctypes.c_int, ctypes.c_void_p
+
+
+def load() -> Any:
+    """Clp's library. Without it this is an OSError."""
+    clp = ctypes.CDLL(LIBRARY)
+    clp.Clp_newModel.restype = clp.Clp_statusArray.restype = _POINTER
+    clp.Clp_statusArray.argtypes = clp.Clp_deleteModel.argtypes = [_POINTER]
+    for name in ("Clp_getColLower", "Clp_getColUpper", "Clp_getRowLower", "Clp_getRowUpper", "Clp_getObjCoefficients"):
+        getattr(clp, name).restype, getattr(clp, name).argtypes = _POINTER, [_POINTER]
+    for name in ("Clp_dualRowSolution", "Clp_primalColumnSolution", "Clp_dualColumnSolution"):
+        getattr(clp, name).restype, getattr(clp, name).argtypes = _POINTER, [_POINTER]
+    for name in ("Clp_chgRowLower", "Clp_chgRowUpper", "Clp_chgColumnLower", "Clp_chgColumnUpper", "Clp_chgObjCoefficients", "Clp_copyinStatus"):
+        getattr(clp, name).argtypes = [_POINTER, _POINTER]
+    for name in ("Clp_setLogLevel", "Clp_setMaximumIterations", "Clp_dual", "Clp_primal"):
+        getattr(clp, name).argtypes = [_POINTER, _INT]
+    clp.Clp_objectiveValue.restype, clp.Clp_objectiveValue.argtypes = _DOUBLE, [_POINTER]
+    clp.Clp_status.argtypes = clp.Clp_numberIterations.argtypes = [_POINTER]
+    clp.Clp_setMaximumSeconds.argtypes = [_POINTER, _DOUBLE]
+    return clp
+
+
+def _doubles(data: bytes) -> Any:
+    return (_DOUBLE * (len(data) // 8)).from_buffer_copy(data) if data else (_DOUBLE * 1)()
+
+
+def _ints(data: bytes) -> Any:
+    return (_INT * (len(data) // 4)).from_buffer_copy(data) if data else (_INT * 1)()
+
+
+class Program:
+    """A linear program in Clp. Its methods are the operations on it."""
+
+    def __init__(self, clp: Any) -> None:
+        self._clp, self._model = clp, _POINTER(clp.Clp_newModel())
+        self._rows = self._columns = 0
+        # The statuses of the columns and of the rows of each kept basis.
+        self._kept: Dict[int, Tuple[bytes, bytes]] = {}
+        clp.Clp_setLogLevel(self._model, 0)
+
+    def delete(self) -> None:
+        """Frees it."""
+        self._clp.Clp_deleteModel(self._model)
+
+    def add_rows(self, lower: bytes, upper: bytes) -> None:
+        """Adds rows without entries."""
+        number = len(lower) // 8
+        starts = (_INT * (number + 1))()
+        self._clp.Clp_addRows(self._model, _INT(number), _doubles(lower), _doubles(upper), starts, _ints(b""), _doubles(b""))
+        self._rows += number
+
+    def add_columns(self, costs: bytes, lower: bytes, upper: bytes, starts: bytes, rows: bytes, values: bytes) -> None:
+        """Adds columns; the entries of each are between two starts."""
+        number = len(costs) // 8
+        entries = _ints(starts), _ints(rows), _doubles(values)
+        self._clp.Clp_addColumns(self._model, _INT(number), _doubles(lower), _doubles(upper), _doubles(costs), *entries)
+        self._columns += number
+
+    def bound_columns(self, numbers: bytes, lower: bytes, upper: bytes) -> None:
+        """Changes the bounds of columns."""
+        self._change(self._columns, numbers, lower, self._clp.Clp_getColLower, self._clp.Clp_chgColumnLower)
+        self._change(self._columns, numbers, upper, self._clp.Clp_getColUpper, self._clp.Clp_chgColumnUpper)
+
+    def bound_rows(self, numbers: bytes, lower: bytes, upper: bytes) -> None:
+        """Changes the bounds of rows."""
+        self._change(self._rows, numbers, lower, self._clp.Clp_getRowLower, self._clp.Clp_chgRowLower)
+        self._change(self._rows, numbers, upper, self._clp.Clp_getRowUpper, self._clp.Clp_chgRowUpper)
+
+    def set_costs(self, numbers: bytes, costs: bytes) -> None:
+        """Changes the costs of columns."""
+        self._change(self._columns, numbers, costs, self._clp.Clp_getObjCoefficients, self._clp.Clp_chgObjCoefficients)
+
+    def _change(self, length: int, numbers: bytes, values: bytes, get: Any, put: Any) -> None:
+        of_all = _doubles(ctypes.string_at(get(self._model), 8 * length))
+        for number, value in zip(array.array("i", numbers), array.array("d", values)):
+            of_all[number] = value
+        put(self._model, of_all)
+
+    def keep_basis(self, name: int) -> None:
+        """Keeps the basis under a name."""
+        statuses = ctypes.string_at(self._clp.Clp_statusArray(self._model), self._columns + self._rows)
+        self._kept[name] = statuses[: self._columns], statuses[self._columns :]
+
+    def take_basis(self, name: int) -> None:
+        """Goes on with a basis, if it was kept; columns and rows that are newer are not in it."""
+        columns, rows = self._kept.get(name, (b"", b""))
+        statuses = columns.ljust(self._columns, _AT_LOWER) + rows.ljust(self._rows, _BASIC)
+        self._clp.Clp_copyinStatus(self._model, (ctypes.c_ubyte * len(statuses)).from_buffer_copy(statuses))
+
+    def solve(self, how: str, iterations: int, seconds: float, whole: bool) -> List[bytes]:
+        """Solves it, from the basis at which it is; the answer."""
+        clp, model = self._clp, self._model
+        clp.Clp_setMaximumIterations(model, iterations or _MOST_ITERATIONS)
+        clp.Clp_setMaximumSeconds(model, seconds)
+        (clp.Clp_dual if how == DUAL else clp.Clp_primal)(model, 0)
+        rows, columns = (self._rows, self._columns) if whole else (0, 0)
+        head = HEAD.pack(clp.Clp_status(model), clp.Clp_numberIterations(model), clp.Clp_objectiveValue(model), rows, columns)
+        found = [(clp.Clp_dualRowSolution, rows), (clp.Clp_primalColumnSolution, columns), (clp.Clp_dualColumnSolution, columns)]
+        return [head, *(ctypes.string_at(get(model), 8 * number) for get, number in found if number)]
+
+
+class Child:
+    """The programs by their numbers."""
+
+    def __init__(self, clp: Any) -> None:
+        self._clp = clp
+        self._programs: Dict[int, Program] = {}
+
+    def do(self, number: int, name: str, *words: Any) -> List[bytes]:
+        """Does one operation; a solution is its answer."""
+        if name == "delete":
+            if number in self._programs:
+                self._programs.pop(number).delete()
+            return []
+        if number not in self._programs:
+            self._programs[number] = Program(self._clp)
+        return getattr(self._programs[number], name)(*words) or []
+
+
+def _exit_without_parent(parent: int) -> None:
+    while os.getppid() == parent:
+        time.sleep(LOOK_SECONDS)
+    os._exit(1)
+
+
+def serve(requests: BinaryIO, answers: BinaryIO, child: Child) -> None:
+    """Answers requests until there are no more."""
+    while True:
+        head = requests.read(LENGTH.size)
+        if len(head) < LENGTH.size:
+            return
+        for operation in marshal.loads(requests.read(LENGTH.unpack(head)[0])):
+            found = child.do(*operation)
+            if found:
+                answers.write(b"".join(found))
+                answers.flush()
+
+
+def main() -> None:
+    """Serves the parent. What Clp prints goes to standard error."""
+    threading.Thread(target=_exit_without_parent, args=(os.getppid(),), daemon=True).start()
+    answers = os.fdopen(os.dup(1), "wb")
+    os.dup2(2, 1)
+    try:
+        clp = load()
+    except OSError:
+        sys.exit(NO_LIBRARY)
+    serve(sys.stdin.buffer, answers, Child(clp))
+
+
+if __name__ == "__main__":
+    main()
