@@ -1,5 +1,5 @@
 //! The lower bound that a certificate proves.
-#![tactic(auto)]
+#![tactic(auto, using(crate::proofs::Sums::looping))]
 
 mod limits;
 mod tariffs;
