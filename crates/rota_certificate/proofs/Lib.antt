@@ -5,3 +5,4 @@ pub mod FirstBelow
 pub mod LeastCosts
 pub mod OtherHistories
 pub mod Sums
+pub mod WeekDays
