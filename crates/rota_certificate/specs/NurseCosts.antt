@@ -1,5 +1,5 @@
 -- What a nurse costs in the weeks of a plan by S2 to S7, with a tariff for the charges that a case may limit.
-use Rattle.std.specs.Prelude.{◌≡◌, ℕ, ◌+◌, ◌*◌, ◌<◌, true, if◌then◌else◌, Option, List, [], ◌∷◌, ⊤}
+use Rattle.std.specs.Prelude.{◌≡◌, ℕ, ◌+◌, ◌*◌, ◌<◌, true, if◌then◌else◌, IfSome, Option, List, [], ◌∷◌, ⊤}
 use Rattle.std.specs.List.{sum_by}
 use Rattle.rota_core.specs.Sizes.{DAYS}
 use Rattle.rota_core.specs.Prices.{Prices}
@@ -56,7 +56,8 @@ paid_in_plan (one ∷ later) (planned ∷ plan) n = paid one.week one.prices pla
 -- the case of the leaf allows each choice of the nurse in a week
 abbrev pub AllowsChoices : LeafWeek → PlannedWeek → (nurse : ℕ) → Type 0
 AllowsChoices one planned n =
-    (d : ℕ) (choice : Option ℕ) → d < DAYS → has_choice planned.week planned.roster n d choice ≡ true → one.may_choose n d choice ≡ true
+    (d : ℕ) (choice : Option ℕ) → d < DAYS → IfSome choice (λ s. s < planned.week.shifts) →
+    has_choice planned.week planned.roster n d choice ≡ true → one.may_choose n d choice ≡ true
 
 -- and in each week of the plan
 unfoldable pub AllowsPlan : List LeafWeek → Plan → (nurse : ℕ) → Type 0
