@@ -4,5 +4,7 @@ pub mod Days
 pub mod FirstBelow
 pub mod LeastCosts
 pub mod OtherHistories
+pub mod ParityPart
+pub mod PlacePart
 pub mod Sums
 pub mod WeekDays
