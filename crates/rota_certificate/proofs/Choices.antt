@@ -1,5 +1,5 @@
 -- The choice of a roster that keeps the hard rules, on each day of a nurse: the recursion lets the nurse choose so.
-use Rattle.std.proofs.Common.{◌≡◌, ℕ, suc, ◌+◌, ◌-◌, ◌*◌, ◌<◌, ◌≤◌, inl, inr, Bool, true, false, not, refl, ap, sym, ◌∙◌, arith, add-one}
+use Rattle.std.proofs.Common.{◌≡◌, ℕ, suc, ◌+◌, ◌-◌, ◌<◌, ◌≤◌, inl, inr, Bool, true, false, not, refl, ap, sym, ◌∙◌, arith, add-one}
 use Rattle.std.proofs.Common.{◌||◌}
 use Rattle.std.specs.Prelude.{Option, Some, None}
 use Rattle.std.proofs.lemmas.Bool.{cases_Bool, false_from_ne_true, cond-true, cond-false, eq-eqb, or_left, or_right, and_from}
@@ -14,10 +14,9 @@ use Rattle.rota_certificate.specs.Facts.{has_choice}
 use Rattle.rota_certificate.specs.Minimums.{not_allowed}
 use Rattle.rota_certificate.specs.NurseBounds.{LeafWeek, Terms, allowed_rebate, choice_value, day_rebate, is_barred, least_choice, may_be_off, may_have, rebate}
 use Rattle.rota_certificate.specs.NurseCosts.{AllowsChoices}
-use Rattle.rota_certificate.specs.Plans.{PlannedWeek}
 use Rattle.rota_core.specs.Prices.{Prices, ArePrices, max_price}
 use Rattle.rota_certificate.proofs.Days.{IsFree, HasOne, day-is, free-on, free-works, free-total, one-on, one-works, one-total}
-use Rattle.rota_certificate.proofs.DaySteps.{Chooses, Follows, IsOpen, follows-off, follows-on}
+use Rattle.rota_certificate.proofs.DaySteps.{Chooses, Follows, follows-off, follows-on}
 use Rattle.rota_certificate.proofs.Sums.{any-none, any-some, least-at}
 
 module _ (terms : Terms) (one : LeafWeek) (roster : Roster) (n : ℕ) (within : ArePrices one.prices) (keeps : KeepsHardRules one.week roster)

@@ -3,6 +3,7 @@ pub mod DaySteps
 pub mod Days
 pub mod FirstBelow
 pub mod LeastCosts
+pub mod NursePart
 pub mod OtherHistories
 pub mod ParityPart
 pub mod PlacePart

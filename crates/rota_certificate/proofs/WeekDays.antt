@@ -1,6 +1,6 @@
 -- The days of a nurse's week: the minimum of a week is at most the cost of her days, and what her totals grow above their maximums.
-use Rattle.std.proofs.Common.{◌≡◌, ℕ, zero, suc, ◌+◌, ◌-◌, ◌*◌, ◌<◌, ◌≤◌, Bool, true, false, not, cond, refl, ap, ◌∙◌, arith, add-one}
-use Rattle.std.proofs.Common.{◌||◌, ◌&&◌, ◌==◌, sym, mul-le-mul_left}
+use Rattle.std.proofs.Common.{◌≡◌, ℕ, zero, suc, ◌+◌, ◌-◌, ◌*◌, ◌<◌, ◌≤◌, Bool, true, false, cond, refl, ap, ◌∙◌, arith, add-one}
+use Rattle.std.proofs.Common.{◌||◌, ◌&&◌, ◌==◌, sym}
 use Rattle.std.proofs.lemmas.Bool.{cond-true, eq-eqb}
 use Rattle.std.proofs.lemmas.Bool.Decides.{nat_tests}
 use Rattle.std.specs.Option.{option_map_or}
@@ -16,7 +16,7 @@ use Rattle.rota_core.specs.declared.values.Past.{Past}
 use Rattle.rota_core.specs.declared.values.Span.{Span}
 use Rattle.rota_items.specs.HardRows.{is_forbidden_after}
 use Rattle.rota_items.specs.RunItemParts.{day_cost}
-use Rattle.rota_items.specs.Runs.{is_over, missing_on, run_cost, run_over, run_under, run_length}
+use Rattle.rota_items.specs.Runs.{is_over, run_cost, run_over, run_under, run_length}
 use Rattle.rota_items.specs.rules.CompleteWeekends.Cost.{complete_weekend_cost_of}
 use Rattle.rota_items.specs.rules.ConsecutiveAssignments.Cost.{history_on, work_run_weight}
 use Rattle.rota_items.specs.rules.ConsecutiveDaysOff.Cost.{consecutive_day_off_cost_of, off_run_weight}
@@ -25,10 +25,9 @@ use Rattle.rota_certificate.specs.DayCharges as charges
 use Rattle.rota_certificate.specs.DayCharges.{assignment_above, is_shift, over_charge, past_after, run_charge, run_on, shift_charges, under_charge}
 use Rattle.rota_certificate.specs.DayCharges.{totals_cost, weekend_above, weekend_charge, weekend_on, weighted}
 use Rattle.rota_certificate.specs.Facts.{charges_in_week}
-use Rattle.rota_certificate.specs.Minimums.{not_allowed}
 use Rattle.rota_certificate.specs.NurseBounds.{LeafWeek, Terms, least_days}
 use Rattle.rota_certificate.specs.NurseCosts.{AllowsChoices, paid, requests_of}
-use Rattle.rota_certificate.specs.Plans.{PlannedWeek, history_after, sunday_shift}
+use Rattle.rota_certificate.specs.Plans.{history_after, sunday_shift}
 use Rattle.rota_certificate.specs.declared.tariffs.Tariff.{Tariff}
 use Rattle.rota_core.specs.Prices.{Prices, ArePrices, max_price}
 use Rattle.rota_certificate.proofs.Choices.{goes}
@@ -89,7 +88,7 @@ sum-three (suc n) x y z a b c = omega (arith, sum-three n x y z a b c)
 
 -- ---- what the totals grow above their maximums
 
-weighted-most : (weight charges other : ℕ) → charges ≡ other → weighted weight charges ≤ weight * other
+pub weighted-most : (weight charges other : ℕ) → charges ≡ other → weighted weight charges ≤ weight * other
 weighted-most weight charges other same = omega (arith, ap (λ (c : ℕ). weight * c) same)
 
 grown : (weight charges before now : ℕ) → charges + before ≡ now → weighted weight charges + weight * before ≤ weight * now
