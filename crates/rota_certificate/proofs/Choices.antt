@@ -1,7 +1,7 @@
 -- The choice of a roster that keeps the hard rules, on each day of a nurse: the recursion lets the nurse choose so.
 use Rattle.std.proofs.Common.{◌≡◌, ℕ, suc, ◌+◌, ◌-◌, ◌<◌, ◌≤◌, inl, inr, Bool, true, false, not, refl, ap, sym, ◌∙◌, arith, add-one}
 use Rattle.std.proofs.Common.{◌||◌}
-use Rattle.std.specs.Prelude.{Option, Some, None}
+use Rattle.std.specs.Prelude.{IfSome, Option, Some, None}
 use Rattle.std.proofs.lemmas.Bool.{cases_Bool, false_from_ne_true, cond-true, cond-false, eq-eqb, or_left, or_right, and_from}
 use Rattle.rota_core.specs.Sizes.{DAYS}
 use Rattle.rota_core.specs.HardRules.{is_on, works, KeepsHardRules}
@@ -107,11 +107,15 @@ module _ (terms : Terms) (one : LeafWeek) (roster : Roster) (n : ℕ) (within : 
   has-choice d None chooses = rw chooses.working refl
   has-choice d (Some s) chooses = chooses.on s chooses.opened ∙ eq-eqb s s refl
 
+  choice-inside : (d : ℕ) (choice : Option ℕ) → Chooses problem prices roster n d choice → IfSome choice (λ s. s < problem.shifts)
+  choice-inside d None chooses = tt
+  choice-inside d (Some s) chooses = chooses.opened
+
   rebate-is : (d : ℕ) (choice : Option ℕ) → d < DAYS → Chooses problem prices roster n d choice →
       allowed_rebate one n d choice ≡ day_rebate problem prices n d choice
   rebate-is d choice d_in chooses =
       cond-true (one.may_choose n d choice) (day_rebate problem prices n d choice) not_allowed
-      (allows d choice d_in (has-choice d choice chooses))
+      (allows d choice d_in (choice-inside d choice chooses) (has-choice d choice chooses))
 
   least-allowed : (d : ℕ) (past : Past) (rest : Past → ℕ) (choice : Option ℕ) → d < DAYS → Chooses problem prices roster n d choice →
       is_barred problem past choice ≡ false → least_choice terms one n d past rest ≤ chosen_value d past rest choice
