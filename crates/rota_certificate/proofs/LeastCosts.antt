@@ -7,7 +7,7 @@ use Rattle.rota_core.specs.Prices.{Prices, max_price}
 use Rattle.rota_core.specs.Problem.{Problem}
 use Rattle.rota_core.specs.declared.values.Past.{Past}
 use Rattle.rota_certificate.specs.Minimums.{not_allowed}
-use Rattle.rota_certificate.specs.NurseBounds.{LeafWeek, Terms, choice_value, day_rebate, least_choice, least_days, may_be_off, rebate}
+use Rattle.rota_certificate.specs.NurseBounds.{LeafWeek, Terms, allowed_rebate, choice_value, day_rebate, least_choice, least_days, may_be_off, rebate}
 use Rattle.rota_certificate.proofs.Sums.{least-start}
 
 module _ (terms : Terms) (one : LeafWeek) (n : ℕ) where
@@ -48,3 +48,16 @@ day_rebate-small problem prices n d None =
       | inr held ↦ omega (arith, cond-false (may_be_off problem n d) max_price not_allowed held)
     ]
 day_rebate-small problem prices n d (Some s) = least-start problem.skills not_allowed (rebate problem prices n d s)
+
+pub allowed_rebate-small : (one : LeafWeek) (n d : ℕ) (choice : Option ℕ) → allowed_rebate one n d choice ≤ not_allowed
+allowed_rebate-small one n d choice =
+    elim (cases_Bool (one.may_choose n d choice)) [
+      | inl may ↦
+          omega (
+            arith,
+            cond-true (one.may_choose n d choice) (day_rebate one.week one.prices n d choice) not_allowed may,
+            day_rebate-small one.week one.prices n d choice,
+          )
+      | inr not_allowed_to ↦
+          omega (arith, cond-false (one.may_choose n d choice) (day_rebate one.week one.prices n d choice) not_allowed not_allowed_to)
+    ]

@@ -1,11 +1,17 @@
 pub mod Choices
 pub mod DaySteps
 pub mod Days
+pub mod EquivalentPasts
 pub mod FirstBelow
+pub mod FreeTotals
+pub mod LeafStages
 pub mod LeastCosts
 pub mod NursePart
 pub mod OtherHistories
 pub mod ParityPart
 pub mod PlacePart
+pub mod ShiftRuns
+pub mod StageLimits
 pub mod Sums
+pub mod Tables
 pub mod WeekDays

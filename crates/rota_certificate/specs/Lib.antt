@@ -1,9 +1,12 @@
 pub mod CertificateBounds
 pub mod DayCharges
+pub mod EquivalentPasts
 pub mod FirstBelow
 pub mod Facts
+pub mod KnownCosts
 pub mod LeafBounds
 pub mod Minimums
+pub mod Nearness
 pub mod NurseBounds
 pub mod NurseCosts
 pub mod Optimality
@@ -11,4 +14,5 @@ pub mod PlaceBounds
 pub mod PlaceCases
 pub mod Plans
 pub mod ShiftCharges
+pub mod Stages
 pub mod Tariffs

@@ -1,7 +1,22 @@
 //! The lower bound that a certificate proves.
 #![tactic(auto, using(crate::proofs::Sums::looping))]
 
+// What a nurse's days are charged and cost, her rebates, and the choices that a case allows her.
+mod allowed;
+mod charges;
+mod costs;
+mod rebates;
+mod weights;
+
+// Pasts that cost the same.
+mod capped;
+mod charged_pasts;
+
+// The bound of a nurse in a leaf.
+mod known;
 mod limits;
+mod nurses;
+mod stages;
 mod tariffs;
 
 pub use limits::Limit;

@@ -1,0 +1,179 @@
+-- The weeks of a leaf, one after another.
+use Rattle.std.proofs.Common.{◌≡◌, ℕ, zero, suc, ◌+◌, ◌<◌, ◌≤◌, Bool, true, false, ◌||◌, ap, refl, sym, ◌∙◌, subst, arith, List, [], ◌∷◌, length, map, drop, slice_index_or, add-one}
+use Rattle.std.specs.List.{AllByRecursion, list_any}
+use Rattle.rota_core.specs.InstanceTables.{problem_of}
+use Rattle.rota_core.specs.Limits.{max_weeks}
+use Rattle.rota_core.specs.PriceTables.{IsForWeek, prices_of}
+use Rattle.rota_core.specs.Problem.{Problem}
+use Rattle.rota_core.specs.Sizes.{Numbers}
+use Rattle.rota_certificate.specs.CertificateBounds.{thousandths}
+use Rattle.rota_certificate.specs.Facts.{Case}
+use Rattle.rota_certificate.specs.LeafBounds.{leaf_weeks, may_choose, nurse_count}
+use Rattle.rota_certificate.specs.NurseBounds.{LeafWeek, charge_totals}
+use Rattle.rota_certificate.specs.Stages.{AreFit, Fits, IsFreeOfTotals, IsLeaf, IsStage, all_of, later_of, prices_lent, week_lent, week_of, weeks_of}
+use Rattle.rota_certificate.specs.declared.stages.LentLeaf.{LentLeaf}
+use Rattle.rota_certificate.specs.declared.stages.LentWeek.{LentWeek}
+use Rattle.rota_certificate.specs.declared.stages.Stage.{Stage}
+
+-- a property of each element is one of the element at an index
+pub all-at : {X : Type 0} (P : X → Type 0) (xs : List X) (i : ℕ) (d : X) → AllByRecursion P xs → i < length xs → P (slice_index_or xs i d)
+all-at P [] i d all inside = absurd (omega arith)
+all-at P (x ∷ xs) zero d all inside = all.0
+all-at P (x ∷ xs) (suc i) d all inside = all-at P xs i d all.1 (omega arith)
+
+pub all-map : {X : Type 0} (P Q : X → Type 0) (xs : List X) → ((x : X) → P x → Q x) → AllByRecursion P xs → AllByRecursion Q xs
+all-map P Q [] each all = tt
+all-map P Q (x ∷ xs) each all = (each x all.0, all-map P Q xs each all.1)
+
+-- ---- the weeks from an index on
+
+-- the week with this number of a leaf
+abbrev pub week_at : Case → (number : ℕ) → LentWeek → LeafWeek
+week_at case w one = record { week = week_lent one; prices = prices_lent one; may_choose = may_choose case w }
+
+-- the weeks of a leaf from the one with this number on
+abbrev pub weeks_from : Case → (number : ℕ) → List LentWeek → List LeafWeek
+weeks_from case w weeks = leaf_weeks case w (map week_lent weeks) (map prices_lent weeks)
+
+weeks-cons : (case : Case) (w : ℕ) (one : LentWeek) (weeks : List LentWeek) →
+    weeks_from case w (one ∷ weeks) ≡ (week_at case w one ∷ weeks_from case (w + 1) weeks)
+unfolding leaf_weeks
+weeks-cons case w one weeks = refl
+
+weeks-none : (case : Case) (w : ℕ) → weeks_from case w [] ≡ []
+unfolding leaf_weeks
+weeks-none case w = refl
+
+drop-from : (case : Case) (w : ℕ) (weeks : List LentWeek) (i : ℕ) (d : LentWeek) → i < length weeks →
+    drop i (weeks_from case w weeks) ≡ (week_at case (w + i) (slice_index_or weeks i d) ∷ drop (suc i) (weeks_from case w weeks))
+drop-from case w [] i d inside = absurd (omega arith)
+drop-from case w (one ∷ weeks) zero d inside =
+    let e : w + 0 ≡ w = omega arith in
+    rw (weeks-cons case w one weeks, e) refl
+drop-from case w (one ∷ weeks) (suc i) d inside =
+    let e : (w + 1) + i ≡ w + suc i = omega arith in
+    let rest = drop-from case (w + 1) weeks i d (omega arith) in
+    rw (weeks-cons case w one weeks)
+    (rest ∙ ap (λ (k : ℕ). week_at case k (slice_index_or weeks i d) ∷ drop (suc i) (weeks_from case (w + 1) weeks)) e)
+
+pub drop-lent : (leaf : LentLeaf) (i : ℕ) (d : LentWeek) → i < length leaf.weeks.now →
+    drop i (weeks_of leaf) ≡ (week_at leaf.case.now i (slice_index_or leaf.weeks.now i d) ∷ drop (i + 1) (weeks_of leaf))
+drop-lent leaf i d inside =
+    let start : 0 + i ≡ i = omega arith in
+    let e : suc i ≡ i + 1 = omega arith in
+    drop-from leaf.case.now 0 leaf.weeks.now i d inside ∙
+    ap (λ (k : ℕ). week_at leaf.case.now k (slice_index_or leaf.weeks.now i d) ∷ drop (suc i) (weeks_of leaf)) start ∙
+    ap (λ (k : ℕ). week_at leaf.case.now i (slice_index_or leaf.weeks.now i d) ∷ drop k (weeks_of leaf)) e
+
+-- the weeks from the index of this one on
+pub drop-at : (leaf : LentLeaf) (i : ℕ) (one : LentWeek) → i < length leaf.weeks.now → one ≡ slice_index_or leaf.weeks.now i one →
+    drop i (weeks_of leaf) ≡ (week_at leaf.case.now i one ∷ drop (i + 1) (weeks_of leaf))
+drop-at leaf i one inside is =
+    drop-lent leaf i one inside ∙ ap (λ (week : LentWeek). week_at leaf.case.now i week ∷ drop (i + 1) (weeks_of leaf)) (sym is)
+
+drop-from_end : (case : Case) (w : ℕ) (weeks : List LentWeek) (i : ℕ) → length weeks ≤ i → drop i (weeks_from case w weeks) ≡ []
+drop-from_end case w [] zero past = weeks-none case w
+drop-from_end case w [] (suc i) past = rw (weeks-none case w) refl
+drop-from_end case w (one ∷ weeks) zero past = absurd (omega arith)
+drop-from_end case w (one ∷ weeks) (suc i) past = rw (weeks-cons case w one weeks) (drop-from_end case (w + 1) weeks i (omega arith))
+
+pub drop-end : (leaf : LentLeaf) (i : ℕ) → length leaf.weeks.now ≤ i → drop i (weeks_of leaf) ≡ []
+drop-end leaf i past = drop-from_end leaf.case.now 0 leaf.weeks.now i past
+
+-- ---- the next week
+
+-- weeks that fit one week fit each that fits it
+fits-next : (other next : Problem) (one : LentWeek) → next.numbers ≡ other.numbers → ((s : ℕ) → next.limits s ≡ other.limits s) →
+    ((n : ℕ) → next.contract n ≡ other.contract n) → Fits other one → Fits next one
+fits-next other next one numbers limits contract fits = record {
+  shape = fits.shape;
+  numbers = fits.numbers ∙ sym numbers;
+  limits = λ s. fits.limits s ∙ sym (limits s);
+  contract = λ n. fits.contract n ∙ sym (contract n);
+}
+
+-- the stage of the next week
+abbrev pub next_of : Stage → LentWeek → Stage
+next_of stage one = record stage { instance = one.instance; prices = one.prices; week = stage.week + 1 }
+
+module _ (stage : Stage) (d : LentWeek) (is : IsStage stage) (more : stage.week + 1 < length stage.leaf.weeks.now) where
+  abbrev pub one : LentWeek
+  one = slice_index_or stage.leaf.weeks.now (stage.week + 1) d
+
+  next-fits : Fits (week_of stage).week one
+  next-fits = all-at (Fits (week_of stage).week) stage.leaf.weeks.now (stage.week + 1) d is.fit more
+
+  pub next-left : later_of stage ≡ (week_of (next_of stage one) ∷ later_of (next_of stage one))
+  next-left = drop-lent stage.leaf (stage.week + 1) d more
+
+  pub next-numbers : (week_lent one).numbers ≡ (week_of stage).week.numbers
+  next-numbers = next-fits.numbers
+
+  pub next-is : IsStage (next_of stage one)
+  next-is = record {
+    unit = is.unit;
+    nurse = subst (λ (numbers : Numbers). stage.nurse < numbers.nurses) (sym next-numbers) is.nurse;
+    at = next-left;
+    inside = more;
+    count = is.count;
+    shape = next-fits.shape;
+    fit = all-map (Fits (week_of stage).week) (Fits (week_lent one)) stage.leaf.weeks.now
+        (λ x fits. fits-next (week_of stage).week (week_lent one) x next-fits.numbers next-fits.limits next-fits.contract fits) is.fit;
+    free = λ none. subst (AllByRecursion IsFreeOfTotals) next-left (is.free none).1;
+  }
+
+-- ---- the first week
+
+-- none is the last week of the scenario if none charges totals
+free-all : (weeks : List LeafWeek) → charge_totals weeks ≡ false → AllByRecursion IsFreeOfTotals weeks
+free-all [] none = tt
+free-all (one ∷ weeks) none = (grind (arith, none), free-all weeks (grind (arith, none)))
+
+first-fit : (weeks : List LentWeek) (d : LentWeek) → 0 < length weeks → AreFit weeks →
+    AllByRecursion (Fits (week_lent (slice_index_or weeks 0 d))) weeks
+first-fit [] d some fit = absurd (omega arith)
+first-fit (first ∷ later) d some fit = fit
+
+-- the number of nurses of the leaf is that of its first week
+pub count-first : (leaf : LentLeaf) (d : LentWeek) → 0 < length leaf.weeks.now →
+    nurse_count (weeks_of leaf) ≡ (week_lent (slice_index_or leaf.weeks.now 0 d)).nurses
+count-first leaf d some = ap nurse_count (drop-lent leaf 0 d some)
+
+-- the stage of the first of its weeks
+abbrev pub first_of : Stage → LentWeek → Stage
+first_of stage one = record stage { instance = one.instance; prices = one.prices; week = 0 }
+
+pub first-is : (stage : Stage) (d : LentWeek) → IsLeaf stage.leaf → stage.unit ≤ thousandths → stage.nurse < nurse_count (weeks_of stage.leaf) →
+    stage.charged ≡ charge_totals (weeks_of stage.leaf) → IsStage (first_of stage (slice_index_or stage.leaf.weeks.now 0 d))
+first-is stage d leaf unit nurse charged =
+    let all = first-fit stage.leaf.weeks.now d leaf.some leaf.fit in
+    let at = drop-lent stage.leaf 0 d leaf.some in
+    record {
+      unit = unit;
+      nurse = omega (arith, nurse, count-first stage.leaf d leaf.some);
+      at = at;
+      inside = leaf.some;
+      count = leaf.count;
+      shape = (all-at (Fits (week_lent (slice_index_or stage.leaf.weeks.now 0 d))) stage.leaf.weeks.now 0 d all leaf.some).shape;
+      fit = all;
+      free = λ none. subst (AllByRecursion IsFreeOfTotals) at (free-all (weeks_of stage.leaf) (sym charged ∙ none));
+    }
+
+-- all weeks, at the first of them
+pub first-all : (stage : Stage) → IsStage stage → stage.week ≡ 0 → all_of stage ≡ (week_of stage ∷ later_of stage)
+first-all stage is first = ap (λ (i : ℕ). drop i (all_of stage)) (sym first) ∙ is.at
+
+-- ---- loops over the weeks
+
+-- a test of the weeks from the index of this one on, if it fails or passes there
+pub any-passes : (test : LeafWeek → Bool) (leaf : LentLeaf) (i : ℕ) (one : LentWeek) → i < length leaf.weeks.now →
+    one ≡ slice_index_or leaf.weeks.now i one → test (week_at leaf.case.now i one) ≡ true → list_any test (drop i (weeks_of leaf)) ≡ true
+any-passes test leaf i one inside is passes = ap (list_any test) (drop-at leaf i one inside is) ∙ grind (arith, passes)
+
+pub any-fails : (test : LeafWeek → Bool) (leaf : LentLeaf) (i : ℕ) (one : LentWeek) → i < length leaf.weeks.now →
+    one ≡ slice_index_or leaf.weeks.now i one → test (week_at leaf.case.now i one) ≡ false →
+    list_any test (drop i (weeks_of leaf)) ≡ list_any test (drop (i + 1) (weeks_of leaf))
+any-fails test leaf i one inside is fails = ap (list_any test) (drop-at leaf i one inside is) ∙ rw fails refl
+
+pub any-end : (test : LeafWeek → Bool) (leaf : LentLeaf) (i : ℕ) → length leaf.weeks.now ≤ i → list_any test (drop i (weeks_of leaf)) ≡ false
+any-end test leaf i past = ap (list_any test) (drop-end leaf i past)

@@ -1,0 +1,11 @@
+use Rattle.std.proofs.Common.{sym, arith}
+use Rattle.rota_core.specs.InstanceTables.{problem_of}
+use Rattle.rota_core.specs.Roster.{cell}
+use Rattle.rota_certificate.proofs.Sums.{any-at}
+use Rattle.rota_certificate.proofs.rebates.is_held_on.Goals as goal
+
+pub returns-then-held : goal.returns-then-held
+returns-then-held c =
+    let problem = problem_of c.args.instance.now in
+    sym (any-at problem.skills c.loop-skill.skill (λ k. problem.is_held (cell c.args.nurse c.args.day c.args.shift k))
+    (omega (arith, c.loop-skill-test.true, c.skills-skill-end.ensures.count)) (sym c.if-held.ensures))

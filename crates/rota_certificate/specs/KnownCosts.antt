@@ -1,0 +1,41 @@
+-- Costs and rebates of a nurse that were computed before, for the weeks of a leaf.
+use Rattle.std.specs.Prelude.{◌≡◌, ℕ, ◌<◌, IfSome, All, Option, List, [], ◌∷◌, length, drop}
+use Rattle.rota_certificate.specs.NurseBounds.{LeafWeek, Terms, allowed_rebate, least_left}
+use Rattle.rota_certificate.specs.Stages.{IsStage, all_of, terms_of}
+use Rattle.rota_certificate.specs.declared.known.Known.{Known}
+use Rattle.rota_certificate.specs.declared.known.KnownCost.{KnownCost}
+use Rattle.rota_certificate.specs.declared.known.KnownRebate.{KnownRebate}
+use Rattle.rota_certificate.specs.declared.stages.Stage.{Stage}
+
+-- there are entries
+pub record HasEntries (known : Known) : Type 0 where
+  pub costs : 0 < length known.costs.items
+  pub rebates : 0 < length known.rebates.items
+
+-- the rebate of the first of the weeks
+abbrev pub first_rebate : List LeafWeek → (nurse day : ℕ) → Option ℕ → ℕ
+first_rebate [] n d choice = 0
+first_rebate (first ∷ later) n d choice = allowed_rebate first n d choice
+
+-- the cost is the nurse's minimum cost of the last days of the week with this number, and of the later weeks, after the past
+abbrev pub IsRightCost : Terms → List LeafWeek → (nurse : ℕ) → KnownCost → Type 0
+IsRightCost terms weeks n known = known.cost ≡ least_left terms (drop known.week weeks) n known.left known.past
+
+-- the rebate is the nurse's for the choice of the day, in the week with this number
+abbrev pub IsRightRebate : List LeafWeek → (nurse : ℕ) → KnownRebate → Type 0
+IsRightRebate weeks n known = known.rebate ≡ first_rebate (drop known.week weeks) n known.day known.choice
+
+-- there are entries, and each cost and each rebate that is known is right for the nurse in the weeks
+pub record AreRightFor (terms : Terms) (weeks : List LeafWeek) (nurse : ℕ) (known : Known) : Type 0 where
+  pub entries : HasEntries known
+  pub costs : All (λ one. IfSome one (IsRightCost terms weeks nurse)) known.costs.items
+  pub rebates : All (λ one. IfSome one (IsRightRebate weeks nurse)) known.rebates.items
+
+-- they are right for the nurse of the stage
+abbrev pub AreRight : Stage → Known → Type 0
+AreRight stage known = AreRightFor (terms_of stage) (all_of stage) stage.nurse known
+
+-- the search is at a stage, and what is known is right for it
+pub record IsReady (stage : Stage) (known : Known) : Type 0 where
+  pub at : IsStage stage
+  pub right : AreRight stage known

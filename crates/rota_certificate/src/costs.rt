@@ -1,0 +1,93 @@
+//! What a nurse's days cost by her tariff, and what her totals cost at the start and at the end.
+
+ghost use Rattle.std.specs.Prelude.{◌≡◌, ◌+◌, ◌*◌, ◌≤◌, ◌<◌, IfSome};
+ghost use Rattle.rota_core.specs.InstanceTables.{problem_of};
+ghost use Rattle.rota_certificate.specs.CertificateBounds.{thousandths};
+ghost use Rattle.rota_certificate.specs.DayCharges.{start_cost, totals_cost, weighted};
+ghost use Rattle.rota_certificate.specs.Minimums.{not_allowed};
+ghost use Rattle.rota_certificate.specs.NurseBounds.{end_cost};
+ghost use Rattle.rota_certificate.specs.Stages.{IsStage, day_cost_in, terms_of, week_of};
+
+use crate::charges::{
+    assignment_above, fixed_charge, missing_total, over_charge, shift_charges, weekend_above,
+};
+use crate::rebates::NOT_ALLOWED;
+use crate::stages::Stage;
+use crate::tariffs::Tariff;
+use crate::weights::ASSIGNMENT_WEIGHT;
+use rota_core::{Contract, DAYS, Past};
+
+// What this number of charges costs at this weight, but not more than `NOT_ALLOWED`.
+fn weighted(weight: u64, charges: u64) -> u64
+    ensures cost { result ≡ weighted weight charges }
+    ensures small { result ≤ not_allowed }
+{
+    weight.saturating_mul(charges).min(NOT_ALLOWED)
+}
+
+// The product of the number of points and the value of a point.
+fn times(unit: u64, points: u64) -> u64
+    requires unit_in { unit ≤ thousandths }
+    requires small { points ≤ 1000000000 }
+    ensures product { result ≡ unit * points }
+    ensures small { result ≤ 1000000000000 }
+{
+    unit * points
+}
+
+// What the totals of the day cost.
+fn totals_cost(tariff: Tariff, contract: Contract, day: u8, past: Past, choice: Option<u8>) -> u64
+    ensures cost { result ≡ totals_cost tariff contract day past choice }
+    ensures small { result ≤ 2 * not_allowed }
+{
+    let assignments = assignment_above(contract, past, choice);
+    let weekends = weekend_above(contract, day, past, choice);
+    weighted(tariff.assignments, u64::from(assignments))
+        + weighted(tariff.weekends, u64::from(weekends))
+}
+
+/// What the day costs the nurse with this past.
+pub fn day_cost(stage: &Stage<'_>, day: u8, past: Past, choice: Option<u8>) -> u64
+    requires stage { IsStage stage.now }
+    requires day_in { day < DAYS }
+    requires choice_in { IfSome choice (λ s. s < (week_of stage.now).week.shifts) }
+    requires last_in { IfSome past.last (λ s. s < (week_of stage.now).week.shifts) }
+    ensures cost { result ≡ day_cost_in stage.now day past choice }
+    ensures small { result ≤ 5 * not_allowed }
+{
+    let contract = stage.instance.contract(stage.nurse);
+    let shifts = shift_charges(stage.instance, past, choice);
+    let over = over_charge(past.work_run, choice.is_some(), contract.work);
+    let fixed = fixed_charge(stage.instance, stage.nurse, day, past, choice);
+    let totals = if stage.charged {
+        totals_cost(stage.tariff, contract, day, past, choice)
+    } else {
+        0
+    };
+    weighted(stage.tariff.shift_runs, shifts)
+        + weighted(stage.tariff.work_days, u64::from(over))
+        + times(stage.unit, fixed)
+        + totals
+}
+
+/// What the totals of the history that are above the maximum cost.
+pub fn start_cost(tariff: Tariff, contract: Contract, past: Past) -> u64
+    ensures cost { result ≡ start_cost tariff contract past }
+    ensures small { result ≤ 2 * not_allowed }
+{
+    let assignments = past.assignments.saturating_sub(contract.total.max);
+    let weekends = past.weekends.saturating_sub(contract.weekends);
+    weighted(tariff.assignments, u64::from(assignments))
+        + weighted(tariff.weekends, u64::from(weekends))
+}
+
+/// What the assignments cost that are missing at the end.
+pub fn end_cost(stage: &Stage<'_>, past: Past) -> u64
+    requires stage { IsStage stage.now }
+    ensures cost { result ≡ end_cost (terms_of stage.now) (week_of stage.now).week stage.now.nurse past }
+    ensures small { result ≤ not_allowed }
+{
+    let contract = stage.instance.contract(stage.nurse);
+    let missing = missing_total(stage.instance.last_week(), contract, past);
+    times(stage.unit, ASSIGNMENT_WEIGHT * u64::from(missing))
+}

@@ -1,0 +1,194 @@
+//! The costs and rebates of a nurse that were computed before. Each has an entry that follows from its week, day and
+//! past. A later one with the same entry replaces it: a lost one is computed again.
+
+ghost use Rattle.std.specs.Prelude.{◌≡◌, ℕ, ◌<◌, All, IfOk, IfSome, List, None, drop, length};
+ghost use Rattle.rota_certificate.specs.KnownCosts.{AreRightFor, HasEntries, IsRightCost, IsRightRebate, first_rebate};
+ghost use Rattle.rota_certificate.specs.NurseBounds.{LeafWeek, Terms, least_left};
+
+use rota_core::Past;
+use std::alloc::{AllocError, Global};
+
+/// The minimum cost of the last `left` days of the week with this number, and of the later weeks, after the past.
+#[derive(Clone, Copy, Debug, PartialEq, Eq)]
+pub struct KnownCost {
+    pub week: usize,
+    pub left: u8,
+    pub past: Past,
+    pub cost: u64,
+}
+
+/// The rebate of the choice for the day of the week with this number.
+#[derive(Clone, Copy, Debug, PartialEq, Eq)]
+pub struct KnownRebate {
+    pub week: usize,
+    pub day: u8,
+    pub choice: Option<u8>,
+    pub rebate: u64,
+}
+
+/// Entries for the costs and rebates of a nurse.
+#[derive(Drop)]
+pub struct Known {
+    costs: Vec<Option<KnownCost>>,
+    rebates: Vec<Option<KnownRebate>>,
+}
+
+// The number of entries for the costs of one week, a prime number: a nurse rarely has so many pasts in a week.
+const WEEK_ENTRIES: usize = 16381;
+
+// The number of entries for the costs of a longer period, a prime number: they take some ten megabytes.
+const PERIOD_ENTRIES: usize = 262139;
+
+// The number of entries for rebates, a prime number: seven days with seventeen choices of eight weeks.
+const REBATE_ENTRIES: usize = 1021;
+
+// A number that spreads the parts of a past over the entries: any large odd number that is not near a power of two.
+const SPREAD: usize = 1_000_003;
+
+// Entries without costs.
+fn no_costs(alloc: Global, entries: usize) -> Result<Vec<Option<KnownCost>>, AllocError>
+    ensures { IfOk result (λ costs. length costs.items ≡ entries) }
+{
+    let mut costs = Vec::with_capacity(alloc, entries)?;
+    for entry in 0..entries {
+        costs.push(None)?;
+    }
+    Ok(costs)
+}
+
+// Entries without rebates.
+fn no_rebates(alloc: Global) -> Result<Vec<Option<KnownRebate>>, AllocError>
+    ensures { IfOk result (λ rebates. 0 < length rebates.items) }
+{
+    let mut rebates = Vec::with_capacity(alloc, REBATE_ENTRIES)?;
+    for entry in 0..REBATE_ENTRIES {
+        rebates.push(None)?;
+    }
+    Ok(rebates)
+}
+
+// The number with one more part mixed into it.
+fn with_part(mix: usize, part: u16) -> usize {
+    mix.wrapping_mul(SPREAD).wrapping_add(usize::from(part))
+}
+
+// A number for the choice: 0 for a day off.
+fn number_of(choice: Option<u8>) -> u16 {
+    match choice {
+        None => 0,
+        Some(shift) => u16::from(shift) + 1,
+    }
+}
+
+// The entry of a cost among this number of entries.
+fn cost_entry(entries: usize, week: usize, left: u8, past: Past) -> usize
+    requires { 0 < entries }
+    ensures { result < entries }
+{
+    let mix = with_part(with_part(week, u16::from(left)), number_of(past.last));
+    let mix = with_part(with_part(mix, past.shift_run), past.work_run);
+    let mix = with_part(with_part(mix, past.off_run), past.assignments);
+    with_part(mix, past.weekends) % entries
+}
+
+// The entry of a rebate among this number of entries.
+fn rebate_entry(entries: usize, week: usize, day: u8, choice: Option<u8>) -> usize
+    requires { 0 < entries }
+    ensures { result < entries }
+{
+    with_part(with_part(week, u16::from(day)), number_of(choice)) % entries
+}
+
+impl Known {
+    /// Entries for this number of weeks.
+    pub fn for_weeks(alloc: Global, weeks: usize) -> Result<Known, AllocError>
+        ensures { IfOk result HasEntries }
+    {
+        let entries = if weeks > 1 {
+            PERIOD_ENTRIES
+        } else {
+            WEEK_ENTRIES
+        };
+        let costs = no_costs(alloc, entries)?;
+        let rebates = no_rebates(alloc)?;
+        Ok(Known { costs, rebates })
+    }
+
+    // Forgets the costs.
+    fn forget_costs(&mut self)
+        requires { HasEntries self.old }
+        ensures entries { HasEntries self.new }
+        ensures none { All (λ known. known ≡ None) self.new.costs.items }
+    {
+        self.costs.fill(None);
+    }
+
+    // Forgets the rebates.
+    fn forget_rebates(&mut self)
+        requires { HasEntries self.old }
+        ensures entries { HasEntries self.new }
+        ensures costs { self.new.costs ≡ self.old.costs }
+        ensures none { All (λ known. known ≡ None) self.new.rebates.items }
+    {
+        self.rebates.fill(None);
+    }
+
+    /// Forgets all costs and rebates.
+    pub fn forget(&mut self)
+        requires { HasEntries self.old }
+        ensures { (terms : Terms) (weeks : List LeafWeek) (nurse : ℕ) → AreRightFor terms weeks nurse self.new }
+    {
+        self.forget_costs();
+        self.forget_rebates();
+    }
+
+    /// The cost, if it is known.
+    pub fn cost(&self, week: usize, left: u8, past: Past) -> Option<u64>
+        requires { HasEntries self.now }
+        ensures { (terms : Terms) (weeks : List LeafWeek) (nurse : ℕ) → AreRightFor terms weeks nurse self.now →
+            IfSome result (λ cost. cost ≡ least_left terms (drop week weeks) nurse left past) }
+    {
+        let found = self.costs[cost_entry(self.costs.len(), week, left, past)];
+        match found {
+            Some(known) if known.week == week && known.left == left && known.past == past => {
+                Some(known.cost)
+            }
+            _ => None,
+        }
+    }
+
+    /// Keeps the cost.
+    pub fn keep_cost(&mut self, known: KnownCost)
+        requires { HasEntries self.old }
+        ensures { (terms : Terms) (weeks : List LeafWeek) (nurse : ℕ) → AreRightFor terms weeks nurse self.old →
+            IsRightCost terms weeks nurse known → AreRightFor terms weeks nurse self.new }
+    {
+        let entry = cost_entry(self.costs.len(), known.week, known.left, known.past);
+        self.costs[entry] = Some(known);
+    }
+
+    /// The rebate, if it is known.
+    pub fn rebate(&self, week: usize, day: u8, choice: Option<u8>) -> Option<u64>
+        requires { HasEntries self.now }
+        ensures { (terms : Terms) (weeks : List LeafWeek) (nurse : ℕ) → AreRightFor terms weeks nurse self.now →
+            IfSome result (λ rebate. rebate ≡ first_rebate (drop week weeks) nurse day choice) }
+    {
+        let found = self.rebates[rebate_entry(self.rebates.len(), week, day, choice)];
+        match found {
+            Some(known) if known.week == week && known.day == day && known.choice == choice => {
+                Some(known.rebate)
+            }
+            _ => None,
+        }
+    }
+
+    /// Keeps the rebate.
+    pub fn keep_rebate(&mut self, known: KnownRebate)
+        requires { HasEntries self.old }
+        ensures { (terms : Terms) (weeks : List LeafWeek) (nurse : ℕ) → AreRightFor terms weeks nurse self.old →
+            IsRightRebate weeks nurse known → AreRightFor terms weeks nurse self.new }
+    {
+        let entry = rebate_entry(self.rebates.len(), known.week, known.day, known.choice);
+        self.rebates[entry] = Some(known);
+    }
+}

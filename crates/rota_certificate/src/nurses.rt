@@ -1,0 +1,202 @@
+//! The minimum cost of a nurse over the weeks of a leaf, less the prices of her cells: day by day, and week by week.
+
+ghost use Rattle.std.specs.Prelude.{◌≡◌, ◌+◌, ◌-◌, ◌*◌, ◌≤◌, ◌<◌, IfSome};
+ghost use Rattle.rota_core.specs.InstanceTables.{problem_of};
+ghost use Rattle.rota_certificate.specs.CertificateBounds.{thousandths};
+ghost use Rattle.rota_certificate.specs.KnownCosts.{AreRight, HasEntries, IsReady, IsRightCost, IsRightRebate};
+ghost use Rattle.rota_certificate.specs.LeafBounds.{nurse_count};
+ghost use Rattle.rota_certificate.specs.Minimums.{not_allowed};
+ghost use Rattle.rota_certificate.specs.Nearness.{IsNear};
+ghost use Rattle.rota_certificate.specs.NurseBounds.{allowed_rebate, choice_value, is_barred, least_choice, nurse_bound};
+ghost use Rattle.rota_certificate.specs.Stages.{IsLeaf, IsStage, days_before, least_after, least_in, terms_of, week_of, weeks_of};
+
+use crate::allowed::may_choose;
+use crate::charged_pasts::charged_past;
+use crate::charges::past_after;
+use crate::costs::{day_cost, end_cost, start_cost};
+use crate::known::{Known, KnownCost, KnownRebate};
+use crate::rebates::{NOT_ALLOWED, day_rebate};
+use crate::stages::{LentLeaf, Stage, pay_for_history};
+use crate::tariffs::Tariff;
+use rota_core::{DAYS, Instance, Past};
+
+// Whether the choice may not follow the last shift type.
+fn is_barred(instance: &Instance, past: Past, choice: Option<u8>) -> bool
+    requires choice_in { IfSome choice (λ s. s < (problem_of instance.now).shifts) }
+    requires last_in { IfSome past.last (λ s. s < (problem_of instance.now).shifts) }
+    ensures { result ≡ is_barred (problem_of instance.now) past choice }
+{
+    match choice {
+        None => false,
+        Some(shift) => match past.last {
+            None => false,
+            Some(last) => instance.forbidden(last, shift),
+        },
+    }
+}
+
+// The rebate of the choice, if the case allows it.
+fn allowed_rebate(stage: &Stage<'_>, day: u8, choice: Option<u8>) -> u64
+    requires stage { IsStage stage.now }
+    requires day_in { day < DAYS }
+    requires choice_in { IfSome choice (λ s. s < (week_of stage.now).week.shifts) }
+    ensures rebate { result ≡ allowed_rebate (week_of stage.now) stage.now.nurse day choice }
+    ensures small { result ≤ not_allowed }
+{
+    if may_choose(stage.leaf.case, stage.week, stage.nurse, day, choice) {
+        day_rebate(stage.instance, stage.prices, stage.nurse, day, choice)
+    } else {
+        NOT_ALLOWED
+    }
+}
+
+// The rebate of the choice, which is known from then on.
+fn known_rebate(stage: &Stage<'_>, known: &mut Known, day: u8, choice: Option<u8>) -> u64
+    requires ready { IsReady stage.now known.old }
+    requires day_in { day < DAYS }
+    requires choice_in { IfSome choice (λ s. s < (week_of stage.now).week.shifts) }
+    ensures rebate { result ≡ allowed_rebate (week_of stage.now) stage.now.nurse day choice }
+    ensures small { result ≤ not_allowed }
+    ensures right { AreRight stage.now known.new }
+{
+    if let Some(rebate) = known.rebate(stage.week, day, choice) {
+        return rebate;
+    }
+    let rebate = allowed_rebate(stage, day, choice);
+    known.keep_rebate(KnownRebate {
+        week: stage.week,
+        day,
+        choice,
+        rebate,
+    });
+    rebate
+}
+
+/// The value of the choice for the day before the last `left` days of the week.
+#[cycle(week)]
+pub fn value_in(
+    stage: &Stage<'_>,
+    known: &mut Known,
+    left: u8,
+    past: Past,
+    choice: Option<u8>,
+) -> u64
+    requires ready { IsReady stage.now known.old }
+    requires left_in { left < DAYS }
+    requires choice_in { IfSome choice (λ s. s < (week_of stage.now).week.shifts) }
+    requires near { IsNear (week_of stage.now).week.shifts (days_before stage.now (6 - left)) past }
+    ensures value { result ≡ choice_value (terms_of stage.now) (week_of stage.now) stage.now.nurse (6 - left) past (least_in stage.now left) choice }
+    ensures right { AreRight stage.now known.new }
+{
+    let day = 6 - left;
+    if is_barred(stage.instance, past, choice) {
+        return NOT_ALLOWED;
+    }
+    let after = past_after(stage.instance, day, past, choice);
+    let rest = least_in(stage, known, left, after);
+    let rebate = known_rebate(stage, known, day, choice);
+    let cost = day_cost(stage, day, past, choice);
+    cost + rebate + rest
+}
+
+/// The minimum of the values of the choices for the day before the last `left` days of the week.
+#[cycle(week)]
+pub fn least_choice_in(stage: &Stage<'_>, known: &mut Known, left: u8, past: Past) -> u64
+    requires ready { IsReady stage.now known.old }
+    requires left_in { left < DAYS }
+    requires near { IsNear (week_of stage.now).week.shifts (days_before stage.now (6 - left)) past }
+    ensures least { result ≡ least_choice (terms_of stage.now) (week_of stage.now) stage.now.nurse (6 - left) past (least_in stage.now left) }
+    ensures small { result ≤ not_allowed }
+    ensures right { AreRight stage.now known.new }
+{
+    let mut least = NOT_ALLOWED;
+    for shift in 0..stage.instance.shifts() {
+        let on = value_in(stage, known, left, past, Some(shift));
+        least = least.min(on);
+    }
+    let off = value_in(stage, known, left, past, None);
+    off.min(least)
+}
+
+/// The minimum cost of the last `left` days of the week, and of the time after it.
+#[cycle(week)]
+pub fn least_in(stage: &Stage<'_>, known: &mut Known, left: u8, past: Past) -> u64
+    requires ready { IsReady stage.now known.old }
+    requires left_in { left ≤ DAYS }
+    requires near { IsNear (week_of stage.now).week.shifts (days_before stage.now (DAYS - left)) past }
+    ensures cost { result ≡ least_in stage.now left past }
+    ensures small { result ≤ not_allowed }
+    ensures right { AreRight stage.now known.new }
+{
+    if left == 0 {
+        return least_after(stage, known, past);
+    }
+    let week = stage.week;
+    let charged = charged_past(stage, left, past);
+    if let Some(cost) = known.cost(week, left, charged) {
+        return cost;
+    }
+    let cost = least_choice_in(stage, known, left - 1, charged);
+    known.keep_cost(KnownCost {
+        week,
+        left,
+        past: charged,
+        cost,
+    });
+    cost
+}
+
+// The minimum cost after the week: of the later weeks, or of what is missing if it is the last.
+#[cycle(week)]
+fn least_after(stage: &Stage<'_>, known: &mut Known, past: Past) -> u64
+    requires ready { IsReady stage.now known.old }
+    requires near { IsNear (week_of stage.now).week.shifts (days_before stage.now DAYS) past }
+    ensures cost { result ≡ least_after stage.now past }
+    ensures small { result ≤ not_allowed }
+    ensures right { AreRight stage.now known.new }
+{
+    let week = stage.week + 1;
+    if week >= stage.leaf.weeks.len() {
+        return end_cost(stage, past);
+    }
+    let next = stage.leaf.weeks[week];
+    let next = Stage {
+        instance: next.instance,
+        prices: next.prices,
+        leaf: stage.leaf,
+        week,
+        unit: stage.unit,
+        nurse: stage.nurse,
+        tariff: stage.tariff,
+        charged: stage.charged,
+    };
+    least_in(&next, known, DAYS, past)
+}
+
+/// The minimum for all the weeks of the leaf, from the history before the first week on. What was known is forgotten.
+pub fn nurse_bound(
+    leaf: &LentLeaf<'_>,
+    known: &mut Known,
+    unit: u64,
+    tariff: Tariff,
+    nurse: u16,
+) -> u64
+    requires leaf { IsLeaf leaf.now }
+    requires unit_in { unit ≤ thousandths }
+    requires nurse_in { nurse < nurse_count (weeks_of leaf.now) }
+    requires entries { HasEntries known.old }
+    ensures bound { result ≡ nurse_bound unit tariff (weeks_of leaf.now) nurse }
+    ensures small { result ≤ 3 * not_allowed }
+    ensures entries { HasEntries known.new }
+{
+    let stage = Stage::first(leaf, unit, tariff, nurse);
+    let _nurses = stage.instance.nurses();
+    let past = stage.instance.past(nurse);
+    let start = if pay_for_history(leaf) {
+        start_cost(tariff, stage.instance.contract(nurse), past)
+    } else {
+        0
+    };
+    known.forget();
+    start + least_in(&stage, known, DAYS, past)
+}

@@ -1,0 +1,117 @@
+//! The rebates: the maximum price, less the best price that a nurse may be paid.
+
+ghost use Rattle.std.specs.Prelude.{◌≡◌, ◌≤◌, ◌<◌, IfSome, Some};
+ghost use Rattle.rota_core.specs.HardRules.{is_on};
+ghost use Rattle.rota_core.specs.InstanceTables.{problem_of};
+ghost use Rattle.rota_core.specs.PriceTables.{IsForWeek, prices_of};
+ghost use Rattle.rota_core.specs.Roster.{InWeek};
+ghost use Rattle.rota_certificate.specs.Minimums.{not_allowed};
+ghost use Rattle.rota_certificate.specs.NurseBounds.{day_rebate, may_be_off, rebate};
+
+use rota_core::{Cell, DAYS, Instance, MAX_PRICE, Prices};
+
+/// More than the value of any choice that is allowed.
+pub const NOT_ALLOWED: u64 = 1_000_000_000_000_000;
+
+// Whether any of the nurse's cells on the shift type that day is held.
+fn is_held_on(instance: &Instance, nurse: u16, shift: u8, day: u8) -> bool
+    requires nurse_in { nurse < (problem_of instance.now).nurses }
+    requires shift_in { shift < (problem_of instance.now).shifts }
+    requires day_in { day < DAYS }
+    ensures { let problem = problem_of instance.now in result ≡ is_on problem problem.is_held nurse shift day }
+{
+    for skill in 0..instance.skills() {
+        if instance.held(Cell {
+            nurse,
+            day,
+            shift,
+            skill,
+        }) {
+            return true;
+        }
+    }
+    false
+}
+
+/// Whether the nurse may be off that day: no cell of the day is held.
+pub fn may_be_off(instance: &Instance, nurse: u16, day: u8) -> bool
+    requires nurse_in { nurse < (problem_of instance.now).nurses }
+    requires day_in { day < DAYS }
+    ensures { result ≡ may_be_off (problem_of instance.now) nurse day }
+{
+    for shift in 0..instance.shifts() {
+        if is_held_on(instance, nurse, shift, day) {
+            return false;
+        }
+    }
+    true
+}
+
+/// The maximum price, less the price of the cell, if the nurse may have it. `free` says whether she may be off that
+/// day.
+pub fn rebate(instance: &Instance, prices: &Prices, free: bool, cell: Cell) -> u64
+    requires cell_in { InWeek (problem_of instance.now) cell }
+    requires free_is { free ≡ may_be_off (problem_of instance.now) cell.nurse cell.day }
+    requires shape { IsForWeek (problem_of instance.now) prices.now }
+    ensures rebate { result ≡ rebate (problem_of instance.now) (prices_of prices.now) cell.nurse cell.day cell.shift cell.skill }
+    ensures small { result ≤ not_allowed }
+{
+    if instance.has_skill(cell.nurse, cell.skill) && (free || instance.held(cell)) {
+        u64::from(MAX_PRICE - prices.price(cell.day, cell.shift, cell.skill))
+    } else {
+        NOT_ALLOWED
+    }
+}
+
+// The minimum rebate of the nurse's skills on the shift type.
+fn least_rebate(
+    instance: &Instance,
+    prices: &Prices,
+    free: bool,
+    nurse: u16,
+    day: u8,
+    shift: u8,
+) -> u64
+    requires nurse_in { nurse < (problem_of instance.now).nurses }
+    requires day_in { day < DAYS }
+    requires shift_in { shift < (problem_of instance.now).shifts }
+    requires free_is { free ≡ may_be_off (problem_of instance.now) nurse day }
+    requires shape { IsForWeek (problem_of instance.now) prices.now }
+    ensures rebate { result ≡ day_rebate (problem_of instance.now) (prices_of prices.now) nurse day (Some shift) }
+    ensures small { result ≤ not_allowed }
+{
+    let mut least = NOT_ALLOWED;
+    for skill in 0..instance.skills() {
+        let cell = Cell {
+            nurse,
+            day,
+            shift,
+            skill,
+        };
+        least = least.min(rebate(instance, prices, free, cell));
+    }
+    least
+}
+
+/// The rebate of the nurse's day off, or of the shift type.
+pub fn day_rebate(
+    instance: &Instance,
+    prices: &Prices,
+    nurse: u16,
+    day: u8,
+    choice: Option<u8>,
+) -> u64
+    requires nurse_in { nurse < (problem_of instance.now).nurses }
+    requires day_in { day < DAYS }
+    requires choice_in { IfSome choice (λ s. s < (problem_of instance.now).shifts) }
+    requires shape { IsForWeek (problem_of instance.now) prices.now }
+    ensures rebate { result ≡ day_rebate (problem_of instance.now) (prices_of prices.now) nurse day choice }
+    ensures small { result ≤ not_allowed }
+{
+    let free = may_be_off(instance, nurse, day);
+    match choice {
+        None if free => u64::from(MAX_PRICE),
+        None => NOT_ALLOWED,
+        Some(shift) => least_rebate(instance, prices, free, nurse, day, shift),
+    }
+}

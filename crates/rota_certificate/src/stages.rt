@@ -1,0 +1,106 @@
+//! The weeks of a leaf, as the search for a nurse's minimum goes through them.
+
+ghost use Rattle.std.specs.Prelude.{◌≡◌, ◌≤◌, ◌<◌, ◌&&◌, ◌||◌, not};
+ghost use Rattle.rota_core.specs.InstanceTables.{problem_of};
+ghost use Rattle.rota_certificate.specs.CertificateBounds.{thousandths};
+ghost use Rattle.rota_certificate.specs.LeafBounds.{nurse_count};
+ghost use Rattle.rota_certificate.specs.NurseBounds.{charge_totals, pay_for_history};
+ghost use Rattle.rota_certificate.specs.Stages.{IsLeaf, IsStage, weeks_of};
+
+use crate::tariffs::Tariff;
+use rota_core::{Condition, Instance, Prices};
+
+/// A week and its prices.
+#[derive(Clone, Copy)]
+pub struct LentWeek<'a> {
+    pub instance: &'a Instance,
+    pub prices: &'a Prices,
+}
+
+/// The weeks of a leaf, and its case.
+#[derive(Clone, Copy)]
+pub struct LentLeaf<'a> {
+    pub weeks: &'a [LentWeek<'a>],
+    pub case: &'a [Condition],
+}
+
+/// A week of a leaf in the search for a nurse's minimum: the week with its prices, the leaf, the number of the week
+/// there, the value of a point in units of a price, the nurse and her tariff, and whether totals are charged.
+#[derive(Clone, Copy)]
+pub struct Stage<'a> {
+    pub instance: &'a Instance,
+    pub prices: &'a Prices,
+    pub leaf: LentLeaf<'a>,
+    pub week: usize,
+    pub unit: u64,
+    pub nurse: u16,
+    pub tariff: Tariff,
+    pub charged: bool,
+}
+
+// Whether the week charges totals.
+fn charges_totals(instance: &Instance) -> bool
+    ensures { let week = problem_of instance.now in result ≡ (week.is_early || week.is_last) }
+{
+    instance.early() || instance.last_week()
+}
+
+// Whether the week pays for the totals of the history that are above the maximum.
+fn pays_for_history(instance: &Instance) -> bool
+    ensures { let week = problem_of instance.now in result ≡ (not week.is_early && week.is_last) }
+{
+    !instance.early() && instance.last_week()
+}
+
+// Whether any of the weeks charges totals.
+fn charge_totals(leaf: &LentLeaf<'_>) -> bool
+    ensures { result ≡ charge_totals (weeks_of leaf.now) }
+{
+    for one in leaf.weeks {
+        if charges_totals(one.instance) {
+            return true;
+        }
+    }
+    false
+}
+
+/// Whether any of the weeks pays for the totals of the history that are above the maximum.
+pub fn pay_for_history(leaf: &LentLeaf<'_>) -> bool
+    ensures { result ≡ pay_for_history (weeks_of leaf.now) }
+{
+    for one in leaf.weeks {
+        if pays_for_history(one.instance) {
+            return true;
+        }
+    }
+    false
+}
+
+impl<'a> Stage<'a> {
+    /// The first week of the leaf.
+    pub fn first(leaf: &LentLeaf<'a>, unit: u64, tariff: Tariff, nurse: u16) -> Stage<'a>
+        requires leaf { IsLeaf leaf.now }
+        requires unit_in { unit ≤ thousandths }
+        requires nurse_in { nurse < nurse_count (weeks_of leaf.now) }
+        ensures stage { IsStage result }
+        ensures leaf { result.leaf ≡ leaf.now }
+        ensures week { result.week ≡ 0 }
+        ensures unit { result.unit ≡ unit }
+        ensures nurse { result.nurse ≡ nurse }
+        ensures tariff { result.tariff ≡ tariff }
+        ensures charged { result.charged ≡ charge_totals (weeks_of leaf.now) }
+    {
+        let charged = charge_totals(leaf);
+        let first = leaf.weeks[0];
+        Stage {
+            instance: first.instance,
+            prices: first.prices,
+            leaf: *leaf,
+            week: 0,
+            unit,
+            nurse,
+            tariff,
+            charged,
+        }
+    }
+}
