@@ -160,7 +160,7 @@ module _ (problem : Problem) (prices : Prices) (roster : Roster) (n : ℕ) where
   -- ---- the past after a day
 
   -- the choice is the first shift type that the nurse is on
-  chosen-first : (d : ℕ) (choice : Option ℕ) → Chooses d choice → IfSome choice (λ s. s < problem.shifts) →
+  pub chosen-first : (d : ℕ) (choice : Option ℕ) → Chooses d choice → IfSome choice (λ s. s < problem.shifts) →
       choice ≡ first_below problem.shifts (λ s. is_on problem roster n s d)
   chosen-first d choice chooses inside =
       first-chosen problem.shifts (λ s. is_on problem roster n s d) choice inside chooses.on

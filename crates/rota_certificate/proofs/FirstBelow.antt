@@ -1,6 +1,7 @@
 -- The first number below a number that passes a test.
 use Rattle.std.proofs.Common.{◌≡◌, ℕ, zero, suc, ◌+◌, ◌<◌, inl, inr, Bool, true, false, refl, ap, sym, ◌∙◌, arith, add-one}
-use Rattle.std.specs.Prelude.{IfSome, Option, Some, None}
+use Rattle.std.specs.Prelude.{IfSome, Option, Some, None, is_some, not, ◌||◌}
+use Rattle.rota_core.specs.SumsBelow.{any_below}
 use Rattle.std.proofs.lemmas.Bool.{eq-eqb, eqb-true}
 use Rattle.rota_certificate.specs.FirstBelow.{first_below, or_this}
 use Rattle.rota_certificate.specs.DayCharges.{is_shift}
@@ -63,3 +64,19 @@ inside-found n s test (Some i) is first = let e : i ≡ s = cc is in omega (arit
 -- the number found is below the number
 pub first-inside : (n : ℕ) (test : ℕ → Bool) (s : ℕ) → first_below n test ≡ Some s → s < n
 first-inside n test s is = inside-found n s test (first_below n test) is (first-is n test)
+
+found-any : (found : Option ℕ) (n : ℕ) (passes : Bool) → is_some (or_this found n passes) ≡ (is_some found || passes)
+found-any (Some i) n passes = refl
+found-any None n true = refl
+found-any None n false = refl
+
+-- a number is found if any passes
+pub first-any : (n : ℕ) (test : ℕ → Bool) → is_some (first_below n test) ≡ any_below n test
+unfolding first_below any_below
+first-any zero test = refl
+first-any (suc n) test = found-any (first_below n test) n (test n) ∙ ap (λ (b : Bool). b || test n) (first-any n test)
+
+-- a test that says that none is found is false if one is found
+pub none-found : (none found : Bool) → found ≡ not none → none ≡ not found
+none-found true found e = sym (ap not e)
+none-found false found e = sym (ap not e)

@@ -1,4 +1,6 @@
 pub mod Choices
+pub mod CountedPlans
+pub mod CountedWeeks
 pub mod DaySteps
 pub mod Days
 pub mod EquivalentPasts

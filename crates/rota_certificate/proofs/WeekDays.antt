@@ -248,7 +248,7 @@ module _ (terms : Terms) (one : LeafWeek) (roster : Roster) (n : ℕ) (within : 
   from_history None is t t_in on = refl
   from_history (Some s) is t t_in on = keeps.of_competition.succession.from_history n s t n_in t_in is on
 
-  follows-start : Follows problem prices roster n 0 first
+  pub follows-start : Follows problem prices roster n 0 first
   unfolding sum_below
   follows-start = record {
     on = λ s s_in. refl;

@@ -1,4 +1,5 @@
 pub mod CertificateBounds
+pub mod CountedCharges
 pub mod DayCharges
 pub mod EquivalentPasts
 pub mod FirstBelow

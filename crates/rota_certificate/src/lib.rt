@@ -19,5 +19,10 @@ mod nurses;
 mod stages;
 mod tariffs;
 
+// Whether rosters meet conditions.
+mod conditions;
+mod counted;
+
+pub use conditions::first_unmet;
 pub use limits::Limit;
 pub use tariffs::Tariff;

@@ -1,0 +1,75 @@
+-- The number of a nurse's charges of a kind, as it is counted: day by day for runs, week by week for totals.
+use Rattle.std.specs.Prelude.{◌≡◌, ℕ, ◌-◌, ◌≤◌, ◌≢◌, ⊤, Option, List, [], ◌∷◌, is_some, length, map, slice_get, Some, take}
+use Rattle.rota_core.specs.Limits.{max_weeks}
+use Rattle.rota_core.specs.Problem.{Problem}
+use Rattle.rota_core.specs.InstanceTables.{InstanceTables, problem_of}
+use Rattle.rota_core.specs.HardRules.{is_on}
+use Rattle.rota_core.specs.Roster.{Roster}
+use Rattle.rota_core.specs.RosterTables.{HasShapeOf, RosterTables, set_of}
+use Rattle.rota_core.specs.Sizes.{Numbers}
+use Rattle.rota_core.specs.declared.certificate.ChargeKind.{ChargeKind}
+use Rattle.rota_core.specs.declared.certificate.ChargeKind.TheVariants.{Assignments, ShiftRuns, Weekends, WorkDays}
+use Rattle.rota_core.specs.declared.certificate.Condition.{Condition}
+use Rattle.rota_core.specs.declared.values.Past.{Past}
+use Rattle.rota_items.specs.CountedTotals.{charged_excess}
+use Rattle.rota_certificate.specs.DayCharges.{over_charge, shift_charges}
+use Rattle.rota_certificate.specs.Facts.{Case, IsIn, charges_in_week, is_fact}
+use Rattle.rota_certificate.specs.FirstBelow.{first_below}
+use Rattle.rota_certificate.specs.Plans.{ArePeriod, KeepRules, Plan, history_after, plan_of}
+use Rattle.rota_certificate.specs.declared.counted.CountedWeek.{CountedWeek}
+
+-- the nurse's first shift type of the day, if she works; if no two of her cells are on one day, it is her choice
+abbrev pub choice_on : Problem → Roster → (nurse day : ℕ) → Option ℕ
+choice_on week roster n d = first_below week.shifts (λ s. is_on week roster n s d)
+
+-- the charges of the kind on a day after the past, if they are charges of runs
+abbrev pub run_charges : ChargeKind → Problem → (nurse : ℕ) → Past → Option ℕ → ℕ
+run_charges ShiftRuns week n past choice = shift_charges week past choice
+run_charges WorkDays week n past choice = over_charge past.work_run (is_some choice) (week.contract n).work
+run_charges Assignments week n past choice = 0
+run_charges Weekends week n past choice = 0
+
+-- the charges of the kind for a week between these pasts, if they are charges of totals
+abbrev pub total_charges : ChargeKind → Problem → (nurse : ℕ) → (before now : Past) → ℕ
+total_charges ShiftRuns week n before now = 0
+total_charges WorkDays week n before now = 0
+total_charges Assignments week n before now =
+    charged_excess week (week.contract n).total.max before.assignments (now.assignments - before.assignments)
+total_charges Weekends week n before now = charged_excess week (week.contract n).weekends before.weekends (now.weekends - before.weekends)
+
+-- the nurse's charges of the kind in the week, and her past after it
+pub record IsCountedWeek (kind : ChargeKind) (week : Problem) (roster : Roster) (n : ℕ) (counted : CountedWeek) : Type 0 where
+  pub charges : counted.charges ≡ charges_in_week kind week roster n
+  pub past : counted.past ≡ history_after week roster n
+
+-- ---- weeks with their rosters
+
+-- the plan of these weeks with these rosters
+abbrev pub plan_from : List InstanceTables → List RosterTables → Plan
+plan_from weeks rosters = plan_of (map problem_of weeks) (map set_of rosters)
+
+-- there is a roster of the shape of each week
+abbrev pub HaveShapes : List InstanceTables → List RosterTables → Type 0
+HaveShapes [] [] = ⊤
+HaveShapes [] (roster ∷ rosters) = ⊥
+HaveShapes (week ∷ weeks) [] = ⊥
+HaveShapes (week ∷ weeks) (roster ∷ rosters) = HasShapeOf (problem_of week) roster × HaveShapes weeks rosters
+
+-- the weeks make a period, and the rosters keep its hard rules
+pub record IsPlanned (weeks : List InstanceTables) (rosters : List RosterTables) : Type 0 where
+  pub count : length weeks ≤ max_weeks
+  pub period : ArePeriod (map problem_of weeks)
+  pub shapes : HaveShapes weeks rosters
+  pub keep : KeepRules (map problem_of weeks) (map set_of rosters)
+
+-- the numbers of nurses, shift types and skills of the first week, as of each
+abbrev pub numbers_in : List InstanceTables → Numbers
+numbers_in [] = record { nurses = 0; shifts = 0; skills = 0 }
+numbers_in (first ∷ later) = (problem_of first).numbers
+
+-- the condition with this index is the first that the plan does not meet
+pub record IsFirstUnmet (plan : Plan) (given : Case) (index : ℕ) : Type 0 where
+  pub condition : Condition
+  pub is : slice_get given index ≡ Some condition
+  pub unmet : is_fact plan condition.fact ≢ condition.holds
+  pub earlier : IsIn plan (take index given)
