@@ -1,7 +1,11 @@
 -- Costs and rebates of a nurse that were computed before, for the weeks of a leaf.
-use Rattle.std.specs.Prelude.{◌≡◌, ℕ, ◌<◌, IfSome, All, Option, List, [], ◌∷◌, length, drop}
+use Rattle.std.specs.Prelude.{◌≡◌, ℕ, ◌-◌, ◌≤◌, ◌<◌, IfSome, All, Option, List, [], ◌∷◌, length, drop}
+use Rattle.rota_core.specs.Sizes.{DAYS}
+use Rattle.rota_core.specs.declared.values.Past.{Past}
+use Rattle.rota_certificate.specs.Minimums.{not_allowed}
+use Rattle.rota_certificate.specs.Nearness.{IsNear}
 use Rattle.rota_certificate.specs.NurseBounds.{LeafWeek, Terms, allowed_rebate, least_left}
-use Rattle.rota_certificate.specs.Stages.{IsStage, all_of, terms_of}
+use Rattle.rota_certificate.specs.Stages.{IsStage, all_of, days_before, terms_of, week_of}
 use Rattle.rota_certificate.specs.declared.known.Known.{Known}
 use Rattle.rota_certificate.specs.declared.known.KnownCost.{KnownCost}
 use Rattle.rota_certificate.specs.declared.known.KnownRebate.{KnownRebate}
@@ -38,4 +42,16 @@ AreRight stage known = AreRightFor (terms_of stage) (all_of stage) stage.nurse k
 -- the search is at a stage, and what is known is right for it
 pub record IsReady (stage : Stage) (known : Known) : Type 0 where
   pub at : IsStage stage
+  pub right : AreRight stage known
+
+-- the search is before the last days of the stage's week, after a past that can come there
+pub record IsBefore (stage : Stage) (known : Known) (left : ℕ) (past : Past) : Type 0 where
+  pub ready : IsReady stage known
+  pub within : left ≤ DAYS
+  pub near : IsNear (week_of stage).week.shifts (days_before stage (DAYS - left)) past
+
+-- the search has found this cost, and what is known stays right
+pub record Finds (stage : Stage) (known : Known) (cost result : ℕ) : Type 0 where
+  pub found : result ≡ cost
+  pub small : result ≤ not_allowed
   pub right : AreRight stage known

@@ -3,12 +3,11 @@
 ghost use Rattle.std.specs.Prelude.{◌≡◌, ◌+◌, ◌-◌, ◌*◌, ◌≤◌, ◌<◌, IfSome};
 ghost use Rattle.rota_core.specs.InstanceTables.{problem_of};
 ghost use Rattle.rota_certificate.specs.CertificateBounds.{thousandths};
-ghost use Rattle.rota_certificate.specs.KnownCosts.{AreRight, HasEntries, IsReady, IsRightCost, IsRightRebate};
+ghost use Rattle.rota_certificate.specs.KnownCosts.{AreRight, Finds, HasEntries, IsBefore, IsReady};
 ghost use Rattle.rota_certificate.specs.LeafBounds.{nurse_count};
 ghost use Rattle.rota_certificate.specs.Minimums.{not_allowed};
-ghost use Rattle.rota_certificate.specs.Nearness.{IsNear};
 ghost use Rattle.rota_certificate.specs.NurseBounds.{allowed_rebate, choice_value, is_barred, least_choice, nurse_bound};
-ghost use Rattle.rota_certificate.specs.Stages.{IsLeaf, IsStage, days_before, least_after, least_in, terms_of, week_of, weeks_of};
+ghost use Rattle.rota_certificate.specs.Stages.{IsLeaf, IsStage, least_after, least_in, terms_of, week_of, weeks_of};
 
 use crate::allowed::may_choose;
 use crate::charged_pasts::charged_past;
@@ -55,9 +54,7 @@ fn known_rebate(stage: &Stage<'_>, known: &mut Known, day: u8, choice: Option<u8
     requires ready { IsReady stage.now known.old }
     requires day_in { day < DAYS }
     requires choice_in { IfSome choice (λ s. s < (week_of stage.now).week.shifts) }
-    ensures rebate { result ≡ allowed_rebate (week_of stage.now) stage.now.nurse day choice }
-    ensures small { result ≤ not_allowed }
-    ensures right { AreRight stage.now known.new }
+    ensures { Finds stage.now known.new (allowed_rebate (week_of stage.now) stage.now.nurse day choice) result }
 {
     if let Some(rebate) = known.rebate(stage.week, day, choice) {
         return rebate;
@@ -81,10 +78,8 @@ pub fn value_in(
     past: Past,
     choice: Option<u8>,
 ) -> u64
-    requires ready { IsReady stage.now known.old }
-    requires left_in { left < DAYS }
+    requires before { IsBefore stage.now known.old (left + 1) past }
     requires choice_in { IfSome choice (λ s. s < (week_of stage.now).week.shifts) }
-    requires near { IsNear (week_of stage.now).week.shifts (days_before stage.now (6 - left)) past }
     ensures value { result ≡ choice_value (terms_of stage.now) (week_of stage.now) stage.now.nurse (6 - left) past (least_in stage.now left) choice }
     ensures right { AreRight stage.now known.new }
 {
@@ -102,12 +97,9 @@ pub fn value_in(
 /// The minimum of the values of the choices for the day before the last `left` days of the week.
 #[cycle(week)]
 pub fn least_choice_in(stage: &Stage<'_>, known: &mut Known, left: u8, past: Past) -> u64
-    requires ready { IsReady stage.now known.old }
-    requires left_in { left < DAYS }
-    requires near { IsNear (week_of stage.now).week.shifts (days_before stage.now (6 - left)) past }
-    ensures least { result ≡ least_choice (terms_of stage.now) (week_of stage.now) stage.now.nurse (6 - left) past (least_in stage.now left) }
-    ensures small { result ≤ not_allowed }
-    ensures right { AreRight stage.now known.new }
+    requires { IsBefore stage.now known.old (left + 1) past }
+    ensures { let least = least_choice (terms_of stage.now) (week_of stage.now) stage.now.nurse (6 - left) past (least_in stage.now left) in
+        Finds stage.now known.new least result }
 {
     let mut least = NOT_ALLOWED;
     for shift in 0..stage.instance.shifts() {
@@ -121,12 +113,8 @@ pub fn least_choice_in(stage: &Stage<'_>, known: &mut Known, left: u8, past: Pas
 /// The minimum cost of the last `left` days of the week, and of the time after it.
 #[cycle(week)]
 pub fn least_in(stage: &Stage<'_>, known: &mut Known, left: u8, past: Past) -> u64
-    requires ready { IsReady stage.now known.old }
-    requires left_in { left ≤ DAYS }
-    requires near { IsNear (week_of stage.now).week.shifts (days_before stage.now (DAYS - left)) past }
-    ensures cost { result ≡ least_in stage.now left past }
-    ensures small { result ≤ not_allowed }
-    ensures right { AreRight stage.now known.new }
+    requires { IsBefore stage.now known.old left past }
+    ensures { Finds stage.now known.new (least_in stage.now left past) result }
 {
     if left == 0 {
         return least_after(stage, known, past);
@@ -149,11 +137,8 @@ pub fn least_in(stage: &Stage<'_>, known: &mut Known, left: u8, past: Past) -> u
 // The minimum cost after the week: of the later weeks, or of what is missing if it is the last.
 #[cycle(week)]
 fn least_after(stage: &Stage<'_>, known: &mut Known, past: Past) -> u64
-    requires ready { IsReady stage.now known.old }
-    requires near { IsNear (week_of stage.now).week.shifts (days_before stage.now DAYS) past }
-    ensures cost { result ≡ least_after stage.now past }
-    ensures small { result ≤ not_allowed }
-    ensures right { AreRight stage.now known.new }
+    requires { IsBefore stage.now known.old 0 past }
+    ensures { Finds stage.now known.new (least_after stage.now past) result }
 {
     let week = stage.week + 1;
     if week >= stage.leaf.weeks.len() {

@@ -8,46 +8,58 @@ use Rattle.rota_certificate.proofs.LeafStages.{drop-end, next-is, next-left, nex
 use Rattle.rota_certificate.proofs.Tables.{near-more}
 use Rattle.rota_certificate.proofs.nurses.+week.Goals as goal
 
-pub least_in-returns-then-left-eq0-clause-cost : goal.least_in-returns-then-left-eq0-clause-cost
-least_in-returns-then-left-eq0-clause-cost t c =
+pub least_in-returns-then-left-eq0 : goal.least_in-returns-then-left-eq0
+least_in-returns-then-left-eq0 t c =
     let stage = c.args.stage.now in
-    c.least_after.ensures.cost ∙
-    least_days-at_end (terms_of stage) (week_of stage) stage.nurse (least_after stage) c.args.left c.args.past c.if-left-eq0.true
+    record {
+      found = c.least_after.ensures.found ∙
+          least_days-at_end (terms_of stage) (week_of stage) stage.nurse (least_after stage) c.args.left c.args.past c.if-left-eq0.true;
+      small = c.least_after.ensures.small;
+      right = c.least_after.ensures.right;
+    }
 
-pub least_in-returns-in-Some-clause-cost : goal.least_in-returns-in-Some-clause-cost
-least_in-returns-in-Some-clause-cost t c =
+pub least_in-returns-in-Some : goal.least_in-returns-in-Some
+least_in-returns-in-Some t c =
     let stage = c.args.stage.now in
-    c.in-Some.ensures (terms_of stage) (all_of stage) stage.nurse c.requires.ready.right ∙
-    ap (λ (weeks : List LeafWeek). least_left (terms_of stage) weeks stage.nurse c.args.left c.charged_past-charged.result) c.requires.ready.at.at ∙
-    c.charged_past-charged.ensures.same
+    let found = c.in-Some.ensures (terms_of stage) (all_of stage) stage.nurse c.requires.ready.right ∙
+    ap (λ (weeks : List LeafWeek). least_left (terms_of stage) weeks stage.nurse c.args.left c.charged_past-charged.result)
+    c.requires.ready.at.at ∙
+    c.charged_past-charged.ensures.same in
+    record {
+      found = found;
+      small = omega (
+        arith,
+        found,
+        least_days-small (terms_of stage) (week_of stage) stage.nurse (least_after stage) c.args.left c.args.past
+            (omega (arith, c.if-left-eq0.false)),
+      );
+      right = c.requires.ready.right;
+    }
 
-pub least_in-returns-in-Some-clause-small : goal.least_in-returns-in-Some-clause-small
-least_in-returns-in-Some-clause-small t c =
+pub least_in-returns : goal.least_in-returns
+least_in-returns t c =
     let stage = c.args.stage.now in
-    omega (
-      arith,
-      least_in-returns-in-Some-clause-cost t c,
-      least_days-small (terms_of stage) (week_of stage) stage.nurse (least_after stage) c.args.left c.args.past
-          (omega (arith, c.if-left-eq0.false)),
-    )
-
-pub least_in-returns-clause-cost : goal.least_in-returns-clause-cost
-least_in-returns-clause-cost t c =
-    let stage = c.args.stage.now in
-    c.least_choice_in-cost.ensures.least ∙
+    let least = c.least_choice_in-cost.ensures.found ∙
     least_days-is (terms_of stage) (week_of stage) stage.nurse (least_after stage) c.args.left c.charged_past-charged.result
-    (omega (arith, c.if-left-eq0.false)) c.requires.left_in ∙
-    c.charged_past-charged.ensures.same
+    (omega (arith, c.if-left-eq0.false)) c.requires.within in
+    record {
+      found = least ∙ c.charged_past-charged.ensures.same;
+      small = c.least_choice_in-cost.ensures.small;
+      right = c.keep_cost.ensures (terms_of stage) (all_of stage) stage.nurse c.least_choice_in-cost.ensures.right
+          (least ∙ sym (ap (λ (weeks : List LeafWeek). least_left (terms_of stage) weeks stage.nurse c.args.left c.charged_past-charged.result)
+          c.requires.ready.at.at));
+    }
 
-pub least_in-returns-clause-right : goal.least_in-returns-clause-right
-least_in-returns-clause-right t c =
+pub least_after-returns-then-week-stage : goal.least_after-returns-then-week-stage
+least_after-returns-then-week-stage t c =
     let stage = c.args.stage.now in
-    c.keep_cost.ensures (terms_of stage) (all_of stage) stage.nurse c.least_choice_in-cost.ensures.right
-    (c.least_choice_in-cost.ensures.least ∙
-    least_days-is (terms_of stage) (week_of stage) stage.nurse (least_after stage) c.args.left c.charged_past-charged.result
-    (omega (arith, c.if-left-eq0.false)) c.requires.left_in ∙
-    sym (ap (λ (weeks : List LeafWeek). least_left (terms_of stage) weeks stage.nurse c.args.left c.charged_past-charged.result)
-    c.requires.ready.at.at))
+    record {
+      found = c.end_cost.ensures.cost ∙
+          sym (ap (λ (weeks : List LeafWeek). rest_after (terms_of stage) (week_of stage).week weeks stage.nurse c.args.past)
+          (drop-end stage.leaf (stage.week + 1) c.if-week-stage.true));
+      small = c.end_cost.ensures.small;
+      right = c.requires.ready.right;
+    }
 
 pub least_after-least_in-requires : goal.least_after-least_in-requires
 least_after-least_in-requires t c =
@@ -55,21 +67,22 @@ least_after-least_in-requires t c =
     let next = c.index-stage-week.result in
     let same = next-numbers stage next c.requires.ready.at c.if-week-stage.false in
     let near : IsNear (week_of stage).week.shifts (DAYS * (stage.week + 1) + (DAYS - DAYS)) c.args.past =
-    near-more (week_of stage).week.shifts (days_before stage DAYS) _ c.args.past (omega arith) c.requires.near in
-    let stage_is = next-is stage next c.requires.ready.at c.if-week-stage.false in
-    let near_is = subst (λ (numbers : Numbers). IsNear numbers.shifts (DAYS * (stage.week + 1) + (DAYS - DAYS)) c.args.past) (sym same) near in
-    (search rules, (record { at = stage_is; right = c.requires.ready.right }, (omega arith, near_is)))
+    near-more (week_of stage).week.shifts (days_before stage (DAYS - 0)) _ c.args.past (omega arith) c.requires.near in (
+      search rules,
+      record {
+        ready = record { at = next-is stage next c.requires.ready.at c.if-week-stage.false; right = c.requires.ready.right };
+        within = omega arith;
+        near = subst (λ (numbers : Numbers). IsNear numbers.shifts (DAYS * (stage.week + 1) + (DAYS - DAYS)) c.args.past) (sym same) near;
+      },
+    )
 
-pub least_after-returns-clause-cost : goal.least_after-returns-clause-cost
-least_after-returns-clause-cost t c =
+pub least_after-returns : goal.least_after-returns
+least_after-returns t c =
     let stage = c.args.stage.now in
     let left = next-left stage c.index-stage-week.result c.requires.ready.at c.if-week-stage.false in
-    c.least_in.ensures.cost ∙
-    sym (ap (λ (weeks : List LeafWeek). rest_after (terms_of stage) (week_of stage).week weeks stage.nurse c.args.past) left)
-
-pub least_after-returns-then-week-stage-clause-cost : goal.least_after-returns-then-week-stage-clause-cost
-least_after-returns-then-week-stage-clause-cost t c =
-    let stage = c.args.stage.now in
-    c.end_cost.ensures.cost ∙
-    sym (ap (λ (weeks : List LeafWeek). rest_after (terms_of stage) (week_of stage).week weeks stage.nurse c.args.past)
-    (drop-end stage.leaf (stage.week + 1) c.if-week-stage.true))
+    record {
+      found = c.least_in.ensures.found ∙
+          sym (ap (λ (weeks : List LeafWeek). rest_after (terms_of stage) (week_of stage).week weeks stage.nurse c.args.past) left);
+      small = c.least_in.ensures.small;
+      right = c.least_in.ensures.right;
+    }

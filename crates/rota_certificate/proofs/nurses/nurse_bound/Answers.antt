@@ -4,13 +4,12 @@ use Rattle.rota_certificate.specs.Stages.{all_of, days_before, terms_of, week_of
 use Rattle.rota_certificate.proofs.Tables.{history-near, near-more}
 use Rattle.rota_certificate.proofs.nurses.nurse_bound.Goals as goal
 
-pub least_in-requires-clause-ready : goal.least_in-requires-clause-ready
-least_in-requires-clause-ready c =
+pub least_in-requires : goal.least_in-requires
+least_in-requires c =
     let stage = c.first-stage.result in
-    record { at = c.first-stage.ensures.stage; right = c.forget.ensures (terms_of stage) (all_of stage) stage.nurse }
-
-pub least_in-requires-clause-near : goal.least_in-requires-clause-near
-least_in-requires-clause-near c =
-    let stage = c.first-stage.result in
-    near-more (week_of stage).week.shifts 0 (days_before stage 0) c.past-past.result (omega arith)
-    (rw c.past-past.ensures.past (history-near stage.instance.now c.nurses-nurses.ensures.limits c.args.nurse))
+    record {
+      ready = record { at = c.first-stage.ensures.stage; right = c.forget.ensures (terms_of stage) (all_of stage) stage.nurse };
+      within = omega arith;
+      near = near-more (week_of stage).week.shifts 0 (days_before stage 0) c.past-past.result (omega arith)
+          (rw c.past-past.ensures.past (history-near stage.instance.now c.nurses-nurses.ensures.limits c.args.nurse));
+    }
