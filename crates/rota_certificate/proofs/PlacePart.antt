@@ -61,7 +61,7 @@ place_bound-least unit demand price nurses enough =
       | inr above ↦ rw (le-ltb price weight above) (dear_place weight price demand.minimum demand.optimal nurses above enough)
     ]
 
-both : (a b : Bool) → (a && b) ≡ true → (a ≡ true) × (b ≡ true)
+pub both : (a b : Bool) → (a && b) ≡ true → (a ≡ true) × (b ≡ true)
 both true true all = (refl, refl)
 both true false all = absurd (cc all)
 both false b all = absurd (cc all)
