@@ -16,7 +16,8 @@ use Rattle.rota_certificate.specs.LeafBounds.{added_prices, bound_of_leaf, leaf_
 use Rattle.rota_certificate.specs.NurseBounds.{LeafWeek, nurse_bound}
 use Rattle.rota_certificate.specs.NurseCosts.{AllowsPlan, nurse_cost, paid_in_plan}
 use Rattle.rota_certificate.specs.Plans.{ArePeriod, KeepRules, Plan, plan_after, plan_cost, plan_of}
-use Rattle.rota_certificate.specs.Tariffs.{Surcharged, added, gained, has_overdrawn, lost, points_of, surcharged, tariff_of, weight}
+use Rattle.rota_certificate.specs.Tariffs.{added, gained, has_overdrawn, lost, points_of, surcharged, tariff_of, weight}
+use Rattle.rota_certificate.specs.declared.surcharges.Surcharged.{Surcharged}
 use Rattle.rota_certificate.specs.declared.tariffs.Tariff.{Tariff}
 use Rattle.rota_certificate.proofs.CaseChoices.{KeepEach, begins-at}
 use Rattle.rota_certificate.proofs.LeafWeeks.{allows-plan, have-nurses, places-within, plan-keeps, prices-within, weeks-same}

@@ -100,7 +100,8 @@ module _ (plan : Plan) (w : ℕ) (planned : PlannedWeek) (here : slice_get plan 
   unfolding raised_minimum
   raised-within [] minimum is_in enough = enough
   raised-within (condition ∷ case) minimum is_in enough =
-      raised-step condition.fact condition.holds (raised_minimum case w d s k minimum) is_in.0 (raised-within case minimum is_in.1 enough)
+      raised-within case (raised_by condition.fact condition.holds w d s k minimum) is_in.1
+      (raised-step condition.fact condition.holds minimum is_in.0 enough)
 
   -- the missing nurses below a lowered optimal number, and those given up above it, are missing
   abbrev IsLowered : (optimal lowered : ℕ) → Type 0
@@ -121,17 +122,19 @@ module _ (plan : Plan) (w : ℕ) (planned : PlannedWeek) (here : slice_get plan 
   lowered-step (Charges limit) holds optimal lowered meets is_lowered = is_lowered
   lowered-step EvenShiftRuns holds optimal lowered meets is_lowered = is_lowered
 
-  lowered-within : (case : Case) (optimal : ℕ) → IsIn plan case → IsLowered optimal (lowered_optimal case w d s k optimal)
+  lowered-within : (case : Case) (optimal lowered : ℕ) → IsIn plan case → IsLowered optimal lowered →
+      IsLowered optimal (lowered_optimal case w d s k lowered)
   unfolding lowered_optimal
-  lowered-within [] optimal is_in = omega arith
-  lowered-within (condition ∷ case) optimal is_in =
-      lowered-step condition.fact condition.holds optimal (lowered_optimal case w d s k optimal) is_in.0 (lowered-within case optimal is_in.1)
+  lowered-within [] optimal lowered is_in is_lowered = is_lowered
+  lowered-within (condition ∷ case) optimal lowered is_in is_lowered =
+      lowered-within case optimal (lowered_by condition.fact condition.holds w d s k lowered) is_in.1
+      (lowered-step condition.fact condition.holds optimal lowered is_in.0 is_lowered)
 
   pub case_place_bound-within : (unit price : ℕ) (case : Case) (demand : Demand) → IsIn plan case → demand.minimum ≤ nurses_here →
       case_place_bound unit case w d s k demand price ≤ place_cost unit demand price nurses_here
   case_place_bound-within unit price case demand is_in enough =
       let least = place_bound-least unit (case_demand case w d s k demand) price nurses_here (raised-within case demand.minimum is_in enough) in
-      let missing = mul-le-mul_left (unit * optimum_weight) (lowered-within case demand.optimal is_in) in
+      let missing = mul-le-mul_left (unit * optimum_weight) (lowered-within case demand.optimal demand.optimal is_in (omega arith)) in
       omega (arith, least, missing)
 
 once : (price : ℕ) (has : Bool) → price * cond has 1 0 ≡ cond has price 0

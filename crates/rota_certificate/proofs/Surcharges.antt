@@ -20,8 +20,9 @@ use Rattle.rota_core.specs.declared.certificate.Fact.TheVariants.{Charges, Choic
 use Rattle.rota_certificate.specs.Facts.{Case, IsIn, charges_counted, charges_of_all, charges_of_nurse, is_fact, nurses_of}
 use Rattle.rota_certificate.specs.Minimums.{not_allowed}
 use Rattle.rota_certificate.specs.Plans.{Plan}
-use Rattle.rota_certificate.specs.Tariffs.{Surcharged, added, added_by, counts, forbidden_by, gained, gained_by, has_overdrawn, is_forbidden, is_kind, is_overdrawn}
+use Rattle.rota_certificate.specs.Tariffs.{added, added_by, counts, forbidden_by, gained, gained_by, has_overdrawn, is_forbidden, is_kind, is_overdrawn}
 use Rattle.rota_certificate.specs.Tariffs.{limit_of, lost, lost_by, over_limits, points_of, surcharged, taken, taken_by, weight}
+use Rattle.rota_certificate.specs.declared.surcharges.Surcharged.{Surcharged}
 use Rattle.rota_certificate.specs.declared.limits.Limit.{Limit}
 use Rattle.rota_certificate.specs.declared.limits.Limit.TheVariants.{AtMost, MoreThan}
 use Rattle.rota_certificate.proofs.PlacePart.{both}
@@ -142,7 +143,7 @@ module _ (plan : Plan) where
         all_terms (term added_by m (limit_of fact holds)) ≤ option_map_or (lost_by m) (limit_of fact holds) 0
     added-step (Charges limit) true m is_for meets =
         let most : charges_counted limit plan ≤ limit.most = grind (arith, nat_tests) in
-        omega (arith, limit-terms limit m (few limit is_for), mul-le-mul_left m most)
+        omega (arith, limit-terms limit m (few limit is_for.nurse), mul-le-mul_left m most)
     added-step (Charges limit) false m is_for meets = omega (arith, no-terms (λ kind n. 0) (λ kind n. refl))
     added-step EvenShiftRuns true m is_for meets = omega (arith, no-terms (λ kind n. 0) (λ kind n. refl))
     added-step EvenShiftRuns false m is_for meets = omega (arith, no-terms (λ kind n. 0) (λ kind n. refl))
@@ -153,7 +154,7 @@ module _ (plan : Plan) where
         option_map_or (gained_by m) (limit_of fact holds) 0 ≤ all_terms (term taken_by m (limit_of fact holds))
     taken-step (Charges limit) false m is_for meets =
         let more : limit.most + 1 ≤ charges_counted limit plan = grind (arith, nat_tests) in
-        omega (arith, limit-terms limit m (few limit is_for), mul-le-mul_left m more)
+        omega (arith, limit-terms limit m (few limit is_for.nurse), mul-le-mul_left m more)
     taken-step (Charges limit) true m is_for meets = omega arith
     taken-step EvenShiftRuns true m is_for meets = omega arith
     taken-step EvenShiftRuns false m is_for meets =

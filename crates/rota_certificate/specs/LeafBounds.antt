@@ -11,7 +11,8 @@ use Rattle.rota_core.specs.declared.certificate.Fact.TheVariants.{Choice}
 use Rattle.rota_certificate.specs.Facts.{Case}
 use Rattle.rota_certificate.specs.NurseBounds.{LeafWeek, nurse_bound}
 use Rattle.rota_certificate.specs.PlaceCases.{case_place_bounds}
-use Rattle.rota_certificate.specs.Tariffs.{Surcharged, gained, has_overdrawn, lost, surcharged, tariff_of}
+use Rattle.rota_certificate.specs.Tariffs.{gained, has_overdrawn, lost, surcharged, tariff_of}
+use Rattle.rota_certificate.specs.declared.surcharges.Surcharged.{Surcharged}
 
 -- whether two choices of a day are the same
 abbrev pub is_choice : (one other : Option ℕ) → Bool

@@ -1,3 +1,4 @@
+pub mod CaseLimits
 pub mod CertificateBounds
 pub mod CountedCharges
 pub mod DayCharges

@@ -31,13 +31,13 @@ lowered_by _ _ w d s k optimal = optimal
 unfoldable pub raised_minimum : Case → (week day shift skill minimum : ℕ) → ℕ
 raised_minimum [] w d s k minimum = minimum
 raised_minimum (condition ∷ case) w d s k minimum =
-    raised_by condition.fact condition.holds w d s k (raised_minimum case w d s k minimum)
+    raised_minimum case w d s k (raised_by condition.fact condition.holds w d s k minimum)
 
 -- the optimal number of the place in the case
 unfoldable pub lowered_optimal : Case → (week day shift skill optimal : ℕ) → ℕ
 lowered_optimal [] w d s k optimal = optimal
 lowered_optimal (condition ∷ case) w d s k optimal =
-    lowered_by condition.fact condition.holds w d s k (lowered_optimal case w d s k optimal)
+    lowered_optimal case w d s k (lowered_by condition.fact condition.holds w d s k optimal)
 
 -- the demand of the place in the case
 abbrev pub case_demand : Case → (week day shift skill : ℕ) → Demand → Demand

@@ -17,12 +17,8 @@ use Rattle.rota_certificate.specs.Facts.{Case}
 use Rattle.rota_certificate.specs.Minimums.{not_allowed}
 use Rattle.rota_certificate.specs.declared.limits.Limit.{Limit}
 use Rattle.rota_certificate.specs.declared.limits.Limit.TheVariants.{AtMost, MoreThan}
+use Rattle.rota_certificate.specs.declared.surcharges.Surcharged.{Surcharged}
 use Rattle.rota_certificate.specs.declared.tariffs.Tariff.{Tariff}
-
--- a condition of a leaf's case, with its surcharge
-pub record Surcharged : Type 0 where
-  pub condition : Condition
-  pub surcharge : ℕ
 
 -- the conditions with these surcharges, in order; a missing one is 0
 unfoldable pub surcharged : Case → (surcharges : List ℕ) → List Surcharged

@@ -14,9 +14,15 @@ mod charged_pasts;
 
 // The bound of a nurse in a leaf.
 mod known;
-mod limits;
 mod nurses;
 mod stages;
+
+// The demand of a place in a case, and the bounds of places.
+mod demand;
+
+// The limits that conditions set, and the tariffs of a leaf.
+mod limits;
+mod surcharges;
 mod tariffs;
 
 // Whether rosters meet conditions.

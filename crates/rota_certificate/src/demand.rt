@@ -1,0 +1,74 @@
+//! The demand of a place in a case.
+
+ghost use Rattle.std.specs.Prelude.{◌≡◌, ◌≤◌, All};
+ghost use Rattle.rota_core.specs.Limits.{max_number};
+ghost use Rattle.rota_certificate.specs.PlaceCases.{case_demand, is_at, lowered_by, lowered_optimal, raised_by, raised_minimum};
+ghost use Rattle.rota_certificate.specs.CaseLimits.{IsLimited};
+
+use rota_core::{Condition, Demand, Fact, NurseLimit};
+
+/// A place: a day, a shift type and a skill of the week with this number.
+#[derive(Clone, Copy)]
+pub struct Place {
+    /// The number of the week: 0 is the first.
+    pub week: u8,
+    /// The day: 0 is Monday.
+    pub day: u8,
+    /// The shift type.
+    pub shift: u8,
+    /// The skill.
+    pub skill: u8,
+}
+
+// Whether the limit is for the place.
+fn is_at(limit: NurseLimit, place: Place) -> bool
+    ensures { result ≡ is_at limit place.week place.day place.shift place.skill }
+{
+    limit.week == place.week
+        && limit.day == place.day
+        && limit.shift == place.shift
+        && limit.skill == place.skill
+}
+
+// The minimum, or more, if the condition is that there are more than some nurses at the place.
+fn raised_by(condition: Condition, place: Place, minimum: u16) -> u16
+    requires limited { IsLimited condition.fact }
+    requires small { minimum ≤ 10000 }
+    ensures minimum { result ≡ raised_by condition.fact condition.holds place.week place.day place.shift place.skill minimum }
+    ensures small { result ≤ 10000 }
+{
+    match (condition.fact, condition.holds) {
+        (Fact::Nurses(limit), false) if is_at(limit, place) => minimum.max(limit.most + 1),
+        _ => minimum,
+    }
+}
+
+// The optimal number, or less, if the condition is that there are at most some nurses at the place.
+fn lowered_by(condition: Condition, place: Place, optimal: u16) -> u16
+    requires small { optimal ≤ max_number }
+    ensures optimal { result ≡ lowered_by condition.fact condition.holds place.week place.day place.shift place.skill optimal }
+    ensures small { result ≤ max_number }
+{
+    match (condition.fact, condition.holds) {
+        (Fact::Nurses(limit), true) if is_at(limit, place) => optimal.min(limit.most),
+        _ => optimal,
+    }
+}
+
+/// The demand of the place in the case.
+pub fn case_demand(case: &[Condition], place: Place, demand: Demand) -> Demand
+    requires limited { All (λ (one : Condition). IsLimited one.fact) case.now }
+    requires minimum_in { demand.minimum ≤ max_number }
+    requires optimal_in { demand.optimal ≤ max_number }
+    ensures demand { result ≡ case_demand case.now place.week place.day place.shift place.skill demand }
+    ensures minimum_in { result.minimum ≤ 10000 }
+    ensures optimal_in { result.optimal ≤ max_number }
+{
+    let mut minimum = demand.minimum;
+    let mut optimal = demand.optimal;
+    for index in 0..case.len() {
+        minimum = raised_by(case[index], place, minimum);
+        optimal = lowered_by(case[index], place, optimal);
+    }
+    Demand { minimum, optimal }
+}

@@ -1,0 +1,38 @@
+//! The conditions of a leaf with their surcharges.
+
+ghost use Rattle.std.specs.Prelude.{◌≡◌, IfOk};
+ghost use Rattle.rota_certificate.specs.Tariffs.{surcharged};
+
+use rota_core::Condition;
+use std::alloc::{AllocError, Global};
+
+/// A condition of a leaf's case with its surcharge, in thousandths of a point.
+#[derive(Clone, Copy)]
+pub struct Surcharged {
+    /// The condition.
+    pub condition: Condition,
+    /// The surcharge.
+    pub surcharge: u32,
+}
+
+/// The conditions of the case with these surcharges, in order; a missing one is 0.
+pub fn surcharged(
+    alloc: Global,
+    case: &[Condition],
+    surcharges: &[u32],
+) -> Result<Vec<Surcharged>, AllocError>
+    ensures { IfOk result (λ charges. charges.items ≡ surcharged case.now surcharges.now) }
+{
+    let mut charges = Vec::with_capacity(alloc, case.len())?;
+    for index in 0..case.len() {
+        let surcharge = match surcharges.get(index) {
+            Some(surcharge) => *surcharge,
+            None => 0,
+        };
+        charges.push(Surcharged {
+            condition: case[index],
+            surcharge,
+        })?;
+    }
+    Ok(charges)
+}
