@@ -25,7 +25,7 @@ use Rattle.rota_certificate.proofs.NursePart.{HavePrices, nurse-bounded, weeks_o
 use Rattle.rota_certificate.proofs.ParityPart.{rules_tariff}
 use Rattle.rota_certificate.proofs.PlanParts.{fixed_of, nurse_cost-is, optimum_of, plan_cost-is}
 use Rattle.rota_certificate.proofs.Sums.{sum-each, sum-le, sum-plus, sum-same, sum-times, sum-zero}
-use Rattle.rota_certificate.proofs.Surcharges.{AreMet, all_terms, case-met, surcharges-within}
+use Rattle.rota_certificate.proofs.SurchargeSums.{AreMet, all_terms, case-met, surcharges-within}
 
 -- the first week has the number of nurses of a leaf, and of a plan
 count-of : (case : Case) (first : Problem) (later : List Problem) (prices : List Prices) →

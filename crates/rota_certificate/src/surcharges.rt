@@ -16,7 +16,7 @@ pub struct Surcharged {
 }
 
 /// The conditions of the case with these surcharges, in order; a missing one is 0.
-pub fn surcharged(
+pub fn with_surcharges(
     alloc: Global,
     case: &[Condition],
     surcharges: &[u32],
