@@ -4,6 +4,7 @@ pub mod CountedPlans
 pub mod CountedWeeks
 pub mod DaySteps
 pub mod Days
+pub mod DemandSteps
 pub mod EquivalentPasts
 pub mod FirstBelow
 pub mod FreeTotals
@@ -11,15 +12,18 @@ pub mod LeafSoundness
 pub mod LeafStages
 pub mod LeafWeeks
 pub mod LeastCosts
+pub mod ListSteps
 pub mod NursePart
 pub mod OtherHistories
 pub mod ParityPart
 pub mod PlacePart
+pub mod PlaceSteps
 pub mod PlanParts
 pub mod Rounding
 pub mod ShiftRuns
 pub mod StageLimits
 pub mod Sums
+pub mod SurchargeLists
 pub mod SurchargeSums
 pub mod Tables
 pub mod TreeSoundness

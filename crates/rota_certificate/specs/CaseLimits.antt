@@ -1,8 +1,11 @@
--- The numbers of a case's facts are within the limits of files.
-use Rattle.std.specs.Prelude.{ℕ, ◌≤◌, ⊤}
-use Rattle.rota_core.specs.Limits.{max_number}
+-- The numbers of a case's facts and surcharges are within the limits of files.
+use Rattle.std.specs.Prelude.{ℕ, ◌≤◌, ⊤, List, length}
+use Rattle.std.specs.List.{AllByRecursion}
+use Rattle.rota_core.specs.Limits.{max_number, max_price}
 use Rattle.rota_core.specs.declared.certificate.Fact.{Fact}
 use Rattle.rota_core.specs.declared.certificate.Fact.TheVariants.{Charges, Choice, EvenShiftRuns, Nurses}
+use Rattle.rota_certificate.specs.Facts.{Case}
+use Rattle.rota_certificate.specs.declared.surcharges.Surcharged.{Surcharged}
 
 -- the maximum of the fact, if it has one, is a number of a file
 abbrev pub IsLimited : Fact → Type 0
@@ -10,3 +13,18 @@ IsLimited (Nurses limit) = limit.most ≤ max_number
 IsLimited (Charges limit) = limit.most ≤ max_number
 IsLimited (Choice one) = ⊤
 IsLimited EvenShiftRuns = ⊤
+
+-- more conditions than a case has: no certificate has more than 19,998 nodes, and no file more than 9999 given facts
+abbrev pub most_conditions : ℕ
+most_conditions = 40000
+
+-- a case with these limits
+pub record IsLimitedCase (case : Case) : Type 0 where
+  pub few : length case ≤ most_conditions
+  pub each : AllByRecursion (λ one. IsLimited one.fact) case
+
+-- the conditions of a leaf with their surcharges, within these limits
+pub record AreLimited (charges : List Surcharged) : Type 0 where
+  pub few : length charges ≤ most_conditions
+  pub each : AllByRecursion (λ one. IsLimited one.condition.fact) charges
+  pub small : AllByRecursion (λ one. one.surcharge ≤ max_price) charges

@@ -114,11 +114,15 @@ tariff_of unit case n = record {
 abbrev pub is_overdrawn : (unit : ℕ) → List Surcharged → ChargeKind → (nurse : ℕ) → Bool
 is_overdrawn unit case kind n = nat_lt (unit * points_of kind + added case kind n) (taken case kind n)
 
--- whether more is taken off a weight than it has, for any kind and any nurse
+-- whether more is taken off a weight of the nurse than it has, for any kind
+abbrev pub has_overdrawn_weight : (unit : ℕ) → List Surcharged → (nurse : ℕ) → Bool
+has_overdrawn_weight unit case n =
+    is_overdrawn unit case ShiftRuns n || is_overdrawn unit case WorkDays n || is_overdrawn unit case Assignments n ||
+    is_overdrawn unit case Weekends n
+
+-- the same for any nurse
 abbrev pub has_overdrawn : (unit : ℕ) → List Surcharged → (nurses : ℕ) → Bool
-has_overdrawn unit case nurses =
-    any_below nurses (λ n. is_overdrawn unit case ShiftRuns n || is_overdrawn unit case WorkDays n || is_overdrawn unit case Assignments n ||
-    is_overdrawn unit case Weekends n)
+has_overdrawn unit case nurses = any_below nurses (has_overdrawn_weight unit case)
 
 -- what the bound of the leaf loses, and what it gains
 abbrev pub lost : List Surcharged → ℕ

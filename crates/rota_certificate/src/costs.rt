@@ -26,7 +26,7 @@ fn weighted(weight: u64, charges: u64) -> u64
 }
 
 // The product of the number of points and the value of a point.
-fn times(unit: u64, points: u64) -> u64
+pub fn times(unit: u64, points: u64) -> u64
     requires unit_in { unit ≤ thousandths }
     requires small { points ≤ 1000000000 }
     ensures product { result ≡ unit * points }

@@ -1,9 +1,9 @@
 //! The demand of a place in a case.
 
-ghost use Rattle.std.specs.Prelude.{◌≡◌, ◌≤◌, All};
+ghost use Rattle.std.specs.Prelude.{◌≡◌, ◌≤◌};
 ghost use Rattle.rota_core.specs.Limits.{max_number};
 ghost use Rattle.rota_certificate.specs.PlaceCases.{case_demand, is_at, lowered_by, lowered_optimal, raised_by, raised_minimum};
-ghost use Rattle.rota_certificate.specs.CaseLimits.{IsLimited};
+ghost use Rattle.rota_certificate.specs.CaseLimits.{IsLimited, IsLimitedCase};
 
 use rota_core::{Condition, Demand, Fact, NurseLimit};
 
@@ -11,7 +11,7 @@ use rota_core::{Condition, Demand, Fact, NurseLimit};
 #[derive(Clone, Copy)]
 pub struct Place {
     /// The number of the week: 0 is the first.
-    pub week: u8,
+    pub week: usize,
     /// The day: 0 is Monday.
     pub day: u8,
     /// The shift type.
@@ -24,7 +24,7 @@ pub struct Place {
 fn is_at(limit: NurseLimit, place: Place) -> bool
     ensures { result ≡ is_at limit place.week place.day place.shift place.skill }
 {
-    limit.week == place.week
+    usize::from(limit.week) == place.week
         && limit.day == place.day
         && limit.shift == place.shift
         && limit.skill == place.skill
@@ -57,7 +57,7 @@ fn lowered_by(condition: Condition, place: Place, optimal: u16) -> u16
 
 /// The demand of the place in the case.
 pub fn case_demand(case: &[Condition], place: Place, demand: Demand) -> Demand
-    requires limited { All (λ (one : Condition). IsLimited one.fact) case.now }
+    requires limited { IsLimitedCase case.now }
     requires minimum_in { demand.minimum ≤ max_number }
     requires optimal_in { demand.optimal ≤ max_number }
     ensures demand { result ≡ case_demand case.now place.week place.day place.shift place.skill demand }
@@ -67,8 +67,9 @@ pub fn case_demand(case: &[Condition], place: Place, demand: Demand) -> Demand
     let mut minimum = demand.minimum;
     let mut optimal = demand.optimal;
     for index in 0..case.len() {
-        minimum = raised_by(case[index], place, minimum);
-        optimal = lowered_by(case[index], place, optimal);
+        let condition = &case[index];
+        minimum = raised_by(*condition, place, minimum);
+        optimal = lowered_by(*condition, place, optimal);
     }
     Demand { minimum, optimal }
 }

@@ -19,8 +19,10 @@ mod stages;
 
 // The demand of a place in a case, and the bounds of places.
 mod demand;
+mod places;
 
 // The limits that conditions set, and the tariffs of a leaf.
+mod leaves;
 mod limits;
 mod surcharges;
 mod tariffs;

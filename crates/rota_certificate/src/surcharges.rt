@@ -1,6 +1,6 @@
 //! The conditions of a leaf with their surcharges.
 
-ghost use Rattle.std.specs.Prelude.{◌≡◌, IfOk};
+ghost use Rattle.std.specs.Prelude.{◌≡◌, IfOk, slice_index_or};
 ghost use Rattle.rota_certificate.specs.Tariffs.{surcharged};
 
 use rota_core::Condition;
@@ -15,6 +15,17 @@ pub struct Surcharged {
     pub surcharge: u32,
 }
 
+// The surcharge with this number, or 0.
+fn surcharge_at(surcharges: &[u32], index: usize) -> u32
+    ensures { result ≡ slice_index_or surcharges.now index 0 }
+{
+    if index < surcharges.len() {
+        surcharges[index]
+    } else {
+        0
+    }
+}
+
 /// The conditions of the case with these surcharges, in order; a missing one is 0.
 pub fn with_surcharges(
     alloc: Global,
@@ -25,12 +36,10 @@ pub fn with_surcharges(
 {
     let mut charges = Vec::with_capacity(alloc, case.len())?;
     for index in 0..case.len() {
-        let surcharge = match surcharges.get(index) {
-            Some(surcharge) => *surcharge,
-            None => 0,
-        };
+        let condition = &case[index];
+        let surcharge = surcharge_at(surcharges, index);
         charges.push(Surcharged {
-            condition: case[index],
+            condition: *condition,
             surcharge,
         })?;
     }

@@ -1,0 +1,159 @@
+//! The bounds of the places in a case. `unit` is the value of a point in units of a price.
+
+ghost use Rattle.std.specs.Prelude.{◌≡◌, ◌≤◌, ◌<◌, ◌*◌, length};
+ghost use Rattle.rota_core.specs.InstanceTables.{IsInstance, problem_of};
+ghost use Rattle.rota_core.specs.Limits.{max_number, max_weeks};
+ghost use Rattle.rota_core.specs.PriceTables.{IsForWeek, prices_of};
+ghost use Rattle.rota_core.specs.Prices.{max_price};
+ghost use Rattle.rota_core.specs.SumsBelow.{sum_below};
+ghost use Rattle.rota_certificate.specs.CaseLimits.{IsLimitedCase};
+ghost use Rattle.rota_certificate.specs.CertificateBounds.{thousandths};
+ghost use Rattle.rota_certificate.specs.LeafBounds.{leaf_place_bounds};
+ghost use Rattle.rota_certificate.specs.PlaceBounds.{place_bound, place_cost};
+ghost use Rattle.rota_certificate.specs.PlaceCases.{case_place_bound, case_place_bounds};
+ghost use Rattle.rota_certificate.specs.Stages.{IsLeaf, prices_lent, week_lent, weeks_of};
+
+use crate::costs::times;
+use crate::demand::{Place, case_demand};
+use crate::stages::{LentLeaf, LentWeek};
+use rota_core::{Condition, DAYS, Demand};
+
+// The price of this many nurses.
+fn price_of(price: u32, nurses: u16) -> u64
+    requires price_in { price ≤ max_price }
+    requires nurses_in { nurses ≤ 10000 }
+    ensures product { result ≡ price * nurses }
+    ensures small { result ≤ 10000000000000 }
+{
+    u64::from(price) * u64::from(nurses)
+}
+
+// The cost of this many nurses at a place with this demand, and their prices.
+fn place_cost(unit: u64, demand: Demand, price: u32, nurses: u16) -> u64
+    requires unit_in { unit ≤ thousandths }
+    requires price_in { price ≤ max_price }
+    requires nurses_in { nurses ≤ 10000 }
+    ensures cost { result ≡ place_cost unit demand price nurses }
+    ensures small { result ≤ 20000000000000 }
+{
+    let missing = demand.optimal.saturating_sub(nurses);
+    times(unit, 30 * u64::from(missing)) + price_of(price, nurses)
+}
+
+// The minimum cost of the place with a number of nurses that is not below the minimum.
+fn place_bound(unit: u64, demand: Demand, price: u32) -> u64
+    requires unit_in { unit ≤ thousandths }
+    requires price_in { price ≤ max_price }
+    requires minimum_in { demand.minimum ≤ 10000 }
+    requires optimal_in { demand.optimal ≤ max_number }
+    ensures bound { result ≡ place_bound unit demand price }
+    ensures small { result ≤ 20000000000000 }
+{
+    let nurses = if u64::from(price) < times(unit, 30) {
+        demand.minimum.max(demand.optimal)
+    } else {
+        demand.minimum
+    };
+    place_cost(unit, demand, price, nurses)
+}
+
+// The bound of the place in the case, with the cost of the nurses that are missing in any event.
+fn case_place_bound(
+    unit: u64,
+    case: &[Condition],
+    place: Place,
+    demand: Demand,
+    price: u32,
+) -> u64
+    requires unit_in { unit ≤ thousandths }
+    requires limited { IsLimitedCase case.now }
+    requires price_in { price ≤ max_price }
+    requires minimum_in { demand.minimum ≤ max_number }
+    requires optimal_in { demand.optimal ≤ max_number }
+    ensures bound { result ≡ case_place_bound unit case.now place.week place.day place.shift place.skill demand price }
+    ensures small { result ≤ 30000000000000 }
+{
+    let in_case = case_demand(case, place, demand);
+    let missing = demand.optimal.saturating_sub(in_case.optimal);
+    place_bound(unit, in_case, price) + times(unit, 30 * u64::from(missing))
+}
+
+// The sum of the bounds of all skills of a day's shift type of the week with this number.
+fn bounds_of_shift(
+    unit: u64,
+    case: &[Condition],
+    one: &LentWeek<'_>,
+    week: usize,
+    day: u8,
+    shift: u8,
+) -> u64
+    requires unit_in { unit ≤ thousandths }
+    requires limited { IsLimitedCase case.now }
+    requires day_in { day < DAYS }
+    requires shift_in { shift < (week_lent one.now).shifts }
+    requires shape { IsForWeek (week_lent one.now) one.now.prices.now }
+    ensures bounds { result ≡ sum_below (week_lent one.now).skills (λ k.
+        case_place_bound unit case.now week day shift k ((week_lent one.now).demand day shift k) (prices_lent one.now day shift k)) }
+    ensures small { result ≤ 16 * 30000000000000 }
+{
+    let mut sum = 0;
+    for skill in 0..one.instance.skills() {
+        let place = Place {
+            week,
+            day,
+            shift,
+            skill,
+        };
+        let demand = one.instance.demand(day, shift, skill);
+        let price = one.prices.price(day, shift, skill);
+        sum += case_place_bound(unit, case, place, demand, price);
+    }
+    sum
+}
+
+// The sum of the bounds of all places of a day.
+fn bounds_of_day(unit: u64, case: &[Condition], one: &LentWeek<'_>, week: usize, day: u8) -> u64
+    requires unit_in { unit ≤ thousandths }
+    requires limited { IsLimitedCase case.now }
+    requires day_in { day < DAYS }
+    requires shape { IsForWeek (week_lent one.now) one.now.prices.now }
+    ensures bounds { result ≡ sum_below (week_lent one.now).shifts (λ s. sum_below (week_lent one.now).skills (λ k.
+        case_place_bound unit case.now week day s k ((week_lent one.now).demand day s k) (prices_lent one.now day s k))) }
+    ensures small { result ≤ 16 * (16 * 30000000000000) }
+{
+    let mut sum = 0;
+    for shift in 0..one.instance.shifts() {
+        sum += bounds_of_shift(unit, case, one, week, day, shift);
+    }
+    sum
+}
+
+// The sum of the bounds of all places of the week with this number.
+fn bounds_of_week(unit: u64, case: &[Condition], one: &LentWeek<'_>, week: usize) -> u64
+    requires unit_in { unit ≤ thousandths }
+    requires limited { IsLimitedCase case.now }
+    requires shape { IsForWeek (week_lent one.now) one.now.prices.now }
+    ensures bounds { result ≡ case_place_bounds unit case.now week (week_lent one.now) (prices_lent one.now) }
+    ensures small { result ≤ 7 * (16 * (16 * 30000000000000)) }
+{
+    let mut sum = 0;
+    for day in 0..DAYS {
+        sum += bounds_of_day(unit, case, one, week, day);
+    }
+    sum
+}
+
+/// The bounds of all places of the leaf.
+pub fn leaf_place_bounds(unit: u64, leaf: &LentLeaf<'_>) -> u64
+    requires unit_in { unit ≤ thousandths }
+    requires limited { IsLimitedCase leaf.now.case.now }
+    requires leaf { IsLeaf leaf.now }
+    ensures bounds { result ≡ leaf_place_bounds unit leaf.now.case.now 0 (weeks_of leaf.now) }
+    ensures small { result ≤ max_weeks * (7 * (16 * (16 * 30000000000000))) }
+{
+    let mut sum = 0;
+    for week in 0..leaf.weeks.len() {
+        sum += bounds_of_week(unit, leaf.case, &leaf.weeks[week], week);
+    }
+    sum
+}
