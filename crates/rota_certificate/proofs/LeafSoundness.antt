@@ -34,7 +34,7 @@ unfolding leaf_weeks
 count-of case first later [] = refl
 count-of case first later (price ∷ prices) = refl
 
-nurses-are : (first : Problem) (later : List Problem) (rosters : List Roster) → length rosters ≡ length (first ∷ later) →
+pub nurses-are : (first : Problem) (later : List Problem) (rosters : List Roster) → length rosters ≡ length (first ∷ later) →
     nurses_of (plan_of (first ∷ later) rosters) ≡ first.nurses
 unfolding plan_after
 nurses-are first later [] count = absurd (omega (arith, count))

@@ -1,4 +1,5 @@
 pub mod CaseChoices
+pub mod CertificateSoundness
 pub mod Choices
 pub mod CountedPlans
 pub mod CountedWeeks

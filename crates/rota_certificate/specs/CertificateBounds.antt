@@ -1,10 +1,10 @@
 -- The bound of a certificate: the minimum of the bounds of its leaves. The nodes are a tree in preorder. The case of a node is the list of
 -- the conditions on its way to the root, and of those that all plans are asked to meet.
 use Rattle.std.specs.Prelude.{ℕ, ◌+◌, ◌/◌, ◌*◌, ◌≤◌, ◌++◌, Bool, true, false, min, if◌then◌else◌, Option, Some, None, List, [], ◌∷◌, map, reverse, slice_index_or}
-use Rattle.std.specs.List.{list_any}
+use Rattle.std.specs.List.{AllByRecursion, list_any}
 use Rattle.std.specs.Option.{option_map_or}
-use Rattle.rota_core.specs.PriceTables.{prices_of}
-use Rattle.rota_core.specs.Prices.{Prices}
+use Rattle.rota_core.specs.PriceTables.{PriceTables, prices_of}
+use Rattle.rota_core.specs.Prices.{ArePrices, Prices}
 use Rattle.rota_core.specs.Problem.{Problem}
 use Rattle.rota_core.specs.Roster.{Roster}
 use Rattle.rota_core.specs.declared.certificate.Certificate.{Certificate}
@@ -72,9 +72,17 @@ least_bound bound path (nodes.Leaf leaf ∷ later) =
 abbrev pub case_of : Path → (given : Case) → Case
 case_of path given = reverse path ++ given
 
+-- the lists of prices
+abbrev pub lists_of : Certificate → List (List PriceTables)
+lists_of certificate = map (λ list. list.items) certificate.prices.items
+
+-- no price is above the maximum
+abbrev pub HaveTables : Certificate → Type 0
+HaveTables certificate = AllByRecursion (AllByRecursion (λ t. ArePrices (prices_of t))) (lists_of certificate)
+
 -- the prices of a leaf
 abbrev pub prices_of_leaf : Certificate → Leaf → List Prices
-prices_of_leaf certificate leaf = map prices_of (slice_index_or (map (λ list. list.items) certificate.prices.items) leaf.prices [])
+prices_of_leaf certificate leaf = map prices_of (slice_index_or (lists_of certificate) leaf.prices [])
 
 -- the bound of a leaf of the certificate
 abbrev pub bound_at : ℕ → List Problem → (given : Case) → Certificate → Path → Leaf → ℕ

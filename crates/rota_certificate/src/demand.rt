@@ -1,6 +1,6 @@
 //! The demand of a place in a case.
 
-ghost use Rattle.std.specs.Prelude.{◌≡◌, ◌≤◌};
+ghost use Rattle.std.specs.Prelude.{◌≡◌, ◌≤◌, ◌<◌, length, slice_index_or};
 ghost use Rattle.rota_core.specs.Limits.{max_number};
 ghost use Rattle.rota_certificate.specs.PlaceCases.{case_demand, is_at, lowered_by, lowered_optimal, raised_by, raised_minimum};
 ghost use Rattle.rota_certificate.specs.CaseLimits.{IsLimited, IsLimitedCase};
@@ -55,6 +55,14 @@ fn lowered_by(condition: Condition, place: Place, optimal: u16) -> u16
     }
 }
 
+/// The condition with this number.
+pub fn condition_at(case: &[Condition], index: usize) -> Condition
+    requires inside { index < length case.now }
+    ensures { result ≡ slice_index_or case.now index result }
+{
+    case[index]
+}
+
 /// The demand of the place in the case.
 pub fn case_demand(case: &[Condition], place: Place, demand: Demand) -> Demand
     requires limited { IsLimitedCase case.now }
@@ -67,9 +75,9 @@ pub fn case_demand(case: &[Condition], place: Place, demand: Demand) -> Demand
     let mut minimum = demand.minimum;
     let mut optimal = demand.optimal;
     for index in 0..case.len() {
-        let condition = &case[index];
-        minimum = raised_by(*condition, place, minimum);
-        optimal = lowered_by(*condition, place, optimal);
+        let condition = condition_at(case, index);
+        minimum = raised_by(condition, place, minimum);
+        optimal = lowered_by(condition, place, optimal);
     }
     Demand { minimum, optimal }
 }

@@ -22,7 +22,6 @@ mod demand;
 mod places;
 
 // The limits that conditions set, and the tariffs of a leaf.
-mod leaves;
 mod limits;
 mod surcharges;
 mod tariffs;
@@ -32,5 +31,8 @@ mod conditions;
 mod counted;
 
 pub use conditions::first_unmet;
+/// The laws of the bound.
+pub mod laws;
+
 pub use limits::Limit;
 pub use tariffs::Tariff;

@@ -16,7 +16,7 @@ ghost use Rattle.rota_certificate.specs.Stages.{IsLeaf, prices_lent, week_lent, 
 use crate::costs::times;
 use crate::demand::{Place, case_demand};
 use crate::stages::{LentLeaf, LentWeek};
-use rota_core::{Condition, DAYS, Demand};
+use rota_core::{Condition, DAYS, Demand, Instance};
 
 // The price of this many nurses.
 fn price_of(price: u32, nurses: u16) -> u64
@@ -78,6 +78,20 @@ fn case_place_bound(
     place_bound(unit, in_case, price) + times(unit, 30 * u64::from(missing))
 }
 
+// The demand of the place. Its numbers are at most `MAX_NUMBER`.
+fn demand_at(instance: &Instance, day: u8, shift: u8, skill: u8) -> Demand
+    requires day_in { day < DAYS }
+    requires shift_in { shift < (problem_of instance.now).shifts }
+    requires skill_in { skill < (problem_of instance.now).skills }
+    ensures demand { result ≡ (problem_of instance.now).demand day shift skill }
+    ensures minimum { result.minimum ≤ max_number }
+    ensures optimal { result.optimal ≤ max_number }
+{
+    // The call shows that the week is within the limits.
+    let _nurses = instance.nurses();
+    instance.demand(day, shift, skill)
+}
+
 // The sum of the bounds of all skills of a day's shift type of the week with this number.
 fn bounds_of_shift(
     unit: u64,
@@ -104,7 +118,7 @@ fn bounds_of_shift(
             shift,
             skill,
         };
-        let demand = one.instance.demand(day, shift, skill);
+        let demand = demand_at(one.instance, day, shift, skill);
         let price = one.prices.price(day, shift, skill);
         sum += case_place_bound(unit, case, place, demand, price);
     }

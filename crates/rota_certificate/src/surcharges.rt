@@ -3,6 +3,7 @@
 ghost use Rattle.std.specs.Prelude.{◌≡◌, IfOk, slice_index_or};
 ghost use Rattle.rota_certificate.specs.Tariffs.{surcharged};
 
+use crate::demand::condition_at;
 use rota_core::Condition;
 use std::alloc::{AllocError, Global};
 
@@ -36,10 +37,10 @@ pub fn with_surcharges(
 {
     let mut charges = Vec::with_capacity(alloc, case.len())?;
     for index in 0..case.len() {
-        let condition = &case[index];
+        let condition = condition_at(case, index);
         let surcharge = surcharge_at(surcharges, index);
         charges.push(Surcharged {
-            condition: *condition,
+            condition,
             surcharge,
         })?;
     }

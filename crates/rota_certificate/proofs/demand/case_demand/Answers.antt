@@ -10,9 +10,9 @@ loop-index-preserved c =
     let p = c.args.place in
     let case = c.args.case.now in
     let i = c.loop-index.index in
-    let condition = c.index-case-index.result in
-    let raised = raised-more case i p.week p.day p.shift p.skill condition c.loop-index-test.true c.index-case-index.is c.loop-index.minimum in
-    let lowered = lowered-more case i p.week p.day p.shift p.skill condition c.loop-index-test.true c.index-case-index.is c.loop-index.optimal in
+    let condition = c.condition_at-condition.result in
+    let raised = raised-more case i p.week p.day p.shift p.skill condition c.loop-index-test.true c.condition_at-condition.ensures c.loop-index.minimum in
+    let lowered = lowered-more case i p.week p.day p.shift p.skill condition c.loop-index-test.true c.condition_at-condition.ensures c.loop-index.optimal in
     record {
       minimum = ap (λ (m : ℕ). raised_minimum (drop (i + 1) case) p.week p.day p.shift p.skill m) c.raised_by-minimum.ensures.minimum ∙ sym raised ∙
           c.loop-index.invariant.minimum;

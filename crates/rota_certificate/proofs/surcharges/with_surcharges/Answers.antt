@@ -10,10 +10,10 @@ loop-index-preserved c =
     let case = c.args.case.now in
     let list = c.args.surcharges.now in
     let i = c.loop-index.index in
-    let condition = c.index-case-index.result in
-    let more = surcharged-more case list i condition c.loop-index-test.true c.index-case-index.is in
+    let condition = c.condition_at-condition.result in
+    let more = surcharged-more case list i condition c.loop-index-test.true c.condition_at-condition.ensures in
     let rest = surcharged (drop (i + 1) case) (drop (i + 1) list) in
-    let one = record { condition = condition; surcharge = c.surcharge_at-surcharge.result } in
+    let one : Surcharged = record { condition = condition; surcharge = c.surcharge_at-surcharge.result } in
     ap (λ (all : List Surcharged). all ++ rest) c.in_ok-push.ensures.items ∙
     append_assoc c.loop-index.charges.items (one ∷ []) rest ∙
     ap (λ (m : ℕ). c.loop-index.charges.items ++ (record { condition = condition; surcharge = m } ∷ rest)) c.surcharge_at-surcharge.ensures ∙

@@ -1,0 +1,118 @@
+-- The bound of a certificate is at most the cost of each plan that meets the given conditions.
+use Rattle.std.proofs.Common.{◌≡◌, ℕ, zero, suc, ◌+◌, ◌*◌, ◌<◌, ◌≤◌, ◌==◌, Bool, true, false, ap, sym, ◌∙◌, refl, subst, arith, List, [], ◌∷◌, length, map, reverse, ◌++◌, slice_index_or}
+use Rattle.std.specs.Prelude.{◌%◌}
+use Rattle.std.specs.List.{AllByRecursion}
+use Rattle.std.proofs.lemmas.List.{reverse-append}
+use Rattle.rota_core.specs.Certificates.{AreConditionsFor, IsCertificateFor, IsFactFor, IsLeafFor, IsNodeFor}
+use Rattle.rota_core.specs.PriceTables.{PriceTables, prices_of}
+use Rattle.rota_core.specs.Prices.{ArePrices, Prices}
+use Rattle.rota_core.specs.Problem.{Problem}
+use Rattle.rota_core.specs.Roster.{Roster}
+use Rattle.rota_core.specs.Sizes.{Numbers}
+use Rattle.rota_core.specs.declared.certificate.Certificate.{Certificate}
+use Rattle.rota_core.specs.declared.certificate.ChargeKind.TheVariants.{ShiftRuns}
+use Rattle.rota_core.specs.declared.certificate.Condition.{Condition}
+use Rattle.rota_core.specs.declared.certificate.Fact.{Fact}
+use Rattle.rota_core.specs.declared.certificate.Leaf.{Leaf}
+use Rattle.rota_core.specs.declared.certificate.Node.{Node}
+use Rattle.rota_core.specs.declared.certificate.Node.TheVariants as nodes
+use Rattle.rota_certificate.specs.CertificateBounds.{AreOptimal, HaveTables, Path, bound_at, case_of, lower_bound, minimums_bound, prices_of_leaf, rounded_up, thousandths}
+use Rattle.rota_certificate.specs.Facts.{Case, IsIn, Meets, charges_of_all, nurses_of}
+use Rattle.rota_certificate.specs.LeafBounds.{leaf_bound}
+use Rattle.rota_certificate.specs.Plans.{ArePeriod, KeepRules, Plan, plan_cost, plan_of}
+use Rattle.rota_certificate.proofs.LeafSoundness.{leaf-within, nurses-are}
+use Rattle.rota_certificate.proofs.LeafWeeks.{have-nurses, plan-keeps}
+use Rattle.rota_certificate.proofs.PlanParts.{HaveNurses, plan-tenths}
+use Rattle.rota_certificate.proofs.Rounding.{rounded-within}
+use Rattle.rota_certificate.proofs.TreeSoundness.{AllFacts, PassesNode, root-covered, tree-sound}
+
+-- ---- lists
+
+module _ {X : Type 0} (P : X → Type 0) where
+  all-append : (xs ys : List X) → AllByRecursion P xs → AllByRecursion P ys → AllByRecursion P (xs ++ ys)
+  all-append [] ys all more = more
+  all-append (x ∷ xs) ys all more = (all.0, all-append xs ys all.1 more)
+
+  all-reverse : (xs : List X) → AllByRecursion P xs → AllByRecursion P (reverse xs)
+  all-reverse [] all = tt
+  all-reverse (x ∷ xs) all =
+      subst (λ (list : List X). AllByRecursion P list) (sym (reverse-append (x ∷ []) xs))
+      (all-append (reverse xs) (x ∷ []) (all-reverse xs all.1) (all.0, tt))
+
+each : (list : List PriceTables) → AllByRecursion (λ t. ArePrices (prices_of t)) list → AllByRecursion ArePrices (map prices_of list)
+each [] within = tt
+each (first ∷ list) within = (within.0, each list within.1)
+
+-- the tables of a leaf are within their limit
+tables-at : (lists : List (List PriceTables)) (i : ℕ) → AllByRecursion (AllByRecursion (λ t. ArePrices (prices_of t))) lists →
+    AllByRecursion ArePrices (map prices_of (slice_index_or lists i []))
+tables-at [] i within = tt
+tables-at (first ∷ lists) zero within = each first within.0
+tables-at (first ∷ lists) (suc i) within = tables-at lists i within.1
+
+-- ---- the bound
+
+module _ (first : Problem) (later : List Problem) (given : Case) (certificate : Certificate) (rosters : List Roster)
+    (is_for : IsCertificateFor first (length (first ∷ later)) certificate) (tables : HaveTables certificate)
+    (given_for : AreConditionsFor first.numbers (length (first ∷ later)) given) (period : ArePeriod (first ∷ later))
+    (keep : KeepRules (first ∷ later) rosters) (meet : IsIn (plan_of (first ∷ later) rosters) given) where
+  abbrev problems : List Problem
+  problems = first ∷ later
+
+  abbrev plan : Plan
+  plan = plan_of problems rosters
+
+  abbrev IsForPlan : Fact → Type 0
+  IsForPlan fact = IsFactFor first.numbers (length problems) fact
+
+  abbrev IsLeafOf : Leaf → Type 0
+  IsLeafOf leaf = IsLeafFor (length certificate.prices.items) leaf
+
+  node-passes : (node : Node) → IsNodeFor first.numbers (length problems) (length certificate.prices.items) node → PassesNode IsForPlan IsLeafOf node
+  node-passes (nodes.Split fact) is = is
+  node-passes (nodes.Leaf leaf) is = is
+
+  nodes-pass : (list : List Node) → AllByRecursion (IsNodeFor first.numbers (length problems) (length certificate.prices.items)) list →
+      AllByRecursion (PassesNode IsForPlan IsLeafOf) list
+  nodes-pass [] all = tt
+  nodes-pass (node ∷ list) all = (node-passes node all.0, nodes-pass list all.1)
+
+  nurses_are : nurses_of plan ≡ first.nurses
+  nurses_are = nurses-are first later rosters keep.count
+
+  have : HaveNurses (nurses_of plan) plan
+  have =
+      subst (λ (n : ℕ). HaveNurses n plan) (sym nurses_are) (have-nurses first.numbers plan (plan-keeps first later rosters period keep))
+
+  -- the bound of a leaf in thousandths of a point, or without the soft rules
+  leaf-sound : (unit : ℕ) (surcharges : List ℕ) (path : Path) (leaf : Leaf) → AllFacts plan IsForPlan path → IsIn plan path →
+      leaf_bound unit problems (case_of path given) (prices_of_leaf certificate leaf) surcharges ≤ unit * plan_cost plan
+  leaf-sound unit surcharges path leaf facts is_in =
+      leaf-within first later rosters period keep unit (length problems) (case_of path given) (prices_of_leaf certificate leaf)
+      (tables-at (map (λ list. list.items) certificate.prices.items) leaf.prices tables)
+      (all-append (λ (one : Condition). IsForPlan one.fact) (reverse path) given (all-reverse (λ (one : Condition). IsForPlan one.fact) path facts) given_for)
+      (all-append (Meets plan) (reverse path) given (all-reverse (Meets plan) path is_in) meet) surcharges
+
+  leaf-rounded : (path : Path) (leaf : Leaf) → AllFacts plan IsForPlan path → IsLeafOf leaf → IsIn plan path →
+      rounded_up (case_of path given) (bound_at thousandths problems given certificate path leaf) ≤ plan_cost plan
+  leaf-rounded path leaf facts is_leaf is_in =
+      let tenths = plan-tenths (nurses_of plan) plan have in
+      rounded-within plan (case_of path given) (charges_of_all ShiftRuns plan) tenths.0 (bound_at thousandths problems given certificate path leaf)
+      (plan_cost plan) (all-append (Meets plan) (reverse path) given (all-reverse (Meets plan) path is_in) meet) refl tenths.1
+      (leaf-sound thousandths leaf.surcharges.items path leaf facts is_in)
+
+  -- no plan that meets the conditions costs less than the bound
+  pub lower_bound-sound : lower_bound problems given certificate ≤ plan_cost plan
+  lower_bound-sound =
+      tree-sound plan IsForPlan (plan_cost plan)
+      (λ path leaf. rounded_up (case_of path given) (bound_at thousandths problems given certificate path leaf)) IsLeafOf leaf-rounded
+      [] certificate.nodes.items tt (nodes-pass certificate.nodes.items is_for.nodes) (root-covered plan IsForPlan)
+
+  -- no plan meets the conditions if the bound without the soft rules is above 0
+  pub minimums-prove : 0 < minimums_bound problems given certificate → ⊥
+  minimums-prove above =
+      let below = tree-sound plan IsForPlan 0
+      (λ path leaf. leaf_bound 0 problems (case_of path given) (prices_of_leaf certificate leaf) []) IsLeafOf
+      (λ path leaf facts is_leaf is_in. omega (arith, leaf-sound 0 [] path leaf facts is_in))
+      [] certificate.nodes.items tt (nodes-pass certificate.nodes.items is_for.nodes) (root-covered plan IsForPlan) in
+      absurd (omega (arith, above, below))
