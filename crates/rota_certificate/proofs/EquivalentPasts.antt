@@ -1,6 +1,6 @@
 -- Equivalent pasts have equal charges, also after equal choices.
 use Rattle.std.proofs.Common.{◌≡◌, ℕ, zero, suc, ◌+◌, ◌-◌, ◌*◌, ◌==◌, Bool, false, true, cond, not, inl, inr, min, refl, ap, subst, sym, ◌∙◌, arith}
-use Rattle.std.specs.Prelude.{List, [], ◌∷◌, Option, Some, None, is_some}
+use Rattle.std.specs.Prelude.{List, [], ◌∷◌, Option, Some, None, is_some, nat_le}
 use Rattle.std.specs.List.{AllByRecursion}
 use Rattle.std.proofs.lemmas.Bool.{cases_Bool, eqb-true}
 use Rattle.std.proofs.lemmas.Bool.Decides.{nat_tests}
@@ -39,13 +39,8 @@ under_charge-equivalent limits run other false equivalent = grind (arith, nat_te
 longer-equivalent : (limits : Span) (run other : ℕ) → AreEquivalentNumbers limits run other → AreEquivalentNumbers limits (run + 1) (other + 1)
 longer-equivalent limits run other equivalent = omega arith
 
--- one more than the maximum, or not
-above-equivalent : (limits : Span) (total other : ℕ) (works : Bool) → AreEquivalentNumbers limits total other →
-    over_charge total works limits ≡ over_charge other works limits
-above-equivalent = over_charge-equivalent
-
 weekend-equivalent : (most weekends other now : ℕ) → min weekends most ≡ min other most →
-    cond (Rattle.std.specs.Prelude.nat_le most weekends) now 0 ≡ cond (Rattle.std.specs.Prelude.nat_le most other) now 0
+    cond (nat_le most weekends) now 0 ≡ cond (nat_le most other) now 0
 weekend-equivalent most weekends other now equivalent = grind (arith, nat_tests)
 
 missing-equivalent : (is_last : Bool) (contract : Contract) (past other : Past) →
@@ -72,7 +67,7 @@ module _ (problem : Problem) (n : ℕ) (past other : Past) (equivalent : AreEqui
 
   assignment-equivalent : (choice : Option ℕ) → assignment_above (problem.contract n) past choice ≡ assignment_above (problem.contract n) other choice
   assignment-equivalent choice =
-      above-equivalent (problem.contract n).total past.assignments other.assignments (is_some choice) equivalent.assignments
+      over_charge-equivalent (problem.contract n).total past.assignments other.assignments (is_some choice) equivalent.assignments
 
   weekend_above-equivalent : (d : ℕ) (choice : Option ℕ) →
       weekend_above (problem.contract n) d past choice ≡ weekend_above (problem.contract n) d other choice

@@ -1,9 +1,6 @@
 -- The weeks of a leaf, one after another.
-use Rattle.std.proofs.Common.{◌≡◌, ℕ, zero, suc, ◌+◌, ◌<◌, ◌≤◌, Bool, true, false, ◌||◌, ap, refl, sym, ◌∙◌, subst, arith, List, [], ◌∷◌, length, map, drop, slice_index_or, add-one}
+use Rattle.std.proofs.Common.{◌≡◌, ℕ, zero, suc, ◌+◌, ◌<◌, ◌≤◌, Bool, true, false, ap, refl, sym, ◌∙◌, subst, arith, List, [], ◌∷◌, length, map, drop, slice_index_or}
 use Rattle.std.specs.List.{AllByRecursion, list_any}
-use Rattle.rota_core.specs.InstanceTables.{problem_of}
-use Rattle.rota_core.specs.Limits.{max_weeks}
-use Rattle.rota_core.specs.PriceTables.{IsForWeek, prices_of}
 use Rattle.rota_core.specs.Problem.{Problem}
 use Rattle.rota_core.specs.Sizes.{Numbers}
 use Rattle.rota_certificate.specs.CertificateBounds.{thousandths}

@@ -33,17 +33,26 @@ pub struct Known {
     rebates: Vec<Option<KnownRebate>>,
 }
 
-// The number of entries for the costs of one week, a prime number: a nurse rarely has so many pasts in a week.
-const WEEK_ENTRIES: usize = 16381;
-
-// The number of entries for the costs of a longer period, a prime number: they take some ten megabytes.
-const PERIOD_ENTRIES: usize = 262139;
-
 // The number of entries for rebates, a prime number: seven days with seventeen choices of eight weeks.
 const REBATE_ENTRIES: usize = 1021;
 
 // A number that spreads the parts of a past over the entries: any large odd number that is not near a power of two.
 const SPREAD: usize = 1_000_003;
+
+// The number of entries for the costs of so many weeks, a prime number. A nurse has more pasts a day in a longer period,
+// with more totals; there are entries for those of a month or more, since fewer are lost too early. At most they take some
+// fifty megabytes.
+fn cost_entries(weeks: usize) -> usize
+    ensures { 0 < result }
+{
+    match weeks {
+        0..=2 => 16_381,
+        3..=4 => 32_749,
+        5..=8 => 131_071,
+        9..=16 => 524_287,
+        _ => 1_048_573,
+    }
+}
 
 // Entries without costs.
 fn no_costs(alloc: Global, entries: usize) -> Result<Vec<Option<KnownCost>>, AllocError>
@@ -104,12 +113,7 @@ impl Known {
     pub fn for_weeks(alloc: Global, weeks: usize) -> Result<Known, AllocError>
         ensures { IfOk result HasEntries }
     {
-        let entries = if weeks > 1 {
-            PERIOD_ENTRIES
-        } else {
-            WEEK_ENTRIES
-        };
-        let costs = no_costs(alloc, entries)?;
+        let costs = no_costs(alloc, cost_entries(weeks))?;
         let rebates = no_rebates(alloc)?;
         Ok(Known { costs, rebates })
     }

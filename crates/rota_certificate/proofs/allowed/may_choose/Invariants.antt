@@ -1,5 +1,4 @@
 use Rattle.std.proofs.Common.{◌≡◌, drop}
-use Rattle.std.specs.List.{list_all}
 use Rattle.rota_certificate.specs.LeafBounds.{allows, may_choose}
 use Rattle.rota_certificate.proofs.allowed.may_choose.Given as goal
 

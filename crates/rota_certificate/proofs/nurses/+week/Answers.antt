@@ -1,10 +1,10 @@
-use Rattle.std.proofs.Common.{rules, List, ap, sym, ◌∙◌, arith, subst, ◌+◌, ◌-◌, ◌*◌, ◌<◌}
+use Rattle.std.proofs.Common.{rules, List, ap, sym, ◌∙◌, arith, subst, ◌+◌, ◌-◌, ◌*◌}
 use Rattle.rota_core.specs.Sizes.{DAYS, Numbers}
 use Rattle.rota_certificate.specs.Nearness.{IsNear}
 use Rattle.rota_certificate.specs.NurseBounds.{LeafWeek, least_left, rest_after}
 use Rattle.rota_certificate.specs.Stages.{all_of, days_before, least_after, terms_of, week_of}
 use Rattle.rota_certificate.proofs.LeastCosts.{least_days-at_end, least_days-is, least_days-small}
-use Rattle.rota_certificate.proofs.LeafStages.{drop-end, next-is, next-left, next-numbers, next_of, one}
+use Rattle.rota_certificate.proofs.LeafStages.{drop-end, next-is, next-left, next-numbers}
 use Rattle.rota_certificate.proofs.Tables.{near-more}
 use Rattle.rota_certificate.proofs.nurses.+week.Goals as goal
 

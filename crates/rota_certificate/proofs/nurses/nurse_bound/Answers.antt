@@ -1,5 +1,4 @@
-use Rattle.std.proofs.Common.{List, ap, sym, ◌∙◌, arith}
-use Rattle.rota_certificate.specs.NurseBounds.{LeafWeek}
+use Rattle.std.proofs.Common.{arith}
 use Rattle.rota_certificate.specs.Stages.{all_of, days_before, terms_of, week_of}
 use Rattle.rota_certificate.proofs.Tables.{history-near, near-more}
 use Rattle.rota_certificate.proofs.nurses.nurse_bound.Goals as goal

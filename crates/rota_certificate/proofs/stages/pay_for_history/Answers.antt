@@ -1,4 +1,4 @@
-use Rattle.std.proofs.Common.{Bool, ◌&&◌, not, ◌∙◌, sym, arith}
+use Rattle.std.proofs.Common.{Bool, ◌&&◌, not, ◌∙◌, sym}
 use Rattle.rota_certificate.specs.NurseBounds.{LeafWeek}
 use Rattle.rota_certificate.proofs.LeafStages.{any-end, any-fails, any-passes}
 use Rattle.rota_certificate.proofs.stages.pay_for_history.Goals as goal
