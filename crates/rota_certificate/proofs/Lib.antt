@@ -11,6 +11,7 @@ pub mod FirstBelow
 pub mod FreeTotals
 pub mod LeafSoundness
 pub mod LeafStages
+pub mod LeafSteps
 pub mod LeafWeeks
 pub mod LeastCosts
 pub mod ListSteps

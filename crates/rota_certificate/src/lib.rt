@@ -22,6 +22,7 @@ mod demand;
 mod places;
 
 // The limits that conditions set, and the tariffs of a leaf.
+mod leaves;
 mod limits;
 mod surcharges;
 mod tariffs;
@@ -31,8 +32,8 @@ mod conditions;
 mod counted;
 
 pub use conditions::first_unmet;
+pub use leaves::leaf_bound;
 /// The laws of the bound.
 pub mod laws;
 
-pub use limits::Limit;
-pub use tariffs::Tariff;
+pub use stages::{LentLeaf, LentWeek};

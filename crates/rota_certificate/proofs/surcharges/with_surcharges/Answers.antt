@@ -1,8 +1,9 @@
-use Rattle.std.proofs.Common.{◌≡◌, ap, sym, ◌∙◌, arith, ◌++◌, ◌∷◌, [], List, drop, ℕ, ◌+◌}
+use Rattle.std.proofs.Common.{◌≡◌, ap, sym, ◌∙◌, arith, ◌++◌, ◌∷◌, [], List, drop, subst, ℕ, ◌+◌}
 use Rattle.std.proofs.lemmas.List.{append-nil, append_assoc}
+use Rattle.rota_certificate.specs.CaseLimits.{AreLimited}
 use Rattle.rota_certificate.specs.Tariffs.{surcharged}
 use Rattle.rota_certificate.specs.declared.surcharges.Surcharged.{Surcharged}
-use Rattle.rota_certificate.proofs.SurchargeLists.{surcharged-end, surcharged-more}
+use Rattle.rota_certificate.proofs.SurchargeLists.{surcharged-end, surcharged-limited, surcharged-more}
 use Rattle.rota_certificate.proofs.surcharges.with_surcharges.Goals as goal
 
 pub loop-index-preserved : goal.loop-index-preserved
@@ -19,7 +20,11 @@ loop-index-preserved c =
     ap (λ (m : ℕ). c.loop-index.charges.items ++ (record { condition = condition; surcharge = m } ∷ rest)) c.surcharge_at-surcharge.ensures ∙
     ap (λ (all : List Surcharged). c.loop-index.charges.items ++ all) (sym more) ∙ c.loop-index.invariant
 
-pub returns : goal.returns
-returns c =
+pub returns-clause-charges : goal.returns-clause-charges
+returns-clause-charges c =
     let end = surcharged-end c.args.case.now c.args.surcharges.now c.loop-index.index (omega (arith, c.loop-index-test.false)) in
     sym (append-nil c.loop-index.charges.items) ∙ ap (λ (all : List Surcharged). c.loop-index.charges.items ++ all) (sym end) ∙ c.loop-index.invariant
+
+pub returns-clause-limited : goal.returns-clause-limited
+returns-clause-limited c =
+    subst AreLimited (sym (returns-clause-charges c)) (surcharged-limited c.args.case.now c.args.surcharges.now c.requires.case c.requires.small)
