@@ -77,13 +77,17 @@ def run_line(line: str) -> Result:
     environment = {**os.environ, "PATH": f"{ROOT / 'helpers'}:{os.environ.get('PATH', '')}"}
     with tempfile.TemporaryDirectory() as folder:
         command = line.replace("{}", shlex.quote(folder))
-        ran = subprocess.run(command, shell=True, cwd=ROOT, env=environment, stdin=subprocess.DEVNULL, stdout=subprocess.PIPE, stderr=subprocess.PIPE)
+        ran = subprocess.run(
+            command, shell=True, cwd=ROOT, env=environment, stdin=subprocess.DEVNULL, stdout=subprocess.PIPE, stderr=subprocess.PIPE
+        )
     output, errors = (data.decode("utf-8", errors="replace") for data in (ran.stdout, ran.stderr))
     used = resource.getrusage(resource.RUSAGE_CHILDREN)
     seconds, processor = round(time.monotonic() - began, 2), round(used.ru_utime + used.ru_stime, 2)
     fault = (errors.strip().splitlines() or [""])[-1] if ran.returncode else ""
     where = platform.node()
-    return Result(line, ran.returncode, _last(PENALTY, output), _last(BOUND, output), seconds, processor, used.ru_maxrss // 1024, where, fault)
+    return Result(
+        line, ran.returncode, _last(PENALTY, output), _last(BOUND, output), seconds, processor, used.ru_maxrss // 1024, where, fault
+    )
 
 
 def _setting(line: str) -> str:

@@ -76,7 +76,10 @@ def named(home: Path, name: str, number: int) -> WeekFiles:
 
 def run(files: WeekFiles, seconds: float, folder: Path) -> Run:
     """Plans the week from nothing."""
-    words = [sys.executable, str(ROOT / "helpers/inrc2pb-improve"), *files.options(), "--sol", str(folder / "roster.txt"), "--time", str(seconds)]
+    words = [
+        sys.executable, str(ROOT / "helpers/inrc2pb-improve"), *files.options(), "--sol", str(folder / "roster.txt"), "--time",
+        str(seconds),
+    ]
     began = time.monotonic()
     with open(folder / "said.txt", "w+") as said:
         improve = subprocess.Popen(words, stdout=said, stderr=subprocess.STDOUT)

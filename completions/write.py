@@ -224,7 +224,8 @@ def plain_fish(program: str) -> Iterator[str]:
 def main() -> None:
     """Writes the files."""
     parser = argparse.ArgumentParser(description="Writes the completions for bash, zsh and fish.")
-    parser.add_argument("folder", nargs="?", type=Path, default=Path(__file__).resolve().parent, help="where the files go [default: beside this script]")
+    here = Path(__file__).resolve().parent
+    parser.add_argument("folder", nargs="?", type=Path, default=here, help="where the files go [default: beside this script]")
     folder = parser.parse_args().folder
     (folder / "inrc2pb.bash").write_text(bash())
     (folder / "_inrc2pb").write_text(zsh())

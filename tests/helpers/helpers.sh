@@ -75,7 +75,6 @@ explains_each_fault() {
     done < <(fault_texts)
 }
 
-# The imports between the packages of the library go one way. A line of Python has at most 140 columns.
 imports_go_one_way() {
     begins_case 'the imports of the helpers'
     tests/helpers/packages.py > "$out" || complain "$(head -n 20 "$out")"
@@ -83,13 +82,14 @@ imports_go_one_way() {
 
 lines_are_short() {
     begins_case 'lines of Python of at most 140 columns'
-    find bench completions helpers tests -name '*.py' -print0 | xargs -0 awk 'length($0) > 140 { print FILENAME ":" FNR }' > "$out"
+    find bench completions helpers -name '*.py' -exec awk 'length($0) > 140 { print FILENAME ":" FNR }' {} + > "$out"
     [ ! -s "$out" ] || complain "$(head -n 20 "$out")"
 }
 
 run_tests
 checks_types
 imports_go_one_way
+lines_are_short
 begins_case 'the readers find the same faults in changed files'
 tests/random/changed_tokens.py > "$room/out" || complain "$(cat "$room/out")"
 manual_has_each_option

@@ -95,6 +95,8 @@ def _about_words(unknown: str, given: Sequence[str]) -> str:
 
 def parser(description: str, epilog: Optional[str] = None, order: str = "") -> Parser:
     """A parser whose help keeps the lines of its description. An option has to be written out, as for `inrc2pb`."""
-    options = Parser(description=description, epilog=epilog, order=order, formatter_class=argparse.RawDescriptionHelpFormatter, allow_abbrev=False)
+    options = Parser(
+        description=description, epilog=epilog, order=order, formatter_class=argparse.RawDescriptionHelpFormatter, allow_abbrev=False
+    )
     options.add_version()
     return options

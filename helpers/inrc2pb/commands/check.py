@@ -186,7 +186,9 @@ def main() -> Optional[int]:
         "--sce is required. Ends with status 1 if a file has a mistake; a warning is not a mistake.",
     )
     add_week_options(options, required=False)
-    options.add_argument("--roster", metavar="FILE", type=Path, action="append", default=[], help="a roster of the week, as a solution file")
+    options.add_argument(
+        "--roster", metavar="FILE", type=Path, action="append", default=[], help="a roster of the week, as a solution file"
+    )
     options.add_argument("--constraint", metavar="N", type=int, help="print the constraint N of the week's model, and its rule")
     options.add_argument("--tell", action="store_true", help="print the files in sentences")
     options.add_argument("--why-none", action="store_true", help="if no roster exists: the minimum numbers to lower, and who has the skill")

@@ -18,10 +18,19 @@ def _options() -> argparse.ArgumentParser:
         "search and keeps the best roster. Improvements are printed on standard error, the report on standard output."
     )
     add_week_options(options)
-    options.add_argument("--sol", metavar="FILE", type=Path, required=True, help="the roster to write; one of this week that is there is the first, so it never gets a worse one")
-    options.add_argument("--from", dest="start", metavar="FILE", type=Path, help="the roster to begin with (default: that of --sol, if it is of this week)")
-    options.add_argument("--time", metavar="SECONDS", type=number_of_seconds, default=SECONDS, help="the most seconds to search (default: %(default).0f)")
-    options.add_argument("--prices", metavar="FILE", type=Path, help="the file for the prices, or the cases, that prove the lower bound, for inrc2pb-bound")
+    options.add_argument(
+        "--sol", metavar="FILE", type=Path, required=True,
+        help="the roster to write; one of this week that is there is the first, so it never gets a worse one",
+    )
+    options.add_argument(
+        "--from", dest="start", metavar="FILE", type=Path, help="the roster to begin with (default: that of --sol, if it is of this week)"
+    )
+    options.add_argument(
+        "--time", metavar="SECONDS", type=number_of_seconds, default=SECONDS, help="the most seconds to search (default: %(default).0f)"
+    )
+    options.add_argument(
+        "--prices", metavar="FILE", type=Path, help="the file for the prices, or the cases, that prove the lower bound, for inrc2pb-bound"
+    )
     add_solver_option(options)
     return options
 

@@ -42,7 +42,9 @@ def _nurses(text: str, known: Iterable[str], source: str) -> List[str]:
     for nurse in nurses:
         if nurse not in names:
             meant = closest(nurse, names)
-            raise Misuse(f"--nurses {text}: '{nurse}' is no nurse of {source}: " + (f"did you mean {meant}?" if meant else f"it has {quoted(names)}"))
+            raise Misuse(
+                f"--nurses {text}: '{nurse}' is no nurse of {source}: " + (f"did you mean {meant}?" if meant else f"it has {quoted(names)}")
+            )
     return nurses
 
 
@@ -67,7 +69,9 @@ def _options() -> argparse.ArgumentParser:
 def _week_text(week: Path, scenario: Scenario, nurses: Sequence[str], days: Sequence[int], cells: Sequence[Cell]) -> str:
     """The text of the week's file with absences for days off."""
     try:
-        written = with_absences(scenario, read_week(week, scenario), days_off(nurses or list(scenario.nurses), days or range(len(DAYS)), cells))
+        written = with_absences(
+            scenario, read_week(week, scenario), days_off(nurses or list(scenario.nurses), days or range(len(DAYS)), cells)
+        )
     except TooMany as fault:
         raise Misuse(f"{week}: {fault}: give fewer days or nurses") from fault
     return week_text(written.data)

@@ -27,7 +27,9 @@ def _options() -> argparse.ArgumentParser:
     model.add_argument("opb", metavar="MODEL", nargs="?", type=Path, help="the model that `inrc2pb encode` wrote (default: standard input)")
     model.add_argument("--lp", metavar="FILE", type=Path, help="the LP file to write (default: standard output)")
     answer = commands.add_parser("answer", allow_abbrev=False, help="convert the solver's result file to an answer, for `inrc2pb decode`")
-    answer.add_argument("solution", metavar="RESULT", type=Path, help="the result file of cbc, glpsol (-o), HiGHS, SCIP, Gurobi or toulbar2 (-w)")
+    answer.add_argument(
+        "solution", metavar="RESULT", type=Path, help="the result file of cbc, glpsol (-o), HiGHS, SCIP, Gurobi or toulbar2 (-w)"
+    )
     answer.add_argument(
         "--status",
         choices=sorted(STATUSES),

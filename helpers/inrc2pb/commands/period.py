@@ -25,8 +25,8 @@ from ..week.targets import check_inputs_stay, check_no_pipes
 
 
 class Period:
-    """A period that is planned: its reports by week, in order, and the lines about its lower bound. `prices` is the folder for the prices of
-    the bound, if any."""
+    """A period that is planned: its reports by week, in order, and the lines about its lower bound. `prices` is the folder for the prices
+    of the bound, if any."""
 
     def __init__(self, files: PeriodFiles, folder: Path, prices: Optional[Path] = None) -> None:
         self.folder, self.prices, self.progress = folder, prices, Progress(sys.stderr)
@@ -168,14 +168,22 @@ def _options() -> argparse.ArgumentParser:
     )
     options.add_argument("--sce", metavar="FILE", type=Path, required=True, help="the scenario")
     options.add_argument("--his", metavar="FILE", type=Path, required=True, help="the history with which the first of these weeks begins")
-    options.add_argument("--week", metavar="FILE", type=Path, action="append", required=True, help="a week's file; give one for each week, in order")
+    options.add_argument(
+        "--week", metavar="FILE", type=Path, action="append", required=True, help="a week's file; give one for each week, in order"
+    )
     options.add_argument("--out", metavar="FOLDER", type=Path, required=True, help="the folder for rosters and histories")
-    options.add_argument("--fix", metavar="N=FILE", action="append", default=[], help="the assignments to keep in week N, numbered from 0 as in its history")
+    options.add_argument(
+        "--fix", metavar="N=FILE", action="append", default=[], help="the assignments to keep in week N, numbered from 0 as in its history"
+    )
     totals = options.add_mutually_exclusive_group()
     totals.add_argument("--early", action="store_true", help="charge excess assignments and weekends as soon as they occur")
-    totals.add_argument("--ahead", action="store_true", help="plan for the later weeks too: they are not known, and count with the numbers of these weeks")
+    totals.add_argument(
+        "--ahead", action="store_true", help="plan for the later weeks too: they are not known, and count with the numbers of these weeks"
+    )
     options.add_argument("--time", metavar="SECONDS", type=number_of_seconds, default=60, help="seconds for each week (default: 60)")
-    options.add_argument("--prices", metavar="FOLDER", type=Path, help="the folder for the prices that prove the lower bound, for inrc2pb-period-bound")
+    options.add_argument(
+        "--prices", metavar="FOLDER", type=Path, help="the folder for the prices that prove the lower bound, for inrc2pb-period-bound"
+    )
     add_solver_option(options)
     return options
 
@@ -190,7 +198,9 @@ def main() -> Optional[int]:
             raise Misuse("--ahead is a plan of all weeks, and --solver plans one: leave one of them out")
     if given.prices and (given.solver or given.ahead):
         raise Misuse(f"with {'--solver' if given.solver else '--ahead'} there are no prices: leave out --prices")
-    period = Period(PeriodFiles(given.sce, given.his, given.week, fixes_by_week(given.fix), given.early, given.ahead), given.out, given.prices)
+    period = Period(
+        PeriodFiles(given.sce, given.his, given.week, fixes_by_week(given.fix), given.early, given.ahead), given.out, given.prices
+    )
     period.name_replaced()
     with interrupts() as signals:
         try:

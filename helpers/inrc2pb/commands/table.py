@@ -36,7 +36,8 @@ def _options() -> argparse.ArgumentParser:
     options.add_argument("--sce", metavar="FILE", type=Path, help="the scenario: nurses and colors have its order")
     options.add_argument("--his", metavar="FILE", type=Path, action="append", default=[], help="the history; needs --sce and --week")
     options.add_argument("--week", metavar="FILE", type=Path, action="append", default=[],
-                       help=f"the week's requirements and requests: a cell that should be free has a {REFUSED}, of a nurse who is away a {AWAY}")  # fmt: skip
+                       help=f"the week's requirements and requests: a cell that should be free has a {REFUSED}, "
+                        f"of a nurse who is away a {AWAY}")  # fmt: skip
     options.add_argument("--fix", metavar="FILE", action="append", default=[],
                        help=f"assignments that are held: their cells have a {HELD}; for several weeks N=FILE for week N")  # fmt: skip
     options.add_argument("--early", action="store_true", help="count costs as inrc2pb does with --early")

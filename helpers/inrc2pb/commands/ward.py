@@ -36,7 +36,9 @@ def _options() -> argparse.ArgumentParser:
     options.add_argument("tables", nargs="?", metavar="FILE", type=Path, help="the spreadsheet, or the folder of .csv files")
     options.add_argument("--out", metavar="FOLDER", type=Path, help="the folder for the files; it is made if there is none")
     options.add_argument("--weeks", metavar="N", type=int, help="the weeks of the period (default: the weeks of the sheet plan)")
-    options.add_argument("--credit", metavar="WORDS", default="", help=f"absences that count as work in history-0.txt, some of {','.join(AWAY)}")
+    options.add_argument(
+        "--credit", metavar="WORDS", default="", help=f"absences that count as work in history-0.txt, some of {','.join(AWAY)}"
+    )
     options.add_argument("--template", metavar="FILE", type=Path, help="write an example spreadsheet to this .ods file")
     return options
 
@@ -81,7 +83,9 @@ def ward_files(book: Book, name: str, days: Days, weeks: int, reasons: Sequence[
     found = {"ward.txt": scenario_text(ward.scenario), "history-0.txt": history_text(history)}
     warnings = [f"sheet shifts, contracts or nurses: {line}" for line in scenario_warnings(ward.scenario)]
     warnings += [f"sheet nurses: {line}" for line in history_warnings(ward.history)]
-    warnings += [f"sheet nurses: {line}" for line in skill_warnings(ward, {place.skill for sheet in sheets for place in sheet.requirements})]
+    warnings += [
+        f"sheet nurses: {line}" for line in skill_warnings(ward, {place.skill for sheet in sheets for place in sheet.requirements})
+    ]
     for number, sheet in enumerate(sheets):
         data = _week(book, ward.scenario, sheet, number, None if number else history)
         found[f"week-{number}.txt"] = week_text(data)
@@ -115,7 +119,8 @@ def _old_histories(folder: Path, first: str, weeks: int) -> Iterator[str]:
     changed = [nurse for nurse, row in _nurse_rows(first).items() if before.get(nurse, row) != row]
     if changed:
         them = "it" if len(later) == 1 else "them"
-        yield f"history-0.txt has new numbers of {quoted(changed)}, and {joined(later)} the old ones: make {them} again with inrc2pb-next or inrc2pb-period"
+        advice = f"make {them} again with inrc2pb-next or inrc2pb-period"
+        yield f"history-0.txt has new numbers of {quoted(changed)}, and {joined(later)} the old ones: {advice}"
 
 
 def _nurse_rows(history: str) -> Dict[str, List[str]]:

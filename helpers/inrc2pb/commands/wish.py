@@ -32,12 +32,19 @@ def _options() -> argparse.ArgumentParser:
     )
     options.add_argument("--sce", metavar="FILE", type=Path, required=True, help="the scenario")
     options.add_argument("--his", metavar="FILE", type=Path, help="the history with which the first of these weeks begins")
-    options.add_argument("--week", metavar="FILE", type=Path, action="append", required=True, help="a week's file; give one for each week, in order")
+    options.add_argument(
+        "--week", metavar="FILE", type=Path, action="append", required=True, help="a week's file; give one for each week, in order"
+    )
     options.add_argument("--away", metavar="NURSE[=DAYS]", action="append", default=[], help="she is away on these days")
     options.add_argument("--never", metavar="NURSE=SHIFT", action="append", default=[], help="she never works this shift type")
-    options.add_argument("--wish", metavar="NURSE=DAYS[:SHIFT]", action="append", default=[], help="she would rather not work then; adds one request")
+    options.add_argument(
+        "--wish", metavar="NURSE=DAYS[:SHIFT]", action="append", default=[], help="she would rather not work then; adds one request"
+    )
     options.add_argument("--monday", metavar="DATE", help="the date of the first week's Monday")
-    options.add_argument("--credit", metavar="FILE", type=Path, help="count the days of --away as work: write the history of --his to this file, with these shifts")
+    options.add_argument(
+        "--credit", metavar="FILE", type=Path,
+        help="count the days of --away as work: write the history of --his to this file, with these shifts",
+    )
     options.add_argument("--fix", metavar="FILE", type=Path, help="the assignments that are held in the first of these weeks; needs --his")
     options.add_argument("--out", metavar="FILE", type=Path, required=True, help="the file to write; a folder if several weeks are given")
     return options
@@ -47,7 +54,9 @@ def _known_cost(week: Week, added: Sequence[Absence], held: Sequence[Cell]) -> O
     """The cost of a roster that keeps these absences, those of the week, and the held rows; None if none is found."""
     for row in working_while_away({*absences_of(week.data), *added}, held):
         without = f"inrc2pb-keep --nurses {row.nurse} --keep {DAYS[row.day]} --others FILE"
-        raise Misuse(f"{row.nurse} is away on {DAYS[row.day]}, and --fix holds {row.shift}: leave out one of the two; {without} leaves out the shift")
+        raise Misuse(
+            f"{row.nurse} is away on {DAYS[row.day]}, and --fix holds {row.shift}: leave out one of the two; {without} leaves out the shift"
+        )
     return first_cost(replace(week, data=with_absences(week.scenario, week.data, added, 0).data), held)
 
 

@@ -22,8 +22,8 @@ class Dated(NamedTuple):
 
 
 class Wording:
-    """The names of a ward, the number of weeks, and the date of the first Monday, if it is given. `warnings` tells of dates that are in none
-    of these weeks."""
+    """The names of a ward, the number of weeks, and the date of the first Monday, if it is given. `warnings` tells of dates that are in
+    none of these weeks."""
 
     def __init__(self, scenario: Scenario, weeks: int, monday: Optional[str]) -> None:
         self.scenario = scenario
@@ -51,7 +51,9 @@ class Wording:
         nurse, rest = self._nurse("--wish", text)
         days, _, shift = rest.partition(":")
         if not days:
-            raise Misuse(f"--wish {text}: give the nurse and the days, such as {nurse}=Sat or {nurse}=Sat:{next(iter(self.scenario.shift_types))}")
+            raise Misuse(
+                f"--wish {text}: give the nurse and the days, such as {nurse}=Sat or {nurse}=Sat:{next(iter(self.scenario.shift_types))}"
+            )
         known = self._shift("--wish", text, shift) if shift else None
         for week, day in self._days("--wish", text, days):
             yield Dated(week, Absence(nurse, day, known))
@@ -94,7 +96,8 @@ class Wording:
         asked = (end - begin).days + 1
         if len(days) < asked:
             outside = asked - len(days)
-            self.warnings.append(f"{where}: {outside} of these {asked} days {'is' if outside == 1 else 'are'} {weeks}: write them into the files of other weeks too")
+            are = "is" if outside == 1 else "are"
+            self.warnings.append(f"{where}: {outside} of these {asked} days {are} {weeks}: write them into the files of other weeks too")
         yield from (divmod(day, len(DAYS)) for day in days)
 
 

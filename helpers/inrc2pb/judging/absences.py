@@ -58,7 +58,9 @@ def in_words(cells: Iterable[Cell]) -> str:
     days: Dict[Tuple[str, str], List[int]] = {}
     for cell in cells:
         days.setdefault((cell.nurse, cell.shift), []).append(cell.day)
-    return ", ".join(f"{readable(nurse)} works {readable(shift)} on {joined(DAYS[day] for day in sorted(on))}" for (nurse, shift), on in days.items())
+    return ", ".join(
+        f"{readable(nurse)} works {readable(shift)} on {joined(DAYS[day] for day in sorted(on))}" for (nurse, shift), on in days.items()
+    )
 
 
 def way_out(scenario: Scenario, held: Iterable[Cell], broken: Collection[Cell]) -> str:

@@ -20,7 +20,8 @@ def demand_warnings(scenario: Scenario, history: Optional[History], data: WeekDa
         yield f"{joined(days)}: {text}"
     asked, supplied = asked_shifts(data), supplied_shifts(scenario, history)
     if asked[0] > supplied[1]:
-        yield f"it asks for at least {asked[0]} shifts, and the contracts supply at most {supplied[1]} a week: if all weeks ask for so many, each shift above costs points"
+        supply = f"it asks for at least {asked[0]} shifts, and the contracts supply at most {supplied[1]} a week"
+        yield f"{supply}: if all weeks ask for so many, each shift above costs points"
 
 
 def asked_shifts(data: WeekData) -> Tuple[int, int]:
@@ -50,7 +51,9 @@ def can_work(scenario: Scenario, history: Optional[History], away: Collection[Ab
 
 def _shortage(scenario: Scenario, history: Optional[History], data: WeekData, day: int, away: Collection[Absence]) -> str:
     """The places of a day that need more nurses at once than could fill them, if there are any."""
-    places = [place for place, asked in data.requirements.items() if place.day == day for _ in range(min(asked.minimum, len(scenario.nurses) + 1))]
+    places = [
+        place for place, asked in data.requirements.items() if place.day == day for _ in range(min(asked.minimum, len(scenario.nurses) + 1))
+    ]
     could = {place: [nurse for nurse in scenario.nurses if can_work(scenario, history, away, nurse, place)] for place in set(places)}
     filled: Dict[str, int] = {}
     for slot in range(len(places)):

@@ -18,7 +18,9 @@ def scenario_warnings(scenario: Scenario) -> Iterator[str]:
     for shift in scenario.shift_types.values():
         yield from _reversed_limits(f"shift type {shift.name}", shift.consecutive)
     for contract in scenario.contracts.values():
-        for what, limits in (("assignments", contract.assignments), ("working days", contract.working_days), ("days off", contract.days_off)):
+        for what, limits in (
+            ("assignments", contract.assignments), ("working days", contract.working_days), ("days off", contract.days_off),
+        ):
             yield from _reversed_limits(f"contract {contract.name}, {what}", limits)
         yield from _too_many_assignments(contract, scenario.weeks)
     for nurse in scenario.nurses.values():
@@ -63,7 +65,8 @@ def _last_days(past: NurseHistory) -> Iterator[str]:
     if past.consecutive_shifts == 0:
         yield f"{worked}, but has 0 days in a row on this shift type"
     elif past.consecutive_shifts > past.working_days:
-        yield f"{past.nurse} has {plural(past.consecutive_shifts, 'day')} in a row on {past.last_shift}, and only {past.working_days} with work"
+        on_shift = f"{plural(past.consecutive_shifts, 'day')} in a row on {past.last_shift}"
+        yield f"{past.nurse} has {on_shift}, and only {past.working_days} with work"
 
 
 def _totals(past: NurseHistory, week: int) -> Iterator[str]:

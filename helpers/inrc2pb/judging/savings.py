@@ -59,7 +59,9 @@ class _Weeks:
             yield runs.state(0, 0, 0, off, _WEEK)
         for choice, limits in enumerate(runs.shifts[1:], 1):
             lengths = _lengths(limits) | _lengths(contract.working_days)
-            yield from (runs.state(choice, on_shift, working, 0, _WEEK) for on_shift in lengths for working in lengths if on_shift <= working)
+            yield from (
+                runs.state(choice, on_shift, working, 0, _WEEK) for on_shift in lengths for working in lengths if on_shift <= working
+            )
 
     def _costs_from(self, day: int, before: RunState) -> Tuple[int, int]:
         """What the cheapest and the dearest choices for this day and those after it cost."""

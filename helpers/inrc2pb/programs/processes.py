@@ -84,7 +84,8 @@ class Processes:
             if self._stopped:
                 return Ended(-signal.SIGKILL, "", True)
             process = subprocess.Popen(
-                list(words), cwd=str(folder), stdin=subprocess.DEVNULL, stdout=subprocess.PIPE, stderr=subprocess.PIPE, start_new_session=True
+                list(words), cwd=str(folder), stdin=subprocess.DEVNULL, stdout=subprocess.PIPE, stderr=subprocess.PIPE,
+                start_new_session=True,
             )
             self._running[process] = ending
         try:
@@ -106,7 +107,8 @@ class Processes:
         when this process does."""
         with self._lock:
             process = subprocess.Popen(
-                list(words), cwd=str(folder), stdin=subprocess.PIPE, stdout=subprocess.PIPE, stderr=subprocess.DEVNULL, start_new_session=True
+                list(words), cwd=str(folder), stdin=subprocess.PIPE, stdout=subprocess.PIPE, stderr=subprocess.DEVNULL,
+                start_new_session=True,
             )
             self._running[process] = signal.SIGKILL
             if self._stopped:
@@ -166,7 +168,9 @@ def _ending_with_this() -> Tuple[str, ...]:
     """The words before a command that is to be killed when this process is; none if the system has no such `setpriv`."""
     words = ("setpriv", "--pdeathsig", "KILL")
     try:
-        subprocess.run([*words, "true"], stdin=subprocess.DEVNULL, stdout=subprocess.DEVNULL, stderr=subprocess.DEVNULL, check=True, timeout=MAX_WAIT)
+        subprocess.run(
+            [*words, "true"], stdin=subprocess.DEVNULL, stdout=subprocess.DEVNULL, stderr=subprocess.DEVNULL, check=True, timeout=MAX_WAIT
+        )
     except (OSError, subprocess.SubprocessError):
         return ()
     return words

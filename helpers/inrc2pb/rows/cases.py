@@ -136,7 +136,9 @@ class CaseSearch(RowGeneration):
 def cheap_columns(search: RowGeneration) -> List[int]:
     """The columns that a solution of the search has or might have at prices that are a little different."""
     now = search.solved
-    return [] if now is None else [*now.shares, *(column for column, rise in now.rises.items() if rise <= CHEAP and column not in now.shares)]
+    if now is None:
+        return []
+    return [*now.shares, *(column for column, rise in now.rises.items() if rise <= CHEAP and column not in now.shares)]
 
 
 def open_days(search: RowGeneration) -> List[NurseDay]:

@@ -25,8 +25,8 @@ class Plan:
     """What is asked for on these days, and by whom it can be done.
 
     `demand` has the places that ask for nurses, with the day of the plan; its optimal numbers are not below its minimums.
-    `nurses` are those whose rows are searched, and `away` has the absences that their rows keep, with the day of the plan. Without `charging` only the hard rules count: nothing costs anything, and
-    each nurse below a minimum costs one point.
+    `nurses` are those whose rows are searched, and `away` has the absences that their rows keep, with the day of the plan. Without
+    `charging` only the hard rules count: nothing costs anything, and each nurse below a minimum costs one point.
     """
 
     scenario: Scenario
@@ -43,7 +43,8 @@ class Plan:
     def of(
         scenario: Scenario, history: History, weeks: Sequence[WeekData], early: bool = False, held: Iterable[Cell] = (), keeps: bool = True
     ) -> "Plan":
-        """The plan of these weeks, which follow the history. The days of held rows are those of the plan. Its rows keep all absences, if `keeps`."""
+        """The plan of these weeks, which follow the history. The days of held rows are those of the plan. Its rows keep all absences, if
+        `keeps`."""
         rows: Held = {}
         for row in held:
             rows.setdefault((row.nurse, row.day), []).append(row)

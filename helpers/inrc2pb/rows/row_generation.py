@@ -62,7 +62,8 @@ class RowGeneration:
     def add_roster(self, rows: Sequence[NurseWeek]) -> None:
         """Adds the rows of a roster, with the places at which its nurses are."""
         crews = self.pricing.crews
-        numbers, names = {place: index for index, place in enumerate(crews.places)}, {nurse: index for index, nurse in enumerate(self.plan.nurses)}
+        numbers = {place: index for index, place in enumerate(crews.places)}
+        names = {nurse: index for index, nurse in enumerate(self.plan.nurses)}
         places: List[List[Optional[int]]] = [[None] * self.plan.days for _ in rows]
         for nurse, day, shift, skill in staffed(self.plan, crews, rows).cells:
             places[names[nurse]][day] = numbers.get(Place(day, shift, skill))
@@ -159,7 +160,10 @@ class RowGeneration:
         """Drops the most expensive columns, if there are too many. Each nurse keeps one."""
         nurses = len(self.plan.nurses)
         keep = max(LEAST_USED, KEPT * nurses) - len(now.shares)
-        if len(self._used) > max(LEAST_USED, MOST_USED * nurses) and len({self.program.columns[number].nurse for number in now.shares}) == nurses:
+        if (
+            len(self._used) > max(LEAST_USED, MOST_USED * nurses)
+            and len({self.program.columns[number].nurse for number in now.shares}) == nurses
+        ):
             cheap = sorted((number for number in self._used if number not in now.shares), key=lambda number: now.rises.get(number, 0.0))
             self._used = dict.fromkeys([*now.shares, *cheap[: max(0, keep)]])
 

@@ -30,9 +30,7 @@ class Totals(NamedTuple):
         counts = plan.charging and (plan.ends or plan.early)
         totals = range(past.assignments, past.assignments + plan.days)
         works = [ASSIGNMENT_TOTAL * (counts * (total >= maximum) - (plan.charging and plan.ends and total < minimum)) for total in totals]
-        return Totals(
-            tuple(works), tuple(WEEKEND_TOTAL * (counts and past.weekends + number >= most) for number in range(len(plan.weeks)))
-        )
+        return Totals(tuple(works), tuple(WEEKEND_TOTAL * (counts and past.weekends + number >= most) for number in range(len(plan.weeks))))
 
     @staticmethod
     def base(plan: Plan, contract: Contract, past: NurseHistory) -> int:
@@ -145,7 +143,9 @@ class Graph:
         minimum, paid = self.values(pay)
         node, row = start, bytearray()
         for day, reached in zip(self.days, paid):
-            value, choice = min((costs[node] + reached[heads[node]], choice) for choice, (costs, heads) in enumerate(zip(day.costs, day.heads)))
+            value, choice = min(
+                (costs[node] + reached[heads[node]], choice) for choice, (costs, heads) in enumerate(zip(day.costs, day.heads))
+            )
             row.append(choice)
             node = day.heads[choice][node]
         return minimum[start], bytes(row)

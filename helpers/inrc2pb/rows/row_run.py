@@ -35,7 +35,8 @@ class RowRun:
     final."""
 
     def __init__(
-        self, plan: Plan, solver: Optional[LinearSolver], clock: Clock, offer: Offer, heard: Callable[[], None], start: Optional[List[NurseWeek]] = None
+        self, plan: Plan, solver: Optional[LinearSolver], clock: Clock, offer: Offer, heard: Callable[[], None],
+        start: Optional[List[NurseWeek]] = None,
     ) -> None:
         self._plan, self._solver, self._clock, self._offer, self._heard, self._start = plan, solver, clock, offer, heard, start
         self.crews = Crews(plan)

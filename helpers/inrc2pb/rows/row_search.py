@@ -82,7 +82,8 @@ class RowSearch(RowGeneration):
     # ---- fixed rows
 
     def dive(self, clock: Clock) -> Optional[List[NurseWeek]]:
-        """Fixes rows a few at a time, with new ones in between. Returns a row of each nurse, None if they cannot be better than the best."""
+        """Fixes rows a few at a time, with new ones in between. Returns a row of each nurse, None if they cannot be better than the
+        best."""
         columns, chosen = self.program.columns, dict.fromkeys(range(0), 0)
         share, last = FIRST_SHARE, -math.inf
         while len(chosen) < len(self.plan.nurses):
@@ -97,7 +98,9 @@ class RowSearch(RowGeneration):
             hurry = HURRY * (before - clock.left()) / max(EXACT, clock.left())
             most = max(1, int(max(share, hurry) * free))
             fixed = 0
-            for number in sorted((number for number in now.shares if columns[number].nurse not in chosen), key=lambda number: -now.shares[number]):
+            for number in sorted(
+                (number for number in now.shares if columns[number].nurse not in chosen), key=lambda number: -now.shares[number]
+            ):
                 if columns[number].nurse not in chosen and (fixed < most or now.shares[number] > 0.999):
                     chosen[columns[number].nurse] = number
                     fixed += 1

@@ -75,7 +75,9 @@ class Prover:
         """Whether the program is there and had no fault."""
         return self._program is not None
 
-    def answer(self, weeks: Sequence[PricedWeek], words: Sequence[str] = (), seconds: float = LONGEST_RUN, option: str = PRICES) -> Optional[str]:
+    def answer(
+        self, weeks: Sequence[PricedWeek], words: Sequence[str] = (), seconds: float = LONGEST_RUN, option: str = PRICES
+    ) -> Optional[str]:
         """What the program prints about these weeks, with their texts as files of this option."""
         if self._program is None:
             return None
@@ -108,10 +110,12 @@ class Prover:
 
 
 class Bounds:
-    """The bounds of a week. `target` is the file that gets the prices or the cases of the best one, if any. After a fault of `inrc2pb-bound`, which
-    `warn` gets, bounds are computed in plain Python."""
+    """The bounds of a week. `target` is the file that gets the prices or the cases of the best one, if any. After a fault of
+    `inrc2pb-bound`, which `warn` gets, bounds are computed in plain Python."""
 
-    def __init__(self, files: WeekFiles, scenario: Scenario, places: Sequence[Place], target: Optional[Path], warn: Callable[[str], None]) -> None:
+    def __init__(
+        self, files: WeekFiles, scenario: Scenario, places: Sequence[Place], target: Optional[Path], warn: Callable[[str], None]
+    ) -> None:
         self._files, self._scenario, self._places, self._target = files, scenario, places, target
         # Ctrl-C does not end a proof of one week, which takes moments.
         self._prover = Prover(PROVER, Processes(), warn)

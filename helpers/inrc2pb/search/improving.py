@@ -32,7 +32,8 @@ class SearchResult:
     """
 
     def __init__(
-        self, report: Report, search: WeekSearch, best: BestRoster, stopped: bool, fault: Optional[BaseException], prices: Optional[Path] = None
+        self, report: Report, search: WeekSearch, best: BestRoster, stopped: bool, fault: Optional[BaseException],
+        prices: Optional[Path] = None,
     ) -> None:
         self.report = report
         self.breaks = bool(best.breaks())
@@ -66,13 +67,14 @@ class SearchResult:
 
 
 def improve(
-    files: WeekFiles, solution: Path, *, start: Optional[Path] = None, seconds: float = SECONDS, solver: Optional[str] = None, prices: Optional[Path] = None
+    files: WeekFiles, solution: Path, *, start: Optional[Path] = None, seconds: float = SECONDS, solver: Optional[str] = None,
+    prices: Optional[Path] = None,
 ) -> SearchResult:
     """Searches for these seconds, writes the best roster to `solution`, and returns its report and lower bound.
 
-    `start` is the roster to begin with, if it is not the one that `solution` has of this week, `solver` a command that solves the whole week in place of the search over rows, and
-    `prices` the file for the prices, or the cases with prices, that prove the bound. Ctrl-C, TERM or a fault end the search: the roster is written, then
-    KeyboardInterrupt or the fault is raised.
+    `start` is the roster to begin with, if it is not the one that `solution` has of this week, `solver` a command that solves the whole
+    week in place of the search over rows, and `prices` the file for the prices, or the cases with prices, that prove the bound. Ctrl-C,
+    TERM or a fault end the search: the roster is written, then KeyboardInterrupt or the fault is raised.
     """
     outcome = search(files, solution, start, seconds, solver, prices, Progress(None))
     if outcome.fault:
@@ -83,7 +85,8 @@ def improve(
 
 
 def search(
-    files: WeekFiles, solution: Path, start: Optional[Path], seconds: float, solver: Optional[str], prices: Optional[Path], progress: Progress
+    files: WeekFiles, solution: Path, start: Optional[Path], seconds: float, solver: Optional[str], prices: Optional[Path],
+    progress: Progress,
 ) -> SearchResult:
     """As `improve`, with its progress printed. A fault is raised only if there is no roster; a signal is no fault."""
     clock = Clock(seconds)

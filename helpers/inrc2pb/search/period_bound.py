@@ -64,7 +64,9 @@ class PeriodBound:
         while self._begin() and self._running:
             concurrent.futures.wait([self._running], WAIT_SECONDS)
             if not told and not self._running.done() and self._clock.left() > WAIT_SECONDS:
-                self._warn(f"the plan is written, and {PERIOD_PROVER} proves its bound, in at most {self._clock.left():.0f} s: Ctrl-C ends that")
+                self._warn(
+                    f"the plan is written, and {PERIOD_PROVER} proves its bound, in at most {self._clock.left():.0f} s: Ctrl-C ends that"
+                )
                 told = True
 
     def bound(self, penalty: Optional[int]) -> Optional[Bound]:
@@ -114,7 +116,9 @@ class PeriodBound:
         """The options and the text of the prices of each week."""
         found: List[PricedWeek] = []
         for number, options in enumerate(self._weeks.options()):
-            of_week = [(place, price) for place, price in zip(priced.pricing.crews.places, priced.prices) if place.day // WEEK_DAYS == number]
+            of_week = [
+                (place, price) for place, price in zip(priced.pricing.crews.places, priced.prices) if place.day // WEEK_DAYS == number
+            ]
             places = [place._replace(day=place.day % WEEK_DAYS) for place, _ in of_week]
             found.append((options, prices_text(self._weeks.scenario, places, [price for _, price in of_week])))
         return found

@@ -52,7 +52,8 @@ class WeekSearch:
     # ---- over rows
 
     def over_rows(self, folder: Path, start: Optional[Sequence[Cell]], prices: Optional[Path]) -> None:
-        """Searches over the rows of the nurses. `prices` is the file for the prices of the bound. Without a roster it is a ProgramFault if none exists.
+        """Searches over the rows of the nurses. `prices` is the file for the prices of the bound. Without a roster it is a ProgramFault
+        if none exists.
 
         Rows keep all absences, unless no roster can.
         """
@@ -140,7 +141,9 @@ class WeekSearch:
             if fault.status != NO_ROSTER:
                 raise
             if "UNSATISFIABLE" in fault.message and self._best.penalty is None:
-                raise ProgramFault(NO_ROSTER, f"no roster keeps the hard rules, says {solver.name}: {page('your_ward.md')} shows how to find out why") from fault
+                raise ProgramFault(
+                    NO_ROSTER, f"no roster keeps the hard rules, says {solver.name}: {page('your_ward.md')} shows how to find out why"
+                ) from fault
             return
         self._best.offer(read_solution(path).cells, solver.name)
         if report.optimal and self._best.penalty == report.penalty:

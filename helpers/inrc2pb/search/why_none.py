@@ -60,7 +60,9 @@ def _solve(files: WeekFiles, roster: Path) -> SearchResult:
         return improve(files, roster, seconds=SECONDS)
     except ProgramFault as fault:
         if fault.status == NO_ROSTER and fault.message.startswith("no roster keeps"):
-            raise Misuse("even without minimum numbers there is no roster: the cause is a shift that --fix holds, so look at its file") from fault
+            raise Misuse(
+                "even without minimum numbers there is no roster: the cause is a shift that --fix holds, so look at its file"
+            ) from fault
         raise
 
 

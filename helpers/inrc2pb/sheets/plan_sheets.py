@@ -132,7 +132,8 @@ def _read_needs(table: Table, scenario: Scenario, weeks: List[WeekSheet]) -> Non
         for row in table.rows:
             with faults.step():
                 week = row.of("week").number(most=len(weeks) - 1) if row.of("week").text else None
-                shift, skill = row.of("shift").known("shift type", scenario.shift_types), row.of("skill").known("skill of the sheet nurses", scenario.skills)
+                shift = row.of("shift").known("shift type", scenario.shift_types)
+                skill = row.of("skill").known("skill of the sheet nurses", scenario.skills)
                 if (week, shift, skill) in given:
                     row.of("shift").fault(f"{readable(shift)} {readable(skill)} has a row already: delete one, or write its week")
                 given[week, shift, skill] = [_needed(row.of(name.casefold())) for name in DAYS]
@@ -180,7 +181,9 @@ def _read_day(cell: SheetCell, nurse: str, index: int, scenario: Scenario, weeks
         week.absences.append(Absence(nurse, day, None))
         week.leave.append((nurse, text))
     elif text.startswith("no "):
-        week.wishes += [Request(nurse, part.known("shift type", scenario.shift_types), day) for part in cell._replace(text=cell.text[3:]).parts()]
+        week.wishes += [
+            Request(nurse, part.known("shift type", scenario.shift_types), day) for part in cell._replace(text=cell.text[3:]).parts()
+        ]
     else:
         week.held.append(_held(cell, nurse, day, week, scenario))
 
@@ -217,7 +220,9 @@ def _check_held(scenario: Scenario, week: WeekSheet, held: Held, day: int, last:
     if before is not None and on == day - 1 and shift in scenario.shift_types[before].forbidden_next:
         held.cell.fault(f"{readable(nurse)} may not work {readable(shift)} on the day after {readable(before)}: change one of the two")
     if is_broken_by(week.absences, held.row):
-        held.cell.fault(f"{readable(nurse)} never works this shift or is always off on this day, by the sheet nurses: change one of the two")
+        held.cell.fault(
+            f"{readable(nurse)} never works this shift or is always off on this day, by the sheet nurses: change one of the two"
+        )
 
 
 def days_away(weeks: List[WeekSheet], reasons: Collection[str]) -> Iterator[Tuple[str, int]]:

@@ -25,7 +25,8 @@ _SEPARATORS = (";", ",", "\t")
 _OLD_EXCEL, _ZIP = b"\xd0\xcf\x11\xe0", b"PK"
 # The errors of the library for wrong bytes, and for elements that are nested too deep. OSError is for a place before the file's begin.
 _DAMAGED = (
-    zipfile.BadZipFile, zlib.error, struct.error, ElementTree.ParseError, expat.ExpatError, LookupError, ValueError, EOFError, NotImplementedError,
+    zipfile.BadZipFile, zlib.error, struct.error, ElementTree.ParseError, expat.ExpatError, LookupError, ValueError, EOFError,
+    NotImplementedError,
     RecursionError, OSError,
 )  # fmt: skip
 
@@ -54,7 +55,9 @@ def read_book(path: Path) -> Book:
     except _DAMAGED as fault:
         if isinstance(fault, OSError) and fault.errno != errno.EINVAL:
             raise
-        raise FileFault(path, 0, "the spreadsheet is damaged or has a password: open it in its program, and save it again without one") from fault
+        raise FileFault(
+            path, 0, "the spreadsheet is damaged or has a password: open it in its program, and save it again without one"
+        ) from fault
 
 
 def _read_archive(path: Path, archive: zipfile.ZipFile) -> Book:
@@ -97,7 +100,9 @@ def _read_csv(path: Path) -> Rows:
     except (csv.Error, ValueError) as fault:
         raise FileFault(path, 0, f"this is no CSV file ({fault}): save the sheet again as CSV") from fault
     if len(rows) > MAX_ROWS or any(len(row) > MAX_COLUMNS for row in rows):
-        raise FileFault(path, 0, f"the file has more than {MAX_ROWS} rows or {MAX_COLUMNS} columns: delete those that are no part of the ward")
+        raise FileFault(
+            path, 0, f"the file has more than {MAX_ROWS} rows or {MAX_COLUMNS} columns: delete those that are no part of the ward"
+        )
     return trimmed(rows)
 
 

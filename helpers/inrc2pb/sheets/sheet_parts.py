@@ -45,11 +45,16 @@ class Parts:
         return ElementTree.fromstring(data)
 
     def _refuse(self, *_words: object) -> None:
-        raise FileFault(self._path, 0, "the spreadsheet has a document type, which no program writes: save it again with LibreOffice or Excel")
+        raise FileFault(
+            self._path, 0, "the spreadsheet has a document type, which no program writes: save it again with LibreOffice or Excel"
+        )
 
     def too_large(self, sheet: str) -> FileFault:
         """The fault of a sheet with too many cells."""
-        return FileFault(self._path, 0, f"sheet {sheet} has more than {MAX_ROWS} rows or {MAX_COLUMNS} columns: delete those that are no part of the ward")
+        return FileFault(
+            self._path, 0,
+            f"sheet {sheet} has more than {MAX_ROWS} rows or {MAX_COLUMNS} columns: delete those that are no part of the ward",
+        )
 
 
 def trimmed(rows: Sequence[Sequence[str]]) -> Rows:

@@ -52,7 +52,9 @@ class SheetCell(NamedTuple):
             return default
         digits = re.sub(r"[.,]0*$", "", self.text)
         if not re.fullmatch("[0-9]{1,9}", digits):
-            self.fault(f"'{self.text}' is no whole number: {self._advice(pair)}" if self.text else "the cell is empty: write a whole number")
+            self.fault(
+                f"'{self.text}' is no whole number: {self._advice(pair)}" if self.text else "the cell is empty: write a whole number"
+            )
         if int(digits) > MAX_NUMBER:
             self.fault(f"{digits} is more than {most}: a spreadsheet makes such a number of 2-3 or 2/3, so write {pair or 'one number'}")
         if int(digits) > most:
@@ -140,7 +142,9 @@ class Table:
 
     def _sheet(self) -> Rows:
         if self.name not in self.book.sheets:
-            raise FileFault(self.book.path, 0, f"there is no sheet '{self.name}': it has {quoted(self.book.sheets)}; --template writes an example")
+            raise FileFault(
+                self.book.path, 0, f"there is no sheet '{self.name}': it has {quoted(self.book.sheets)}; --template writes an example"
+            )
         return self.book.sheets[self.name]
 
     def _find_head(self, rows: Rows) -> int:
@@ -148,7 +152,9 @@ class Table:
         for number, row in enumerate(rows):
             if any(tidy(cell).casefold() == self.heads[0] for cell in row):
                 return number
-        raise FileFault(self.book.path, 0, f"sheet {self.name}: no row has the head '{self.heads[0]}': write {quoted(self.heads)} into the first row")
+        raise FileFault(
+            self.book.path, 0, f"sheet {self.name}: no row has the head '{self.heads[0]}': write {quoted(self.heads)} into the first row"
+        )
 
     def _take_head(self, cell: SheetCell, heads: Sequence[str], open_end: bool) -> None:
         head = cell.text.casefold()
@@ -162,7 +168,10 @@ class Table:
             self.others.append(cell)
         else:
             meant = self._meant(head, {tidy(text).casefold() for text in heads})
-            cell.fault(f"'{cell.text}' is no column of this sheet: " + (f"did you mean '{meant}'?" if meant else "delete it, or begin its head with #"))
+            cell.fault(
+                f"'{cell.text}' is no column of this sheet: "
+                + (f"did you mean '{meant}'?" if meant else "delete it, or begin its head with #")
+            )
 
     def _check_heads(self, columns: Collection[int], number: int) -> None:
         """A fault names the first cell of each column without a head. The given columns have one, in the row of this number."""

@@ -18,7 +18,8 @@ _HEADS = {
         ("contract",), ("shifts min", "shifts max", "work min", "work max", "off min", "off max", "weekends", "complete weekends"),
     ),
     "nurses": (
-        ("nurse", "contract", "skills"), ("never", "always off", "worked", "worked weekends", "last shift", "days on it", "days of work", "days off"),
+        ("nurse", "contract", "skills"), ("never", "always off", "worked", "worked weekends", "last shift", "days on it", "days of work",
+        "days off"),
     ),
     "needs": (("shift", "skill", *(day.casefold() for day in DAYS)), ("week",)),
 }  # fmt: skip
@@ -51,7 +52,9 @@ def read_ward(book: Book, name: str, weeks: int) -> Ward:
                 nurse = row.of("nurse").new_name("nurse", nurses)
                 nurses[nurse] = Nurse(nurse, row.of("contract").known("contract", contracts), skills.of(row.of("skills")))
                 past[nurse] = _past(row, nurse, shift_types)
-                never[nurse] = ([part.known("shift type", shift_types) for part in row.of("never").parts()], _days_off(row.of("always off")))
+                never[nurse] = (
+                    [part.known("shift type", shift_types) for part in row.of("never").parts()], _days_off(row.of("always off")),
+                )
     scenario = Scenario(name, weeks, tuple(skills.cells), shift_types, contracts, nurses)
     _check_number(book, "nurses", "nurses", len(nurses), 1000)
     _check_number(book, "nurses", "skills", len(skills.cells), 16)
@@ -167,7 +170,8 @@ def skill_warnings(ward: Ward, asked: Collection[str]) -> Iterator[str]:
             meant = closest(name, [one for one in ward.skills if one in asked])
             with faults.step():
                 if meant:
-                    cell.fault(f"no row of the sheet needs has the skill '{cell.text}': write {readable(meant)} if you mean it, else add a row for it")
+                    advice = f"write {readable(meant)} if you mean it, else add a row for it"
+                    cell.fault(f"no row of the sheet needs has the skill '{cell.text}': {advice}")
             yield f"no row of the sheet needs has the skill {name}"
 
 

@@ -75,5 +75,7 @@ def _place(view: RosterView, text: str) -> Tuple[str, int]:
     for word, known, what in ((nurse, view.nurses, "nurse"), (day, DAYS, "day")):
         if word not in known:
             meant = closest(word, known)
-            raise Misuse(f'--swap "{text}": \'{word}\' is no {what}: {f"did you mean {meant}?" if meant else f"give one of {quoted(known)}"}')
+            raise Misuse(
+                f'--swap "{text}": \'{word}\' is no {what}: {f"did you mean {meant}?" if meant else f"give one of {quoted(known)}"}'
+            )
     return nurse, DAYS.index(day)

@@ -60,7 +60,8 @@ caption, h2, summary { break-after: avoid }
 }
 """
 RULES = {
-    "S1": "fewer nurses than best", "S2": "days in a row with work or on one shift type", "S3": "days in a row off", "S4": "a wish that is not granted",
+    "S1": "fewer nurses than best", "S2": "days in a row with work or on one shift type", "S3": "days in a row off",
+    "S4": "a wish that is not granted",
     "S5": "half a weekend", "S6": "shifts in the period", "S7": "weekends in the period",
 }  # fmt: skip
 

@@ -174,7 +174,10 @@ def totals_table(page: Content) -> Optional[Markup]:
     rows = []
     for nurse, total in found.items():
         over = total.weekends - total.max_weekends
-        numbers = [str(total.shifts), f"{total.contract.minimum} to {total.contract.maximum}", _left(total, is_last), *map(str, total.by_shift.values())]
+        numbers = [
+            str(total.shifts), f"{total.contract.minimum} to {total.contract.maximum}", _left(total, is_last),
+            *map(str, total.by_shift.values()),
+        ]
         numbers += [f"{total.weekends}{f' ({over} too many)' if over > 0 else ''}", str(total.max_weekends)]
         numbers += [str(len(total.wishes)), str(total.granted), str(len(total.wishes) - total.granted)]
         if view.has_costs:
@@ -220,7 +223,8 @@ def coverage_tables(page: Content) -> Iterator[Markup]:
             for (shift, skill), covered in places.items()
         ]
         if rows:
-            caption = f"Nurses at each place, and (minimum\u2013best). {MINUS}1: one fewer than best; !: below the minimum; +1: one more than best"
+            signs = f"{MINUS}1: one fewer than best; !: below the minimum; +1: one more than best"
+            caption = f"Nurses at each place, and (minimum\u2013best). {signs}"
             yield table(caption, day_heads(page, weeks, "place"), rows, "coverage")
 
 

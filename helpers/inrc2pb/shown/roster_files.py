@@ -56,7 +56,10 @@ def read_view(files: RosterFiles) -> RosterView:
 def read_old(files: RosterFiles, rosters: Sequence[Path]) -> RosterView:
     """Reads the older rosters of the same weeks and ward; that they are of others is a Misuse."""
     if len(rosters) != len(files.rosters):
-        raise Misuse(f"--old is given {plural(len(rosters), 'time')} for {plural(len(files.rosters), 'roster')}: give it once for each, in their order")
+        raise Misuse(
+            f"--old is given {plural(len(rosters), 'time')} for {plural(len(files.rosters), 'roster')}: "
+            "give it once for each, in their order"
+        )
     for old, new in zip(rosters, files.rosters):
         before, now = (read_solution(path, None) for path in (old, new))
         if before.scenario != now.scenario:
@@ -75,9 +78,14 @@ def _check_numbers(files: RosterFiles) -> None:
     """Each roster has its files, or none does."""
     count = len(files.rosters)
     if len(files.weeks) not in (0, count):
-        raise Misuse(f"--week is given {plural(len(files.weeks), 'time')} for {plural(count, 'roster')}: give it once for each, in their order")
+        raise Misuse(
+            f"--week is given {plural(len(files.weeks), 'time')} for {plural(count, 'roster')}: give it once for each, in their order"
+        )
     if len(files.histories) not in (0, 1, count):
-        raise Misuse(f"--his is given {plural(len(files.histories), 'time')} for {plural(count, 'roster')}: give the first week's, or each week's in order")
+        raise Misuse(
+            f"--his is given {plural(len(files.histories), 'time')} for {plural(count, 'roster')}: "
+            "give the first week's, or each week's in order"
+        )
     if files.weeks and not files.scenario:
         raise Misuse("--week needs --sce: give the scenario too")
     if files.histories and not (files.scenario and files.weeks):
@@ -92,7 +100,9 @@ def _histories(files: RosterFiles, scenario: Scenario, solutions: Sequence[Solut
     while histories and len(histories) < len(solutions):
         last = len(histories) - 1
         if histories[last].week + 1 >= scenario.weeks:
-            raise Misuse(f"{files.rosters[last]}: week {histories[last].week} is the last of {scenario.weeks}: give --his once for each roster")
+            raise Misuse(
+                f"{files.rosters[last]}: week {histories[last].week} is the last of {scenario.weeks}: give --his once for each roster"
+            )
         try:
             histories.append(next_history(scenario, histories[last], solutions[last].cells))
         except Misuse as fault:

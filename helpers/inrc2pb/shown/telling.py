@@ -32,7 +32,10 @@ def _contract_sentences(contract: Contract, scenario: Scenario) -> Iterator[str]
         f"{contract.name}: {_range(contract.assignments, days)} shifts in {period}; {_in_a_row(contract.working_days)} of work in a row, "
         f"{_in_a_row(contract.days_off)} off."
     )
-    weekends = f"at most {plural(contract.max_weekends, 'weekend')} with work" if contract.max_weekends < scenario.weeks else "any number of weekends with work"
+    weekends = (
+        f"at most {plural(contract.max_weekends, 'weekend')} with work" if contract.max_weekends < scenario.weeks
+        else "any number of weekends with work"
+    )
     yield f"{contract.name}: {weekends}" + (", on both days or none." if contract.complete_weekends else ".")
 
 
@@ -58,7 +61,10 @@ def history_sentences(history: History) -> Iterator[str]:
     """A history in sentences: the last days, and the totals of the period."""
     yield f"{plural(history.week, 'week')} of the period {'is' if history.week == 1 else 'are'} over."
     for past in history.nurses.values():
-        total = f"; {plural(past.assignments, 'shift')} and {plural(past.weekends, 'weekend')} in this period" if past.assignments or past.weekends else ""
+        total = (
+            f"; {plural(past.assignments, 'shift')} and {plural(past.weekends, 'weekend')} in this period"
+            if past.assignments or past.weekends else ""
+        )
         if past.last_shift is None:
             yield f"{past.nurse} was off on Sunday, for {plural(past.days_off, 'day')} in a row{total}."
         else:
@@ -70,7 +76,9 @@ def week_sentences(scenario: Scenario, history: Optional[History], data: WeekDat
     """A week in sentences: its numbers, absences and wishes."""
     rows: Dict[Tuple[str, str], List[Requirement]] = {}
     for place in data.requirements:
-        rows[place.shift, place.skill] = [data.requirements.get(Place(day, place.shift, place.skill), Requirement(0, 0)) for day in range(_WEEK)]
+        rows[place.shift, place.skill] = [
+            data.requirements.get(Place(day, place.shift, place.skill), Requirement(0, 0)) for day in range(_WEEK)
+        ]
     for (shift, skill), numbers in rows.items():
         yield f"{shift} {skill}: {_numbers_by_day(numbers)}."
     (minimum, best), (low, high) = asked_shifts(data), supplied_shifts(scenario, history)

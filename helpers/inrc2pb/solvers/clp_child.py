@@ -1,7 +1,7 @@
 """A process that keeps linear programs in Clp's library: it reads requests from its standard input and answers on its standard output.
 
-A request is a list of operations, marshalled, after its length. Each `solve` has an answer: HEAD, then, if it is asked for, the rows' prices,
-the columns' values and what one of each column would add. It imports nothing of the package, and so starts fast.
+A request is a list of operations, marshalled, after its length. Each `solve` has an answer: HEAD, then, if it is asked for, the rows'
+prices, the columns' values and what one of each column would add. It imports nothing of the package, and so starts fast.
 """
 
 import array
@@ -39,7 +39,9 @@ def load() -> Any:
         getattr(clp, name).restype, getattr(clp, name).argtypes = _POINTER, [_POINTER]
     for name in ("Clp_dualRowSolution", "Clp_primalColumnSolution", "Clp_dualColumnSolution"):
         getattr(clp, name).restype, getattr(clp, name).argtypes = _POINTER, [_POINTER]
-    for name in ("Clp_chgRowLower", "Clp_chgRowUpper", "Clp_chgColumnLower", "Clp_chgColumnUpper", "Clp_chgObjCoefficients", "Clp_copyinStatus"):
+    for name in (
+        "Clp_chgRowLower", "Clp_chgRowUpper", "Clp_chgColumnLower", "Clp_chgColumnUpper", "Clp_chgObjCoefficients", "Clp_copyinStatus",
+    ):
         getattr(clp, name).argtypes = [_POINTER, _POINTER]
     for name in ("Clp_setLogLevel", "Clp_setMaximumIterations", "Clp_dual", "Clp_primal"):
         getattr(clp, name).argtypes = [_POINTER, _INT]

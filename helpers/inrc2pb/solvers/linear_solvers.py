@@ -86,7 +86,8 @@ def _number(text: str, solver: str) -> float:
 
 
 class Coin(LinearSolver):
-    """cbc or clp, which write the same files: index, name, value and price of each row, then of each column; `**` marks what is infeasible."""
+    """cbc or clp, which write the same files: index, name, value and price of each row, then of each column; `**` marks what is
+    infeasible."""
 
     def __init__(self, name: str, processes: Processes, folder: Path) -> None:
         super().__init__(processes, folder)
@@ -118,7 +119,10 @@ class Coin(LinearSolver):
     def choose(self, model: str, clock: Clock, cutoff: Optional[int], step: int) -> Chosen:
         most = [] if cutoff is None else ["cutoff", f"{cutoff + 0.5}"]
         seconds = clock.left()
-        words = [self._model.name, "sec", f"{seconds:.1f}", "timem", "elapsed", *most, "ratio", "0", "allow", f"{step - 0.1}", "increment", f"{step - 0.1}"]
+        words = [
+            self._model.name, "sec", f"{seconds:.1f}", "timem", "elapsed", *most, "ratio", "0", "allow", f"{step - 0.1}", "increment",
+            f"{step - 0.1}",
+        ]
         how = ["-heuristicsOnOff", "off"] if model.count("\n BV ") > MANY else []
         ended = self._run(model, [*words, *how, "solve", "solution", self._answer.name], clock, seconds + _WRITING)
         late = clock.left() < seconds / 2
@@ -158,7 +162,9 @@ class Glpsol(LinearSolver):
                 value = _number(line.partition("=")[2].split()[0], self.name)
             elif kind == "s" and words[3:5] != ["f", "f"]:
                 raise SolverFault("glpsol found no solution")
-            elif kind in ("i", "j") and len(words) == 4 and words[0].isdigit() and 0 < int(words[0]) <= len(rows if kind == "i" else columns):
+            elif (
+                kind in ("i", "j") and len(words) == 4 and words[0].isdigit() and 0 < int(words[0]) <= len(rows if kind == "i" else columns)
+            ):
                 name = (rows if kind == "i" else columns)[int(words[0]) - 1]
                 if kind == "i":
                     found.prices[name] = _number(words[3], self.name)

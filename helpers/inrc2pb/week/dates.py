@@ -64,7 +64,9 @@ def read_times(texts: Sequence[str], shifts: Collection[str]) -> Dict[str, Times
             raise Misuse(f"--times {text}: give a shift type, its start and its end, such as Early=06:00-14:15")
         if shift not in shifts:
             meant = closest(shift, shifts)
-            raise Misuse(f"--times {text}: '{shift}' is no shift type: {f'did you mean {meant}?' if meant else f'give one of {quoted(shifts)}'}")
+            raise Misuse(
+                f"--times {text}: '{shift}' is no shift type: {f'did you mean {meant}?' if meant else f'give one of {quoted(shifts)}'}"
+            )
         if shift in found:
             raise Misuse(f"--times {text}: {shift} has two times: give one")
         start, end = (_minutes(text, time) for time in match.groups())

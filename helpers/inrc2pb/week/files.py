@@ -113,7 +113,9 @@ def _nurse_history(slots: Slots, nurse: str, scenario: Scenario) -> NurseHistory
 def check_week_number(path: PathLike, history: History, scenario: Scenario) -> None:
     """The history's week has to be one of the scenario's weeks."""
     if history.week >= scenario.weeks:
-        message = f"week {history.week} is not below WEEKS = {scenario.weeks}: the period is over, begin a new one with inrc2pb-next --new-period"
+        message = (
+            f"week {history.week} is not below WEEKS = {scenario.weeks}: the period is over, begin a new one with inrc2pb-next --new-period"
+        )
         raise FileFault(path, 0, message, "week not below WEEKS")
 
 
@@ -201,7 +203,10 @@ def scenario_text(scenario: Scenario) -> str:
     lines += [_row(shift.name, len(shift.forbidden_next), *shift.forbidden_next) for shift in types]
     lines += ["", f"CONTRACTS = {len(contracts)}"]
     lines += [
-        _row(contract.name, contract.assignments, contract.working_days, contract.days_off, contract.max_weekends, int(contract.complete_weekends)) for contract in contracts
+        _row(
+            contract.name, contract.assignments, contract.working_days, contract.days_off, contract.max_weekends,
+            int(contract.complete_weekends),
+        ) for contract in contracts
     ]
     lines += ["", f"NURSES = {len(nurses)}", *(_row(nurse.name, nurse.contract, len(nurse.skills), *nurse.skills) for nurse in nurses)]
     return "\n".join(lines) + "\n"

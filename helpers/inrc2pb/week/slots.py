@@ -202,7 +202,10 @@ class Slots:
             self.fault(token, "unknown name", f"'{token.text}' is no {kind} of {source}: {encoding}")
         same = composed_otherwise(token.text, names)
         if same:
-            self.fault(token, "unknown name", f"'{token.text}' is no {kind} of {source}: it looks like '{same}', and has other letters: copy that name")
+            self.fault(
+                token, "unknown name",
+                f"'{token.text}' is no {kind} of {source}: it looks like '{same}', and has other letters: copy that name",
+            )
         meant = closest(token.text, names)
         message = f"'{token.text}' is no {kind} of {source}: " + (f"did you mean '{meant}'?" if meant else f"it has {quoted(names)}")
         hint = "" if _comment_hint(token.text) else _comment_hint(meant or "")
