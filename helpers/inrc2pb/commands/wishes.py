@@ -9,7 +9,7 @@ from ..week.dates import read_monday
 from ..week.faults import Misuse
 from ..week.hints import quoted
 from ..week.records import DAYS, Scenario
-from ..week.slots import closest
+from ..week.slots import did_you_mean
 
 _DATE = re.compile(r"[0-9]{4}-[0-9]{2}-[0-9]{2}")
 
@@ -109,8 +109,7 @@ def _date(where: str, text: str) -> datetime.date:
 
 
 def _unknown(where: str, word: str, kind: str, names: Collection[str]) -> NoReturn:
-    meant = closest(word, names)
-    raise Misuse(f"{where}: '{word}' is no {kind}: " + (f"did you mean {meant}?" if meant else f"give some of {quoted(names)}"))
+    raise Misuse(f"{where}: '{word}' is no {kind}: {did_you_mean(word, names, f'give some of {quoted(names)}')}")
 
 
 def of_week(found: Sequence[Dated], week: int) -> List[Absence]:

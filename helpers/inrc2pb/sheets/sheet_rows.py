@@ -9,7 +9,7 @@ from ..week.faults import FileFault, Gathering
 from ..week.hints import quoted
 from .sheet_files import Book
 from .sheet_parts import Rows
-from ..week.slots import MAX_NUMBER, SIGNS, closest
+from ..week.slots import MAX_NUMBER, SIGNS, closest, did_you_mean
 
 _SEVERAL = re.compile(r"[,;/]")
 
@@ -85,8 +85,8 @@ class SheetCell(NamedTuple):
         wanted = self.text.replace(" ", "_").casefold()
         found = next((name for name in names if name.casefold() == wanted), None)
         if found is None:
-            meant = closest(self.text.replace(" ", "_"), [*names, *others])
-            advice = f"did you mean {readable(meant)}?" if meant else f"write one of {quoted([*map(readable, names), *others])}"
+            otherwise = f"write one of {quoted([*map(readable, names), *others])}"
+            advice = did_you_mean(self.text.replace(" ", "_"), [*names, *others], otherwise, readable)
             self.fault(f"'{self.text}' is no {kind}: {advice}" if self.text else f"the cell is empty: write a {kind}")
         return found
 

@@ -7,7 +7,7 @@ from typing import Collection, Dict, NamedTuple, Optional, Sequence
 from .faults import Misuse
 from .hints import quoted
 from .records import DAYS
-from .slots import closest
+from .slots import did_you_mean
 
 MONTHS = ("Jan", "Feb", "Mar", "Apr", "May", "Jun", "Jul", "Aug", "Sep", "Oct", "Nov", "Dec")
 DAY = datetime.timedelta(days=1)
@@ -63,10 +63,8 @@ def read_times(texts: Sequence[str], shifts: Collection[str]) -> Dict[str, Times
         if not is_given or not match:
             raise Misuse(f"--times {text}: give a shift type, its start and its end, such as Early=06:00-14:15")
         if shift not in shifts:
-            meant = closest(shift, shifts)
-            raise Misuse(
-                f"--times {text}: '{shift}' is no shift type: {f'did you mean {meant}?' if meant else f'give one of {quoted(shifts)}'}"
-            )
+            advice = did_you_mean(shift, shifts, f"give one of {quoted(shifts)}")
+            raise Misuse(f"--times {text}: '{shift}' is no shift type: {advice}")
         if shift in found:
             raise Misuse(f"--times {text}: {shift} has two times: give one")
         start, end = (_minutes(text, time) for time in match.groups())

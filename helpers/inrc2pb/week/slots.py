@@ -4,7 +4,7 @@ import contextlib
 import difflib
 import re
 from pathlib import Path
-from typing import Collection, Iterable, Iterator, List, NamedTuple, NoReturn, Optional, Tuple, Union
+from typing import Callable, Collection, Iterable, Iterator, List, NamedTuple, NoReturn, Optional, Tuple, Union
 
 from .faults import FileFault
 from .hints import HEADINGS, is_no_text, quoted, reasons
@@ -74,6 +74,12 @@ def closest(word: str, names: Iterable[str]) -> Optional[str]:
     same = [name for name in words if name.lower() == low]
     longer = [name for name in words if len(name) > 2 and low.startswith(name.lower()) or len(low) > 2 and name.lower().startswith(low)]
     return next(iter(same or difflib.get_close_matches(word, words, 1) or longer), None)
+
+
+def did_you_mean(word: str, names: Iterable[str], otherwise: str, shown: Callable[[str], str] = str) -> str:
+    """A question with the name that the word most likely means, as it is shown; without one, what else to do."""
+    meant = closest(word, names)
+    return f"did you mean {shown(meant)}?" if meant else otherwise
 
 
 class Slots:
@@ -206,7 +212,7 @@ class Slots:
                 token, "unknown name",
                 f"'{token.text}' is no {kind} of {source}: it looks like '{same}', and has other letters: copy that name",
             )
-        meant = closest(token.text, names)
-        message = f"'{token.text}' is no {kind} of {source}: " + (f"did you mean '{meant}'?" if meant else f"it has {quoted(names)}")
-        hint = "" if _comment_hint(token.text) else _comment_hint(meant or "")
+        advice = did_you_mean(token.text, names, f"it has {quoted(names)}", "'{}'".format)
+        message = f"'{token.text}' is no {kind} of {source}: {advice}"
+        hint = "" if _comment_hint(token.text) else _comment_hint(closest(token.text, names) or "")
         self.fault(token, "unknown name", message + hint)
