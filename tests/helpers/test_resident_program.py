@@ -116,7 +116,8 @@ class Solutions(Programs):
 
     @unittest.skipUnless(HAS_CBC, "needs cbc")
     def test_other_solvers_agree(self):
-        files = [LinearSolvers([name], Processes(), self.folder, lambda text: None) for name in ("cbc", "clp", "glpsol") if shutil.which(name)]
+        names = [name for name in ("cbc", "clp", "glpsol") if shutil.which(name)]
+        files = [LinearSolvers([name], Processes(), self.folder, lambda text: None) for name in names]
         for seed, how in ((1, DUAL), (2, PRIMAL)):
             program = covering(self.program(), 30 * seed, seed)
             found = program.solve(Clock(60), how)

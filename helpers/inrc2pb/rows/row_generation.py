@@ -8,6 +8,7 @@ from typing import Callable, Dict, Iterable, List, Optional, Sequence
 
 from ..programs.clock import Clock
 from ..solvers.linear_solvers import LinearSolver
+from ..solvers.resident_program import LinearProgram, no_solver
 from .plan import POINT, STEP
 from .pricing import Priced, Prices, Pricing, NurseWeek, in_steps
 from ..week.records import Place
@@ -38,10 +39,7 @@ class RowGeneration:
     def __init__(self, pricing: Pricing, solver: Optional[LinearSolver], heard: Callable[[], None]) -> None:
         self.pricing, self.plan = pricing, pricing.plan
         self._solver, self._heard = solver, heard
-        self.program = RowProgram(self.plan, pricing.crews)
-        # The columns in use, and whether the solver has a solution of this program.
-        self._used: Dict[int, None] = {}
-        self._goes_on = False
+        self.program = RowProgram(self.plan, pricing.crews, solver.program() if solver else LinearProgram(None, no_solver))
         self.prices: Prices = [0] * len(pricing.crews.places)
         # The lower bound in thousandths.
         self.bound: Optional[int] = None
@@ -90,9 +88,7 @@ class RowGeneration:
 
     def _add(self, nurse: int, row: NurseWeek, cost: int, prices: Prices, places: Sequence[Optional[int]] = ()) -> bool:
         """Adds a row to those in use. Returns whether it was none of them."""
-        column, before = self.program.add(nurse, row, cost, prices, places), len(self._used)
-        self._used[column] = None
-        return len(self._used) > before
+        return self.program.add(nurse, row, cost, prices, places)[1]
 
     # ---- prices and new rows
 
@@ -113,12 +109,6 @@ class RowGeneration:
             self.bound, self.prices = bound, prices
             self._heard()
 
-    def _relax(self, use: Iterable[int], clock: Clock) -> Solved:
-        assert self._solver is not None
-        found = self._solver.relax(self.program.text(use), clock, self._goes_on)
-        self._goes_on = True
-        return self.program.solved(found)
-
     def _earned(self, prices: Prices, nurse: int, row: NurseWeek) -> int:
         crews = self.pricing.crews
         return sum(max([prices[place] for place in crews.members[table[choice]]], default=0) for table, choice in zip(crews.of[nurse], row))
@@ -132,7 +122,7 @@ class RowGeneration:
             self._add(nurse, priced.row, priced.cost, self.prices)
         share = 0.0
         while not self.complete:
-            now = self.solved = self._relax(self._used, clock)
+            now = self.solved = self.program.solve(clock)
             if self._is_settled(now):
                 break
             self._drop(now)
@@ -146,7 +136,7 @@ class RowGeneration:
             if self._meets(now.value) or not (new or share):
                 self.misses_minimums = now.missing > EXACT
                 if self.misses_minimums and self.plan.charging and self.program.below < MOST_BELOW:
-                    self.program.below = min(MOST_BELOW, 10 * self.program.below)
+                    self.program.raise_below(min(MOST_BELOW, 10 * self.program.below))
                 else:
                     self.complete = True
             share = SMOOTHING if new else 0.0
@@ -158,14 +148,11 @@ class RowGeneration:
 
     def _drop(self, now: Solved) -> None:
         """Drops the most expensive columns, if there are too many. Each nurse keeps one."""
-        nurses = len(self.plan.nurses)
+        nurses, used = len(self.plan.nurses), self.program.used
         keep = max(LEAST_USED, KEPT * nurses) - len(now.shares)
-        if (
-            len(self._used) > max(LEAST_USED, MOST_USED * nurses)
-            and len({self.program.columns[number].nurse for number in now.shares}) == nurses
-        ):
-            cheap = sorted((number for number in self._used if number not in now.shares), key=lambda number: now.rises.get(number, 0.0))
-            self._used = dict.fromkeys([*now.shares, *cheap[: max(0, keep)]])
+        if len(used) > max(LEAST_USED, MOST_USED * nurses) and len({self.program.columns[column].nurse for column in now.shares}) == nurses:
+            cheap = sorted((column for column in used if column not in now.shares), key=lambda column: now.rises[column])
+            self.program.drop(cheap[max(0, keep) :])
 
     def _meets(self, value: float) -> bool:
         """Whether the bound is as good as this value of the program."""

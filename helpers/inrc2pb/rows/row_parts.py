@@ -147,6 +147,14 @@ class RowParts:
             return search.value_of(found) if kept else None
 
         search = RowSearch(self._pricing(part, rows), solver, clock, offer, lambda: None)
+        try:
+            return self._improve(search, part, rows, clock)
+        finally:
+            search.program.close()
+
+    def _improve(self, search: RowSearch, part: Part, rows: Sequence[NurseWeek], clock: Clock) -> bool:
+        """The same by a search over the rows of the neighborhood."""
+        whole, nurses = self._search, part.nurses
         search.rows = [rows[nurse] for nurse in nurses]
         search.penalty = search.value_of(search.rows)
         search.add_roster(search.rows)

@@ -5,7 +5,7 @@ chooses among all rows that a better roster can have.
 """
 
 import math
-from typing import Callable, Dict, List, Optional, Sequence, Tuple
+from typing import Callable, Dict, List, Optional, Sequence
 
 from ..programs.clock import Clock
 from .first_rows import Descent
@@ -84,14 +84,22 @@ class RowSearch(RowGeneration):
     def dive(self, clock: Clock) -> Optional[List[NurseWeek]]:
         """Fixes rows a few at a time, with new ones in between. Returns a row of each nurse, None if they cannot be better than the
         best."""
+        try:
+            chosen = self._dive(clock)
+        finally:
+            self.program.free()
+        return [self.program.columns[chosen[nurse]].row for nurse in range(len(self.plan.nurses))] if chosen else None
+
+    def _dive(self, clock: Clock) -> Optional[Dict[int, int]]:
+        """The column of each nurse, by number."""
         columns, chosen = self.program.columns, dict.fromkeys(range(0), 0)
-        share, last = FIRST_SHARE, -math.inf
+        share, last, most_share = FIRST_SHARE, -math.inf, MOST_SHARE if len(self.plan.weeks) == 1 else FIRST_SHARE
         while len(chosen) < len(self.plan.nurses):
             before = clock.left()
-            now, use = self._relaxed_beside(chosen, clock)
+            now = self._relaxed_beside(chosen, clock)
             if self.penalty is not None and now.value > self.penalty - STEP + EXACT:
                 return None
-            share = min(MOST_SHARE, share * 1.5) if now.value <= last + EXACT else max(LEAST_SHARE, share * 0.7)
+            share = min(most_share, share * 1.5) if now.value <= last + EXACT else max(LEAST_SHARE, share * 0.7)
             last = now.value
             free = len(self.plan.nurses) - len(chosen)
             # So many at once that the time is enough.
@@ -103,26 +111,24 @@ class RowSearch(RowGeneration):
             ):
                 if columns[number].nurse not in chosen and (fixed < most or now.shares[number] > 0.999):
                     chosen[columns[number].nurse] = number
+                    self.program.hold(number)
                     fixed += 1
             if not fixed:
-                number = next(number for number in use if columns[number].nurse not in chosen)
-                chosen[columns[number].nurse] = number
-        return [columns[chosen[nurse]].row for nurse in range(len(self.plan.nurses))]
+                return None
+        return chosen
 
-    def _relaxed_beside(self, chosen: Dict[int, int], clock: Clock) -> Tuple[Solved, List[int]]:
+    def _relaxed_beside(self, chosen: Dict[int, int], clock: Clock) -> Solved:
         """The linear program with these columns fixed, and some new rows for the other nurses."""
         free = [nurse for nurse in range(len(self.plan.nurses)) if nurse not in chosen]
         rounds = DIVE_ROUNDS if chosen else 1
         for turn in range(rounds):
-            use = [number for number in self._used if chosen.get(self.program.columns[number].nurse, number) == number]
-            now = self._relax(use, clock)
-            new = 0
+            now, new = self.program.solve(clock, dual=turn == 0), 0
             for nurse, priced in self._priced(now.prices, free, clock).items() if turn < rounds - 1 else ():
                 if priced.value - now.nurses[nurse] < -WORTH:
                     new += self._add(nurse, priced.row, priced.cost, now.prices)
             if not new:
                 break
-        return now, use
+        return now
 
     # ---- the rows of a better roster
 
@@ -158,7 +164,7 @@ class RowSearch(RowGeneration):
         if self._solver is None or not self._solver.chooses:
             return False
         cutoff = None if self.penalty is None else self.penalty - STEP
-        found = self._solver.choose(self.program.text(use, whole=True), clock, cutoff, STEP)
+        found = self._solver.choose(self.program.text(use), clock, cutoff, STEP)
         columns = self.program.chosen(found.names or ())
         rows = [self.program.columns[number].row for number in columns or ()]
         if columns:

@@ -81,10 +81,14 @@ class PeriodSearch:
         elif numpy is None and len(plan.nurses) * plan.days >= LARGE:
             self._progress.warn(INSTALL_NUMPY)
         (folder / "trial").mkdir()
-        solver = LinearSolvers(names, self._processes, folder, self._progress.warn) if names else None
-        run = self._over_rows(plan, solver, folder / "trial")
-        if plan.away and self.penalty is None:
-            run = self._over_rows(plan.without_absences(), solver, folder / "trial")
+        solver = LinearSolvers(names, self._processes, folder, self._progress.warn, resident=True) if names else None
+        try:
+            run = self._over_rows(plan, solver, folder / "trial")
+            if plan.away and self.penalty is None:
+                run = self._over_rows(plan.without_absences(), solver, folder / "trial")
+        finally:
+            if solver:
+                solver.close()
         if self.penalty is None:
             raise ProgramFault(NO_ROSTER, self._why_none(run))
         self._progress.finish()

@@ -62,13 +62,17 @@ class WeekSearch:
         names = installed()
         if not names:
             self._progress.warn(f"there is no cbc, clp or glpsol, so this is only a first roster: {INSTALL}")
-        solver = LinearSolvers(names, self._processes, folder, self._progress.warn) if names else None
+        solver = LinearSolvers(names, self._processes, folder, self._progress.warn, resident=True) if names else None
         rows = _rows(plan, start) if start else None
-        run = self._run_rows(plan, solver, bounds, rows)
-        if plan.away and (self._best.penalty is None or self._best.breaks()):
-            run = self._run_rows(plan.without_absences(), solver, bounds, rows)
-        elif run.claimed and solver and (not plan.away or self._costs_of_absences() >= (self._best.penalty or 0)):
-            self.claimed_by = solver.name
+        try:
+            run = self._run_rows(plan, solver, bounds, rows)
+            if plan.away and (self._best.penalty is None or self._best.breaks()):
+                run = self._run_rows(plan.without_absences(), solver, bounds, rows)
+            elif run.claimed and solver and (not plan.away or self._costs_of_absences() >= (self._best.penalty or 0)):
+                self.claimed_by = solver.name
+        finally:
+            if solver:
+                solver.close()
         self._judge(run, bounds)
 
     def _costs_of_absences(self) -> int:

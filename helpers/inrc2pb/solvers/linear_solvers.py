@@ -40,7 +40,7 @@ class LinearSolver:
         raise NotImplementedError
 
     def beside(self, number: int) -> "LinearSolver":
-        """The same solver with files of its own, so that it can run at the same time; the number is above 0."""
+        """The same solver with files of its own, so that it can run at the same time; the number is above 0. Each number has one."""
         raise NotImplementedError
 
     def program(self) -> LinearProgram:
@@ -52,7 +52,7 @@ class LinearSolver:
         self._processes.end_running()
 
     def close(self) -> None:
-        """Ends the process that it keeps, if there is one."""
+        """Ends the process that it keeps, if there is one, and those of the solvers beside it."""
 
     def _run(self, model: str, words: Sequence[str], clock: Clock, seconds: float) -> Ended:
         self._model.write_text(model)
@@ -207,6 +207,7 @@ class LinearSolvers(LinearSolver):
         self._child = Child(processes, folder) if resident else None
         self._others = [Glpsol(processes, folder) if name == "glpsol" else Coin(name, processes, folder) for name in names]
         self._warn, self._faults = warn, 0
+        self._beside: Dict[int, "LinearSolvers"] = {}
 
     @property
     def name(self) -> str:  # type: ignore[override]
@@ -240,10 +241,12 @@ class LinearSolvers(LinearSolver):
 
     def beside(self, number: int) -> LinearSolver:
         """The solvers that are still used, with files of their own; the number is above 0."""
-        folder = self._model.parent / str(number)
-        folder.mkdir(exist_ok=True)
-        resident = self._child is not None and self._child.works
-        return LinearSolvers([other.name for other in self._others], self._processes, folder, self._warn, resident)
+        if number not in self._beside:
+            folder = self._model.parent / str(number)
+            folder.mkdir(exist_ok=True)
+            resident = self._child is not None and self._child.works
+            self._beside[number] = LinearSolvers([other.name for other in self._others], self._processes, folder, self._warn, resident)
+        return self._beside[number]
 
     def program(self) -> LinearProgram:
         """A linear program, kept by the child."""
@@ -251,8 +254,9 @@ class LinearSolvers(LinearSolver):
 
     def close(self) -> None:
         """Ends the child."""
-        if self._child:
-            self._child.end()
+        for solver in (self, *self._beside.values()):
+            if solver._child:
+                solver._child.end()
 
     def _blame(self, fault: SolverFault) -> None:
         self._basis.unlink(missing_ok=True)
